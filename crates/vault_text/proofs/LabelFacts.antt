@@ -1,0 +1,30 @@
+-- Labels are text.
+use Rattle.std.proofs.Common.{◌≡◌, ℕ, ◌<◌, ◌≤◌, Bool, true, false, ◌&&◌, List, length, get_or, arith, inl, inr}
+use Rattle.std.specs.List.{AllPass, list_all}
+use Rattle.std.specs.Str.{IsAscii, IsUtf8}
+use Rattle.std.proofs.lemmas.Bool.{and_parts, cases_lt, false_from_ne_true}
+use Rattle.std.proofs.lemmas.List.{get_or_past}
+use Rattle.std.proofs.lemmas.List.Elements.{All-get_or}
+use Rattle.std.proofs.lemmas.List.Sums.{AllPass-from_list_all}
+use Rattle.std.proofs.lemmas.Bool.Decides.{nat_tests}
+use Rattle.std.proofs.lemmas.Str.{IsUtf8-from_ascii}
+use Rattle.vault_text.specs.Label.{is_label, is_label_character}
+
+character-ascii : (c : ℕ) → is_label_character c ≡ true → c < 128
+character-ascii c h = grind (arith, nat_tests)
+
+characters-ascii : (text : List ℕ) → list_all is_label_character text ≡ true → IsAscii text
+characters-ascii text h i =
+    elim (cases_lt i (length text)) [
+      | inl inside ↦ character-ascii (get_or text i 0) (All-get_or (λ c. is_label_character c ≡ true) text i 0 inside (AllPass-from_list_all is_label_character text h))
+      | inr past ↦ rw (get_or_past text i 0 past) (omega arith)
+    ]
+
+-- what is no text is no label
+pub no_text_is_no_label : (text : List ℕ) → (IsUtf8 text → ⊥) → is_label text ≡ false
+no_text_is_no_label text not_text =
+    false_from_ne_true (is_label text) (λ e.
+      let fits = and_parts _ _ e in
+      let starts = and_parts _ _ fits.0 in
+      let characters = and_parts _ _ starts.0 in
+      not_text (IsUtf8-from_ascii text (characters-ascii text characters.1)))

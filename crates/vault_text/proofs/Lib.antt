@@ -1,0 +1,3 @@
+pub mod LabelFacts
+pub mod LineFacts
+pub mod Progress

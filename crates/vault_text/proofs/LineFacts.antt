@@ -1,0 +1,52 @@
+-- A header line, cut at its first semicolon.
+use Rattle.std.proofs.Common.{◌≡◌, ℕ, ◌+◌, ◌-◌, ◌<◌, ◌≤◌, ◌==◌, Bool, true, false, not, List, [], ◌∷◌, length, take, drop, get_or, suc, cond, inl, inr, arith, ap, ◌∙◌, sym, refl}
+use Rattle.std.specs.List.{All, position_or_len, slice_split, after_first, count_by}
+use Rattle.std.proofs.lemmas.Bool.{cases_Bool}
+use Rattle.std.proofs.lemmas.List.{take_rest}
+use Rattle.std.proofs.lemmas.List.Sums.{prefix_len_passes, sum_by-cons}
+use Rattle.std.proofs.lemmas.List.Splits.{slice_split_none, slice_split_first}
+
+not_true : (b : Bool) → not b ≡ true → b ≡ false
+not_true true h = cc h
+not_true false h = refl
+
+-- the part before the place, and the parts of what follows it
+pub slice_split-cut : (p : ℕ → Bool) (line : List ℕ) (place : ℕ) → place ≡ position_or_len p line → place < length line
+    → slice_split p line ≡ take place line ∷ slice_split p (take (length line - (place + 1)) (drop (place + 1) line))
+slice_split-cut p line place e inside =
+    let first = slice_split_first p line 0 (omega arith) in
+    rw (take_rest, e) first
+
+-- one part, where there is no such place
+pub slice_split-whole : (p : ℕ → Bool) (line : List ℕ) (place : ℕ) → place ≡ position_or_len p line → length line ≤ place
+    → slice_split p line ≡ line ∷ []
+slice_split-whole p line place e past =
+    slice_split_none p line (λ k d inside. not_true (p (get_or line k d)) (prefix_len_passes (λ x. not (p x)) line k d (omega arith)))
+
+-- what is counted is the first, and what is counted behind it
+pub count_by-found : (p : ℕ → Bool) (text : List ℕ) → position_or_len p text < length text
+    → count_by p text ≡ 1 + count_by p (after_first p text)
+count_by-found p [] inside = absurd (omega arith)
+count_by-found p (x ∷ rest) inside =
+    elim (cases_Bool (p x)) [
+      | inl found ↦ rw (sum_by-cons (λ b. cond (p b) 1 0) x rest, found) refl
+      | inr other ↦
+          let step : 1 + position_or_len p rest + 1 ≡ suc (position_or_len p rest + 1) = omega arith in
+          let below : 1 + position_or_len p rest < suc (length rest) = rw other at inside in
+          let later = count_by-found p rest (omega arith) in
+          rw (sum_by-cons (λ b. cond (p b) 1 0) x rest, other, step) (omega (arith, later))
+    ]
+
+-- nothing is counted where nothing is found
+pub count_by-absent : (p : ℕ → Bool) (text : List ℕ) → length text ≤ position_or_len p text → count_by p text ≡ 0
+count_by-absent p [] past = refl
+count_by-absent p (x ∷ rest) past =
+    elim (cases_Bool (p x)) [
+      | inl found ↦
+          let above : suc (length rest) ≤ 0 = rw found at past in
+          absurd (omega arith)
+      | inr other ↦
+          let above : suc (length rest) ≤ 1 + position_or_len p rest = rw other at past in
+          let later = count_by-absent p rest (omega arith) in
+          rw (sum_by-cons (λ b. cond (p b) 1 0) x rest, other) (omega (arith, later))
+    ]

@@ -1,0 +1,41 @@
+-- The envelope of a vault, formats 1.1 and 1.2: a header line, and a body that spells the inner text.
+use Rattle.std.specs.Prelude.{ℕ, nat_lt, nat_eq, not, if◌then◌else◌, List, length, drop, filter, Result, Ok, Err}
+use Rattle.std.specs.List.{starts_with}
+use Rattle.std.specs.Option.{ok_or}
+use Rattle.vault_text.specs.Header.{marker, is_line_end, header_line, read_header}
+use Rattle.vault_text.specs.Hexadecimal.{unhex}
+use Rattle.vault_text.specs.InnerText.{Parts, parts_of}
+use Rattle.vault_text.specs.declared.limits.TheConstants.{ENVELOPE_LIMIT, CIPHERTEXT_LIMIT}
+use Rattle.vault_text.specs.declared.fault.TextFault.{TextFault}
+use Rattle.vault_text.specs.declared.fault.TextFault.TheVariants.{TooLong, NotVault, BadHex, BadPayload, CipherTooLong}
+
+infixl 10 ◌>>=◌
+abbrev pub ◌>>=◌ : {A B : Type 0} → Result A TextFault → (A → Result B TextFault) → Result B TextFault
+Ok x >>= f = f x
+Err e >>= f = Err e
+
+-- what an envelope holds
+pub record Payload : Type 0 where
+  pub label : List ℕ
+  pub salt : List ℕ
+  pub tag : List ℕ
+  pub cipher : List ℕ
+
+-- what follows the header line, without line ends
+abbrev pub body : List ℕ → List ℕ
+body input = filter (λ b. not (is_line_end b)) (drop (length (header_line input)) input)
+
+-- steps 7 to 9: the payload of a body, under the label of the header line
+unfoldable pub read_body : List ℕ → List ℕ → Result Payload TextFault
+read_body label digits = do
+  inner ← ok_or (unhex digits) BadHex
+  parts ← ok_or (parts_of inner) BadPayload
+  if nat_lt CIPHERTEXT_LIMIT (length parts.cipher) then Err CipherTooLong
+    else Ok (record { label = label; salt = parts.salt; tag = parts.tag; cipher = parts.cipher })
+
+-- the payload of an envelope, or the first fault in the order of the nine steps
+unfoldable pub read : List ℕ → Result Payload TextFault
+read input =
+    if nat_lt ENVELOPE_LIMIT (length input) then Err TooLong
+    else if not (starts_with nat_eq input marker) then Err NotVault
+    else read_header (header_line input) >>= (λ label. read_body label (body input))

@@ -1,0 +1,12 @@
+pub mod Failures
+pub mod Source
+pub mod SourceLaws
+pub mod Sink
+pub mod SinkLaws
+pub mod Whitespace
+pub mod Label
+pub mod Header
+pub mod Hexadecimal
+pub mod InnerText
+pub mod Envelope
+pub mod Reading

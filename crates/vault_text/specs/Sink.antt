@@ -1,0 +1,37 @@
+-- What a contract sees of a sink of bytes.
+use Rattle.std.specs.Prelude.{ℕ, ◌≤◌, List, [], take, Bool, true, false, Option, Some, Result, Ok, Err}
+use Rattle.std.specs.Io.KnownBytes.{Appends}
+use Rattle.vault_text.specs.declared.sink.Stage.{Stage}
+use Rattle.vault_text.specs.declared.sink.Stage.TheVariants.{Unbegun, Begun, Finished}
+
+-- the bytes that a call took, of those that it was offered
+abbrev pub taken : {E : Type 0} → Result ℕ E → List ℕ → List ℕ
+taken (Ok n) bytes = take n bytes
+taken (Err e) bytes = []
+
+-- a sink: the bytes that it holds, where they are known, its stage, and its failures
+pub record SinkState : Type 0 where
+  pub held : Option (List ℕ)
+  pub stage : Stage
+  pub failures : ℕ
+
+-- between two states a sink took these bytes
+pub record Takes (old : SinkState) (taken : List ℕ) (new : SinkState) : Type 0 where
+  pub appended : Appends old.held new.held taken
+  pub failures_stay : old.failures ≤ new.failures
+
+-- whether `begin` was answered Ok
+abbrev pub has_begun : Stage → Bool
+has_begun Unbegun = false
+has_begun Begun = true
+has_begun Finished = true
+
+-- a sink over memory: its bytes, its stage, its failures, and how many bytes it takes per call at most
+pub record MemoryState : Type 0 where
+  pub held : List ℕ
+  pub stage : Stage
+  pub failures : ℕ
+  pub step : ℕ
+
+abbrev pub state_of : MemoryState → SinkState
+state_of m = record { held = Some m.held; stage = m.stage; failures = m.failures }

@@ -1,0 +1,31 @@
+-- What a contract sees of a source of bytes.
+use Rattle.std.specs.Prelude.{◌≡◌, ℕ, ◌≤◌, ◌++◌, List, [], take, Bool, IsTrue, Option, Some, Result, Ok, Err}
+use Rattle.std.specs.Io.KnownBytes.{Consumes, IsAtEnd}
+
+-- the bytes that a call gave, of a buffer that it filled from the front
+abbrev pub given : {E : Type 0} → Result ℕ E → List ℕ → List ℕ
+given (Ok n) buffer = take n buffer
+given (Err e) buffer = []
+
+-- a source: the bytes that it has left, where they are known, whether it told its end, and its failures
+pub record SourceState : Type 0 where
+  pub left : Option (List ℕ)
+  pub ended : Bool
+  pub failures : ℕ
+
+-- between two states a source gave these bytes
+pub record Gives (old : SourceState) (given : List ℕ) (new : SourceState) : Type 0 where
+  pub consumed : Consumes old.left new.left given
+  pub nothing_after_end : IsTrue old.ended → (given ≡ []) × IsTrue new.ended
+  pub end_is_real : (IsTrue old.ended → IsAtEnd old.left) → IsTrue new.ended → IsAtEnd new.left
+  pub failures_stay : old.failures ≤ new.failures
+
+-- a source over memory, which never fails: its bytes left, whether it told its end, and how many bytes it
+-- gives per call at most
+pub record MemoryState : Type 0 where
+  pub left : List ℕ
+  pub ended : Bool
+  pub step : ℕ
+
+abbrev pub state_of : MemoryState → SourceState
+state_of m = record { left = Some m.left; ended = m.ended; failures = 0 }

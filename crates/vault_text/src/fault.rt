@@ -1,0 +1,38 @@
+ghost use Rattle.std.specs.Prelude.{◌≡◌};
+ghost use Rattle.vault_text.specs.declared.fault.TextFault.TheVariants.{Memory};
+
+use std::alloc::AllocError;
+use thiserror::Error;
+
+/// Why bytes are no envelope, in the order in which the faults are looked for.
+#[derive(Clone, Copy, Debug, PartialEq, Eq, Error)]
+pub enum TextFault {
+    #[error("input is longer than the limit")]
+    TooLong,
+    #[error("input is not vault encrypted data")]
+    NotVault,
+    #[error("vault header line is longer than 256 bytes")]
+    HeaderTooLong,
+    #[error("vault header line is malformed")]
+    BadHeader,
+    #[error("vault format version is not supported")]
+    BadVersion,
+    #[error("vault cipher is not supported")]
+    BadCipher,
+    #[error("vault body is not hexadecimal")]
+    BadHex,
+    #[error("vault payload is malformed")]
+    BadPayload,
+    #[error("vault ciphertext is longer than the limit")]
+    CipherTooLong,
+    #[error("out of memory")]
+    Memory,
+}
+
+impl From<AllocError> for TextFault {
+    ghost from_gives = { λ _ fault. fault ≡ Memory };
+
+    fn from(_: AllocError) -> Self {
+        TextFault::Memory
+    }
+}

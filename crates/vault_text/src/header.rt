@@ -1,0 +1,144 @@
+//! The header line of an envelope: `$ANSIBLE_VAULT;1.1;AES256`, or format 1.2 with a label behind
+//! one more semicolon.
+ghost use Rattle.std.specs.Prelude.{◌≡◌, ◌==◌, ◌≤◌, ℕ, [], ◌∷◌, length, nat_le, is_some, IfSome, IfNone};
+ghost use Rattle.std.specs.List.{list_all, position_or_len};
+ghost use Rattle.vault_text.specs.Label.{is_label};
+ghost use Rattle.vault_text.specs.Header.{field, header_line, is_ascii, is_cipher, is_line_end, is_version, named_label, parts_of_line, read_header};
+
+use crate::fault::TextFault;
+use crate::label::Label;
+use crate::limits::HEADER_LIMIT;
+use crate::whitespace::strip;
+
+/// What every vault begins with.
+pub const MARKER: &[u8; 14] = b"$ANSIBLE_VAULT";
+
+/// The fields of a header line that are read, without whitespace at their ends. The label is empty
+/// where the line has none.
+#[derive(Drop)]
+struct Fields<'a> {
+    version: &'a [u8],
+    cipher: &'a [u8],
+    label: &'a [u8],
+}
+
+/// Whether the byte is LF or CR.
+pub(crate) fn is_line_end(byte: u8) -> bool
+    ensures { result ≡ is_line_end byte }
+{
+    byte == b'\n' || byte == b'\r'
+}
+
+/// The bytes before the first line end, or all where there is none.
+pub(crate) fn header_line(input: &[u8]) -> &[u8]
+    ensures line { result.now ≡ header_line input.now }
+    ensures inside { length result.now ≤ length input.now }
+{
+    let mut end = 0;
+    while end < input.len() && !is_line_end(input[end]) {
+        end += 1;
+    }
+    &input[..end]
+}
+
+/// The first place of the byte, or the length where it does not occur.
+pub(crate) fn position_of(bytes: &[u8], byte: u8) -> usize
+    ensures place { result ≡ position_or_len (λ b. b == byte) bytes.now }
+    ensures inside { result ≤ length bytes.now }
+{
+    let mut place = 0;
+    while place < bytes.len() && bytes[place] != byte {
+        place += 1;
+    }
+    place
+}
+
+/// The part before the first semicolon, and what follows it.
+fn split_first(line: &[u8]) -> (&[u8], Option<&[u8]>)
+    ensures cut { IfSome result.1 (λ rest. parts_of_line line.now ≡ result.0.now ∷ parts_of_line rest.now) }
+    ensures whole { IfNone result.1 (parts_of_line line.now ≡ result.0.now ∷ []) }
+{
+    let place = position_of(line, b';');
+    if place < line.len() {
+        (&line[..place], Some(&line[place + 1..]))
+    } else {
+        (line, None)
+    }
+}
+
+/// The fields of a header line; None where it has fewer than three.
+fn fields_of(line: &[u8]) -> Option<Fields<'_>>
+    ensures enough { is_some result ≡ nat_le 3 (length (parts_of_line line.now)) }
+    ensures version { IfSome result (λ fields. fields.version.now ≡ field 1 line.now) }
+    ensures cipher { IfSome result (λ fields. fields.cipher.now ≡ field 2 line.now) }
+    ensures label { IfSome result (λ fields. fields.label.now ≡ field 3 line.now) }
+{
+    let (_, rest) = split_first(line);
+    let (version, rest) = split_first(rest?);
+    let (cipher, rest) = split_first(rest?);
+    let label = match rest {
+        Some(rest) => split_first(rest).0,
+        None => &[],
+    };
+    Some(Fields {
+        version: strip(version),
+        cipher: strip(cipher),
+        label: strip(label),
+    })
+}
+
+fn is_ascii(line: &[u8]) -> bool
+    ensures { result ≡ list_all is_ascii line.now }
+{
+    line.iter().all(|byte| *byte < 128)
+}
+
+fn is_version(field: &[u8]) -> bool
+    ensures { result ≡ is_version field.now }
+{
+    field == b"1.1".as_slice() || field == b"1.2".as_slice()
+}
+
+fn is_cipher(field: &[u8]) -> bool
+    ensures { result ≡ is_cipher field.now }
+{
+    field == b"AES256".as_slice()
+}
+
+#[tactic(auto, unfolding(crate::specs::Header::read_header))]
+/// The label of a header line, given without its line end.
+pub(crate) fn read_header(line: &[u8]) -> Result<Label, TextFault>
+    ensures { result ≡ read_header line.now }
+{
+    if line.len() > HEADER_LIMIT {
+        return Err(TextFault::HeaderTooLong);
+    }
+    if !is_ascii(line) {
+        return Err(TextFault::BadHeader);
+    }
+    let Some(fields) = fields_of(line) else {
+        return Err(TextFault::BadHeader);
+    };
+    let Some(label) = label_of(fields.label) else {
+        return Err(TextFault::BadHeader);
+    };
+    if !is_version(fields.version) {
+        return Err(TextFault::BadVersion);
+    }
+    if !is_cipher(fields.cipher) {
+        return Err(TextFault::BadCipher);
+    }
+    Ok(label)
+}
+
+/// The label that the fourth field names, `default` where it is empty.
+fn label_of(field: &[u8]) -> Option<Label>
+    ensures allowed { is_some result ≡ is_label (named_label field.now) }
+    ensures label { IfSome result (λ label. label ≡ named_label field.now) }
+{
+    if field.is_empty() {
+        Some(Label::default_label())
+    } else {
+        Label::from_bytes(field)
+    }
+}

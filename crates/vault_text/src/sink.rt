@@ -1,0 +1,88 @@
+//! Where output goes.
+ghost use Rattle.std.specs.Prelude.{◌≡◌, ℕ, ◌-◌, ◌^◌, ◌<◌, ◌≤◌, ◌++◌, List, [], IsErr, IfOk, OnOk, OnErr, length, take};
+ghost use Rattle.vault_text.specs.Failures.{CountsFailure};
+ghost use Rattle.vault_text.specs.Sink.{taken};
+
+mod memory;
+mod write;
+
+use thiserror::Error;
+
+pub use memory::MemSink;
+pub use write::WriteSink;
+
+/// A sink could not be opened, written or flushed.
+#[derive(Clone, Copy, Debug, PartialEq, Eq, Error)]
+#[error("the sink cannot be written")]
+pub struct SinkFailed;
+
+/// How far the use of a sink has come.
+#[derive(Clone, Copy, Debug, PartialEq, Eq)]
+pub enum Stage {
+    Unbegun,
+    Begun,
+    Finished,
+}
+
+/// A destination of bytes that is opened before the first and flushed after the last.
+pub trait Sink {
+    ghost use Rattle.vault_text.specs.declared.sink.Stage.{Stage};
+
+    // The bytes taken between two states.
+    ghost takes: { Self → List ℕ → Self → Type 0 };
+
+    ghost stage: { Self → Stage };
+
+    // How many calls failed; it stops at the last number of 64 bits.
+    ghost failures: { Self → ℕ };
+
+    /// Opens the sink.
+    fn begin(&mut self) -> Result<(), SinkFailed>
+        requires { stage self.old ≡ Stage.Unbegun }
+        ensures takes { takes self.old [] self.new }
+        ensures begun { OnOk result (stage self.new ≡ Stage.Begun) }
+        ensures unbegun { OnErr result (stage self.new ≡ Stage.Unbegun) }
+        ensures failed { CountsFailure (failures self.old) (failures self.new) result }
+        ensures full { 2 ^ 64 - 1 ≤ failures self.old → IsErr result };
+
+    /// Takes a prefix of `bytes` and answers its length, at least 1. A failed call takes none.
+    fn put(&mut self, bytes: &[u8]) -> Result<usize, SinkFailed>
+        requires begun { stage self.old ≡ Stage.Begun }
+        requires some { 0 < length bytes.now }
+        ensures takes { takes self.old (taken result bytes.now) self.new }
+        ensures progress { IfOk result (λ n. 1 ≤ n) }
+        ensures bound { IfOk result (λ n. n ≤ length bytes.now) }
+        ensures stage { stage self.new ≡ stage self.old }
+        ensures failed { CountsFailure (failures self.old) (failures self.new) result }
+        ensures full { 2 ^ 64 - 1 ≤ failures self.old → IsErr result };
+
+    /// Flushes what was taken.
+    fn finish(&mut self) -> Result<(), SinkFailed>
+        requires { stage self.old ≡ Stage.Begun }
+        ensures takes { takes self.old [] self.new }
+        ensures finished { OnOk result (stage self.new ≡ Stage.Finished) }
+        ensures unfinished { OnErr result (stage self.new ≡ Stage.Begun) }
+        ensures failed { CountsFailure (failures self.old) (failures self.new) result }
+        ensures full { 2 ^ 64 - 1 ≤ failures self.old → IsErr result };
+
+    ghost takes_none: { (s : Self) → takes s [] s };
+
+    ghost takes_more: { (s t u : Self) (xs ys : List ℕ) → takes s xs t → takes t ys u → takes s (xs ++ ys) u };
+
+    ghost failures_stay: { (s t : Self) (xs : List ℕ) → takes s xs t → failures s ≤ failures t };
+}
+
+/// Makes the sink take all of `bytes`; after a failure it has taken a prefix of them.
+pub fn put_all<K: Sink>(sink: &mut K, bytes: &[u8]) -> Result<(), SinkFailed>
+    requires { K.stage sink.old ≡ Stage.Begun }
+    ensures takes { OnOk result (K.takes sink.old bytes.now sink.new) }
+    ensures prefix { (n : ℕ) × K.takes sink.old (take n bytes.now) sink.new }
+    ensures stage { K.stage sink.new ≡ Stage.Begun }
+    ensures failed { CountsFailure (K.failures sink.old) (K.failures sink.new) result }
+{
+    let mut done = 0;
+    while done < bytes.len() {
+        done += sink.put(&bytes[done..])?;
+    }
+    Ok(())
+}

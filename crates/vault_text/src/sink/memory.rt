@@ -1,0 +1,130 @@
+ghost use Rattle.std.specs.Prelude.{◌≡◌, ℕ, ◌-◌, ◌^◌, ◌<◌, ◌≤◌, [], IsErr, IfOk, OnOk, OnErr, length, take, min};
+ghost use Rattle.vault_text.specs.Failures.{CountsFailure};
+ghost use Rattle.vault_text.specs.Sink.{taken, has_begun};
+
+use super::{Sink, SinkFailed, Stage};
+use std::alloc::Global;
+use std::marker::Model;
+
+/// A sink that keeps what it took in memory. A growth that is refused counts as a failure, and
+/// takes nothing.
+#[derive(Drop)]
+pub struct MemSink {
+    bytes: Vec<u8>,
+    step: usize,
+    stage: Stage,
+    failures: u64,
+}
+
+impl Model for MemSink {
+    ghost use Rattle.std.specs.Prelude.{◌≤◌};
+    ghost use Rattle.vault_text.specs.Sink.{MemoryState};
+
+    ghost Value = { MemoryState };
+
+    ghost view = { λ s. record { held = s.bytes.items; stage = s.stage; failures = s.failures; step = s.step } };
+
+    ghost invariant = { λ s. 1 ≤ s.step };
+}
+
+impl MemSink {
+    /// Takes at most `step` bytes per call.
+    pub fn new(alloc: Global, step: usize) -> Self
+        requires { 1 ≤ step }
+        ensures { result ≡ record { held = []; stage = Stage.Unbegun; failures = 0; step = step } }
+    {
+        MemSink {
+            bytes: Vec::new(alloc),
+            step,
+            stage: Stage::Unbegun,
+            failures: 0,
+        }
+    }
+
+    /// The bytes taken so far.
+    pub fn bytes(&self) -> &[u8]
+        ensures { result.now ≡ self.now.held }
+    {
+        self.bytes.as_slice()
+    }
+
+    /// Whether `begin` has answered `Ok`.
+    pub fn begun(&self) -> bool
+        ensures { result ≡ has_begun self.now.stage }
+    {
+        !matches!(self.stage, Stage::Unbegun)
+    }
+}
+
+impl Sink for MemSink {
+    ghost use Rattle.std.specs.Prelude.{◌≡◌, refl};
+    ghost use Rattle.std.proofs.Common.{◌∙◌};
+    ghost use Rattle.vault_text.specs.Sink.{Takes, state_of};
+    ghost use Rattle.vault_text.specs.SinkLaws.{Takes-none, Takes-more};
+
+    ghost takes = { λ s xs t. Takes (state_of s) xs (state_of t) × (t.step ≡ s.step) };
+
+    ghost stage = { λ s. s.stage };
+
+    ghost failures = { λ s. s.failures };
+
+    ghost takes_none = { λ s. (Takes-none (state_of s), refl) };
+
+    ghost takes_more = { λ s t u xs ys g h. (Takes-more (state_of s) (state_of t) (state_of u) xs ys g.0 h.0, h.1 ∙ g.1) };
+
+    ghost failures_stay = { λ s t xs g. g.0.failures_stay };
+
+    fn begin(&mut self) -> Result<(), SinkFailed>
+        requires { self.old.stage ≡ Stage.Unbegun }
+        ensures takes { Takes (state_of self.old) [] (state_of self.new) × (self.new.step ≡ self.old.step) }
+        ensures begun { OnOk result (self.new.stage ≡ Stage.Begun) }
+        ensures unbegun { OnErr result (self.new.stage ≡ Stage.Unbegun) }
+        ensures failed { CountsFailure self.old.failures self.new.failures result }
+        ensures full { 2 ^ 64 - 1 ≤ self.old.failures → IsErr result }
+        ensures only_full { OnErr result (2 ^ 64 - 1 ≤ self.old.failures) }
+    {
+        if self.failures == u64::MAX {
+            return Err(SinkFailed);
+        }
+        self.stage = Stage::Begun;
+        Ok(())
+    }
+
+    fn put(&mut self, bytes: &[u8]) -> Result<usize, SinkFailed>
+        requires begun { self.old.stage ≡ Stage.Begun }
+        requires some { 0 < length bytes.now }
+        ensures takes { Takes (state_of self.old) (taken result bytes.now) (state_of self.new) × (self.new.step ≡ self.old.step) }
+        ensures count { IfOk result (λ n. n ≡ min (length bytes.now) self.old.step) }
+        ensures progress { IfOk result (λ n. 1 ≤ n) }
+        ensures bound { IfOk result (λ n. n ≤ length bytes.now) }
+        ensures stage { self.new.stage ≡ self.old.stage }
+        ensures failed { CountsFailure self.old.failures self.new.failures result }
+        ensures full { 2 ^ 64 - 1 ≤ self.old.failures → IsErr result }
+    {
+        if self.failures == u64::MAX {
+            return Err(SinkFailed);
+        }
+        let n = bytes.len().min(self.step);
+        if self.bytes.extend_from_slice(&bytes[..n]).is_err() {
+            self.failures += 1;
+            return Err(SinkFailed);
+        }
+        Ok(n)
+    }
+
+    fn finish(&mut self) -> Result<(), SinkFailed>
+        requires { self.old.stage ≡ Stage.Begun }
+        ensures takes { Takes (state_of self.old) [] (state_of self.new) × (self.new.step ≡ self.old.step) }
+        ensures finished { OnOk result (self.new.stage ≡ Stage.Finished) }
+        ensures unfinished { OnErr result (self.new.stage ≡ Stage.Begun) }
+        ensures failed { CountsFailure self.old.failures self.new.failures result }
+        ensures full { 2 ^ 64 - 1 ≤ self.old.failures → IsErr result }
+        ensures only_full { OnErr result (2 ^ 64 - 1 ≤ self.old.failures) }
+    {
+        if self.failures == u64::MAX {
+            return Err(SinkFailed);
+        }
+        self.stage = Stage::Finished;
+        Ok(())
+    }
+}

@@ -1,0 +1,94 @@
+ghost use Rattle.std.specs.Prelude.{◌≡◌, ℕ, ◌-◌, ◌^◌, ◌<◌, ◌≤◌, IsErr, IfOk, OnOk, OnErr, length, take};
+ghost use Rattle.vault_text.specs.Failures.{CountsFailure};
+ghost use Rattle.vault_text.specs.Sink.{taken};
+
+use super::{Sink, SinkFailed, Stage};
+use std::io::Write;
+use std::marker::Model;
+
+/// A sink over a writer. Every error of the writer is a failure, and so is a write that takes
+/// nothing. `finish` flushes the writer.
+#[derive(Drop)]
+pub struct WriteSink<W: Write> {
+    writer: W,
+    stage: Stage,
+    failures: u64,
+}
+
+impl<W: Write> Model for WriteSink<W> {
+    ghost use Rattle.vault_text.specs.Sink.{SinkState};
+
+    ghost Value = { SinkState };
+
+    ghost view = { λ s. record { held = W.contents s.writer; stage = s.stage; failures = s.failures } };
+}
+
+impl<W: Write> WriteSink<W> {
+    pub fn new(writer: W) -> Self
+        ensures { result ≡ record { held = W.contents writer; stage = Stage.Unbegun; failures = 0 } }
+    {
+        WriteSink {
+            writer,
+            stage: Stage::Unbegun,
+            failures: 0,
+        }
+    }
+
+    /// The writer, with what it holds by now.
+    pub fn into_inner(self) -> W
+        ensures { W.contents result ≡ self.held }
+    {
+        let WriteSink { writer, .. } = self;
+        writer
+    }
+}
+
+impl<W: Write> Sink for WriteSink<W> {
+    ghost use Rattle.vault_text.specs.Sink.{Takes};
+    ghost use Rattle.vault_text.specs.SinkLaws.{Takes-none, Takes-more};
+
+    ghost takes = { Takes };
+
+    ghost stage = { λ s. s.stage };
+
+    ghost failures = { λ s. s.failures };
+
+    ghost takes_none = { Takes-none };
+
+    ghost takes_more = { Takes-more };
+
+    ghost failures_stay = { λ s t xs g. g.failures_stay };
+
+    fn begin(&mut self) -> Result<(), SinkFailed> {
+        if self.failures == u64::MAX {
+            return Err(SinkFailed);
+        }
+        self.stage = Stage::Begun;
+        Ok(())
+    }
+
+    fn put(&mut self, bytes: &[u8]) -> Result<usize, SinkFailed> {
+        if self.failures == u64::MAX {
+            return Err(SinkFailed);
+        }
+        match self.writer.write(bytes) {
+            Ok(n) if n > 0 => Ok(n),
+            _ => {
+                self.failures += 1;
+                Err(SinkFailed)
+            }
+        }
+    }
+
+    fn finish(&mut self) -> Result<(), SinkFailed> {
+        if self.failures == u64::MAX {
+            return Err(SinkFailed);
+        }
+        if self.writer.flush().is_err() {
+            self.failures += 1;
+            return Err(SinkFailed);
+        }
+        self.stage = Stage::Finished;
+        Ok(())
+    }
+}

@@ -1,0 +1,67 @@
+//! Where input comes from.
+ghost use Rattle.std.specs.Prelude.{◌≡◌, ℕ, ◌-◌, ◌^◌, ◌<◌, ◌≤◌, ◌↔◌, ◌++◌, List, [], Bool, IsTrue, IsErr, IfOk, OnOk, length, take};
+ghost use Rattle.vault_text.specs.Failures.{CountsFailure};
+ghost use Rattle.vault_text.specs.Source.{given};
+
+mod memory;
+mod read;
+
+use thiserror::Error;
+
+pub use memory::MemSource;
+pub use read::ReadSource;
+
+/// A source could not be read.
+#[derive(Clone, Copy, Debug, PartialEq, Eq, Error)]
+#[error("the source cannot be read")]
+pub struct SourceFailed;
+
+/// A stream of bytes that ends, fails, or goes on forever.
+pub trait Source {
+    // The bytes given between two states.
+    ghost gives: { Self → List ℕ → Self → Type 0 };
+
+    // Whether the end was told.
+    ghost ended: { Self → Bool };
+
+    // How many calls failed; it stops at the last number of 64 bits.
+    ghost failures: { Self → ℕ };
+
+    /// Gives the next bytes at the front of `buf` and answers how many: 0 means the end, after
+    /// which each call answers 0 or fails. A failed call gives none.
+    fn fill(&mut self, buf: &mut [u8]) -> Result<usize, SourceFailed>
+        requires { 0 < length buf.old }
+        ensures gives { gives self.old (given result buf.new) self.new }
+        ensures bound { IfOk result (λ n. n ≤ length buf.new) }
+        ensures end { IfOk result (λ n. (n ≡ 0) ↔ IsTrue (ended self.new)) }
+        ensures failed { CountsFailure (failures self.old) (failures self.new) result }
+        ensures full { 2 ^ 64 - 1 ≤ failures self.old → IsErr result };
+
+    ghost gives_none: { (s : Self) → gives s [] s };
+
+    ghost gives_more: { (s t u : Self) (xs ys : List ℕ) → gives s xs t → gives t ys u → gives s (xs ++ ys) u };
+
+    ghost nothing_after_end: { (s t : Self) (xs : List ℕ) → gives s xs t → IsTrue (ended s) → (xs ≡ []) × IsTrue (ended t) };
+
+    ghost failures_stay: { (s t : Self) (xs : List ℕ) → gives s xs t → failures s ≤ failures t };
+}
+
+/// Reads until the end or until `buf` is full, and answers how many bytes stand at its front. An
+/// empty `buf` asks nothing. After a failure `buf` holds any bytes.
+pub fn fill_up<S: Source>(source: &mut S, buf: &mut [u8]) -> Result<usize, SourceFailed>
+    ensures gives { IfOk result (λ n. S.gives source.old (take n buf.new) source.new) }
+    ensures some { (xs : List ℕ) × (length xs ≤ length buf.new) × S.gives source.old xs source.new }
+    ensures bound { IfOk result (λ n. n ≤ length buf.new) }
+    ensures short { IfOk result (λ n. n < length buf.new → IsTrue (S.ended source.new)) }
+    ensures failed { CountsFailure (S.failures source.old) (S.failures source.new) result }
+{
+    let mut filled = 0;
+    while filled < buf.len() {
+        let n = source.fill(&mut buf[filled..])?;
+        if n == 0 {
+            break;
+        }
+        filled += n;
+    }
+    Ok(filled)
+}

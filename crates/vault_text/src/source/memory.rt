@@ -1,0 +1,77 @@
+ghost use Rattle.std.specs.Prelude.{◌≡◌, ℕ, ◌-◌, ◌^◌, ◌<◌, ◌≤◌, ◌↔◌, IsTrue, IsErr, IfOk, false, length, take, min};
+ghost use Rattle.vault_text.specs.Failures.{CountsFailure};
+ghost use Rattle.vault_text.specs.Source.{given};
+
+use super::{Source, SourceFailed};
+use std::marker::Model;
+
+/// A source over bytes in memory. It never fails.
+#[derive(Drop)]
+pub struct MemSource<'a> {
+    left: &'a [u8],
+    ended: bool,
+    step: usize,
+}
+
+impl<'a> Model for MemSource<'a> {
+    ghost use Rattle.std.specs.Prelude.{◌≡◌, ◌≤◌, [], IsTrue};
+    ghost use Rattle.vault_text.specs.Source.{MemoryState};
+
+    ghost Value = { MemoryState };
+
+    ghost view = { λ s. record { left = s.left.now; ended = s.ended; step = s.step } };
+
+    ghost invariant = { λ s. (1 ≤ s.step) × (IsTrue s.ended → s.left.now ≡ []) };
+}
+
+impl<'a> MemSource<'a> {
+    /// Gives at most `step` bytes per call.
+    pub fn new(bytes: &'a [u8], step: usize) -> Self
+        requires { 1 ≤ step }
+        ensures { result ≡ record { left = bytes.now; ended = false; step = step } }
+    {
+        MemSource {
+            left: bytes,
+            ended: false,
+            step,
+        }
+    }
+}
+
+impl<'a> Source for MemSource<'a> {
+    ghost use Rattle.std.specs.Prelude.{◌≡◌, refl};
+    ghost use Rattle.std.proofs.Common.{◌∙◌};
+    ghost use Rattle.vault_text.specs.Source.{Gives, state_of};
+    ghost use Rattle.vault_text.specs.SourceLaws.{Gives-none, Gives-more};
+
+    ghost gives = { λ s xs t. Gives (state_of s) xs (state_of t) × (t.step ≡ s.step) };
+
+    ghost ended = { λ s. s.ended };
+
+    ghost failures = { λ _. 0 };
+
+    ghost gives_none = { λ s. (Gives-none (state_of s), refl) };
+
+    ghost gives_more = { λ s t u xs ys g h. (Gives-more (state_of s) (state_of t) (state_of u) xs ys g.0 h.0, h.1 ∙ g.1) };
+
+    ghost nothing_after_end = { λ s t xs g. g.0.nothing_after_end };
+
+    ghost failures_stay = { λ s t xs g. g.0.failures_stay };
+
+    fn fill(&mut self, buf: &mut [u8]) -> Result<usize, SourceFailed>
+        requires { 0 < length buf.old }
+        ensures gives { Gives (state_of self.old) (given result buf.new) (state_of self.new) × (self.new.step ≡ self.old.step) }
+        ensures count { result ≡ Ok (min (min (length buf.new) self.old.step) (length self.old.left)) }
+        ensures bound { IfOk result (λ n. n ≤ length buf.new) }
+        ensures end { IfOk result (λ n. (n ≡ 0) ↔ IsTrue self.new.ended) }
+        ensures failed { CountsFailure 0 0 result }
+        ensures full { 2 ^ 64 - 1 ≤ 0 → IsErr result }
+    {
+        let n = buf.len().min(self.step).min(self.left.len());
+        let (front, rest) = self.left.split_at(n);
+        buf[..n].copy_from_slice(front);
+        self.left = rest;
+        self.ended = n == 0;
+        Ok(n)
+    }
+}

@@ -1,0 +1,74 @@
+ghost use Rattle.std.specs.Prelude.{◌≡◌, ℕ, ◌-◌, ◌^◌, ◌<◌, ◌≤◌, ◌↔◌, IsTrue, IsErr, IfOk, false, length, take};
+ghost use Rattle.vault_text.specs.Failures.{CountsFailure};
+ghost use Rattle.vault_text.specs.Source.{given};
+
+use super::{Source, SourceFailed};
+use std::io::Read;
+use std::marker::Model;
+
+/// A source over a reader. Every error of the reader is a failure, an interruption too; after the
+/// reader's first `Ok(0)` it is not asked again.
+#[derive(Drop)]
+pub struct ReadSource<R: Read> {
+    reader: R,
+    ended: bool,
+    failures: u64,
+}
+
+impl<R: Read> Model for ReadSource<R> {
+    ghost use Rattle.vault_text.specs.Source.{SourceState};
+
+    ghost Value = { SourceState };
+
+    ghost view = { λ s. record { left = R.remaining s.reader; ended = s.ended; failures = s.failures } };
+}
+
+impl<R: Read> ReadSource<R> {
+    pub fn new(reader: R) -> Self
+        ensures { result ≡ record { left = R.remaining reader; ended = false; failures = 0 } }
+    {
+        ReadSource {
+            reader,
+            ended: false,
+            failures: 0,
+        }
+    }
+}
+
+impl<R: Read> Source for ReadSource<R> {
+    ghost use Rattle.vault_text.specs.Source.{Gives};
+    ghost use Rattle.vault_text.specs.SourceLaws.{Gives-none, Gives-more};
+
+    ghost gives = { Gives };
+
+    ghost ended = { λ s. s.ended };
+
+    ghost failures = { λ s. s.failures };
+
+    ghost gives_none = { Gives-none };
+
+    ghost gives_more = { Gives-more };
+
+    ghost nothing_after_end = { λ s t xs g. g.nothing_after_end };
+
+    ghost failures_stay = { λ s t xs g. g.failures_stay };
+
+    fn fill(&mut self, buf: &mut [u8]) -> Result<usize, SourceFailed> {
+        if self.failures == u64::MAX {
+            return Err(SourceFailed);
+        }
+        if self.ended {
+            return Ok(0);
+        }
+        match self.reader.read(buf) {
+            Ok(n) => {
+                self.ended = n == 0;
+                Ok(n)
+            }
+            Err(_) => {
+                self.failures += 1;
+                Err(SourceFailed)
+            }
+        }
+    }
+}
