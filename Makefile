@@ -1,0 +1,29 @@
+PREFIX ?= /usr/local
+DESTDIR ?=
+
+.PHONY: all check test bench install clean
+
+# Proves the program and the crates that it stands on, and builds it.
+all:
+	@mkdir -p bin
+	@cd crates/ansible_vault && rt run ansible_vault -- --version > ../../bin/build.log 2>&1 \
+		|| { cat ../../bin/build.log; exit 1; }
+	@cp crates/ansible_vault/out/ansible_vault bin/ansible-vault
+
+# The gate, and then every test of the program that was built.
+check:
+	rt ci
+	@$(MAKE) --no-print-directory test
+
+test: all
+	tests/end_to_end.py bin/ansible-vault
+
+bench: all
+	bench/view.py bin/ansible-vault
+
+install: all
+	install -d $(DESTDIR)$(PREFIX)/bin
+	install -m 0755 bin/ansible-vault $(DESTDIR)$(PREFIX)/bin/ansible-vault
+
+clean:
+	rm -rf bin crates/*/out

@@ -1,0 +1,27 @@
+//! `ansible-vault`: `drive` over the arguments and the standard streams.
+#![tactic(auto)]
+
+use std::env;
+use std::env::Env;
+use std::io;
+use std::process::ExitCode;
+use vault_cli::{drive, reject_words};
+
+fn words(rt: &(impl Env + AllocGlobal)) -> io::Result<Vec<String>> {
+    Ok(env::args(rt)?.collect(rt.alloc())?)
+}
+
+fn main(rt: HostRuntime) -> ExitCode {
+    let status = match words(&rt) {
+        Ok(words) => drive(
+            &rt,
+            rt.alloc(),
+            words.as_slice(),
+            &mut rt.stdin(),
+            &mut rt.stdout(),
+            &mut rt.stderr(),
+        ),
+        Err(error) => reject_words(&error, &mut rt.stderr()),
+    };
+    ExitCode::from(status.code())
+}

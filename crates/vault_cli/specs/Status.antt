@@ -1,0 +1,11 @@
+-- The exit statuses.
+use Rattle.std.specs.Prelude.{ℕ}
+use Rattle.vault_cli.specs.declared.status.Status.{Status}
+use Rattle.vault_cli.specs.declared.status.Status.TheVariants.{Success, Refused, ParseFault, DeviceFailed, OutOfMemory}
+
+abbrev pub code_of : Status → ℕ
+code_of Success = 0
+code_of Refused = 1
+code_of ParseFault = 2
+code_of DeviceFailed = 3
+code_of OutOfMemory = 4

@@ -1,0 +1,32 @@
+//! How a run ends.
+ghost use Rattle.std.specs.Prelude.{◌≡◌};
+ghost use Rattle.vault_cli.specs.Status.{code_of};
+
+/// How a run ends, as the exit status of the program says.
+#[derive(Clone, Copy, Debug, PartialEq, Eq)]
+pub enum Status {
+    /// The output is whole.
+    Success,
+    /// The input, a secret or an option was refused.
+    Refused,
+    /// The words of the command line are no command.
+    ParseFault,
+    /// A file, a source or a sink failed.
+    DeviceFailed,
+    OutOfMemory,
+}
+
+impl Status {
+    /// The exit status, 0 to 4.
+    pub fn code(self) -> u8
+        ensures { result ≡ code_of self }
+    {
+        match self {
+            Status::Success => 0,
+            Status::Refused => 1,
+            Status::ParseFault => 2,
+            Status::DeviceFailed => 3,
+            Status::OutOfMemory => 4,
+        }
+    }
+}
