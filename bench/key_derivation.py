@@ -1,0 +1,82 @@
+#!/usr/bin/env python3
+"""Times the derivation of a vault's keys: ten thousand rounds of PBKDF2 into 80 bytes.
+
+Beside it stand 60,000 compressions by the kit's `sha2`, which is what these rounds cost, and
+OpenSSL's PBKDF2, called through `hashlib`. All are taken in turn in one run, and of each the best
+time counts.
+"""
+
+import hashlib
+import os
+import ssl
+import subprocess
+import time
+from pathlib import Path
+
+CRATE = Path(__file__).resolve().parent.parent / "crates" / "bench_key_derivation"
+PROGRAM = CRATE / "out" / "bench_key_derivation"
+PASSWORD = b"password"
+SALT = bytes(32)
+REPEATS = 20
+RUNS = 7
+TARGET = 1.2
+
+
+def build():
+    """Builds the program, and shows that it derives what OpenSSL does."""
+    rt = os.environ.get("RT", "rt")
+    command = [rt, "run", "--", "derive", "1"]
+    run = subprocess.run(command, cwd=CRATE, stdout=subprocess.PIPE, stderr=subprocess.PIPE, text=True)
+    if run.returncode != 0:
+        raise SystemExit(run.stderr)
+    if run.stdout.strip() != str(list(openssl()[:32])):
+        raise SystemExit("the program and OpenSSL derive different keys")
+
+
+def openssl():
+    return hashlib.pbkdf2_hmac("sha256", PASSWORD, SALT, 10_000, 80)
+
+
+def program(work):
+    subprocess.run([PROGRAM, work, str(REPEATS)], stdout=subprocess.DEVNULL, check=True)
+
+
+def repeated_openssl():
+    for _ in range(REPEATS):
+        openssl()
+
+
+def milliseconds(work):
+    """The time that one of the repeats takes."""
+    start = time.perf_counter()
+    work()
+    return (time.perf_counter() - start) * 1000 / REPEATS
+
+
+def main():
+    build()
+    works = {
+        "derivation": lambda: program("derive"),
+        "compressions": lambda: program("compressions"),
+        "openssl": repeated_openssl,
+    }
+    best = dict.fromkeys(works, float("inf"))
+    for _ in range(RUNS):
+        for name, work in works.items():
+            best[name] = min(best[name], milliseconds(work))
+    derivation = best["derivation"]
+    to_compressions = derivation / best["compressions"]
+    to_openssl = derivation / best["openssl"]
+    print(f"key derivation, 10,000 rounds into 80 bytes: {derivation:.2f} ms")
+    print(
+        f"60,000 compressions by sha2: {best['compressions']:.2f} ms;"
+        f" the derivation takes {to_compressions:.2f} times as long (target: at most {TARGET})"
+    )
+    print(
+        f"PBKDF2 of {ssl.OPENSSL_VERSION}: {best['openssl']:.2f} ms;"
+        f" the derivation takes {to_openssl:.2f} times as long"
+    )
+
+
+if __name__ == "__main__":
+    main()

@@ -1,0 +1,4 @@
+pub mod ExclusiveOr
+pub mod Hmac
+pub mod Derivation
+pub mod Keys

@@ -1,0 +1,43 @@
+ghost use Rattle.std.specs.Prelude.{◌≡◌, ℕ, List, [], ◌≤◌, length};
+ghost use Rattle.vault_kdf.specs.Derivation.{block, pbkdf2};
+ghost use Rattle.vault_kdf.specs.Hmac.{StandsFor};
+
+use crate::exclusive_or::exclusive_or;
+use crate::keyed_hash::{DIGEST_LEN, Hmac};
+
+// The block of this index, counted from 1. `keyed` holds the password and no message, and each
+// iterate goes on from a copy of it, so that the password's two blocks are hashed only once.
+fn block(keyed: &Hmac, salt: &[u8], rounds: u32, index: u32) -> [u8; DIGEST_LEN]
+    requires { 1 ≤ rounds }
+    ensures { (password : List ℕ) → StandsFor keyed.now password []
+        → result ≡ block password salt.now rounds index }
+{
+    let mut first = keyed.clone().unwrap();
+    first.update(salt);
+    first.update(&index.to_be_bytes());
+    let mut iterate = first.finish();
+    let mut sum = iterate;
+    for _ in 1..rounds {
+        let mut next = keyed.clone().unwrap();
+        next.update(&iterate);
+        iterate = next.finish();
+        sum = exclusive_or(&sum, &iterate);
+    }
+    sum
+}
+
+/// Fills `out` with the key that PBKDF2 with HMAC-SHA-256 derives (RFC 8018, section 5.2). It may
+/// have any length up to the limit, and a last block is cut where it ends.
+pub fn pbkdf2(password: &[u8], salt: &[u8], rounds: u32, out: &mut [u8])
+    requires rounds { 1 ≤ rounds }
+    requires length { length out.old ≤ 1024 }
+    ensures { out.new ≡ pbkdf2 password.now salt.now rounds (length out.old) }
+{
+    let keyed = Hmac::new(password);
+    for i in 0..out.len().div_ceil(DIGEST_LEN) {
+        let start = i * DIGEST_LEN;
+        let end = out.len().min(start + DIGEST_LEN);
+        let bytes = block(&keyed, salt, rounds, i as u32 + 1);
+        out[start..end].copy_from_slice(&bytes[..end - start]);
+    }
+}

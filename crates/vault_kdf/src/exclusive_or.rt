@@ -1,0 +1,12 @@
+ghost use Rattle.std.specs.Prelude.{◌≡◌};
+ghost use Rattle.vault_kdf.specs.ExclusiveOr.{exclusive_or};
+
+pub fn exclusive_or<const N: usize>(a: &[u8; N], b: &[u8; N]) -> [u8; N]
+    ensures { result ≡ exclusive_or a.now b.now }
+{
+    let mut bytes = *a;
+    for (i, byte) in bytes.iter_mut().enumerate() {
+        *byte ^= b[i];
+    }
+    bytes
+}

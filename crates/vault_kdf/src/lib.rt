@@ -1,0 +1,18 @@
+//! The keys of a vault: HMAC with SHA-256 (RFC 2104), PBKDF2 over it (RFC 8018), and the three keys
+//! that a vault's password and salt give.
+#![tactic(auto)]
+
+mod derivation;
+mod exclusive_or;
+mod keyed_hash;
+mod keys;
+mod meter;
+mod tag;
+#[cfg(test)]
+mod tests;
+
+pub use derivation::pbkdf2;
+pub use keyed_hash::Hmac;
+pub use keys::{Keys, derive};
+pub use meter::Meter;
+pub use tag::hmac;

@@ -1,0 +1,13 @@
+ghost use Rattle.std.specs.Prelude.{◌≡◌};
+ghost use Rattle.vault_kdf.specs.Hmac.{hmac};
+
+use crate::keyed_hash::Hmac;
+
+/// The HMAC-SHA-256 tag of a whole message (RFC 2104), under a key of any length.
+pub fn hmac(key: &[u8], message: &[u8]) -> [u8; 32]
+    ensures { result ≡ hmac key.now message.now }
+{
+    let mut state = Hmac::new(key);
+    state.update(message);
+    state.finish()
+}
