@@ -1,0 +1,86 @@
+#!/usr/bin/env python3
+"""Times counter mode over 16 MiB: this repository's, plain C by tables, and OpenSSL's.
+
+It builds the program crate bench_counter_mode, which proves it first, and compiles counter_mode.c.
+A run over one pass is taken from a run over several, so that start-up and memory drop out, and of
+several rounds the best counts.
+"""
+
+import os
+import pathlib
+import re
+import shutil
+import subprocess
+import tempfile
+import time
+
+HERE = pathlib.Path(__file__).resolve().parent
+CRATE = HERE.parent / "crates" / "bench_counter_mode"
+PROGRAM = CRATE / "out" / "bench_counter_mode"
+LENGTH = 16 * 1024 * 1024
+ROUNDS = 15
+# What OPENSSL_ia32cap takes to hide AES-NI and the vector instructions that replace it.
+NO_AES = "~0x200000200000000"
+
+
+def best_seconds(commands):
+    """The least time of one pass of each command, by rounds that take turns."""
+    times = {}
+    for _ in range(ROUNDS):
+        for name, program in commands.items():
+            for passes in (1, 2):
+                begin = time.perf_counter()
+                subprocess.run([program, str(LENGTH), str(passes)], check=True, stdout=subprocess.DEVNULL)
+                taken = time.perf_counter() - begin
+                key = name, passes
+                times[key] = min(times.get(key, taken), taken)
+    return {name: times[name, 2] - times[name, 1] for name in commands}
+
+
+def last_block(program):
+    """What a program prints of one pass over the length and three bytes."""
+    run = subprocess.run([program, str(LENGTH + 3), "1"], check=True, capture_output=True, text=True)
+    return run.stdout
+
+
+def openssl_speed(environment):
+    """OpenSSL's own figure for pieces of 16 KiB, in MB/s, or None."""
+    command = ["openssl", "speed", "-seconds", "1", "-bytes", "16384", "-evp", "aes-256-ctr"]
+    run = subprocess.run(command, env={**os.environ, **environment}, capture_output=True, text=True)
+    found = re.search(r"^aes-256-ctr\s+([0-9.]+)k", run.stdout, re.IGNORECASE | re.MULTILINE)
+    return float(found.group(1)) / 1000 if found else None
+
+
+def main():
+    built = subprocess.run(["rt", "run", "--", "48", "1"], cwd=CRATE, capture_output=True, text=True)
+    if built.returncode != 0:
+        raise SystemExit(built.stdout + built.stderr)
+    compiler = shutil.which("clang") or shutil.which("cc")
+    with tempfile.TemporaryDirectory() as folder:
+        commands = {"this repository": str(PROGRAM)}
+        if compiler:
+            baseline = str(pathlib.Path(folder) / "counter_mode")
+            subprocess.run([compiler, "-O2", "-o", baseline, HERE / "counter_mode.c"], check=True)
+            commands["C tables"] = baseline
+            if last_block(baseline) != last_block(str(PROGRAM)):
+                raise SystemExit("counter mode: the C program gives other bytes")
+        seconds = best_seconds(commands)
+    speeds = {name: LENGTH / 1e6 / taken for name, taken in seconds.items()}
+    if not compiler:
+        print("C tables: no C compiler is installed")
+    if shutil.which("openssl"):
+        speeds["OpenSSL without AES instructions"] = openssl_speed({"OPENSSL_ia32cap": NO_AES})
+        speeds["OpenSSL"] = openssl_speed({})
+    else:
+        print("OpenSSL: not installed")
+    print("AES-256 in counter mode over 16 MiB:")
+    ours = speeds["this repository"]
+    for name, speed in speeds.items():
+        if speed is None:
+            print(f"  {name:<34} no figure")
+        else:
+            print(f"  {name:<34}{speed:8.0f} MB/s  {speed / ours:6.2f} of this repository's")
+
+
+if __name__ == "__main__":
+    main()

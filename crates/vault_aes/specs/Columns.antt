@@ -1,0 +1,33 @@
+-- The state as the code holds it: four words, each a column with its byte of row 0 the highest.
+use Rattle.std.specs.Prelude.{ℕ, List, [], ◌∷◌, ◌++◌, bit_xor, slice_index}
+use Rattle.std.specs.Int.{w32, to_be_bytes}
+use Rattle.vault_aes.specs.Field.{mul}
+use Rattle.vault_aes.specs.SubstitutionBox.{s_box}
+use Rattle.vault_aes.specs.Cipher.{column, entry, mixing_matrix, product_entry, word_byte}
+
+-- the state whose columns are these four words
+abbrev pub state_of : List ℕ → List ℕ
+state_of columns =
+    to_be_bytes w32 (slice_index columns 0) ++ to_be_bytes w32 (slice_index columns 1)
+    ++ to_be_bytes w32 (slice_index columns 2) ++ to_be_bytes w32 (slice_index columns 3)
+
+-- the part of a column that MixColumns makes of S of the byte x in row k
+abbrev pub mixed_column : ℕ → ℕ → List ℕ
+mixed_column x k = column (λ r c. mul (entry mixing_matrix r k) (s_box x)) 0
+
+-- a column with a word of the key schedule added
+abbrev pub keyed_column : (ℕ → ℕ → ℕ) → ℕ → List ℕ
+keyed_column entry_at key = column (λ r c. bit_xor (entry_at r c) (word_byte key r)) 0
+
+-- the column a, b, c, d after S of each byte
+abbrev pub substituted_column : ℕ → ℕ → ℕ → ℕ → List ℕ
+substituted_column a b c d = s_box a ∷ s_box b ∷ s_box c ∷ s_box d ∷ []
+
+-- the column a, b, c, d after a round, from the bytes that ShiftRows brings together
+abbrev pub round_column : ℕ → ℕ → ℕ → ℕ → ℕ → List ℕ
+round_column a b c d key =
+    keyed_column (product_entry mixing_matrix (substituted_column a b c d)) key
+
+-- the same for the last round, which does not mix
+abbrev pub final_column : ℕ → ℕ → ℕ → ℕ → ℕ → List ℕ
+final_column a b c d key = keyed_column (λ r c'. slice_index (substituted_column a b c d) r) key

@@ -1,0 +1,7 @@
+pub mod Field
+pub mod SubstitutionBox
+pub mod Cipher
+pub mod Columns
+pub mod KeyExpansion
+pub mod CounterMode
+pub mod Padding

@@ -1,0 +1,45 @@
+ghost use Rattle.std.specs.Prelude.{◌≡◌};
+ghost use Rattle.vault_aes.specs.Cipher.{cipher};
+ghost use Rattle.vault_aes.specs.KeyExpansion.{key_schedule};
+
+use crate::key_expansion::expanded;
+use crate::rounds::{Words, add_round_key, bytes_of, columns_of, final_round, four_rounds, round};
+use std::marker::Model;
+
+/// A key of 32 bytes, prepared for the cipher: clauses see it as the 60 words of its key schedule.
+#[derive(Drop)]
+pub struct Key {
+    words: Words,
+}
+
+impl Model for Key {
+    ghost use Rattle.std.specs.Prelude.{ℕ, List};
+
+    ghost Value = { List ℕ };
+
+    ghost view = { λ key. key.words };
+}
+
+impl Key {
+    /// The key expansion (FIPS 197, 5.2).
+    pub fn new(key: &[u8; 32]) -> Key
+        ensures { result ≡ key_schedule key.now }
+    {
+        Key {
+            words: expanded(key),
+        }
+    }
+
+    /// The cipher of one block (FIPS 197, 5.1).
+    pub fn block(&self, block: &[u8; 16]) -> [u8; 16]
+        ensures { result ≡ cipher self.now block.now }
+    {
+        let words = &self.words;
+        let state = add_round_key(words, 0, columns_of(block));
+        let state = four_rounds(words, 0, state);
+        let state = four_rounds(words, 4, state);
+        let state = four_rounds(words, 8, state);
+        let state = round(words, 13, state);
+        bytes_of(final_round(words, state))
+    }
+}

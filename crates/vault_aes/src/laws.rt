@@ -1,0 +1,41 @@
+//! Laws of the definitions, each the contract of a function that does nothing, and readers of the
+//! cipher's tables.
+
+ghost use Rattle.std.specs.Prelude.{◌≡◌, ℕ, List, [], ◌∷◌, length};
+ghost use Rattle.vault_aes.specs.CounterMode.{counter_mode};
+ghost use Rattle.vault_aes.specs.Field.{mul};
+ghost use Rattle.vault_aes.specs.Padding.{IsPadded};
+ghost use Rattle.vault_aes.specs.SubstitutionBox.{s_box};
+
+use crate::tables::{first_row_column, substituted};
+
+/// Each list has one padding, and each padded list is that of one list.
+pub fn one_padding()
+    ensures some { (plain : List ℕ) → (padded : List ℕ) × IsPadded plain padded }
+    ensures padded_once { (plain one other : List ℕ)
+        → IsPadded plain one → IsPadded plain other → one ≡ other }
+    ensures plain_once { (one other padded : List ℕ)
+        → IsPadded one padded → IsPadded other padded → one ≡ other }
+{}
+
+/// To encipher twice is to decipher, and the length stays.
+pub fn counter_mode_undoes_itself()
+    ensures twice { (words iv input : List ℕ)
+        → counter_mode words iv (counter_mode words iv input) ≡ input }
+    ensures same_length { (words iv input : List ℕ)
+        → length (counter_mode words iv input) ≡ length input }
+{}
+
+/// The entry at `x` of the table that `Key::block` reads.
+pub fn table_word(x: u8) -> [u8; 4]
+    ensures { result ≡ mul 2 (s_box x) ∷ s_box x ∷ s_box x ∷ mul 3 (s_box x) ∷ [] }
+{
+    first_row_column(x).to_be_bytes()
+}
+
+/// The entry at `x` of the table of S that `Key::new` and the last round of `Key::block` read.
+pub fn table_s(x: u8) -> u8
+    ensures { result ≡ s_box x }
+{
+    substituted(x)
+}
