@@ -5,7 +5,7 @@ use std::env;
 use std::env::Env;
 use std::io;
 use std::process::ExitCode;
-use vault_cli::{drive, reject_words};
+use vault_cli::{HostFiles, drive, reject_words};
 
 fn words(rt: &(impl Env + AllocGlobal)) -> io::Result<Vec<String>> {
     Ok(env::args(rt)?.collect(rt.alloc())?)
@@ -14,7 +14,7 @@ fn words(rt: &(impl Env + AllocGlobal)) -> io::Result<Vec<String>> {
 fn main(rt: HostRuntime) -> ExitCode {
     let status = match words(&rt) {
         Ok(words) => drive(
-            &rt,
+            &HostFiles::new(&rt),
             rt.alloc(),
             words.as_slice(),
             &mut rt.stdin(),

@@ -1,2 +1,7 @@
-pub mod Outcomes
+pub mod OutcomeFacts
+pub mod ParsedFacts
+pub mod ParsedSamples
 pub mod Pieces
+pub mod RefusedAlone
+pub mod SecretFacts
+pub mod SettlingFacts

@@ -1,6 +1,8 @@
 pub mod Status
-pub mod Fault
+pub mod Line
 pub mod Reports
+pub mod VaultId
 pub mod Request
+pub mod Files
+pub mod CommandLine
 pub mod Outcome
-pub mod Reading

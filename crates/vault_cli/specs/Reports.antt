@@ -1,5 +1,5 @@
 -- What a sink has taken that was to take a line.
-use Rattle.std.specs.Prelude.{◌≡◌, ℕ, List, take}
+use Rattle.std.specs.Prelude.{◌≡◌, ℕ, List, [], ◌∷◌, take}
 use Rattle.vault_text.specs.Failures.{HasRisen}
 use Rattle.vault_text.specs.declared.sink.Stage.{Stage}
 use Rattle.vault_text.specs.declared.sink.Stage.TheVariants.{Finished}
@@ -9,3 +9,8 @@ module _ {E : Type 0} (takes : E → List ℕ → E → Type 0) (stage : E → S
   pub record Reports (old : E) (line : List ℕ) (new : E) : Type 0 where
     pub whole : (HasRisen (failures old) (failures new) → ⊥) → takes old line new × (stage new ≡ Finished)
     pub prefix : (n : ℕ) × takes old (take n line) new
+
+  -- the same, where a sink that has nothing to say is left alone
+  abbrev pub Says : E → List ℕ → E → Type 0
+  Says old [] new = new ≡ old
+  Says old (byte ∷ line) new = Reports old (byte ∷ line) new

@@ -2,17 +2,23 @@
 #![tactic(auto)]
 
 mod command_line;
-mod fault;
+mod file_system;
+mod parsing;
 mod program;
 mod report_line;
 mod request;
 mod runs;
+mod settling;
 mod status;
+mod vault_id;
 
 pub use command_line::command;
-pub use fault::{Fault, Role};
+pub use file_system::{FileFault, FileSystem, HostFiles};
+pub use parsing::parse;
 pub use program::{drive, reject_words};
 pub use report_line::report;
-pub use request::{CommandName, Request, has_command, settle};
+pub use request::{CommandName, Request};
 pub use runs::run;
+pub use settling::{has_command, settle};
 pub use status::Status;
+pub use vault_core::{Fault, Role, SECRETS_LIMIT};

@@ -1,24 +1,29 @@
-//! What the program does with its arguments and its standard streams.
-ghost use Rattle.std.specs.Prelude.{◌≡◌};
+//! What the program does with its arguments, its files and its standard streams.
+ghost use Rattle.std.specs.Prelude.{◌≡◌, true, length, vec_len, IfOk, IsSomeAnd, OnErr};
+ghost use Rattle.clap.specs.Words.{subcommand_name_of};
+ghost use Rattle.vault_cli.specs.Request.{is_command};
+ghost use Rattle.vault_text.specs.declared.limits.TheConstants.{CIPHERTEXT_LIMIT};
 
-use crate::command_line::command;
-use crate::fault::Fault;
+use crate::file_system::{FileFault, FileSystem};
+use crate::parsing::parse;
 use crate::report_line::report;
-use crate::request::{has_command, settle};
+use crate::request::Request;
 use crate::runs::run;
+use crate::settling::{has_command, settle};
 use crate::status::Status;
 use clap::error::ErrorKind;
 use clap::{ArgMatches, Error};
-use std::alloc::Global;
+use std::alloc::{AllocError, Global};
 use std::io;
 use std::io::{Read, Write};
-use std::rt::Files;
-use vault_text::{ReadSource, Sink, SinkFailed, Stage, WriteSink, put_all};
+use vault_core::{Fault, Role, SECRET_LIMIT};
+use vault_text::{CIPHERTEXT_LIMIT, ReadSource, Sink, SinkFailed, Stage, WriteSink, put_all};
 
 /// All that the program does: parses the words, of which the first is the program's name, settles
-/// the request and runs it. Help and the version go to `stdout`, and every message to `stderr`.
-pub fn drive<F: Files, R: Read, O: Write, E: Write>(
-    _rt: &F,
+/// the request, reads its password files and runs it. Help and the version go to `stdout`, and
+/// every message to `stderr`.
+pub fn drive<F: FileSystem, R: Read, O: Write, E: Write>(
+    rt: &F,
     alloc: Global,
     words: &[String],
     stdin: &mut R,
@@ -26,12 +31,8 @@ pub fn drive<F: Files, R: Read, O: Write, E: Write>(
     stderr: &mut E,
 ) -> Status {
     let mut err = WriteSink::new(stderr);
-    let command = match command(alloc) {
-        Ok(command) => command,
-        Err(fault) => return report(fault, &mut err),
-    };
-    match command.try_get_matches_from(words) {
-        Ok(matches) => perform(alloc, &matches, stdin, stdout, &mut err),
+    match parse(alloc, words) {
+        Ok(matches) => perform(rt, alloc, &matches, stdin, stdout, &mut err),
         Err(error) => explain(alloc, &error, stdout, &mut err),
     }
 }
@@ -46,8 +47,9 @@ pub fn reject_words<E: Write>(error: &io::Error, stderr: &mut E) -> Status {
     Status::ParseFault
 }
 
-/// Settles the request that the matches stand for, and runs it.
-fn perform<R: Read, O: Write, K: Sink>(
+/// Runs what the matches ask for, or reports why it cannot begin.
+fn perform<F: FileSystem, R: Read, O: Write, K: Sink>(
+    rt: &F,
     alloc: Global,
     matches: &ArgMatches<'_>,
     stdin: &mut R,
@@ -59,13 +61,74 @@ fn perform<R: Read, O: Write, K: Sink>(
     if !has_command(matches) {
         return Status::ParseFault;
     }
-    let request = match settle(alloc, matches) {
-        Ok(request) => request,
-        Err(fault) => return report(fault, err),
-    };
+    match carry_out(rt, alloc, matches, stdin, stdout, err) {
+        Ok(status) => status,
+        Err(fault) => report(fault, err),
+    }
+}
+
+/// Settles the request, takes the memory that it works in, reads its password files and runs it.
+fn carry_out<F: FileSystem, R: Read, O: Write, K: Sink>(
+    rt: &F,
+    alloc: Global,
+    matches: &ArgMatches<'_>,
+    stdin: &mut R,
+    stdout: &mut O,
+    err: &mut K,
+) -> Result<Status, Fault>
+    requires command { IsSomeAnd (subcommand_name_of matches.now) (λ name. is_command name ≡ true) }
+    requires err_unbegun { K.stage err.old ≡ Stage.Unbegun }
+    ensures { OnErr result (err.new ≡ err.old) }
+{
+    let request = settle(alloc, matches)?;
+    let mut work = work_memory(alloc)?;
+    let secret_files = read_secret_files(rt, alloc, &request)?;
     let mut src = ReadSource::new(stdin);
     let mut out = WriteSink::new(stdout);
-    run(alloc, &request, &[], &[], &mut src, &mut out, err)
+    let contents = secret_files.as_slice();
+    Ok(run(
+        &request,
+        contents,
+        &[],
+        work.as_mut_slice(),
+        &mut src,
+        &mut out,
+        err,
+    ))
+}
+
+/// The memory in which an envelope is decoded and decrypted.
+fn work_memory(alloc: Global) -> Result<Vec<u8>, AllocError>
+    ensures { IfOk result (λ work. vec_len work ≡ CIPHERTEXT_LIMIT) }
+{
+    vec![in alloc; 0u8; CIPHERTEXT_LIMIT]
+}
+
+/// The contents of the password files, in their order, each up to one byte more than is taken.
+fn read_secret_files<F: FileSystem>(
+    rt: &F,
+    alloc: Global,
+    request: &Request,
+) -> Result<Vec<Vec<u8>>, Fault>
+    ensures { IfOk result (λ contents. vec_len contents ≡ length request.now.files) }
+{
+    let mut contents = Vec::new(alloc);
+    for i in 0..request.files() {
+        let bytes = rt
+            .read_front(alloc, request.path(i), SECRET_LIMIT as u64 + 1)
+            .map_err(secret_fault)?;
+        contents.push(bytes)?;
+    }
+    Ok(contents)
+}
+
+/// The fault of a password file.
+fn secret_fault(fault: FileFault) -> Fault {
+    match fault {
+        FileFault::CannotOpen => Fault::CannotOpen(Role::Secret),
+        FileFault::CannotRead => Fault::Read(Role::Secret),
+        FileFault::Memory => Fault::Memory,
+    }
 }
 
 /// Writes what the parser says: help and the version to `stdout`, a mistake to `err`.

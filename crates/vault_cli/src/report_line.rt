@@ -1,11 +1,12 @@
 //! The one line on standard error that says why a run was refused.
 ghost use Rattle.std.specs.Prelude.{◌≡◌, ◌++◌, ◌∷◌, [], ℕ, take, OnOk, codes};
 ghost use Rattle.vault_text.specs.Failures.{CountsFailure};
-ghost use Rattle.vault_cli.specs.Fault.{line_of, status_of, text_of};
+ghost use Rattle.vault_cli.specs.Line.{line_of};
+ghost use Rattle.vault_cli.specs.Status.{status_of};
 ghost use Rattle.vault_cli.specs.Reports.{Reports};
 
-use crate::fault::Fault;
-use crate::status::Status;
+use crate::status::{Status, status_of};
+use vault_core::Fault;
 use vault_text::{Sink, SinkFailed, Stage, put_all};
 
 /// Makes `err` take the fault's line, `ERROR! ` and the fault's text, and answers the fault's
@@ -16,7 +17,7 @@ pub fn report<E: Sink>(fault: Fault, err: &mut E) -> Status
     ensures line { Reports E.takes E.stage E.failures err.old (line_of fault) err.new }
 {
     let _ = put_line(fault, err);
-    fault.status()
+    status_of(fault)
 }
 
 /// Begins `err`, puts the line and finishes.

@@ -1,32 +1,47 @@
 //! What a command line asks for.
-ghost use Rattle.std.specs.Prelude.{◌≡◌, true, false, None, IsNone, IsTrue, IsSomeAnd, IfOk, ◌↔◌};
-ghost use Rattle.clap.specs.Words.{subcommand_name_of};
-ghost use Rattle.vault_cli.specs.Request.{is_command, settled};
-ghost use Rattle.vault_cli.specs.declared.request.CommandName.TheVariants.{View};
+ghost use Rattle.std.specs.Prelude.{◌≡◌, ◌<◌, ◌≤◌, Some, is_some, length, slice_get};
+ghost use Rattle.std.specs.Option.{option_map};
+ghost use Rattle.vault_core.specs.declared.limits.TheConstants.{SECRETS_LIMIT};
 
-use crate::fault::Fault;
-use clap::ArgMatches;
-use std::alloc::Global;
 use std::marker::Model;
+use vault_text::Label;
 
 /// What is to be done.
 #[derive(Clone, Copy, Debug, PartialEq, Eq)]
 pub enum CommandName {
+    Decrypt,
     View,
 }
 
-/// A request that was settled from a command line.
+/// A password file, and the label of its secret.
+#[derive(Debug, Drop)]
+pub(crate) struct SecretFile {
+    pub label: Label,
+    pub path: String,
+}
+
+/// A request that was settled from a command line. It has at most 16 password files.
 #[derive(Debug, Drop)]
 pub struct Request {
-    command: CommandName,
+    pub(crate) command: CommandName,
+    pub(crate) files: Vec<SecretFile>,
+    pub(crate) input: Option<String>,
+    pub(crate) output: Option<String>,
+    pub(crate) salt: Option<String>,
 }
 
 impl Model for Request {
+    ghost use Rattle.std.specs.Prelude.{◌≤◌, map, vec_len};
+    ghost use Rattle.std.specs.Option.{option_map};
+    ghost use Rattle.std.specs.String.{string_bytes};
     ghost use Rattle.vault_cli.specs.Request.{Request};
+    ghost use Rattle.vault_core.specs.declared.limits.TheConstants.{SECRETS_LIMIT};
 
     ghost Value = { Request };
 
-    ghost view = { λ r. record { command = r.command } };
+    ghost view = { λ r. record { command = r.command; files = map (λ file. record { label = file.label; path = string_bytes file.path }) r.files.items; input = option_map string_bytes r.input; output = option_map string_bytes r.output; salt = option_map string_bytes r.salt } };
+
+    ghost invariant = { λ r. vec_len r.files ≤ SECRETS_LIMIT };
 }
 
 impl Request {
@@ -37,58 +52,55 @@ impl Request {
         self.command
     }
 
-    /// How many password files there are.
+    /// How many password files there are, at most 16.
     pub fn files(&self) -> usize
-        ensures { result ≡ 0 }
+        ensures count { result ≡ length self.now.files }
+        ensures limit { result ≤ SECRETS_LIMIT }
     {
-        0
+        self.files.len()
+    }
+
+    /// The path of a password file, counted from 0.
+    pub fn path(&self, i: usize) -> &str
+        requires { i < length self.now.files }
+        ensures { option_map (λ file. file.path) (slice_get self.now.files i) ≡ Some result.now }
+    {
+        self.files[i].path.as_str()
+    }
+
+    /// The label of the secret in a password file, counted from 0.
+    pub fn label(&self, i: usize) -> &Label
+        requires { i < length self.now.files }
+        ensures { option_map (λ file. file.label) (slice_get self.now.files i) ≡ Some result.now }
+    {
+        &self.files[i].label
     }
 
     /// The path of the input; None where it is standard input.
     pub fn input(&self) -> Option<&str>
-        ensures { IsNone result }
+        ensures { option_map (λ path. path.now) result ≡ self.now.input }
     {
-        None
+        self.input.as_deref()
     }
 
     /// The path of the output; None where it is standard output.
     pub fn output(&self) -> Option<&str>
-        ensures { IsNone result }
+        ensures { option_map (λ path. path.now) result ≡ self.now.output }
     {
-        None
+        self.output.as_deref()
     }
 
     /// The path of the salt file; None where no salt is used.
     pub fn salt_path(&self) -> Option<&str>
-        ensures { IsNone result }
+        ensures { option_map (λ path. path.now) result ≡ self.now.salt }
     {
-        None
+        self.salt.as_deref()
     }
 
     /// Whether a salt is used.
     pub fn seals(&self) -> bool
-        ensures { result ≡ false }
+        ensures { result ≡ is_some self.now.salt }
     {
-        false
+        self.salt.is_some()
     }
-}
-
-/// Whether the matches hold a command.
-pub fn has_command(matches: &ArgMatches<'_>) -> bool
-    ensures { IsTrue result ↔ IsSomeAnd (subcommand_name_of matches.now) (λ name. is_command name ≡ true) }
-{
-    match matches.subcommand_name() {
-        Some(name) => name == "view",
-        None => false,
-    }
-}
-
-/// The request that the matches of a command stand for. Nothing is refused yet.
-pub fn settle(_alloc: Global, matches: &ArgMatches<'_>) -> Result<Request, Fault>
-    requires { IsSomeAnd (subcommand_name_of matches.now) (λ name. is_command name ≡ true) }
-    ensures { IsSomeAnd (subcommand_name_of matches.now) (λ name. result ≡ Ok (settled name)) }
-{
-    Ok(Request {
-        command: CommandName::View,
-    })
 }

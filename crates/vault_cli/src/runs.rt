@@ -1,86 +1,118 @@
 //! The whole run of a request.
-ghost use Rattle.std.specs.Prelude.{MatchOption, ◌≡◌, ◌≢◌, ◌+◌, ◌≤◌, ◌⊎◌, ℕ, List, length, map, vec_len, IfOk, IfErr, IsTrue};
-ghost use Rattle.vault_text.specs.Envelope.{read};
-ghost use Rattle.vault_text.specs.Failures.{CountsFailure, HasRisen};
-ghost use Rattle.vault_cli.specs.Outcome.{opened, outcome, refused};
-ghost use Rattle.vault_cli.specs.Reading.{CountsRead, IsWhole};
-ghost use Rattle.vault_cli.specs.Reports.{Reports};
-ghost use Rattle.vault_cli.specs.Fault.{line_of};
-ghost use Rattle.vault_cli.specs.declared.fault.Fault.TheVariants.{Memory, Read};
-ghost use Rattle.vault_cli.specs.declared.fault.Role.TheVariants.{Input};
+ghost use Rattle.std.specs.Prelude.{◌≡◌, ◌≢◌, ◌+◌, ◌≤◌, ◌⊎◌, ℕ, List, [], length, map, take, Some, Ok, Err, IfOk, IfErr, IsTrue, IsOk, IsErr, MatchOption};
+ghost use Rattle.vault_text.specs.Failures.{HasRisen};
+ghost use Rattle.vault_core.specs.Input.{IsWhole};
+ghost use Rattle.vault_core.specs.Password.{IsPassword, password_of};
+ghost use Rattle.vault_core.specs.declared.fault.Fault.TheVariants.{Read, Write};
+ghost use Rattle.vault_core.specs.declared.fault.Role.TheVariants.{Input};
+ghost use Rattle.vault_cli.specs.Line.{line_of};
+ghost use Rattle.vault_cli.specs.Outcome.{named, outcome, secrets_of};
+ghost use Rattle.vault_cli.specs.Reports.{Reports, Says};
 
-use crate::fault::{Fault, Role};
 use crate::report_line::report;
 use crate::request::Request;
 use crate::status::Status;
-use std::alloc::{AllocError, Global};
-use vault_text::{ENVELOPE_LIMIT, Sink, Source, Stage, fill_up, read_envelope};
+use vault_core::{Fault, Ready, Secrets, password_of, prepare_decrypt};
+use vault_kdf::Meter;
+use vault_text::{CIPHERTEXT_LIMIT, ENVELOPE_LIMIT, Sink, Source, Stage};
 
-fn input_buffer(alloc: Global) -> Result<Vec<u8>, AllocError>
-    ensures { IfOk result (λ buffer. vec_len buffer ≡ ENVELOPE_LIMIT + 1) }
+/// The secrets of a request: the password of each file under the file's label.
+fn secrets_of<'p>(request: &Request, secret_files: &'p [Vec<u8>]) -> Result<Secrets<'p>, Fault>
+    requires { length secret_files.now ≡ length request.now.files }
+    ensures { result ≡ secrets_of request.now.files (map (λ file. file.items) secret_files.now) }
 {
-    vec![in alloc; 0u8; ENVELOPE_LIMIT + 1]
+    let mut secrets = Secrets::new();
+    for i in 0..request.files() {
+        match password(secret_files[i].as_slice()) {
+            Ok(password) => secrets.push(request.label(i).copy(), password).unwrap(),
+            Err(fault) => return Err(fault),
+        }
+    }
+    Ok(secrets)
 }
 
-/// The input of a run: all of it, or one byte more than is taken.
-fn read_input<S: Source>(alloc: Global, src: &mut S) -> Result<Vec<u8>, Fault>
-    ensures given { IfOk result (λ input. S.gives src.old input.items src.new) }
-    ensures whole { IfOk result (λ input. IsWhole (S.ended src.new) input.items) }
-    ensures some { (xs : List ℕ) × (length xs ≤ ENVELOPE_LIMIT + 1) × S.gives src.old xs src.new }
-    ensures failed { CountsRead (S.failures src.old) (S.failures src.new) result }
+/// The password in a password file, with its fault as a run names it.
+fn password(file: &[u8]) -> Result<&[u8], Fault>
+    ensures found { IfOk result (λ password. named (password_of file.now) ≡ Ok password.now) }
+    ensures fits { IfOk result (λ password. IsPassword password.now) }
+    ensures refused { IfErr result (λ fault. named (password_of file.now) ≡ Err fault) }
 {
-    let mut input = input_buffer(alloc)?;
-    let length = fill_up(src, input.as_mut_slice())?;
-    input.truncate(length);
-    Ok(input)
-}
-
-/// Why `view` with no secrets has no output.
-fn fault_of_view(alloc: Global, input: &[u8]) -> Fault
-    ensures { (result ≡ Memory) ⊎ (opened (read input.now) ≡ refused result) }
-{
-    match read_envelope(alloc, input) {
-        Ok(_) => Fault::NoSecretFits,
-        Err(fault) => Fault::from(fault),
+    match password_of(file) {
+        Ok(password) => Ok(password),
+        Err(fault) => Err(Fault::from(fault)),
     }
 }
 
-/// The whole run of a request: reads the input, at most one byte more than is taken, and says on
-/// `err` why there is no output. `out` is left alone by each run so far, since no secret is given
-/// that could open a vault. A failure of `err` changes nothing else.
+/// Writes what is ready, and reports where the output fails.
+fn deliver<K: Sink, E: Sink>(ready: Ready<'_>, out: &mut K, err: &mut E) -> Status
+    requires out_unbegun { K.stage out.old ≡ Stage.Unbegun }
+    requires err_unbegun { E.stage err.old ≡ Stage.Unbegun }
+    ensures status { (result ≡ Status.Success) ⊎ (result ≡ Status.DeviceFailed) }
+    ensures written { result ≢ Status.DeviceFailed → K.takes out.old ready.entry.output out.new × (K.stage out.new ≡ Stage.Finished) }
+    ensures silent { result ≢ Status.DeviceFailed → err.new ≡ err.old }
+    ensures intact { result ≢ Status.DeviceFailed → K.failures out.new ≡ K.failures out.old }
+    ensures failed { result ≡ Status.DeviceFailed → HasRisen (K.failures out.old) (K.failures out.new)
+        × Reports E.takes E.stage E.failures err.old (line_of Write) err.new }
+    ensures prefix { (n : ℕ) × K.takes out.old (take n ready.entry.output) out.new }
+{
+    match ready.write_to(out) {
+        Ok(()) => Status::Success,
+        Err(fault) => report(Fault::from(fault), err),
+    }
+}
+
+/// The whole run of a request over the contents of its password files, in their order, and a salt
+/// for commands that seal. `work` is where the input is decoded and decrypted; after a refusal it
+/// holds any bytes. `out` is begun only where the whole output is known to be right. On success
+/// `err` is not asked, and a failure of `err` changes nothing else.
 pub fn run<S: Source, K: Sink, E: Sink>(
-    alloc: Global,
     request: &Request,
     secret_files: &[Vec<u8>],
     salt: &[u8],
+    work: &mut [u8],
     src: &mut S,
     out: &mut K,
     err: &mut E,
 ) -> Status
-    requires files { length secret_files.now ≡ 0 }
+    requires files { length secret_files.now ≡ length request.now.files }
+    requires work { length work.old ≡ CIPHERTEXT_LIMIT }
     requires out_unbegun { K.stage out.old ≡ Stage.Unbegun }
     requires err_unbegun { E.stage err.old ≡ Stage.Unbegun }
 
-    // Where no device failed and memory sufficed, the run is the outcome's.
-    ensures run_is_outcome { result ≢ Status.DeviceFailed → result ≢ Status.OutOfMemory →
-        (input : List ℕ) × S.gives src.old input src.new × IsWhole (S.ended src.new) input
+    // Where no device failed, output, message and status are the outcome's on the bytes that the
+    // source gave.
+    ensures run_is_outcome { result ≢ Status.DeviceFailed →
+        (input : List ℕ) × S.gives src.old input src.new
+        × (IsOk (secrets_of request.now.files (map (λ file. file.items) secret_files.now)) → IsWhole ENVELOPE_LIMIT (S.ended src.new) input)
         × (let answer = outcome request.now (map (λ file. file.items) secret_files.now) salt.now input in
-            (result ≡ answer.status)
-            × MatchOption answer.output (out.new ≡ out.old) (λ bytes. K.takes out.old bytes out.new × (K.stage out.new ≡ Stage.Finished))
-            × Reports E.takes E.stage E.failures err.old answer.line err.new) }
+        (result ≡ answer.status)
+        × MatchOption answer.output (out.new ≡ out.old) (λ bytes. K.takes out.old bytes out.new × (K.stage out.new ≡ Stage.Finished))
+        × Says E.takes E.stage E.failures err.old answer.line err.new) }
 
-    // A device that failed, or want of memory.
+    // Where the source failed nothing was written; where the output failed it has taken a prefix.
     ensures device_failed { result ≡ Status.DeviceFailed →
-        HasRisen (S.failures src.old) (S.failures src.new) × Reports E.takes E.stage E.failures err.old (line_of (Read Input)) err.new }
-    ensures no_device_failed { result ≢ Status.DeviceFailed → S.failures src.new ≡ S.failures src.old }
-    ensures out_of_memory { result ≡ Status.OutOfMemory → Reports E.takes E.stage E.failures err.old (line_of Memory) err.new }
+        (HasRisen (S.failures src.old) (S.failures src.new) × (out.new ≡ out.old)
+        × Reports E.takes E.stage E.failures err.old (line_of (Read Input)) err.new)
+        ⊎ (HasRisen (K.failures out.old) (K.failures out.new)
+        × ((input : List ℕ) × (bytes : List ℕ) × S.gives src.old input src.new × IsWhole ENVELOPE_LIMIT (S.ended src.new) input
+        × ((outcome request.now (map (λ file. file.items) secret_files.now) salt.now input).output ≡ Some bytes)
+        × ((n : ℕ) × K.takes out.old (take n bytes) out.new))
+        × Reports E.takes E.stage E.failures err.old (line_of Write) err.new) }
+    ensures no_source_failed { result ≢ Status.DeviceFailed → S.failures src.new ≡ S.failures src.old }
+    ensures no_sink_failed { result ≢ Status.DeviceFailed → K.failures out.new ≡ K.failures out.old }
+    ensures memory_suffices { result ≢ Status.OutOfMemory }
 
-    // Every run.
-    ensures out_untouched { out.new ≡ out.old }
-    ensures bounded { (xs : List ℕ) × (length xs ≤ ENVELOPE_LIMIT + 1) × S.gives src.old xs src.new }
+    // The source is asked only behind the secrets, and for no more than a byte past the limit.
+    ensures unread { IsErr (secrets_of request.now.files (map (λ file. file.items) secret_files.now)) → src.new ≡ src.old }
+    ensures bounded { (input : List ℕ) × (length input ≤ ENVELOPE_LIMIT + 1) × S.gives src.old input src.new }
 {
-    match read_input(alloc, src) {
-        Ok(input) => report(fault_of_view(alloc, input.as_slice()), err),
+    let secrets = match secrets_of(request, secret_files) {
+        Ok(secrets) => secrets,
+        Err(fault) => return report(fault, err),
+    };
+    let mut meter = Meter::new();
+    match prepare_decrypt(src, work, &secrets, &mut meter) {
+        Ok(ready) => deliver(ready, out, err),
         Err(fault) => report(fault, err),
     }
 }

@@ -1,6 +1,8 @@
 //! How a run ends.
 ghost use Rattle.std.specs.Prelude.{◌≡◌};
-ghost use Rattle.vault_cli.specs.Status.{code_of};
+ghost use Rattle.vault_cli.specs.Status.{code_of, status_of};
+
+use vault_core::Fault;
 
 /// How a run ends, as the exit status of the program says.
 #[derive(Clone, Copy, Debug, PartialEq, Eq)]
@@ -28,5 +30,16 @@ impl Status {
             Status::DeviceFailed => 3,
             Status::OutOfMemory => 4,
         }
+    }
+}
+
+/// How a run ends that meets the fault.
+pub(crate) fn status_of(fault: Fault) -> Status
+    ensures { result ≡ status_of fault }
+{
+    match fault {
+        Fault::Read(_) | Fault::Write | Fault::CannotOpen(_) => Status::DeviceFailed,
+        Fault::Memory => Status::OutOfMemory,
+        _ => Status::Refused,
     }
 }

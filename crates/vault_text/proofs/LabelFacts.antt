@@ -1,6 +1,6 @@
 -- Labels are text.
-use Rattle.std.proofs.Common.{◌≡◌, ℕ, ◌<◌, ◌≤◌, Bool, true, false, ◌&&◌, List, length, get_or, arith, inl, inr}
-use Rattle.std.specs.List.{AllPass, list_all}
+use Rattle.std.proofs.Common.{◌≡◌, ℕ, ◌<◌, true, false, List, length, get_or, arith, inl, inr}
+use Rattle.std.specs.List.{list_all}
 use Rattle.std.specs.Str.{IsAscii, IsUtf8}
 use Rattle.std.proofs.lemmas.Bool.{and_parts, cases_lt, false_from_ne_true}
 use Rattle.std.proofs.lemmas.List.{get_or_past}
@@ -24,7 +24,7 @@ characters-ascii text h i =
 pub no_text_is_no_label : (text : List ℕ) → (IsUtf8 text → ⊥) → is_label text ≡ false
 no_text_is_no_label text not_text =
     false_from_ne_true (is_label text) (λ e.
-      let fits = and_parts _ _ e in
-      let starts = and_parts _ _ fits.0 in
-      let characters = and_parts _ _ starts.0 in
-      not_text (IsUtf8-from_ascii text (characters-ascii text characters.1)))
+    let fits = and_parts _ _ e in
+    let starts = and_parts _ _ fits.0 in
+    let characters = and_parts _ _ starts.0 in
+    not_text (IsUtf8-from_ascii text (characters-ascii text characters.1)))

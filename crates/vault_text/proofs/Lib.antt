@@ -1,3 +1,15 @@
+pub mod EnvelopeFacts
+pub mod HexadecimalFacts
+pub mod InnerFacts
 pub mod LabelFacts
+pub mod LineEndFacts
 pub mod LineFacts
 pub mod Progress
+pub mod BlockFacts
+pub mod BodyFacts
+pub mod CleanText
+pub mod Prefixes
+pub mod WrittenBodyFacts
+pub mod WrittenHeaderFacts
+pub mod WrittenReadsBack
+pub mod WrittenVectors

@@ -1,6 +1,6 @@
 -- A header line, cut at its first semicolon.
-use Rattle.std.proofs.Common.{◌≡◌, ℕ, ◌+◌, ◌-◌, ◌<◌, ◌≤◌, ◌==◌, Bool, true, false, not, List, [], ◌∷◌, length, take, drop, get_or, suc, cond, inl, inr, arith, ap, ◌∙◌, sym, refl}
-use Rattle.std.specs.List.{All, position_or_len, slice_split, after_first, count_by}
+use Rattle.std.proofs.Common.{◌≡◌, ℕ, ◌+◌, ◌-◌, ◌<◌, ◌≤◌, Bool, true, false, not, List, [], ◌∷◌, length, take, drop, get_or, suc, cond, inl, inr, arith, refl}
+use Rattle.std.specs.List.{position_or_len, slice_split, after_first, count_by}
 use Rattle.std.proofs.lemmas.Bool.{cases_Bool}
 use Rattle.std.proofs.lemmas.List.{take_rest}
 use Rattle.std.proofs.lemmas.List.Sums.{prefix_len_passes, sum_by-cons}

@@ -4,7 +4,7 @@ use Rattle.std.specs.List.{starts_with}
 use Rattle.std.specs.Option.{ok_or}
 use Rattle.vault_text.specs.Header.{marker, is_line_end, header_line, read_header}
 use Rattle.vault_text.specs.Hexadecimal.{unhex}
-use Rattle.vault_text.specs.InnerText.{Parts, parts_of}
+use Rattle.vault_text.specs.InnerText.{parts_of}
 use Rattle.vault_text.specs.declared.limits.TheConstants.{ENVELOPE_LIMIT, CIPHERTEXT_LIMIT}
 use Rattle.vault_text.specs.declared.fault.TextFault.{TextFault}
 use Rattle.vault_text.specs.declared.fault.TextFault.TheVariants.{TooLong, NotVault, BadHex, BadPayload, CipherTooLong}
@@ -31,7 +31,7 @@ read_body label digits = do
   inner ← ok_or (unhex digits) BadHex
   parts ← ok_or (parts_of inner) BadPayload
   if nat_lt CIPHERTEXT_LIMIT (length parts.cipher) then Err CipherTooLong
-    else Ok (record { label = label; salt = parts.salt; tag = parts.tag; cipher = parts.cipher })
+      else Ok (record { label = label; salt = parts.salt; tag = parts.tag; cipher = parts.cipher })
 
 -- the payload of an envelope, or the first fault in the order of the nine steps
 unfoldable pub read : List ℕ → Result Payload TextFault

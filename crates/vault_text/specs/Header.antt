@@ -1,6 +1,6 @@
 -- The header line of an envelope: `$ANSIBLE_VAULT`, the version, the cipher and perhaps a label, with
 -- semicolons between them.
-use Rattle.std.specs.Prelude.{ℕ, ◌==◌, ◌&&◌, ◌||◌, nat_lt, nat_le, not, Bool, if◌then◌else◌, List, [], map, length, slice_index_or, codes, Result, Ok, Err}
+use Rattle.std.specs.Prelude.{ℕ, ◌==◌, ◌&&◌, ◌||◌, nat_lt, nat_le, not, Bool, if◌then◌else◌, List, [], length, slice_index_or, codes, Result, Ok, Err}
 use Rattle.std.specs.List.{list_all, slice_split, before_first}
 use Rattle.std.specs.Str.{bytes_eq}
 use Rattle.vault_text.specs.Label.{is_label, default_label}

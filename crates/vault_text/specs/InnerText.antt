@@ -25,7 +25,7 @@ cut text =
     else Some (record {
       salt = before_first is_line_feed text;
       tag = before_first is_line_feed (after_first is_line_feed text);
-      cipher = after_first is_line_feed (after_first is_line_feed text)
+      cipher = after_first is_line_feed (after_first is_line_feed text);
     })
 
 -- the parts, where the salt is short enough and the tag has 32 bytes

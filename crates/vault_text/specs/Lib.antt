@@ -9,4 +9,8 @@ pub mod Header
 pub mod Hexadecimal
 pub mod InnerText
 pub mod Envelope
-pub mod Reading
+pub mod InnerReader
+pub mod EnvelopeReader
+pub mod Written
+pub mod Block
+pub mod Laws

@@ -35,3 +35,13 @@ pub record MemoryState : Type 0 where
 
 abbrev pub state_of : MemoryState → SinkState
 state_of m = record { held = Some m.held; stage = m.stage; failures = m.failures }
+
+-- a sink over memory that fails at each call after a number of them: the memory, how many calls it still
+-- answers, and its failures, those of the memory among them
+pub record FailingState : Type 0 where
+  pub memory : MemoryState
+  pub calls : ℕ
+  pub failures : ℕ
+
+abbrev pub failing_state_of : FailingState → SinkState
+failing_state_of f = record { held = Some f.memory.held; stage = f.memory.stage; failures = f.failures }

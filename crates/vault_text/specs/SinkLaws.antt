@@ -1,6 +1,6 @@
 -- What a sink took in two calls, one after the other.
-use Rattle.std.specs.Prelude.{◌≡◌, ℕ, ◌≤◌, ◌++◌, List, [], Option, Some, None, refl}
-use Rattle.std.proofs.Common.{arith, sym, ◌∙◌, append_assoc}
+use Rattle.std.specs.Prelude.{ℕ, ◌++◌, List, [], Option, Some, None}
+use Rattle.std.proofs.Common.{arith, sym, append_assoc}
 use Rattle.std.proofs.lemmas.List.{append-nil}
 use Rattle.std.specs.Io.KnownBytes.{Appends}
 use Rattle.vault_text.specs.Sink.{SinkState, Takes}
@@ -23,5 +23,5 @@ Takes-none s = record { appended = Appends-none s.held; failures_stay = omega ar
 pub Takes-more : (s t u : SinkState) (xs ys : List ℕ) → Takes s xs t → Takes t ys u → Takes s (xs ++ ys) u
 Takes-more s t u xs ys p q = record {
   appended = Appends-more s.held t.held u.held xs ys p.appended q.appended;
-  failures_stay = let a = p.failures_stay in let b = q.failures_stay in omega arith
+  failures_stay = let a = p.failures_stay in let b = q.failures_stay in omega arith;
 }

@@ -1,5 +1,5 @@
 -- What a contract sees of a source of bytes.
-use Rattle.std.specs.Prelude.{◌≡◌, ℕ, ◌≤◌, ◌++◌, List, [], take, Bool, IsTrue, Option, Some, Result, Ok, Err}
+use Rattle.std.specs.Prelude.{◌≡◌, ℕ, ◌≤◌, List, [], take, Bool, IsTrue, Option, Some, Result, Ok, Err}
 use Rattle.std.specs.Io.KnownBytes.{Consumes, IsAtEnd}
 
 -- the bytes that a call gave, of a buffer that it filled from the front
@@ -29,3 +29,13 @@ pub record MemoryState : Type 0 where
 
 abbrev pub state_of : MemoryState → SourceState
 state_of m = record { left = Some m.left; ended = m.ended; failures = 0 }
+
+-- a source over memory that fails at each call after a number of them: the memory, how many calls it still
+-- answers, and its failures
+pub record FailingState : Type 0 where
+  pub memory : MemoryState
+  pub calls : ℕ
+  pub failures : ℕ
+
+abbrev pub failing_state_of : FailingState → SourceState
+failing_state_of f = record { left = Some f.memory.left; ended = f.memory.ended; failures = f.failures }

@@ -1,9 +1,8 @@
 -- What a source gave in two calls, one after the other.
-use Rattle.std.specs.Prelude.{◌≡◌, ℕ, ◌≤◌, ◌++◌, List, [], Option, Some, None, IsTrue, refl}
-use Rattle.std.proofs.Common.{arith, rules, sym, ◌∙◌, append_assoc}
-use Rattle.std.proofs.lemmas.List.{append-nil}
-use Rattle.std.specs.Io.KnownBytes.{Consumes, IsAtEnd}
-use Rattle.vault_text.specs.Source.{SourceState, Gives, MemoryState, state_of}
+use Rattle.std.specs.Prelude.{ℕ, ◌++◌, List, [], Option, Some, None, refl}
+use Rattle.std.proofs.Common.{arith, sym, append_assoc}
+use Rattle.std.specs.Io.KnownBytes.{Consumes}
+use Rattle.vault_text.specs.Source.{SourceState, Gives}
 
 Consumes-none : (known : Option (List ℕ)) → Consumes known known []
 Consumes-none None = tt
@@ -21,17 +20,17 @@ Gives-none s = record {
   consumed = Consumes-none s.left;
   nothing_after_end = λ e. (refl, e);
   end_is_real = λ sound e. sound e;
-  failures_stay = omega arith
+  failures_stay = omega arith;
 }
 
 -- what was given first and what was given then are given one after the other
 pub Gives-more : (s t u : SourceState) (xs ys : List ℕ) → Gives s xs t → Gives t ys u → Gives s (xs ++ ys) u
 Gives-more s t u xs ys p q = record {
   consumed = Consumes-more s.left t.left u.left xs ys p.consumed q.consumed;
-  nothing_after_end = λ e. 
-    let first = p.nothing_after_end e in
-    let then = q.nothing_after_end first.1 in
-    (rw (first.0, then.0) refl, then.1);
+  nothing_after_end = λ e.
+      let first = p.nothing_after_end e in
+      let then = q.nothing_after_end first.1 in
+      (rw (first.0, then.0) refl, then.1);
   end_is_real = λ sound e. q.end_is_real (p.end_is_real sound) e;
-  failures_stay = let a = p.failures_stay in let b = q.failures_stay in omega arith
+  failures_stay = let a = p.failures_stay in let b = q.failures_stay in omega arith;
 }

@@ -1,7 +1,3 @@
-ghost use Rattle.std.specs.Prelude.{◌≡◌};
-ghost use Rattle.vault_text.specs.declared.fault.TextFault.TheVariants.{Memory};
-
-use std::alloc::AllocError;
 use thiserror::Error;
 
 /// Why bytes are no envelope, in the order in which the faults are looked for.
@@ -25,14 +21,4 @@ pub enum TextFault {
     BadPayload,
     #[error("vault ciphertext is longer than the limit")]
     CipherTooLong,
-    #[error("out of memory")]
-    Memory,
-}
-
-impl From<AllocError> for TextFault {
-    ghost from_gives = { λ _ fault. fault ≡ Memory };
-
-    fn from(_: AllocError) -> Self {
-        TextFault::Memory
-    }
 }

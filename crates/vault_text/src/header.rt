@@ -30,7 +30,7 @@ pub(crate) fn is_line_end(byte: u8) -> bool
 }
 
 /// The bytes before the first line end, or all where there is none.
-pub(crate) fn header_line(input: &[u8]) -> &[u8]
+pub(crate) fn before_line_end(input: &[u8]) -> &[u8]
     ensures line { result.now ≡ header_line input.now }
     ensures inside { length result.now ≤ length input.now }
 {

@@ -1,18 +1,85 @@
-//! Hexadecimal text.
-ghost use Rattle.std.specs.Prelude.{◌≡◌, IfOk};
-ghost use Rattle.std.specs.Option.{option_map};
-ghost use Rattle.vault_text.specs.Hexadecimal.{unhex};
+//! Hexadecimal text that comes in pieces.
+ghost use Rattle.std.specs.Prelude.{◌≡◌, ◌*◌, ◌/◌, ◌≤◌, [], None, Some, Option, if◌then◌else◌, List, ℕ, false, length, take};
+ghost use Rattle.vault_text.specs.Hexadecimal.{Decodes, byte_count, unhex_on};
 
-use hex::FromHexError;
-use std::alloc::{AllocError, Global};
+/// Decodes hexadecimal text that may be cut anywhere, also between the two digits of a byte.
+#[derive(Drop)]
+pub(crate) struct HexDecoder {
+    /// The first digit of a byte whose second has not come yet.
+    high: Option<u8>,
+    /// Whether there was a byte that is no digit.
+    is_bad: bool,
+}
 
-/// The bytes that the digits of either case spell; None where they are no hexadecimal text.
-pub(crate) fn unhex(alloc: Global, digits: &[u8]) -> Result<Option<Vec<u8>>, AllocError>
-    ensures { IfOk result (λ found. option_map (λ bytes. bytes.items) found ≡ unhex digits.now) }
-{
-    match hex::decode(alloc, digits) {
-        Ok(bytes) => Ok(Some(bytes)),
-        Err(FromHexError::OutOfMemory) => Err(AllocError),
-        Err(_) => Ok(None),
+impl HexDecoder {
+    pub(crate) fn new() -> Self
+        ensures { result ≡ record { high = None; is_bad = false } }
+    {
+        HexDecoder {
+            high: None,
+            is_bad: false,
+        }
+    }
+
+    /// How many bytes these digits complete.
+    pub(crate) fn byte_count(&self, digits: &[u8]) -> usize
+        ensures { result ≡ byte_count self.now digits.now }
+    {
+        if self.high.is_some() && digits.len() % 2 == 1 {
+            digits.len() / 2 + 1
+        } else {
+            digits.len() / 2
+        }
+    }
+
+    /// Decodes the bytes that these digits complete, to the front of `bytes`, and answers how many.
+    /// Once a digit was bad, the bytes mean nothing.
+    pub(crate) fn decode(&mut self, digits: &[u8], bytes: &mut [u8]) -> usize
+        requires { byte_count self.old digits.now ≤ length bytes.old }
+        ensures count { result ≡ byte_count self.old digits.now }
+        ensures decoded { Decodes self.old digits.now (take result bytes.new) self.new }
+    {
+        let Some(high) = self.high else {
+            return self.decode_aligned(digits, bytes);
+        };
+        let Some((low, rest)) = digits.split_first() else {
+            return 0;
+        };
+        self.high = None;
+        self.decode_pairs([high, *low].as_slice(), &mut bytes[..1]);
+        1 + self.decode_aligned(rest, &mut bytes[1..])
+    }
+
+    /// The same where no digit waits for its second.
+    fn decode_aligned(&mut self, digits: &[u8], bytes: &mut [u8]) -> usize
+        requires aligned { self.old.high ≡ None }
+        requires room { length digits.now / 2 ≤ length bytes.old }
+        ensures count { result ≡ length digits.now / 2 }
+        ensures decoded { Decodes self.old digits.now (take result bytes.new) self.new }
+    {
+        let count = digits.len() / 2;
+        let (pairs, rest) = digits.split_at(2 * count);
+        self.decode_pairs(pairs, &mut bytes[..count]);
+        self.high = rest.first().copied();
+        count
+    }
+
+    /// Decodes pairs of digits, each to a byte, where no digit waits for its second.
+    fn decode_pairs(&mut self, pairs: &[u8], bytes: &mut [u8])
+        requires aligned { self.old.high ≡ None }
+        requires fits { length pairs.now ≡ 2 * length bytes.old }
+        ensures aligned { self.new.high ≡ None }
+        ensures decoded { Decodes self.old pairs.now bytes.new self.new }
+    {
+        if hex::decode_to_slice(pairs, bytes).is_err() {
+            self.is_bad = true;
+        }
+    }
+
+    /// Whether all digits were good and none waits for its second.
+    pub(crate) fn is_complete(&self) -> bool
+        ensures { unhex_on self.now [] ≡ (if result then Some [] else None) }
+    {
+        !self.is_bad && self.high.is_none()
     }
 }

@@ -2,19 +2,20 @@
 //! and envelopes.
 #![tactic(auto)]
 
-mod envelope;
 mod fault;
 mod header;
 mod hexadecimal;
-mod inner_text;
 mod label;
+pub mod laws;
 mod limits;
+mod payload;
+mod reader;
 mod salt;
 mod sink;
 mod source;
 mod whitespace;
+mod writing;
 
-pub use envelope::{OwnedPayload, read_envelope};
 pub use fault::TextFault;
 pub use header::MARKER;
 pub use label::{BadLabel, Label};
@@ -22,7 +23,10 @@ pub use limits::{
     CIPHERTEXT_LIMIT, ENVELOPE_LIMIT, HEADER_LIMIT, LABEL_LIMIT, PLAINTEXT_LIMIT, SALT_LIMIT,
     TAG_LENGTH,
 };
+pub use payload::Payload;
+pub use reader::EnvelopeReader;
 pub use salt::Salt;
-pub use sink::{MemSink, Sink, SinkFailed, Stage, WriteSink, put_all};
-pub use source::{MemSource, ReadSource, Source, SourceFailed, fill_up};
+pub use sink::{FailingSink, MemSink, Sink, SinkFailed, Stage, WriteSink, put_all};
+pub use source::{FailingSource, MemSource, ReadSource, Source, SourceFailed, fill_up};
 pub use whitespace::strip;
+pub use writing::{write_block, write_envelope};

@@ -41,3 +41,17 @@ impl Salt {
         self.bytes.as_slice()
     }
 }
+
+#[cfg(test)]
+mod tests {
+    use super::*;
+    use std::test::Fail;
+
+    #[test]
+    fn at_most_256_bytes(rt: HostRuntime) -> Result<(), Fail> {
+        let salt = Salt::new(&[7; 256]).ok_or("refused")?;
+        assert_eq!(rt; salt.as_bytes(), [7; 256].as_slice());
+        assert!(rt; Salt::new(&[7; 257]).is_none());
+        Ok(())
+    }
+}

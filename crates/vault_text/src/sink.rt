@@ -3,12 +3,13 @@ ghost use Rattle.std.specs.Prelude.{◌≡◌, ℕ, ◌-◌, ◌^◌, ◌<◌, �
 ghost use Rattle.vault_text.specs.Failures.{CountsFailure};
 ghost use Rattle.vault_text.specs.Sink.{taken};
 
+mod failing;
 mod memory;
 mod write;
 
-use thiserror::Error;
-
+pub use failing::FailingSink;
 pub use memory::MemSink;
+use thiserror::Error;
 pub use write::WriteSink;
 
 /// A sink could not be opened, written or flushed.

@@ -3,13 +3,14 @@ ghost use Rattle.std.specs.Prelude.{◌≡◌, ℕ, ◌-◌, ◌^◌, ◌<◌, �
 ghost use Rattle.vault_text.specs.Failures.{CountsFailure};
 ghost use Rattle.vault_text.specs.Source.{given};
 
+mod failing;
 mod memory;
 mod read;
 
-use thiserror::Error;
-
+pub use failing::FailingSource;
 pub use memory::MemSource;
 pub use read::ReadSource;
+use thiserror::Error;
 
 /// A source could not be read.
 #[derive(Clone, Copy, Debug, PartialEq, Eq, Error)]

@@ -1,6 +1,6 @@
-use Rattle.std.proofs.Common.{List, ℕ, ◌≡◌, [], ◌∷◌, ◌++◌, codes, length, ◌∙◌}
-use Rattle.std.proofs.lemmas.Result.{on_ok_weaker}
-use Rattle.vault_cli.specs.Fault.{text_of, line_of}
+use Rattle.std.proofs.Common.{◌≡◌, [], ◌∷◌, ◌++◌, codes, ◌∙◌}
+use Rattle.vault_core.specs.Fault.{text_of}
+use Rattle.vault_cli.specs.Line.{line_of}
 use Rattle.vault_cli.proofs.Pieces.{prefix_behind, prefix_longer, prefix_of_all, taken_and_none, always_ok}
 use Rattle.vault_cli.proofs.report_line.put_line.Goals as goal
 

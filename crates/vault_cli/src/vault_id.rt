@@ -1,0 +1,63 @@
+//! The values of `--vault-id`: a source, or a label, `@` and a source.
+ghost use Rattle.std.specs.Prelude.{◌≡◌, ◌⊎◌, Some, None, is_ok, IfOk, IfErr, map};
+ghost use Rattle.std.specs.String.{string_bytes};
+ghost use Rattle.vault_text.specs.Header.{named_label};
+ghost use Rattle.vault_text.specs.Label.{is_label};
+ghost use Rattle.vault_cli.specs.VaultId.{fault_of, first_fault, label_of, label_part, source_of};
+
+use vault_core::Fault;
+use vault_text::{BadLabel, Label};
+
+/// The parts before and behind the first `@`; all is source where there is none.
+fn split(id: &str) -> (&str, &str)
+    ensures label { result.0.now ≡ label_part id.now }
+    ensures source { result.1.now ≡ source_of id.now }
+{
+    match id.split_once('@') {
+        Some((label, source)) => (label, source),
+        None => ("", id),
+    }
+}
+
+/// The label and the path of a vault id; refused where the label is not allowed, and where the
+/// source is `prompt`.
+pub(crate) fn parse(id: &str) -> Result<(Label, &str), Fault>
+    ensures label { IfOk result (λ parts. parts.0 ≡ label_of id.now) }
+    ensures path { IfOk result (λ parts. parts.1.now ≡ source_of id.now) }
+    ensures allowed { IfOk result (λ _. fault_of id.now ≡ None) }
+    ensures refused { IfErr result (λ fault. fault_of id.now ≡ Some fault) }
+{
+    let (label, source) = split(id);
+    let Ok(label) = labelled(label) else {
+        return Err(Fault::BadLabel);
+    };
+    if source == "prompt" {
+        return Err(Fault::PromptSource);
+    }
+    Ok((label, source))
+}
+
+/// The label of this text, `default` where it is empty.
+fn labelled(text: &str) -> Result<Label, BadLabel>
+    ensures allowed { is_ok result ≡ is_label (named_label text.now) }
+    ensures label { IfOk result (λ label. label ≡ named_label text.now) }
+{
+    if text.is_empty() {
+        Ok(Label::default_label())
+    } else {
+        Label::new(text)
+    }
+}
+
+/// Refuses the first vault id that has a fault.
+pub(crate) fn check_all(ids: &[&str]) -> Result<(), Fault>
+    ensures allowed { IfOk result (λ _. first_fault (map (λ id. id.now) ids.now) ≡ None) }
+    ensures refused { IfErr result (λ fault. first_fault (map (λ id. id.now) ids.now) ≡ Some fault) }
+{
+    for id in ids {
+        if let Err(fault) = parse(id) {
+            return Err(fault);
+        }
+    }
+    Ok(())
+}

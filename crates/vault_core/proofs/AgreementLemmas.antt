@@ -1,0 +1,173 @@
+-- Secrets that are tried one after the other.
+use Rattle.std.proofs.Common.{◌≡◌, ℕ, ◌+◌, ◌<◌, ◌≤◌, min, Bool, true, false, List, [], ◌∷◌, ◌++◌, length, get_or, drop, Option, Some, None, arith, refl, ap, sym, ◌∙◌, inl, inr}
+use Rattle.std.specs.Bool.{beq}
+use Rattle.std.specs.Prelude.{if◌then◌else◌, find}
+use Rattle.std.specs.List.{position_or_len}
+use Rattle.std.specs.Option.{option_map, option_or}
+use Rattle.std.proofs.lemmas.Bool.{cases_Bool, cases_lt, le-ltb, lt-ltb}
+use Rattle.std.proofs.lemmas.List.{drop_more}
+use Rattle.std.proofs.lemmas.List.Folds.{find-append}
+use Rattle.std.proofs.lemmas.List.Sums.{count_by-le-length, length-filter}
+use Rattle.vault_kdf.specs.declared.keys.Keys.{Keys}
+use Rattle.vault_text.specs.Envelope.{Payload}
+use Rattle.vault_core.specs.Agreement.{agrees, keys_of, tries}
+use Rattle.vault_core.specs.Secrets.{Secret, has_label, tried_order}
+use Rattle.vault_core.specs.TriedPart.{is_in_part, tried_part}
+
+tries-min : (payload : Payload) (order : List Secret)
+    → tries payload order ≡ min (position_or_len (agrees payload) order + 1) (length order)
+unfolding tries
+tries-min payload order =
+    let place = position_or_len (agrees payload) order in
+    elim (cases_lt place (length order)) [
+      | inl found ↦ rw (lt-ltb place (length order) found) (omega arith)
+      | inr none ↦ rw (le-ltb place (length order) none) (omega arith)
+    ]
+
+pub tries-cons_yes : (payload : Payload) (secret : Secret) (order : List Secret) → agrees payload secret ≡ true
+    → tries payload (secret ∷ order) ≡ 1
+tries-cons_yes payload secret order holds =
+    tries-min payload (secret ∷ order) ∙ rw holds (omega arith)
+
+pub tries-cons_no : (payload : Payload) (secret : Secret) (order : List Secret) → agrees payload secret ≡ false
+    → tries payload (secret ∷ order) ≡ 1 + tries payload order
+tries-cons_no payload secret order fails =
+    tries-min payload (secret ∷ order) ∙ rw fails (omega (arith, tries-min payload order))
+
+pub tries-nil : (payload : Payload) → tries payload [] ≡ 0
+tries-nil payload = omega (arith, tries-min payload [])
+
+pub tries-le-length : (payload : Payload) (order : List Secret) → tries payload order ≤ length order
+tries-le-length payload order = omega (arith, tries-min payload order)
+
+-- where a secret agrees, the tries end at its place
+pub tries-found : (payload : Payload) (order : List Secret) (secret : Secret) → find (agrees payload) order ≡ Some secret
+    → tries payload order ≡ position_or_len (agrees payload) order + 1
+tries-found payload [] secret found = let nothing : None ≡ Some secret = found in absurd cc
+tries-found payload (x ∷ order) secret found =
+    elim (cases_Bool (agrees payload x)) [
+      | inl holds ↦ tries-cons_yes payload x order holds ∙ rw holds refl
+      | inr fails ↦
+          let later = tries-found payload order secret (rw fails at found) in
+          tries-cons_no payload x order fails ∙ rw fails (omega (arith, later))
+    ]
+
+-- the tries of one list after another
+pub tries-append_found : (payload : Payload) (front back : List Secret) (secret : Secret) → find (agrees payload) front ≡ Some secret
+    → tries payload (front ++ back) ≡ tries payload front
+tries-append_found payload [] back secret found = let nothing : None ≡ Some secret = found in absurd cc
+tries-append_found payload (x ∷ front) back secret found =
+    elim (cases_Bool (agrees payload x)) [
+      | inl holds ↦ tries-cons_yes payload x (front ++ back) holds ∙ sym (tries-cons_yes payload x front holds)
+      | inr fails ↦
+          let later = tries-append_found payload front back secret (rw fails at found) in
+          omega (arith, tries-cons_no payload x (front ++ back) fails, tries-cons_no payload x front fails, later)
+    ]
+
+pub tries-append_none : (payload : Payload) (front back : List Secret) → find (agrees payload) front ≡ None
+    → tries payload (front ++ back) ≡ tries payload front + tries payload back
+tries-append_none payload [] back none = omega (arith, tries-nil payload)
+tries-append_none payload (x ∷ front) back none =
+    elim (cases_Bool (agrees payload x)) [
+      | inl holds ↦ let nothing : Some x ≡ None = rw holds at none in absurd cc
+      | inr fails ↦
+          let later = tries-append_none payload front back (rw fails at none) in
+          omega (arith, tries-cons_no payload x (front ++ back) fails, tries-cons_no payload x front fails, later)
+    ]
+
+-- what trying one secret answered
+pub agrees-Some : (payload : Payload) (secret : Secret) (keys : Keys)
+    → Some keys ≡ (if agrees payload secret then Some (keys_of payload secret) else None)
+    → (agrees payload secret ≡ true) × (keys ≡ keys_of payload secret)
+agrees-Some payload secret keys h =
+    elim (cases_Bool (agrees payload secret)) [
+      | inl holds ↦ let same : Some keys ≡ Some (keys_of payload secret) = rw holds at h in (holds, cc)
+      | inr fails ↦ let nothing : Some keys ≡ None = rw fails at h in absurd cc
+    ]
+
+pub agrees-None : (payload : Payload) (secret : Secret)
+    → None ≡ (if agrees payload secret then Some (keys_of payload secret) else None) → agrees payload secret ≡ false
+agrees-None payload secret h =
+    elim (cases_Bool (agrees payload secret)) [
+      | inl holds ↦ let some : None ≡ Some (keys_of payload secret) = rw holds at h in absurd cc
+      | inr fails ↦ fails
+    ]
+
+-- whether a secret is in the part that is asked for
+pub is_in_part-yes : (labelled : Bool) (label : List ℕ) (secret : Secret) (has : Bool) → has ≡ has_label label secret
+    → beq has labelled ≡ true → is_in_part labelled label secret ≡ true
+is_in_part-yes true label secret true is same = sym is
+is_in_part-yes false label secret false is same = rw (← is) refl
+is_in_part-yes true label secret false is same = absurd cc
+is_in_part-yes false label secret true is same = absurd cc
+
+pub is_in_part-no : (labelled : Bool) (label : List ℕ) (secret : Secret) (has : Bool) → has ≡ has_label label secret
+    → beq has labelled ≡ false → is_in_part labelled label secret ≡ false
+is_in_part-no true label secret false is same = sym is
+is_in_part-no false label secret true is same = rw (← is) refl
+is_in_part-no true label secret true is same = absurd cc
+is_in_part-no false label secret false is same = absurd cc
+
+-- the part that is left, from a secret that is in it or is not
+pub tried_part-drop_yes : (labelled : Bool) (label : List ℕ) (secrets : List Secret) (i : ℕ) (secret : Secret) → i < length secrets
+    → secret ≡ get_or secrets i secret → is_in_part labelled label secret ≡ true
+    → tried_part labelled label (drop i secrets) ≡ secret ∷ tried_part labelled label (drop (i + 1) secrets)
+tried_part-drop_yes labelled label secrets i secret inside is holds =
+    ap (tried_part labelled label) (drop_more secrets i secret inside) ∙ rw (← is, holds) refl
+
+pub tried_part-drop_no : (labelled : Bool) (label : List ℕ) (secrets : List Secret) (i : ℕ) (secret : Secret) → i < length secrets
+    → secret ≡ get_or secrets i secret → is_in_part labelled label secret ≡ false
+    → tried_part labelled label (drop i secrets) ≡ tried_part labelled label (drop (i + 1) secrets)
+tried_part-drop_no labelled label secrets i secret inside is fails =
+    ap (tried_part labelled label) (drop_more secrets i secret inside) ∙ rw (← is, fails) refl
+
+-- the tried order is its two parts
+pub tried_order-parts : (secrets : List Secret) (label : List ℕ)
+    → tried_order secrets label ≡ tried_part true label secrets ++ tried_part false label secrets
+unfolding tried_order
+tried_order-parts secrets label = refl
+
+pub option_map-Some : {A B : Type 0} (f : A → B) (o : Option A) (y : B) → Some y ≡ option_map f o → (x : A) × (o ≡ Some x) × (y ≡ f x)
+option_map-Some f None y h = absurd cc
+option_map-Some f (Some x) y h = (x, refl, cc)
+
+pub option_map-None : {A B : Type 0} (f : A → B) (o : Option A) → None ≡ option_map f o → o ≡ None
+option_map-None f None h = refl
+option_map-None f (Some x) h = absurd cc
+
+module _ (payload : Payload) (secrets : List Secret) (label : List ℕ) where
+  abbrev labelled_part : List Secret
+  labelled_part = tried_part true label secrets
+
+  abbrev other_part : List Secret
+  other_part = tried_part false label secrets
+
+  find-tried_order : find (agrees payload) (tried_order secrets label) ≡ option_or (find (agrees payload) labelled_part) (find (agrees payload) other_part)
+  find-tried_order =
+      ap (find (agrees payload)) (tried_order-parts secrets label) ∙ find-append (agrees payload) labelled_part other_part
+
+  -- where a secret with the label agrees, no other is tried
+  pub tried_order-found : (keys : Keys) → Some keys ≡ option_map (keys_of payload) (find (agrees payload) labelled_part)
+      → (find (agrees payload) (tried_order secrets label) ≡ find (agrees payload) labelled_part)
+      × (tries payload (tried_order secrets label) ≡ tries payload labelled_part)
+  tried_order-found keys answer =
+      let found = option_map-Some (keys_of payload) _ _ answer in (
+        find-tried_order ∙ ap (λ (o : Option Secret). option_or o (find (agrees payload) other_part)) found.1 ∙ sym found.1,
+        ap (tries payload) (tried_order-parts secrets label) ∙ tries-append_found payload labelled_part other_part found.0 found.1,
+      )
+
+  -- and else the others are tried
+  pub tried_order-none : None ≡ option_map (keys_of payload) (find (agrees payload) labelled_part)
+      → (find (agrees payload) (tried_order secrets label) ≡ find (agrees payload) other_part)
+      × (tries payload (tried_order secrets label) ≡ tries payload labelled_part + tries payload other_part)
+  tried_order-none answer =
+      let none = option_map-None (keys_of payload) _ answer in (
+        find-tried_order ∙ ap (λ (o : Option Secret). option_or o (find (agrees payload) other_part)) none,
+        ap (tries payload) (tried_order-parts secrets label) ∙ tries-append_none payload labelled_part other_part none,
+      )
+
+-- no more are tried than there are
+pub tries-tried_part : (payload : Payload) (labelled : Bool) (label : List ℕ) (secrets : List Secret)
+    → tries payload (tried_part labelled label secrets) ≤ length secrets
+tries-tried_part payload labelled label secrets =
+    omega (arith, tries-le-length payload (tried_part labelled label secrets), length-filter (is_in_part labelled label) secrets, count_by-le-length (is_in_part labelled label) secrets)

@@ -1,0 +1,81 @@
+-- No fault of an envelope is a fault of reading, and what follows for the calls that decrypt.
+use Rattle.std.proofs.Common.{◌≡◌, ◌≢◌, ℕ, List, Option, Some, None, Result, Ok, Err, inl, inr, ◌⊎◌, sym, ◌∙◌, refl}
+use Rattle.std.specs.Prelude.{find}
+use Rattle.vault_text.specs.Envelope.{Payload}
+use Rattle.vault_text.specs.declared.fault.TextFault.{TextFault}
+use Rattle.vault_text.specs.declared.fault.TextFault.TheVariants as text
+use Rattle.vault_core.specs.Agreement.{agrees, keys_of, tries}
+use Rattle.vault_core.specs.Decryption.{decryption, decryption_tries, payload_of}
+use Rattle.vault_core.specs.Fault.{of_text}
+use Rattle.vault_core.specs.Input.{UnlessUnreadable}
+use Rattle.vault_core.specs.Opening.{deciphered_by, opening}
+use Rattle.vault_core.specs.Secrets.{Secret, tried_order}
+use Rattle.vault_core.specs.Unpadding.{without_padding}
+use Rattle.vault_core.specs.declared.fault.Fault.{Fault}
+use Rattle.vault_core.specs.declared.fault.Fault.TheVariants.{BadPadding, NoSecretFits, Read}
+use Rattle.vault_core.specs.declared.fault.Role.TheVariants.{Input}
+use Rattle.vault_core.proofs.OpeningLemmas.{opening-bad_padding, opening-no_secret, opening-plain}
+
+pub of_text-is_no_read : (fault : TextFault) → of_text fault ≢ Read Input
+of_text-is_no_read text.TooLong h = cc
+of_text-is_no_read text.NotVault h = cc
+of_text-is_no_read text.HeaderTooLong h = cc
+of_text-is_no_read text.BadHeader h = cc
+of_text-is_no_read text.BadVersion h = cc
+of_text-is_no_read text.BadCipher h = cc
+of_text-is_no_read text.BadHex h = cc
+of_text-is_no_read text.BadPayload h = cc
+of_text-is_no_read text.CipherTooLong h = cc
+
+module _ (secrets : List Secret) (payload : Payload) (fault : Fault) (refused : opening secrets payload ≡ Err fault) where
+  after_agreement : (secret : Secret) → find (agrees payload) (tried_order secrets payload.label) ≡ Some secret
+      → (plain : Option (List ℕ)) → without_padding (deciphered_by (keys_of payload secret) payload.cipher) ≡ plain
+      → fault ≡ BadPadding
+  after_agreement secret found None e =
+      let same = sym refused ∙ opening-bad_padding secrets payload secret found e in cc
+  after_agreement secret found (Some plain) e =
+      let other = sym refused ∙ opening-plain secrets payload secret plain found e in cc
+
+  cases : (found : Option Secret) → find (agrees payload) (tried_order secrets payload.label) ≡ found
+      → (fault ≡ NoSecretFits) ⊎ (fault ≡ BadPadding)
+  cases None e =
+      let same = sym refused ∙ opening-no_secret secrets payload e in
+      let fits : fault ≡ NoSecretFits = cc in
+      inl fits
+  cases (Some secret) e =
+      inr (after_agreement secret e (without_padding (deciphered_by (keys_of payload secret) payload.cipher)) refl)
+
+  pub opening-is_no_read : fault ≢ Read Input
+  opening-is_no_read read =
+      elim (cases (find (agrees payload) (tried_order secrets payload.label)) refl) [
+        | inl none ↦ let same = sym none ∙ read in cc
+        | inr wrong ↦ let same = sym wrong ∙ read in cc
+      ]
+
+-- a call that read its input whole, and whose faults are of another kind
+pub UnlessUnreadable-from : {T P : Type 0} (before after : ℕ) (result : Result T Fault)
+    → ((fault : Fault) → result ≡ Err fault → fault ≢ Read Input) → after ≡ before → P → UnlessUnreadable before after result P
+UnlessUnreadable-from before after (Ok x) other same p = (same, p)
+UnlessUnreadable-from before after (Err fault) other same p = inr (other fault refl, same, p)
+
+-- the input is no envelope
+pub decryption-Err : (secrets : List Secret) (input : List ℕ) (fault : Fault) → Err fault ≡ payload_of input
+    → decryption secrets input ≡ Err fault
+unfolding decryption
+decryption-Err secrets input fault h = rw (← h) refl
+
+pub decryption_tries-Err : (secrets : List Secret) (input : List ℕ) (fault : Fault) → Err fault ≡ payload_of input
+    → decryption_tries secrets input ≡ 0
+unfolding decryption_tries
+decryption_tries-Err secrets input fault h = rw (← h) refl
+
+-- the input is an envelope
+pub decryption-Ok : (secrets : List Secret) (input : List ℕ) (payload : Payload) → Ok payload ≡ payload_of input
+    → decryption secrets input ≡ opening secrets payload
+unfolding decryption
+decryption-Ok secrets input payload h = rw (← h) refl
+
+pub decryption_tries-Ok : (secrets : List Secret) (input : List ℕ) (payload : Payload) → Ok payload ≡ payload_of input
+    → decryption_tries secrets input ≡ tries payload (tried_order secrets payload.label)
+unfolding decryption_tries
+decryption_tries-Ok secrets input payload h = rw (← h) refl

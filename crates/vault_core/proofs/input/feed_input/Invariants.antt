@@ -1,0 +1,16 @@
+use Rattle.std.proofs.Common.{◌≡◌, ◌+◌, ℕ, List, ◌++◌, length}
+use Rattle.vault_text.specs.EnvelopeReader.{StandsFor}
+use Rattle.vault_text.specs.declared.limits.TheConstants.{ENVELOPE_LIMIT}
+use Rattle.vault_core.proofs.input.feed_input.Given as goal
+
+abbrev pub invariant-loop-left : goal.invariant-loop-left
+invariant-loop-left g l =
+    (input : List ℕ) × record {
+      gives : g.S.Source.gives l.fn.src input l.src;
+      left : length input + l.left ≡ ENVELOPE_LIMIT + 1;
+      fed : (before : List ℕ) → StandsFor l.fn.reader before → StandsFor l.reader (before ++ input);
+      failures : g.S.Source.failures l.src ≡ g.S.Source.failures l.fn.src;
+    }
+
+abbrev pub decreases-loop-left : goal.decreases-loop-left
+decreases-loop-left g l = l.left

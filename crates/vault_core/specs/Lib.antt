@@ -1,0 +1,10 @@
+pub mod Agreement
+pub mod Decryption
+pub mod Fault
+pub mod Input
+pub mod Opening
+pub mod Password
+pub mod Ready
+pub mod Secrets
+pub mod TriedPart
+pub mod Unpadding

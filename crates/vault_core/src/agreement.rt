@@ -1,0 +1,65 @@
+//! Which secret agrees with an envelope: trying secrets one after the other.
+ghost use Rattle.std.specs.Prelude.{◌≡◌, ◌+◌, ◌<◌, ◌^◌, Some, None, if◌then◌else◌, length, find};
+ghost use Rattle.std.specs.Option.{option_map};
+ghost use Rattle.vault_core.specs.Agreement.{agrees, keys_of, tries};
+ghost use Rattle.vault_core.specs.Secrets.{tried_order};
+ghost use Rattle.vault_core.specs.TriedPart.{tried_part};
+
+use crate::secrets::{Secret, Secrets};
+use vault_kdf::{Keys, Meter, derive, hmac};
+use vault_text::Payload;
+
+/// The keys of the first secret in the tried order that agrees with the payload. Keys are derived
+/// for a secret only when its turn comes, and for none after the one that agrees.
+pub(crate) fn agreeing_keys(secrets: &Secrets, payload: &Payload, meter: &mut Meter) -> Option<Keys>
+    requires { meter.old < 2 ^ 62 }
+    ensures keys { result ≡ option_map (keys_of payload.now)
+        (find (agrees payload.now) (tried_order secrets.now payload.now.label)) }
+    ensures counted { meter.new
+        ≡ meter.old + tries payload.now (tried_order secrets.now payload.now.label) }
+{
+    let secrets = secrets.as_slice();
+    if let Some(keys) = first_agreeing(secrets, true, payload, meter) {
+        return Some(keys);
+    }
+    first_agreeing(secrets, false, payload, meter)
+}
+
+/// The same among the secrets that have the payload's label, or among those that have not.
+fn first_agreeing(
+    secrets: &[Secret],
+    labelled: bool,
+    payload: &Payload,
+    meter: &mut Meter,
+) -> Option<Keys>
+    requires { meter.old + length secrets.now < 2 ^ 63 }
+    ensures keys { result ≡ option_map (keys_of payload.now)
+        (find (agrees payload.now) (tried_part labelled payload.now.label secrets.now)) }
+    ensures counted { meter.new
+        ≡ meter.old + tries payload.now (tried_part labelled payload.now.label secrets.now) }
+{
+    for secret in secrets {
+        if secret.has_label(payload.label()) == labelled
+            && let Some(keys) = keys_if_agreeing(secret, payload, meter)
+        {
+            return Some(keys);
+        }
+    }
+    None
+}
+
+/// The keys of a secret, where the tag that they give is the payload's.
+#[tactic(auto, unfolding(crate::specs::Agreement::agrees))]
+fn keys_if_agreeing(secret: &Secret, payload: &Payload, meter: &mut Meter) -> Option<Keys>
+    requires { meter.old < 2 ^ 63 }
+    ensures keys { result
+        ≡ if agrees payload.now secret.now then Some (keys_of payload.now secret.now) else None }
+    ensures counted { meter.new ≡ meter.old + 1 }
+{
+    let keys = derive(secret.password, payload.salt().as_bytes(), meter);
+    if hmac(&keys.mac, payload.cipher()) == *payload.tag() {
+        Some(keys)
+    } else {
+        None
+    }
+}

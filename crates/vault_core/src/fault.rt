@@ -1,0 +1,233 @@
+//! The faults of a run, with their numbers and texts.
+ghost use Rattle.std.specs.Prelude.{◌≡◌};
+ghost use Rattle.vault_core.specs.Fault.{number_of, of_secret, of_text, text_of};
+ghost use Rattle.vault_core.specs.declared.fault.Fault.TheVariants.{BadLabel as LabelFault, Memory, Read, TooManySecrets, Write};
+ghost use Rattle.vault_core.specs.declared.fault.Role.TheVariants.{Input};
+
+use crate::password::SecretFault;
+use crate::ready::WriteFault;
+use crate::secrets::ListFault;
+use std::alloc::{AllocError, AllocFailed};
+use thiserror::Error;
+use vault_text::{BadLabel, SinkFailed, SourceFailed, TextFault};
+
+/// What a file that cannot be opened or read was to give.
+#[derive(Clone, Copy, Debug, PartialEq, Eq)]
+pub enum Role {
+    Input,
+    Secret,
+    Salt,
+}
+
+/// Why a run has no output, numbered from 1 in this order.
+#[derive(Clone, Copy, Debug, PartialEq, Eq, Error)]
+#[error("{}", self.text())]
+pub enum Fault {
+    TooLong,
+    NotVault,
+    HeaderTooLong,
+    BadHeader,
+    BadVersion,
+    BadCipher,
+    BadHex,
+    BadPayload,
+    CipherTooLong,
+    SecretTooLong,
+    SecretIsScript,
+    SecretIsVault,
+    SecretEmpty,
+    TooManySecrets,
+    NoEncryptSecret,
+    ManyEncryptSecrets,
+    UnknownEncryptId,
+    EmptyString,
+    AlreadyVault,
+    NoSecretFits,
+    BadPadding,
+    BadLabel,
+    BadName,
+    NameMismatch,
+    PromptSource,
+    NeedNewSecret,
+    OutputNeeded,
+    Read(Role),
+    Write,
+    SaltShort,
+    CannotOpen(Role),
+    Memory,
+}
+
+impl Fault {
+    /// The fault's place in the table of faults, from 1 to 32.
+    pub fn number(self) -> u8
+        ensures { result ≡ number_of self }
+    {
+        match self {
+            Fault::TooLong => 1,
+            Fault::NotVault => 2,
+            Fault::HeaderTooLong => 3,
+            Fault::BadHeader => 4,
+            Fault::BadVersion => 5,
+            Fault::BadCipher => 6,
+            Fault::BadHex => 7,
+            Fault::BadPayload => 8,
+            Fault::CipherTooLong => 9,
+            Fault::SecretTooLong => 10,
+            Fault::SecretIsScript => 11,
+            Fault::SecretIsVault => 12,
+            Fault::SecretEmpty => 13,
+            Fault::TooManySecrets => 14,
+            Fault::NoEncryptSecret => 15,
+            Fault::ManyEncryptSecrets => 16,
+            Fault::UnknownEncryptId => 17,
+            Fault::EmptyString => 18,
+            Fault::AlreadyVault => 19,
+            Fault::NoSecretFits => 20,
+            Fault::BadPadding => 21,
+            Fault::BadLabel => 22,
+            Fault::BadName => 23,
+            Fault::NameMismatch => 24,
+            Fault::PromptSource => 25,
+            Fault::NeedNewSecret => 26,
+            Fault::OutputNeeded => 27,
+            Fault::Read(_) => 28,
+            Fault::Write => 29,
+            Fault::SaltShort => 30,
+            Fault::CannotOpen(_) => 31,
+            Fault::Memory => 32,
+        }
+    }
+
+    /// What the fault's line says behind `ERROR! `.
+    pub fn text(self) -> &'static str
+        ensures { result.now ≡ text_of self }
+    {
+        match self {
+            Fault::TooLong => "input is longer than the limit",
+            Fault::NotVault => "input is not vault encrypted data",
+            Fault::HeaderTooLong => "vault header line is longer than 256 bytes",
+            Fault::BadHeader => "vault header line is malformed",
+            Fault::BadVersion => "vault format version is not supported",
+            Fault::BadCipher => "vault cipher is not supported",
+            Fault::BadHex => "vault body is not hexadecimal",
+            Fault::BadPayload => "vault payload is malformed",
+            Fault::CipherTooLong => "vault ciphertext is longer than the limit",
+            Fault::SecretTooLong => "a password file is longer than 4096 bytes",
+            Fault::SecretIsScript => "a password file is a script",
+            Fault::SecretIsVault => "a password file is itself a vault",
+            Fault::SecretEmpty => "a password is empty",
+            Fault::TooManySecrets => "more than 16 secrets were given",
+            Fault::NoEncryptSecret => "no secret was given to encrypt with",
+            Fault::ManyEncryptSecrets =>
+                "several secrets were given; choose one with --encrypt-vault-id",
+            Fault::UnknownEncryptId => "no secret has the label of --encrypt-vault-id",
+            Fault::EmptyString => "the string to encrypt is empty",
+            Fault::AlreadyVault => "the plaintext is already vault encrypted data",
+            Fault::NoSecretFits => "no secret decrypts this vault",
+            Fault::BadPadding => "the padding of the decrypted data is wrong",
+            Fault::BadLabel => "a vault id label is not allowed",
+            Fault::BadName => "a variable name holds a control byte",
+            Fault::NameMismatch => "the name option does not fit where the string comes from",
+            Fault::PromptSource => "asking for a password is not supported",
+            Fault::NeedNewSecret => "exactly one new secret is needed",
+            Fault::OutputNeeded => "--output is needed with an input file",
+            Fault::Read(Role::Input) => "the input cannot be read",
+            Fault::Read(Role::Secret) => "a password file cannot be read",
+            Fault::Read(Role::Salt) => "the salt file cannot be read",
+            Fault::Write => "the output cannot be written",
+            Fault::SaltShort => "the salt has fewer than 32 bytes",
+            Fault::CannotOpen(Role::Input) => "the input file cannot be opened",
+            Fault::CannotOpen(Role::Secret) => "a password file cannot be opened",
+            Fault::CannotOpen(Role::Salt) => "the salt file cannot be opened",
+            Fault::Memory => "out of memory",
+        }
+    }
+}
+
+impl From<TextFault> for Fault {
+    ghost from_gives = { λ fault of. of ≡ of_text fault };
+
+    fn from(fault: TextFault) -> Self {
+        match fault {
+            TextFault::TooLong => Fault::TooLong,
+            TextFault::NotVault => Fault::NotVault,
+            TextFault::HeaderTooLong => Fault::HeaderTooLong,
+            TextFault::BadHeader => Fault::BadHeader,
+            TextFault::BadVersion => Fault::BadVersion,
+            TextFault::BadCipher => Fault::BadCipher,
+            TextFault::BadHex => Fault::BadHex,
+            TextFault::BadPayload => Fault::BadPayload,
+            TextFault::CipherTooLong => Fault::CipherTooLong,
+        }
+    }
+}
+
+impl From<SecretFault> for Fault {
+    ghost from_gives = { λ fault of. of ≡ of_secret fault };
+
+    fn from(fault: SecretFault) -> Self {
+        match fault {
+            SecretFault::SecretTooLong => Fault::SecretTooLong,
+            SecretFault::SecretIsScript => Fault::SecretIsScript,
+            SecretFault::SecretIsVault => Fault::SecretIsVault,
+            SecretFault::SecretEmpty => Fault::SecretEmpty,
+        }
+    }
+}
+
+impl From<ListFault> for Fault {
+    ghost from_gives = { λ _ of. of ≡ TooManySecrets };
+
+    fn from(_: ListFault) -> Self {
+        Fault::TooManySecrets
+    }
+}
+
+impl From<BadLabel> for Fault {
+    ghost from_gives = { λ _ of. of ≡ LabelFault };
+
+    fn from(_: BadLabel) -> Self {
+        Fault::BadLabel
+    }
+}
+
+/// The source is the input of the run.
+impl From<SourceFailed> for Fault {
+    ghost from_gives = { λ _ of. of ≡ Read Input };
+
+    fn from(_: SourceFailed) -> Self {
+        Fault::Read(Role::Input)
+    }
+}
+
+impl From<SinkFailed> for Fault {
+    ghost from_gives = { λ _ of. of ≡ Write };
+
+    fn from(_: SinkFailed) -> Self {
+        Fault::Write
+    }
+}
+
+impl From<WriteFault> for Fault {
+    ghost from_gives = { λ _ of. of ≡ Write };
+
+    fn from(_: WriteFault) -> Self {
+        Fault::Write
+    }
+}
+
+impl From<AllocError> for Fault {
+    ghost from_gives = { λ _ of. of ≡ Memory };
+
+    fn from(_: AllocError) -> Self {
+        Fault::Memory
+    }
+}
+
+impl<T: Drop> From<AllocFailed<T>> for Fault {
+    ghost from_gives = { λ _ of. of ≡ Memory };
+
+    fn from(_: AllocFailed<T>) -> Self {
+        Fault::Memory
+    }
+}

@@ -1,0 +1,46 @@
+//! Passwords, and the files that hold them.
+ghost use Rattle.std.specs.Prelude.{◌≡◌, IfOk, MatchResult};
+ghost use Rattle.vault_core.specs.Password.{IsPassword, password_of};
+
+use crate::limits::SECRET_LIMIT;
+use thiserror::Error;
+use vault_text::{MARKER, strip};
+
+const SCRIPT_MARKER: &[u8; 2] = b"#!";
+
+/// Why a file gives no password, in the order in which the faults are looked for.
+#[derive(Clone, Copy, Debug, PartialEq, Eq, Error)]
+pub enum SecretFault {
+    #[error("a password file is longer than 4096 bytes")]
+    SecretTooLong,
+    #[error("a password file is a script")]
+    SecretIsScript,
+    #[error("a password file is itself a vault")]
+    SecretIsVault,
+    #[error("a password is empty")]
+    SecretEmpty,
+}
+
+/// The password in a password file: its bytes without the ASCII whitespace at both ends.
+#[tactic(auto, unfolding(crate::specs::Password::password_of))]
+pub fn password_of(file: &[u8]) -> Result<&[u8], SecretFault>
+    ensures password { MatchResult result
+        (λ password. password_of file.now ≡ Ok password.now)
+        (λ fault. password_of file.now ≡ Err fault) }
+    ensures fits { IfOk result (λ password. IsPassword password.now) }
+{
+    if file.len() > SECRET_LIMIT {
+        return Err(SecretFault::SecretTooLong);
+    }
+    if file.starts_with(SCRIPT_MARKER) {
+        return Err(SecretFault::SecretIsScript);
+    }
+    if file.starts_with(MARKER) {
+        return Err(SecretFault::SecretIsVault);
+    }
+    let password = strip(file);
+    if password.is_empty() {
+        return Err(SecretFault::SecretEmpty);
+    }
+    Ok(password)
+}

@@ -1,0 +1,68 @@
+//! Output that is ready to be written.
+ghost use Rattle.std.specs.Prelude.{◌≡◌, ◌≢◌, ℕ, take, OnOk, OnErr};
+ghost use Rattle.vault_text.specs.Failures.{CountsFailure};
+
+use std::marker::Model;
+use thiserror::Error;
+use vault_text::{Sink, SinkFailed, Stage, put_all};
+
+/// Why output was not written whole.
+#[derive(Clone, Copy, Debug, PartialEq, Eq, Error)]
+pub enum WriteFault {
+    #[error("the output cannot be written")]
+    Write,
+}
+
+impl From<SinkFailed> for WriteFault {
+    fn from(_: SinkFailed) -> Self {
+        WriteFault::Write
+    }
+}
+
+/// Output that lies in the memory into which the input was read.
+#[derive(Drop)]
+pub struct Ready<'a> {
+    plain: &'a [u8],
+    tried: usize,
+}
+
+impl<'a> Model for Ready<'a> {
+    ghost use Rattle.vault_core.specs.Ready.{Ready};
+
+    ghost Value = { Ready };
+
+    ghost view = { λ r. record { output = r.plain.now; tried = r.tried } };
+}
+
+impl<'a> Ready<'a> {
+    /// Plaintext that is written as it is.
+    pub(crate) fn plain(plain: &'a [u8], tried: usize) -> Self
+        ensures { result ≡ record { output = plain.now; tried = tried } }
+    {
+        Ready { plain, tried }
+    }
+
+    /// The place in the tried order, counted from 1, of the secret that agreed; 0 where none was
+    /// tried.
+    pub fn tried(&self) -> usize
+        ensures { result ≡ self.now.tried }
+    {
+        self.tried
+    }
+
+    /// Begins the sink, puts the output and finishes. A sink that failed has taken a prefix of the
+    /// output and was not finished.
+    pub fn write_to<K: Sink>(self, sink: &mut K) -> Result<(), WriteFault>
+        requires { K.stage sink.old ≡ Stage.Unbegun }
+        ensures written { OnOk result (K.takes sink.old self.entry.output sink.new) }
+        ensures finished { OnOk result (K.stage sink.new ≡ Stage.Finished) }
+        ensures prefix { (n : ℕ) × K.takes sink.old (take n self.entry.output) sink.new }
+        ensures unfinished { OnErr result (K.stage sink.new ≢ Stage.Finished) }
+        ensures failed { CountsFailure (K.failures sink.old) (K.failures sink.new) result }
+    {
+        sink.begin()?;
+        put_all(sink, self.plain)?;
+        sink.finish()?;
+        Ok(())
+    }
+}

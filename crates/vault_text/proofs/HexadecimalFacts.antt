@@ -1,0 +1,218 @@
+-- Hexadecimal text, pair by pair.
+use Rattle.std.proofs.Common.{◌≡◌, ℕ, ◌+◌, ◌*◌, ◌/◌, ◌%◌, ◌≤◌, ◌==◌, Bool, true, false, List, [], ◌∷◌, ◌++◌, length, take, drop, Option, Some, None, Result, Ok, Err, eq-eqb, refl, sym, ap, ◌∙◌, arith, inl, inr, append_assoc}
+use Rattle.std.specs.Prelude.{if◌then◌else◌, slice_get, MatchResult, is_err, is_some, not}
+use Rattle.std.proofs.lemmas.List.{append-nil, length-drop, take-append-drop}
+use Rattle.std.specs.Option.{option_map, option_to_list}
+use Rattle.std.specs.Result.{result_ok}
+use Rattle.std.proofs.lemmas.Bool.{cases_Bool, eqb-true}
+use Rattle.hex.specs.Hex.{decode_of, decode_pairs, decode_sized, digit_or_error, hex_digit_value, pair_value, ◌>>=◌}
+use Rattle.hex.specs.declared.error.FromHexError.{FromHexError}
+use Rattle.vault_text.specs.Hexadecimal.{unhex, unhex_on, Decodes}
+use Rattle.vault_text.specs.declared.hexadecimal.HexDecoder.{HexDecoder}
+
+-- the byte of two digits
+abbrev pub byte_of : ℕ → ℕ → Option ℕ
+byte_of high low = result_ok (pair_value high low 0)
+
+abbrev pub cons_found : Option ℕ → Option (List ℕ) → Option (List ℕ)
+cons_found (Some byte) (Some bytes) = Some (byte ∷ bytes)
+cons_found (Some byte) None = None
+cons_found None found = None
+
+-- the bytes of a text, pair by pair
+abbrev pub spelled_bytes : List ℕ → Option (List ℕ)
+spelled_bytes [] = Some []
+spelled_bytes (digit ∷ []) = None
+spelled_bytes (high ∷ low ∷ rest) = cons_found (byte_of high low) (spelled_bytes rest)
+
+result_ok-digit : (c i : ℕ) (o : Option ℕ) → result_ok (digit_or_error c i o) ≡ o
+result_ok-digit c i (Some v) = refl
+result_ok-digit c i None = refl
+
+abbrev pair_found : Option ℕ → Option ℕ → Option ℕ
+pair_found (Some h) (Some l) = Some (h * 16 + l)
+pair_found (Some h) None = None
+pair_found None l = None
+
+result_ok-pair : (high low i : ℕ) (h l : Option ℕ)
+    → result_ok (digit_or_error high i h >>= (λ a. digit_or_error low (i + 1) l >>= (λ b. Ok (a * 16 + b)))) ≡ pair_found h l
+result_ok-pair high low i (Some h) (Some l) = refl
+result_ok-pair high low i (Some h) None = refl
+result_ok-pair high low i None l = refl
+
+-- where a pair stands changes only its error
+byte_of-anywhere : (high low i : ℕ) → result_ok (pair_value high low i) ≡ byte_of high low
+byte_of-anywhere high low i =
+    result_ok-pair high low i (hex_digit_value high) (hex_digit_value low)
+    ∙ sym (result_ok-pair high low 0 (hex_digit_value high) (hex_digit_value low))
+
+result_ok-cons : (r : Result ℕ FromHexError) (s : Result (List ℕ) FromHexError)
+    → result_ok (r >>= (λ byte. s >>= (λ bytes. Ok (byte ∷ bytes)))) ≡ cons_found (result_ok r) (result_ok s)
+result_ok-cons (Ok b) (Ok bs) = refl
+result_ok-cons (Ok b) (Err e) = refl
+result_ok-cons (Err e) s = refl
+
+decode_pairs-spelled_bytes : (i : ℕ) (text : List ℕ) → result_ok (decode_pairs i text) ≡ spelled_bytes text
+unfolding decode_pairs
+decode_pairs-spelled_bytes i [] = refl
+decode_pairs-spelled_bytes i (digit ∷ []) = refl
+decode_pairs-spelled_bytes i (high ∷ low ∷ rest) =
+    result_ok-cons (pair_value high low i) (decode_pairs (i + 2) rest)
+    ∙ rw (byte_of-anywhere high low i, decode_pairs-spelled_bytes (i + 2) rest) refl
+
+cons_found-none : (o : Option ℕ) → cons_found o None ≡ None
+cons_found-none (Some b) = refl
+cons_found-none None = refl
+
+spelled_bytes-odd : (text : List ℕ) → length text % 2 ≡ 1 → spelled_bytes text ≡ None
+spelled_bytes-odd [] odd = absurd (omega arith)
+spelled_bytes-odd (digit ∷ []) odd = refl
+spelled_bytes-odd (high ∷ low ∷ rest) odd =
+    rw (spelled_bytes-odd rest (omega arith)) (cons_found-none (byte_of high low))
+
+pub unhex-spelled_bytes : (text : List ℕ) → unhex text ≡ spelled_bytes text
+unhex-spelled_bytes text =
+    elim (cases_Bool (length text % 2 == 1)) [
+      | inl odd ↦ rw (odd, spelled_bytes-odd text (eqb-true (length text % 2) 1 odd)) refl
+      | inr even ↦ rw even (decode_pairs-spelled_bytes 0 text)
+    ]
+
+-- two lists, one after the other, where both are there
+abbrev pub both_found : Option (List ℕ) → Option (List ℕ) → Option (List ℕ)
+both_found (Some xs) more = option_map (λ rest. xs ++ rest) more
+both_found None more = None
+
+option_map-nil : (o : Option (List ℕ)) → option_map (λ (rest : List ℕ). [] ++ rest) o ≡ o
+option_map-nil (Some xs) = refl
+option_map-nil None = refl
+
+cons_found-both_found : (b : Option ℕ) (xs ys : Option (List ℕ)) → cons_found b (both_found xs ys) ≡ both_found (cons_found b xs) ys
+cons_found-both_found (Some b) (Some xs) (Some ys) = refl
+cons_found-both_found (Some b) (Some xs) None = refl
+cons_found-both_found (Some b) None ys = refl
+cons_found-both_found None xs ys = refl
+
+-- a text behind whole pairs
+pub spelled_bytes-append : (pairs more : List ℕ) → length pairs % 2 ≡ 0 → spelled_bytes (pairs ++ more) ≡ both_found (spelled_bytes pairs) (spelled_bytes more)
+spelled_bytes-append [] more even = sym (option_map-nil (spelled_bytes more))
+spelled_bytes-append (digit ∷ []) more even = absurd (omega arith)
+spelled_bytes-append (high ∷ low ∷ rest) more even =
+    rw (spelled_bytes-append rest more (omega arith)) (cons_found-both_found (byte_of high low) (spelled_bytes rest) (spelled_bytes more))
+
+unhex-append : (pairs more : List ℕ) → length pairs % 2 ≡ 0 → unhex (pairs ++ more) ≡ both_found (unhex pairs) (unhex more)
+unhex-append pairs more even =
+    unhex-spelled_bytes (pairs ++ more) ∙ spelled_bytes-append pairs more even
+    ∙ rw (unhex-spelled_bytes pairs, unhex-spelled_bytes more) refl
+
+-- what decoding of whole pairs answers, and leaves in its room
+abbrev Answered : List ℕ → Result (List ℕ) FromHexError → Result (Unit {0}) FromHexError → Type 0
+Answered out decoded r = MatchResult decoded (λ bytes. (r ≡ Ok tt) × (out ≡ bytes)) (λ e. r ≡ Err e)
+
+decode_sized-fits : (pairs : List ℕ) (n : ℕ) → length pairs ≡ 2 * n → decode_sized pairs n ≡ decode_of pairs
+decode_sized-fits pairs n fits =
+    let half : (length pairs / 2 == n) ≡ true = eq-eqb (length pairs / 2) n (omega arith) in
+    rw half refl
+
+answered-ok : (out : List ℕ) (decoded : Result (List ℕ) FromHexError) (r : Result (Unit {0}) FromHexError)
+    → Answered out decoded r → is_err r ≡ false → result_ok decoded ≡ Some out
+answered-ok out (Ok bytes) r answered good = ap Some (sym answered.1)
+answered-ok out (Err e) r answered good = let bad : is_err r ≡ true = rw answered refl in cc
+
+answered-err : (out : List ℕ) (decoded : Result (List ℕ) FromHexError) (r : Result (Unit {0}) FromHexError)
+    → Answered out decoded r → is_err r ≡ true → result_ok decoded ≡ None
+answered-err out (Ok bytes) r answered bad = let good : is_err r ≡ false = rw answered.0 refl in cc
+answered-err out (Err e) r answered bad = refl
+
+-- where no digit waits, the text stands alone
+unhex_on-aligned : (decoder : HexDecoder) (text : List ℕ) → decoder.high ≡ None
+    → unhex_on decoder text ≡ (if decoder.is_bad then None else unhex text)
+unhex_on-aligned decoder text aligned = rw aligned refl
+
+unless_bad : (is_bad : Bool) (bytes : List ℕ) (whole pairs more : Option (List ℕ)) → whole ≡ both_found pairs more → pairs ≡ Some bytes
+    → (if is_bad then None else whole) ≡ option_map (λ rest. bytes ++ rest) (if is_bad then None else more)
+unless_bad true bytes whole pairs more e found = refl
+unless_bad false bytes whole pairs more e found = rw (e, found) refl
+
+none_where_bad : (is_bad : Bool) (whole : Option (List ℕ)) → whole ≡ None → (if is_bad then None else whole) ≡ None
+none_where_bad true whole e = refl
+none_where_bad false whole e = e
+
+-- whole pairs that are digits
+pub Decodes-pairs : (decoder : HexDecoder) (pairs bytes : List ℕ) (n : ℕ) (r : Result (Unit {0}) FromHexError)
+    → decoder.high ≡ None → length pairs ≡ 2 * n → Answered bytes (decode_sized pairs n) r → is_err r ≡ false
+    → Decodes decoder pairs bytes decoder
+Decodes-pairs decoder pairs bytes n r aligned fits answered good =
+    let found : unhex pairs ≡ Some bytes = answered-ok bytes (decode_of pairs) r (rw (decode_sized-fits pairs n fits) at answered) good in
+    record {
+      spelled = λ more.
+          unhex_on-aligned decoder (pairs ++ more) aligned
+          ∙ unless_bad decoder.is_bad bytes _ (unhex pairs) (unhex more) (unhex-append pairs more (omega arith)) found
+          ∙ ap (option_map (λ rest. bytes ++ rest)) (sym (unhex_on-aligned decoder more aligned));
+    }
+
+-- whole pairs of which one is not
+pub Decodes-bad : (decoder : HexDecoder) (pairs bytes : List ℕ) (n : ℕ) (r : Result (Unit {0}) FromHexError)
+    → decoder.high ≡ None → length pairs ≡ 2 * n → Answered bytes (decode_sized pairs n) r → is_err r ≡ true
+    → Decodes decoder pairs bytes (record { high = decoder.high; is_bad = true })
+Decodes-bad decoder pairs bytes n r aligned fits answered bad =
+    let none : unhex pairs ≡ None = answered-err bytes (decode_of pairs) r (rw (decode_sized-fits pairs n fits) at answered) bad in
+    record {
+      spelled = λ more.
+          unhex_on-aligned decoder (pairs ++ more) aligned
+          ∙ none_where_bad decoder.is_bad _ (unhex-append pairs more (omega arith) ∙ rw none refl);
+    }
+
+-- a digit that waits for its second
+pub Decodes-waits : (decoder : HexDecoder) (rest : List ℕ) → decoder.high ≡ None → length rest ≤ 1
+    → Decodes decoder rest [] (record { high = slice_get rest 0; is_bad = decoder.is_bad })
+Decodes-waits decoder [] aligned one =
+    record { spelled = λ more. unhex_on-aligned decoder more aligned ∙ sym (option_map-nil (if decoder.is_bad then None else unhex more)) }
+Decodes-waits decoder (digit ∷ []) aligned one =
+    record { spelled = λ more. unhex_on-aligned decoder (digit ∷ more) aligned ∙ sym (option_map-nil (if decoder.is_bad then None else unhex (digit ∷ more))) }
+Decodes-waits decoder (digit ∷ next ∷ rest) aligned one = absurd (omega arith)
+
+option_map-append : (xs ys : List ℕ) (o : Option (List ℕ))
+    → option_map (λ rest. xs ++ rest) (option_map (λ rest. ys ++ rest) o) ≡ option_map (λ rest. (xs ++ ys) ++ rest) o
+option_map-append xs ys (Some zs) = ap Some (sym (append_assoc xs ys zs))
+option_map-append xs ys None = refl
+
+-- digits that were taken first, and digits that were taken then
+pub Decodes-more : (a b c : HexDecoder) (xs ys first second : List ℕ)
+    → Decodes a xs first b → Decodes b ys second c → Decodes a (xs ++ ys) (first ++ second) c
+Decodes-more a b c xs ys first second p q = record {
+  spelled = λ more.
+      rw (append_assoc xs ys more) (p.spelled (ys ++ more))
+      ∙ ap (option_map (λ rest. first ++ rest)) (q.spelled more)
+      ∙ option_map-append first second (unhex_on c more);
+}
+
+-- the digit that waits is the first of the text
+pub Decodes-waiting : (old between new : HexDecoder) (high : ℕ) (digits bytes : List ℕ)
+    → old.high ≡ Some high → between.high ≡ None → between.is_bad ≡ old.is_bad
+    → Decodes between (high ∷ digits) bytes new → Decodes old digits bytes new
+Decodes-waiting old between new high digits bytes waits aligned same p = record {
+  spelled = λ more.
+      let whole = p.spelled more in
+      rw (waits, ← same) (rw aligned at whole);
+}
+
+-- whole pairs, and the digit that is left
+pub Decodes-aligned : (old between : HexDecoder) (digits bytes : List ℕ) (n : ℕ) → between.high ≡ None → length digits ≤ 2 * n + 1
+    → Decodes old (take (2 * n) digits) bytes between
+    → Decodes old digits bytes (record { high = slice_get (drop (2 * n) digits) 0; is_bad = between.is_bad })
+Decodes-aligned old between digits bytes n aligned short p =
+    let more = Decodes-more old between _ (take (2 * n) digits) (drop (2 * n) digits) bytes [] p
+    (Decodes-waits between (drop (2 * n) digits) aligned (omega (arith, length-drop (2 * n) digits))) in
+    rw (take-append-drop, append-nil) at more
+
+-- nothing follows
+pub unhex_on-nil : (decoder : HexDecoder) (is_complete : Bool) → decoder.is_bad ≡ false → is_some decoder.high ≡ not is_complete
+    → unhex_on decoder [] ≡ (if is_complete then Some [] else None)
+unhex_on-nil decoder is_complete good waits = rw good (ends decoder.high is_complete waits)
+  where
+    ends : (high : Option ℕ) (is_complete : Bool) → is_some high ≡ not is_complete
+        → unhex (option_to_list high ++ []) ≡ (if is_complete then Some [] else None)
+    ends None true waits = unhex-spelled_bytes []
+    ends None false waits = cc
+    ends (Some digit) true waits = cc
+    ends (Some digit) false waits = unhex-spelled_bytes (digit ∷ [])

@@ -1,0 +1,222 @@
+-- The inner text, read on behind some of it.
+use Rattle.std.proofs.Common.{◌≡◌, ℕ, suc, ◌+◌, ◌<◌, ◌==◌, Bool, true, false, List, [], ◌∷◌, ◌++◌, length, take, drop, get_or, Option, Some, None, Ok, Err, cond, refl, sym, ap, ◌∙◌, ◌≢◌, eq-eqb, arith, inl, inr, append_assoc}
+use Rattle.std.specs.Prelude.{if◌then◌else◌, ◌||◌, nat_lt}
+use Rattle.std.specs.List.{before_first, after_first, position_or_len, count_by}
+use Rattle.std.specs.Option.{option_map, ok_or}
+use Rattle.std.proofs.lemmas.Bool.{cases_Bool, eqb-true}
+use Rattle.std.proofs.lemmas.Bool.Decides.{nat_tests}
+use Rattle.std.proofs.lemmas.List.Sums.{sum_by-cons, passes_at_first, split_at_first}
+use Rattle.vault_text.specs.Envelope.{◌>>=◌}
+use Rattle.vault_text.specs.Hexadecimal.{unhex_on, Decodes}
+use Rattle.vault_text.specs.InnerText.{Parts, cut, is_line_feed}
+use Rattle.vault_text.specs.InnerReader.{PartState, InnerState, TakesDigits, part_on, payload_of, payload_on, rest_of_parts}
+use Rattle.vault_text.specs.declared.limits.TheConstants.{SALT_LIMIT, TAG_LENGTH, CIPHERTEXT_LIMIT}
+use Rattle.vault_text.specs.declared.hexadecimal.HexDecoder.{HexDecoder}
+use Rattle.vault_text.specs.declared.fault.TextFault.{TextFault}
+use Rattle.vault_text.specs.declared.fault.TextFault.TheVariants.{BadPayload, CipherTooLong}
+use Rattle.vault_text.specs.declared.reader.inner_text.Part.{Part}
+use Rattle.vault_text.specs.declared.reader.inner_text.Part.TheVariants.{Salt, Tag, Cipher}
+
+-- ---- one part
+
+kept_bytes : (limit : ℕ) (fault : TextFault) (is_long : Bool) (bytes out : List ℕ) (more : Option (List ℕ))
+    → (ok_or (option_map (λ rest. out ++ rest) more) BadPayload >>= (λ rest. if is_long || nat_lt limit (length (bytes ++ rest)) then Err fault else Ok (bytes ++ rest)))
+    ≡ (ok_or more BadPayload >>= (λ rest. if is_long || nat_lt limit (length (bytes ++ out ++ rest)) then Err fault else Ok (bytes ++ out ++ rest)))
+kept_bytes limit fault is_long bytes out None = refl
+kept_bytes limit fault is_long bytes out (Some rest) = rw (append_assoc bytes out rest) refl
+
+-- the bytes that the digits complete stand behind those of the part
+pub TakesDigits-kept : (limit : ℕ) (bytes digits out : List ℕ) (old new : HexDecoder) (is_long : Bool) → Decodes old digits out new
+    → TakesDigits limit (record { bytes = bytes; decoder = old; is_long = is_long }) digits (record { bytes = bytes ++ out; decoder = new; is_long = is_long })
+TakesDigits-kept limit bytes digits out old new is_long decoded = record {
+  same = λ fault more. rw (decoded.spelled more) (kept_bytes limit fault is_long bytes out (unhex_on new more));
+}
+
+-- ---- the first LF
+
+count_by-other : (b : ℕ) (text : List ℕ) → is_line_feed b ≡ false → count_by is_line_feed (b ∷ text) ≡ count_by is_line_feed text
+count_by-other b text other = rw (sum_by-cons (λ x. cond (is_line_feed x) 1 0) b text, other) (omega arith)
+
+count_by-found : (text : List ℕ) → count_by is_line_feed (10 ∷ text) ≡ 1 + count_by is_line_feed text
+count_by-found text = sum_by-cons (λ x. cond (is_line_feed x) 1 0) 10 text
+
+before_first-other : (b : ℕ) (text : List ℕ) → is_line_feed b ≡ false
+    → before_first is_line_feed (b ∷ text) ≡ b ∷ before_first is_line_feed text
+before_first-other b text other =
+    let step : 1 + position_or_len is_line_feed text ≡ suc (position_or_len is_line_feed text) = omega arith in
+    rw (other, step) refl
+
+after_first-other : (b : ℕ) (text : List ℕ) → is_line_feed b ≡ false
+    → after_first is_line_feed (b ∷ text) ≡ after_first is_line_feed text
+after_first-other b text other =
+    let step : 1 + position_or_len is_line_feed text + 1 ≡ suc (position_or_len is_line_feed text + 1) = omega arith in
+    rw (other, step) refl
+
+-- a text is what stands before its first LF, the LF, and what stands behind it
+pub line_feed_found : (text : List ℕ) (end : ℕ) → end ≡ position_or_len is_line_feed text → end < length text
+    → text ≡ take end text ++ 10 ∷ drop (end + 1) text
+line_feed_found text end place inside =
+    let inside_text : position_or_len is_line_feed text < length text = omega arith in
+    let byte : get_or text (position_or_len is_line_feed text) 0 ≡ 10 = eqb-true _ 10 (passes_at_first is_line_feed text 0 inside_text) in
+    rw place (rw byte at (split_at_first is_line_feed text 0 inside_text))
+
+-- ---- what the parts still get
+
+-- the parts, with these digits in front of those of one
+abbrev pub with_digits : Part → List ℕ → Parts → Parts
+with_digits Salt digits parts = record { salt = digits ++ parts.salt; tag = parts.tag; cipher = parts.cipher }
+with_digits Tag digits parts = record { salt = parts.salt; tag = digits ++ parts.tag; cipher = parts.cipher }
+with_digits Cipher digits parts = record { salt = parts.salt; tag = parts.tag; cipher = digits ++ parts.cipher }
+
+option_map-unless : (lacking : Bool) (f : Parts → Parts) (parts : Parts)
+    → option_map f (if lacking then None else Some parts) ≡ (if lacking then None else Some (f parts))
+option_map-unless true f parts = refl
+option_map-unless false f parts = refl
+
+rest_of_parts-other : (part : Part) (b : ℕ) (text : List ℕ) → is_line_feed b ≡ false
+    → rest_of_parts part (b ∷ text) ≡ option_map (with_digits part (b ∷ [])) (rest_of_parts part text)
+unfolding cut
+rest_of_parts-other Salt b text other =
+    rw (count_by-other b text other, before_first-other b text other, after_first-other b text other)
+    (sym (option_map-unless (nat_lt (count_by is_line_feed text) 2) (with_digits Salt (b ∷ [])) _))
+rest_of_parts-other Tag b text other =
+    rw (count_by-other b text other, before_first-other b text other, after_first-other b text other)
+    (sym (option_map-unless (nat_lt (count_by is_line_feed text) 1) (with_digits Tag (b ∷ [])) _))
+rest_of_parts-other Cipher b text other = refl
+
+-- behind an LF comes the next part
+pub rest_of_parts-salt_end : (text : List ℕ) → rest_of_parts Salt (10 ∷ text) ≡ rest_of_parts Tag text
+unfolding cut
+rest_of_parts-salt_end text =
+    let same : nat_lt (1 + count_by is_line_feed text) 2 ≡ nat_lt (count_by is_line_feed text) 1 = grind (arith, nat_tests) in
+    rw (count_by-found text, same) refl
+
+pub rest_of_parts-tag_end : (text : List ℕ) → rest_of_parts Tag (10 ∷ text) ≡ rest_of_parts Cipher text
+rest_of_parts-tag_end text =
+    let enough : nat_lt (1 + count_by is_line_feed text) 1 ≡ false = grind (arith, nat_tests) in
+    rw (count_by-found text, enough) refl
+
+with_digits-nil : (part : Part) (found : Option Parts) → option_map (with_digits part []) found ≡ found
+with_digits-nil Salt None = refl
+with_digits-nil Salt (Some parts) = refl
+with_digits-nil Tag None = refl
+with_digits-nil Tag (Some parts) = refl
+with_digits-nil Cipher None = refl
+with_digits-nil Cipher (Some parts) = refl
+
+with_digits-more : (part : Part) (b : ℕ) (digits : List ℕ) (found : Option Parts)
+    → option_map (with_digits part (b ∷ [])) (option_map (with_digits part digits) found) ≡ option_map (with_digits part (b ∷ digits)) found
+with_digits-more Salt b digits None = refl
+with_digits-more Salt b digits (Some parts) = refl
+with_digits-more Tag b digits None = refl
+with_digits-more Tag b digits (Some parts) = refl
+with_digits-more Cipher b digits None = refl
+with_digits-more Cipher b digits (Some parts) = refl
+
+-- digits before an LF go to the part that comes next
+rest_of_parts-append : (part : Part) (text more : List ℕ)
+    → rest_of_parts part (before_first is_line_feed text ++ more) ≡ option_map (with_digits part (before_first is_line_feed text)) (rest_of_parts part more)
+rest_of_parts-append part [] more = sym (with_digits-nil part (rest_of_parts part more))
+rest_of_parts-append part (b ∷ text) more =
+    elim (cases_Bool (is_line_feed b)) [
+      | inl found ↦ rw found (sym (with_digits-nil part (rest_of_parts part more)))
+      | inr other ↦
+          rw (before_first-other b text other)
+          (rest_of_parts-other part b (before_first is_line_feed text ++ more) other
+          ∙ ap (option_map (with_digits part (b ∷ []))) (rest_of_parts-append part text more)
+          ∙ with_digits-more part b (before_first is_line_feed text) (rest_of_parts part more))
+    ]
+
+-- ---- the payload
+
+payload_of-salt : (inner : InnerState) (salt : PartState) (part : Part) (digits label : List ℕ) (found : Option Parts)
+    → TakesDigits SALT_LIMIT inner.salt digits salt
+    → (ok_or (option_map (with_digits Salt digits) found) BadPayload >>= payload_of inner label)
+    ≡ (ok_or found BadPayload >>= payload_of (record { part = part; salt = salt; tag = inner.tag; cipher = inner.cipher }) label)
+payload_of-salt inner salt part digits label None taken = refl
+payload_of-salt inner salt part digits label (Some parts) taken = rw (taken.same BadPayload parts.salt) refl
+
+payload_of-tag : (inner : InnerState) (tag : PartState) (part : Part) (digits label : List ℕ) (found : Option Parts)
+    → TakesDigits TAG_LENGTH inner.tag digits tag
+    → (ok_or (option_map (with_digits Tag digits) found) BadPayload >>= payload_of inner label)
+    ≡ (ok_or found BadPayload >>= payload_of (record { part = part; salt = inner.salt; tag = tag; cipher = inner.cipher }) label)
+payload_of-tag inner tag part digits label None taken = refl
+payload_of-tag inner tag part digits label (Some parts) taken = rw (taken.same BadPayload parts.tag) refl
+
+-- a salt takes what stands before the first LF of a text, and the reader goes on at what `part` gets of the rest
+pub payload_on-salt : (inner : InnerState) (salt : PartState) (part : Part) (text digits front rest label : List ℕ)
+    → inner.part ≡ Salt → digits ≡ before_first is_line_feed text → TakesDigits SALT_LIMIT inner.salt digits salt
+    → rest_of_parts Salt front ≡ rest_of_parts part rest
+    → payload_on inner label (digits ++ front) ≡ payload_on (record { part = part; salt = salt; tag = inner.tag; cipher = inner.cipher }) label rest
+unfolding payload_on
+payload_on-salt inner salt part text digits front rest label here cut_off taken same =
+    let found = rest_of_parts-append Salt text front in
+    let got = rw (← cut_off, same) at found in
+    rw (here, got) (payload_of-salt inner salt part digits label (rest_of_parts part rest) taken)
+
+pub payload_on-tag : (inner : InnerState) (tag : PartState) (part : Part) (text digits front rest label : List ℕ)
+    → inner.part ≡ Tag → digits ≡ before_first is_line_feed text → TakesDigits TAG_LENGTH inner.tag digits tag
+    → rest_of_parts Tag front ≡ rest_of_parts part rest
+    → payload_on inner label (digits ++ front) ≡ payload_on (record { part = part; salt = inner.salt; tag = tag; cipher = inner.cipher }) label rest
+unfolding payload_on
+payload_on-tag inner tag part text digits front rest label here cut_off taken same =
+    let found = rest_of_parts-append Tag text front in
+    let got = rw (← cut_off, same) at found in
+    rw (here, got) (payload_of-tag inner tag part digits label (rest_of_parts part rest) taken)
+
+-- the ciphertext takes all of a text
+pub payload_on-cipher : (inner : InnerState) (cipher : PartState) (text more label : List ℕ)
+    → inner.part ≡ Cipher → TakesDigits CIPHERTEXT_LIMIT inner.cipher text cipher
+    → payload_on inner label (text ++ more) ≡ payload_on (record { part = inner.part; salt = inner.salt; tag = inner.tag; cipher = cipher }) label more
+unfolding payload_on
+payload_on-cipher inner cipher text more label here taken = rw (here, taken.same CipherTooLong more) refl
+
+-- ---- the end of the text
+
+-- a text with fewer than two LF
+pub payload_on-cut_off : (inner : InnerState) (label : List ℕ) → (inner.part ≡ Cipher → ⊥) → Err BadPayload ≡ payload_on inner label []
+unfolding payload_on cut
+payload_on-cut_off inner label early = lacking inner.part early
+  where
+    lacking : (part : Part) → (part ≡ Cipher → ⊥) → Err BadPayload ≡ (ok_or (rest_of_parts part []) BadPayload >>= payload_of inner label)
+    lacking Salt early = refl
+    lacking Tag early = refl
+    lacking Cipher early = absurd (early refl)
+
+-- no part gets any more
+pub payload_on-end : (inner : InnerState) (label : List ℕ) → inner.part ≡ Cipher
+    → payload_on inner label [] ≡ payload_of inner label (record { salt = []; tag = []; cipher = [] })
+unfolding payload_on
+payload_on-end inner label here = rw here refl
+
+-- the first part that is refused, or the payload
+pub payload_on-bad_salt : (inner : InnerState) (label : List ℕ) (fault : TextFault) → inner.part ≡ Cipher
+    → part_on SALT_LIMIT BadPayload inner.salt [] ≡ Err fault → Err fault ≡ payload_on inner label []
+payload_on-bad_salt inner label fault here salt = sym (payload_on-end inner label here ∙ rw salt refl)
+
+pub payload_on-bad_tag : (inner : InnerState) (label s : List ℕ) (fault : TextFault) → inner.part ≡ Cipher
+    → part_on SALT_LIMIT BadPayload inner.salt [] ≡ Ok s → part_on TAG_LENGTH BadPayload inner.tag [] ≡ Err fault
+    → Err fault ≡ payload_on inner label []
+payload_on-bad_tag inner label s fault here salt tag = sym (payload_on-end inner label here ∙ rw (salt, tag) refl)
+
+pub payload_on-odd_tag : (inner : InnerState) (label s t : List ℕ) → inner.part ≡ Cipher
+    → part_on SALT_LIMIT BadPayload inner.salt [] ≡ Ok s → part_on TAG_LENGTH BadPayload inner.tag [] ≡ Ok t → length t ≢ TAG_LENGTH
+    → Err BadPayload ≡ payload_on inner label []
+payload_on-odd_tag inner label s t here salt tag odd =
+    let test : (length t == TAG_LENGTH) ≡ false = grind (arith, nat_tests) in
+    sym (payload_on-end inner label here ∙ rw (salt, tag, test) refl)
+
+pub payload_on-bad_cipher : (inner : InnerState) (label s t : List ℕ) (fault : TextFault) → inner.part ≡ Cipher
+    → part_on SALT_LIMIT BadPayload inner.salt [] ≡ Ok s → part_on TAG_LENGTH BadPayload inner.tag [] ≡ Ok t → length t ≡ TAG_LENGTH
+    → part_on CIPHERTEXT_LIMIT CipherTooLong inner.cipher [] ≡ Err fault → Err fault ≡ payload_on inner label []
+payload_on-bad_cipher inner label s t fault here salt tag whole cipher =
+    let test : (length t == TAG_LENGTH) ≡ true = eq-eqb (length t) TAG_LENGTH whole in
+    sym (payload_on-end inner label here ∙ rw (salt, tag, test, cipher) refl)
+
+pub payload_on-whole : (inner : InnerState) (label s t c : List ℕ) → inner.part ≡ Cipher
+    → part_on SALT_LIMIT BadPayload inner.salt [] ≡ Ok s → part_on TAG_LENGTH BadPayload inner.tag [] ≡ Ok t → length t ≡ TAG_LENGTH
+    → part_on CIPHERTEXT_LIMIT CipherTooLong inner.cipher [] ≡ Ok c
+    → Ok (record { label = label; salt = s; tag = t; cipher = c }) ≡ payload_on inner label []
+payload_on-whole inner label s t c here salt tag whole cipher =
+    let test : (length t == TAG_LENGTH) ≡ true = eq-eqb (length t) TAG_LENGTH whole in
+    sym (payload_on-end inner label here ∙ rw (salt, tag, test, cipher) refl)

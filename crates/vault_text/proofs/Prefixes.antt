@@ -1,0 +1,26 @@
+-- What a sink took of two texts, of which the second was written after the first.
+use Rattle.std.proofs.Common.{◌≡◌, ℕ, ◌+◌, List, ◌++◌, length, take, min, arith, ◌∙◌}
+use Rattle.std.proofs.Math.Seq.{take-append-add}
+use Rattle.std.proofs.lemmas.List.{take_min, take-append-le}
+
+-- a prefix of the first text is one of both
+pub prefix_first : {S : Type 0} (takes : S → List ℕ → S → Type 0) (s t : S) (xs ys whole : List ℕ)
+    → xs ++ ys ≡ whole → (n : ℕ) × takes s (take n xs) t → (n : ℕ) × takes s (take n whole) t
+prefix_first takes s t xs ys whole e (n, p) =
+    let front : take (min n (length xs)) (xs ++ ys) ≡ take n xs =
+    take-append-le (min n (length xs)) xs ys (omega arith) ∙ take_min n xs in
+    (min n (length xs), rw (← e) (rw front p))
+
+-- the first text and a prefix of the second
+pub prefix_second : {S : Type 0} (takes : S → List ℕ → S → Type 0)
+    → ((s t u : S) (xs ys : List ℕ) → takes s xs t → takes t ys u → takes s (xs ++ ys) u)
+    → (s t u : S) (xs ys whole : List ℕ) → xs ++ ys ≡ whole → takes s xs t
+    → (n : ℕ) × takes t (take n ys) u → (n : ℕ) × takes s (take n whole) u
+prefix_second takes more s t u xs ys whole e p (n, q) =
+    (length xs + n, rw (← e) (rw (take-append-add xs ys n) (more s t u xs (take n ys) p q)))
+
+-- both texts
+pub takes_both : {S : Type 0} (takes : S → List ℕ → S → Type 0)
+    → ((s t u : S) (xs ys : List ℕ) → takes s xs t → takes t ys u → takes s (xs ++ ys) u)
+    → (s t u : S) (xs ys whole : List ℕ) → xs ++ ys ≡ whole → takes s xs t → takes t ys u → takes s whole u
+takes_both takes more s t u xs ys whole e p q = rw (← e) (more s t u xs ys p q)

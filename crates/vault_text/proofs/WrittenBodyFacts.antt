@@ -1,0 +1,139 @@
+-- What is read in a body that was written.
+use Rattle.std.proofs.Common.{◌≡◌, ℕ, zero, suc, ◌+◌, ◌*◌, ◌≤◌, ◌==◌, Bool, true, false, not, List, [], ◌∷◌, ◌++◌, length, take, drop, inl, inr, arith, ap, sym, ◌∙◌, refl, Ok, Some, length-append, length-drop, length-take}
+use Rattle.std.specs.List.{after_first, before_first, count_by, filter, list_all}
+use Rattle.std.specs.Prelude.{nat_le, nat_lt}
+use Rattle.std.specs.Result.{result_ok}
+use Rattle.std.proofs.lemmas.Bool.{cases_lt, le-leb, lt-leb, ltb-true}
+use Rattle.std.proofs.lemmas.Bool.Decides.{Decides-eqb}
+use Rattle.std.proofs.lemmas.List.{append-nil, get_or_past, take-append-drop}
+use Rattle.std.proofs.lemmas.List.Elements.{All-get_or, filter-append}
+use Rattle.std.proofs.lemmas.List.Folds.{list_all-append}
+use Rattle.std.proofs.lemmas.List.Sums.{AllPass-from_list_all}
+use Rattle.hex.specs.Hex.{IsBytes, encode_lower}
+use Rattle.hex.proofs.HexLemmas.{decode_of-encode_lower}
+use Rattle.vault_text.specs.Envelope.{read_body}
+use Rattle.vault_text.specs.Hexadecimal.{unhex}
+use Rattle.vault_text.specs.InnerText.{Parts, cut, is_line_feed, parts_of}
+use Rattle.vault_text.specs.Written.{body_lines, inner_text, text_of_lines}
+use Rattle.vault_text.proofs.BodyFacts.{body_text-nil, body_text-step}
+use Rattle.vault_text.proofs.CleanText.{after_first-clean, before_first-clean, encode_lower-clean, position_or_len-clean}
+use Rattle.vault_text.proofs.LineFacts.{count_by-found}
+
+-- ---- lines
+
+-- a line end for each line
+pub body_text-short : (lines : ℕ) (digits : List ℕ) → length digits ≤ 80 * lines
+    → length (text_of_lines [] (body_lines digits)) ≤ length digits + lines
+body_text-short zero [] few = rw (body_text-nil []) (omega arith)
+body_text-short zero (d ∷ digits) few = absurd (omega arith)
+body_text-short (suc lines) digits few =
+    elim (cases_lt 0 (length digits)) [
+      | inl some ↦
+          let left = length-drop 80 digits in
+          let later = body_text-short lines (drop 80 digits) (omega arith) in
+          let first = length-append (take 80 digits) (10 ∷ []) in
+          let size = length-take 80 digits in
+          let both = length-append (take 80 digits ++ 10 ∷ []) (text_of_lines [] (body_lines (drop 80 digits))) in
+          rw (body_text-step [] digits some) (omega arith)
+      | inr none ↦ body_text-short-none lines digits none
+    ]
+  where
+    body_text-short-none : (lines : ℕ) (digits : List ℕ) → length digits ≤ 0 → length (text_of_lines [] (body_lines digits)) ≤ length digits + suc lines
+    body_text-short-none lines [] none = rw (body_text-nil []) (omega arith)
+    body_text-short-none lines (d ∷ digits) none = absurd (omega arith)
+
+-- the digits are what stands on the lines
+pub filter-body_text : (p : ℕ → Bool) → p 10 ≡ false → (lines : ℕ) (digits : List ℕ) → length digits ≤ 80 * lines
+    → filter p (text_of_lines [] (body_lines digits)) ≡ filter p digits
+filter-body_text p end zero [] few = rw (body_text-nil []) refl
+filter-body_text p end zero (d ∷ digits) few = absurd (omega arith)
+filter-body_text p end (suc lines) [] few = rw (body_text-nil []) refl
+filter-body_text p end (suc lines) (d ∷ digits) few =
+    let all : List ℕ = d ∷ digits in
+    let left = length-drop 80 all in
+    let later = filter-body_text p end lines (drop 80 all) (omega arith) in
+    let none : filter p (10 ∷ []) ≡ [] = rw end refl in
+    ap (filter p) (body_text-step [] all (omega arith))
+    ∙ filter-append p (take 80 all ++ 10 ∷ []) (text_of_lines [] (body_lines (drop 80 all)))
+    ∙ rw (filter-append p (take 80 all) (10 ∷ []), none, append-nil, later) (sym (filter-append p (take 80 all) (drop 80 all)))
+    ∙ ap (filter p) (take-append-drop 80 all)
+
+-- ---- the inner text
+
+bytes_from_test : (xs : List ℕ) → list_all (λ b. nat_lt b 256) xs ≡ true → IsBytes xs
+bytes_from_test xs pass i =
+    elim (cases_lt i (length xs)) [
+      | inl inside ↦ ltb-true _ _ (All-get_or (λ b. nat_lt b 256 ≡ true) xs i 0 inside (AllPass-from_list_all (λ b. nat_lt b 256) xs pass))
+      | inr past ↦ rw (get_or_past xs i 0 past) (omega arith)
+    ]
+
+pub inner_text-bytes : (salt tag cipher : List ℕ) → IsBytes (inner_text salt tag cipher)
+inner_text-bytes salt tag cipher =
+    let p : ℕ → Bool = λ b. nat_lt b 256 in
+    let a = encode_lower-clean (λ b. nat_lt b 256) refl refl salt in
+    let b = encode_lower-clean (λ b. nat_lt b 256) refl refl tag in
+    let c = encode_lower-clean (λ b. nat_lt b 256) refl refl cipher in
+    bytes_from_test (inner_text salt tag cipher)
+    (rw (list_all-append p (encode_lower salt) (10 ∷ (encode_lower tag ++ 10 ∷ encode_lower cipher)), a, list_all-append p (encode_lower tag) (10 ∷ encode_lower cipher), b, c) refl)
+
+-- a text whose parts are known
+cut-parts : (text x rest y z : List ℕ) → nat_lt (count_by is_line_feed text) 2 ≡ false
+    → before_first is_line_feed text ≡ x → after_first is_line_feed text ≡ rest
+    → before_first is_line_feed rest ≡ y → after_first is_line_feed rest ≡ z
+    → cut text ≡ Some (record { salt = x; tag = y; cipher = z })
+unfolding cut
+cut-parts text x rest y z many before after between behind =
+    rw (many, before, after, between, behind) refl
+
+no_line_feed : (xs : List ℕ) → list_all (λ b. not (is_line_feed b)) (encode_lower xs) ≡ true
+no_line_feed xs = encode_lower-clean (λ b. not (is_line_feed b)) refl refl xs
+
+cut-inner_text : (salt tag cipher : List ℕ)
+    → cut (inner_text salt tag cipher) ≡ Some (record { salt = encode_lower salt; tag = encode_lower tag; cipher = encode_lower cipher })
+cut-inner_text salt tag cipher =
+    let x = encode_lower salt in
+    let y = encode_lower tag in
+    let z = encode_lower cipher in
+    let rest = y ++ 10 ∷ z in
+    let text = x ++ 10 ∷ rest in
+    let before = before_first-clean is_line_feed x 10 rest (no_line_feed salt) refl in
+    let after = after_first-clean is_line_feed x 10 rest (no_line_feed salt) refl in
+    let between = before_first-clean is_line_feed y 10 z (no_line_feed tag) refl in
+    let behind = after_first-clean is_line_feed y 10 z (no_line_feed tag) refl in
+    let first = position_or_len-clean is_line_feed x 10 rest (no_line_feed salt) refl in
+    let second = position_or_len-clean is_line_feed y 10 z (no_line_feed tag) refl in
+    let size = length-append x (10 ∷ rest) in
+    let left = length-append y (10 ∷ z) in
+    let one = count_by-found is_line_feed text (omega arith) in
+    let two = count_by-found is_line_feed rest (omega arith) in
+    let later : count_by is_line_feed (after_first is_line_feed text) ≡ count_by is_line_feed rest = ap (count_by is_line_feed) after in
+    cut-parts text x rest y z (lt-leb _ _ (omega arith)) before after between behind
+
+-- ---- reading
+
+unhex-encode_lower : (xs : List ℕ) → IsBytes xs → unhex (encode_lower xs) ≡ Some xs
+unhex-encode_lower xs bytes = ap result_ok (decode_of-encode_lower xs bytes)
+
+parts_of-known : (text salt tag cipher digits_salt digits_tag digits_cipher : List ℕ)
+    → cut text ≡ Some (record { salt = digits_salt; tag = digits_tag; cipher = digits_cipher })
+    → unhex digits_salt ≡ Some salt → unhex digits_tag ≡ Some tag → unhex digits_cipher ≡ Some cipher
+    → nat_le (length salt) 256 ≡ true → (length tag == 32) ≡ true
+    → parts_of text ≡ Some (record { salt = salt; tag = tag; cipher = cipher })
+unfolding parts_of
+parts_of-known text salt tag cipher digits_salt digits_tag digits_cipher parts a b c short whole =
+    rw (parts, a, b, c, short, whole) refl
+
+read_body-known : (label digits inner : List ℕ) (parts : Parts) → unhex digits ≡ Some inner → parts_of inner ≡ Some parts
+    → nat_lt 1048592 (length parts.cipher) ≡ false
+    → read_body label digits ≡ Ok (record { label = label; salt = parts.salt; tag = parts.tag; cipher = parts.cipher })
+unfolding read_body
+read_body-known label digits inner parts spells known short = rw (spells, known, short) refl
+
+pub body-reads : (label salt tag cipher : List ℕ) → IsBytes salt → length salt ≤ 256 → IsBytes tag → length tag ≡ 32 → IsBytes cipher → length cipher ≤ 1048592
+    → read_body label (encode_lower (inner_text salt tag cipher)) ≡ Ok (record { label = label; salt = salt; tag = tag; cipher = cipher })
+body-reads label salt tag cipher salt_bytes salt_short tag_bytes tag_whole cipher_bytes cipher_short =
+    let inner = unhex-encode_lower (inner_text salt tag cipher) (inner_text-bytes salt tag cipher) in
+    let parts = parts_of-known (inner_text salt tag cipher) salt tag cipher _ _ _ (cut-inner_text salt tag cipher)
+    (unhex-encode_lower salt salt_bytes) (unhex-encode_lower tag tag_bytes) (unhex-encode_lower cipher cipher_bytes)
+    (le-leb _ _ salt_short) ((Decides-eqb (length tag) 32).1 tag_whole) in
+    read_body-known label _ _ _ inner parts (lt-leb _ _ (omega arith))

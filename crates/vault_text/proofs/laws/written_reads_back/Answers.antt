@@ -1,0 +1,5 @@
+use Rattle.vault_text.proofs.WrittenReadsBack.{written_reads_back}
+use Rattle.vault_text.proofs.laws.written_reads_back.Goals as goal
+
+pub returns : goal.returns
+returns c = written_reads_back

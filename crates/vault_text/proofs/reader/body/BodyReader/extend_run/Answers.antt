@@ -1,0 +1,9 @@
+use Rattle.std.proofs.Common.{append_assoc}
+use Rattle.std.proofs.lemmas.List.{take_rest}
+use Rattle.vault_text.proofs.LineEndFacts.{without_line_ends-run}
+use Rattle.vault_text.proofs.reader.body.BodyReader.extend_run.Goals as goal
+
+pub returns-clause-taken : goal.returns-clause-taken
+returns-clause-taken c label more =
+    let run = rw (← c.before_line_end-digits.ensures.line) at (without_line_ends-run c.args.text.now c.min.result) in
+    rw (take_rest, run, append_assoc) (c.extend_digits.ensures.same label _)

@@ -1,0 +1,16 @@
+use Rattle.std.proofs.Common.{length, ◌-◌, ◌≡◌, ◌≤◌, ◌%◌, take}
+use Rattle.hex.specs.Hex.{encode_lower}
+use Rattle.vault_text.specs.Written.{hexadecimal_lines}
+use Rattle.vault_text.specs.declared.sink.Stage.TheVariants.{Begun}
+use Rattle.vault_text.proofs.writing.body.put_ciphertext.Given as goal
+
+abbrev pub invariant-loop-done : goal.invariant-loop-done
+invariant-loop-done g l =
+    (l.done ≤ length l.cipher)
+    × (l.done % 1280 ≡ 0)
+    × g.K.Sink.takes l.fn.sink (hexadecimal_lines l.indentation (encode_lower (take l.done l.cipher))) l.sink
+    × (g.K.Sink.stage l.sink ≡ Begun)
+    × (g.K.Sink.failures l.sink ≡ g.K.Sink.failures l.fn.sink)
+
+abbrev pub decreases-loop-done : goal.decreases-loop-done
+decreases-loop-done g l = length l.cipher - l.done

@@ -1,0 +1,76 @@
+-- The inner text of an envelope, where it comes in pieces.
+use Rattle.std.specs.Prelude.{◌≡◌, ℕ, ◌==◌, ◌||◌, nat_lt, Bool, false, if◌then◌else◌, List, [], ◌++◌, length, count_by, Option, Some, None, Result, Ok, Err}
+use Rattle.std.specs.List.{before_first, after_first}
+use Rattle.std.specs.Option.{ok_or}
+use Rattle.vault_text.specs.Envelope.{Payload, ◌>>=◌}
+use Rattle.vault_text.specs.Hexadecimal.{unhex_on}
+use Rattle.vault_text.specs.InnerText.{Parts, cut, is_line_feed}
+use Rattle.vault_text.specs.declared.limits.TheConstants.{SALT_LIMIT, TAG_LENGTH, CIPHERTEXT_LIMIT}
+use Rattle.vault_text.specs.declared.hexadecimal.HexDecoder.{HexDecoder}
+use Rattle.vault_text.specs.declared.fault.TextFault.{TextFault}
+use Rattle.vault_text.specs.declared.fault.TextFault.TheVariants.{BadPayload, CipherTooLong}
+use Rattle.vault_text.specs.declared.reader.inner_text.Part.{Part}
+use Rattle.vault_text.specs.declared.reader.inner_text.Part.TheVariants.{Salt, Tag, Cipher}
+
+-- a part of the inner text so far: its bytes, its decoder, and whether it is longer than it may be, where
+-- the bytes mean nothing
+pub record PartState : Type 0 where
+  pub bytes : List ℕ
+  pub decoder : HexDecoder
+  pub is_long : Bool
+
+-- the bytes of a part, where these digits are the rest of it; the fault is that of one that is too long
+abbrev pub part_on : ℕ → TextFault → PartState → List ℕ → Result (List ℕ) TextFault
+part_on limit fault part digits = do
+  more ← ok_or (unhex_on part.decoder digits) BadPayload
+  if part.is_long || nat_lt limit (length (part.bytes ++ more)) then Err fault else Ok (part.bytes ++ more)
+
+-- a part that takes these digits reads on as before, whatever follows
+pub record TakesDigits (limit : ℕ) (old : PartState) (digits : List ℕ) (new : PartState) : Type 0 where
+  pub same : (fault : TextFault) (more : List ℕ) → part_on limit fault old (digits ++ more) ≡ part_on limit fault new more
+
+-- nothing of a part
+abbrev pub new_part : PartState
+new_part = record { bytes = []; decoder = record { high = None; is_bad = false }; is_long = false }
+
+-- the inner text so far: the part that comes next, and the three parts
+pub record InnerState : Type 0 where
+  pub part : Part
+  pub salt : PartState
+  pub tag : PartState
+  pub cipher : PartState
+
+-- nothing of the inner text
+abbrev pub new_inner : InnerState
+new_inner = record { part = Salt; salt = new_part; tag = new_part; cipher = new_part }
+
+-- what each part still gets, where this text is the rest; none where it lacks an LF
+abbrev pub rest_of_parts : Part → List ℕ → Option Parts
+rest_of_parts Salt text = cut text
+rest_of_parts Tag text =
+    if nat_lt (count_by is_line_feed text) 1 then None
+    else Some (record { salt = []; tag = before_first is_line_feed text; cipher = after_first is_line_feed text })
+rest_of_parts Cipher text = Some (record { salt = []; tag = []; cipher = text })
+
+-- a tag has 32 bytes
+abbrev pub whole_tag : List ℕ → Result (List ℕ) TextFault
+whole_tag tag = if length tag == TAG_LENGTH then Ok tag else Err BadPayload
+
+-- the payload, where these digits are the rest of each part
+abbrev pub payload_of : InnerState → List ℕ → Parts → Result Payload TextFault
+payload_of inner label digits = do
+  salt ← part_on SALT_LIMIT BadPayload inner.salt digits.salt
+  tag ← part_on TAG_LENGTH BadPayload inner.tag digits.tag
+  whole ← whole_tag tag
+  cipher ← part_on CIPHERTEXT_LIMIT CipherTooLong inner.cipher digits.cipher
+  Ok (record { label = label; salt = salt; tag = whole; cipher = cipher })
+
+-- steps 8 and 9: the payload, where this text is the rest of the inner text
+unfoldable pub payload_on : InnerState → List ℕ → List ℕ → Result Payload TextFault
+payload_on inner label text = do
+  digits ← ok_or (rest_of_parts inner.part text) BadPayload
+  payload_of inner label digits
+
+-- a reader of the inner text that takes this text reads on as before, whatever follows
+pub record TakesText (old : InnerState) (text : List ℕ) (new : InnerState) : Type 0 where
+  pub same : (label more : List ℕ) → payload_on old label (text ++ more) ≡ payload_on new label more

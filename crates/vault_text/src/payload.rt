@@ -1,0 +1,75 @@
+//! What an envelope holds.
+ghost use Rattle.std.specs.Prelude.{◌≡◌, ℕ, List, length};
+
+use crate::label::Label;
+use crate::limits::TAG_LENGTH;
+use crate::salt::Salt;
+use std::marker::Model;
+
+/// What an envelope holds. The tag and the ciphertext are not checked against each other.
+#[derive(Debug, Drop)]
+pub struct Payload<'a> {
+    label: Label,
+    salt: Salt,
+    tag: [u8; TAG_LENGTH],
+    cipher: &'a mut [u8],
+}
+
+impl<'a> Model for Payload<'a> {
+    ghost use Rattle.vault_text.specs.Envelope.{Payload};
+
+    ghost Value = { Payload };
+
+    ghost view = { λ p. record { label = p.label; salt = p.salt; tag = p.tag; cipher = p.cipher.now } };
+}
+
+impl<'a> Payload<'a> {
+    pub(crate) fn new(label: Label, salt: Salt, tag: [u8; TAG_LENGTH], cipher: &'a mut [u8]) -> Self
+        ensures { result ≡ record { label = label; salt = salt; tag = tag; cipher = cipher.old } }
+    {
+        Payload {
+            label,
+            salt,
+            tag,
+            cipher,
+        }
+    }
+
+    pub fn label(&self) -> &Label
+        ensures { result.now ≡ self.now.label }
+    {
+        &self.label
+    }
+
+    pub fn salt(&self) -> &Salt
+        ensures { result.now ≡ self.now.salt }
+    {
+        &self.salt
+    }
+
+    pub fn tag(&self) -> &[u8; TAG_LENGTH]
+        ensures { result.now ≡ self.now.tag }
+    {
+        &self.tag
+    }
+
+    /// The ciphertext.
+    pub fn cipher(&self) -> &[u8]
+        ensures { result.now ≡ self.now.cipher }
+    {
+        self.cipher
+    }
+
+    /// The ciphertext, where it lies in the memory that the reader was lent.
+    pub fn into_body(self) -> &'a mut [u8]
+        ensures { result.now ≡ self.entry.cipher }
+    {
+        let Payload {
+            label: _,
+            salt: _,
+            tag: _,
+            cipher,
+        } = self;
+        cipher
+    }
+}

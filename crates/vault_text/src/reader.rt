@@ -1,0 +1,78 @@
+//! Reading an envelope that comes in pieces: the header line, then the digits of the body, then the parts of
+//! the inner text that these spell. Each layer takes what the one above hands it, in pieces of any length.
+ghost use Rattle.std.specs.Prelude.{◌≡◌, ℕ, List, [], ◌++◌, length};
+ghost use Rattle.vault_text.specs.Envelope.{read};
+ghost use Rattle.vault_text.specs.EnvelopeReader.{StandsFor};
+ghost use Rattle.vault_text.specs.declared.limits.TheConstants.{CIPHERTEXT_LIMIT};
+
+mod body;
+mod cipher_part;
+mod header_line;
+mod inner_text;
+mod short_part;
+#[cfg(test)]
+mod tests;
+
+use crate::fault::TextFault;
+use crate::limits::{CIPHERTEXT_LIMIT, ENVELOPE_LIMIT};
+use crate::payload::Payload;
+use body::BodyReader;
+use header_line::HeaderLine;
+use std::marker::Model;
+
+/// How many bytes are decoded at once.
+const RUN_LIMIT: usize = 256;
+
+/// Reads an envelope that comes in pieces of any length. Faults are told at the end alone, since one that
+/// comes earlier in the order may still follow. The ciphertext lies in the memory that the reader is lent; of
+/// the rest of the input it keeps no more than its type has room for.
+#[derive(Drop)]
+pub struct EnvelopeReader<'a> {
+    /// How many bytes were given, or the last number of 64 bits.
+    fed: usize,
+    line: HeaderLine,
+    body: BodyReader<'a>,
+}
+
+impl<'a> Model for EnvelopeReader<'a> {
+    ghost use Rattle.vault_text.specs.EnvelopeReader.{ReaderState};
+
+    ghost Value = { ReaderState };
+
+    ghost view = { λ r. record { fed = r.fed; line = r.line; body = r.body } };
+}
+
+impl<'a> EnvelopeReader<'a> {
+    /// A reader that writes the ciphertext to `work`.
+    pub fn new(work: &'a mut [u8]) -> Self
+        requires { length work.old ≡ CIPHERTEXT_LIMIT }
+        ensures { StandsFor result [] }
+    {
+        EnvelopeReader {
+            fed: 0,
+            line: HeaderLine::new(),
+            body: BodyReader::new(work),
+        }
+    }
+
+    /// Takes the piece of the input that comes next.
+    pub fn feed(&mut self, piece: &[u8])
+        ensures { (input : List ℕ) → StandsFor self.old input → StandsFor self.new (input ++ piece.now) }
+    {
+        self.fed = self.fed.saturating_add(piece.len());
+        let rest = self.line.extend(piece);
+        self.body.extend(rest);
+    }
+
+    /// The payload of the input, or its first fault in the order of the nine steps.
+    pub fn finish(self) -> Result<Payload<'a>, TextFault>
+        ensures { (input : List ℕ) → StandsFor self.entry input → result ≡ read input }
+    {
+        let EnvelopeReader { fed, line, body } = self;
+        if fed > ENVELOPE_LIMIT {
+            return Err(TextFault::TooLong);
+        }
+        let label = line.finish()?;
+        body.finish(label)
+    }
+}

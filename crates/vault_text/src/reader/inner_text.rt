@@ -1,0 +1,141 @@
+//! The inner text of an envelope, as it comes in pieces: salt, tag and ciphertext in hexadecimal, with LF
+//! between them.
+ghost use Rattle.std.specs.Prelude.{◌≡◌, ◌<◌, ◌≤◌, ◌∷◌, ◌++◌, ℕ, List, [], IfSome, IfNone, length};
+ghost use Rattle.std.specs.List.{before_first};
+ghost use Rattle.vault_text.specs.InnerText.{is_line_feed};
+ghost use Rattle.vault_text.specs.InnerReader.{TakesText, payload_on};
+ghost use Rattle.vault_text.specs.declared.limits.TheConstants.{CIPHERTEXT_LIMIT};
+
+use super::RUN_LIMIT;
+use super::cipher_part::CipherPart;
+use super::short_part::ShortPart;
+use crate::fault::TextFault;
+use crate::header::position_of;
+use crate::label::Label;
+use crate::limits::{CIPHERTEXT_LIMIT, SALT_LIMIT, TAG_LENGTH};
+use crate::payload::Payload;
+use crate::salt::Salt;
+use std::marker::Model;
+
+/// A part of the inner text.
+#[derive(Clone, Copy)]
+pub(super) enum Part {
+    Salt,
+    Tag,
+    Cipher,
+}
+
+/// The inner text so far.
+#[derive(Drop)]
+pub(super) struct InnerReader<'a> {
+    /// The part that comes next.
+    part: Part,
+    salt: ShortPart<SALT_LIMIT>,
+    tag: ShortPart<TAG_LENGTH>,
+    cipher: CipherPart<'a>,
+}
+
+impl<'a> Model for InnerReader<'a> {
+    ghost use Rattle.vault_text.specs.InnerReader.{InnerState};
+
+    ghost Value = { InnerState };
+
+    ghost view = { λ r. record { part = r.part; salt = r.salt; tag = r.tag; cipher = r.cipher } };
+}
+
+/// What stands before the first LF, and behind it where there is one.
+fn split_at_line_feed(text: &[u8]) -> (&[u8], Option<&[u8]>)
+    ensures before { result.0.now ≡ before_first is_line_feed text.now }
+    ensures found { IfSome result.1 (λ rest. text.now ≡ result.0.now ++ 10 ∷ rest.now) }
+    ensures whole { IfNone result.1 (result.0.now ≡ text.now) }
+{
+    let end = position_of(text, b'\n');
+    if end < text.len() {
+        (&text[..end], Some(&text[end + 1..]))
+    } else {
+        (text, None)
+    }
+}
+
+impl<'a> InnerReader<'a> {
+    ghost use Rattle.vault_text.specs.InnerReader.{new_inner};
+
+    pub(super) fn new(work: &'a mut [u8]) -> Self
+        requires { length work.old ≡ CIPHERTEXT_LIMIT }
+        ensures { result ≡ new_inner }
+    {
+        InnerReader {
+            part: Part::Salt,
+            salt: ShortPart::new(),
+            tag: ShortPart::new(),
+            cipher: CipherPart::new(work),
+        }
+    }
+
+    /// Takes the text that comes next.
+    pub(super) fn extend(&mut self, text: &[u8])
+        requires { length text.now ≤ RUN_LIMIT }
+        ensures { TakesText self.old text.now self.new }
+    {
+        let mut rest = text;
+        while !rest.is_empty() {
+            rest = self.extend_part(rest);
+        }
+    }
+
+    /// Takes what the text gives to the part that comes next, and answers what follows.
+    fn extend_part<'t>(&mut self, text: &'t [u8]) -> &'t [u8]
+        requires some { 0 < length text.now }
+        requires short { length text.now ≤ RUN_LIMIT }
+        ensures shorter { length result.now < length text.now }
+        ensures taken { (label more : List ℕ) → payload_on self.old label (text.now ++ more) ≡ payload_on self.new label (result.now ++ more) }
+    {
+        match self.part {
+            Part::Salt => {
+                let (digits, rest) = split_at_line_feed(text);
+                self.salt.extend(digits);
+                let Some(rest) = rest else {
+                    return &[];
+                };
+                self.part = Part::Tag;
+                rest
+            }
+            Part::Tag => {
+                let (digits, rest) = split_at_line_feed(text);
+                self.tag.extend(digits);
+                let Some(rest) = rest else {
+                    return &[];
+                };
+                self.part = Part::Cipher;
+                rest
+            }
+            Part::Cipher => {
+                self.cipher.extend(text);
+                &[]
+            }
+        }
+    }
+
+    /// The payload under this label, where no text follows.
+    pub(super) fn finish(self, label: Label) -> Result<Payload<'a>, TextFault>
+        ensures { result ≡ payload_on self.entry label [] }
+    {
+        let InnerReader {
+            part,
+            salt,
+            tag,
+            cipher,
+        } = self;
+        let Part::Cipher = part else {
+            return Err(TextFault::BadPayload);
+        };
+        let Some(salt) = Salt::new(salt.finish()?) else {
+            return Err(TextFault::BadPayload);
+        };
+        let Ok(tag) = <[u8; TAG_LENGTH]>::try_from(tag.finish()?) else {
+            return Err(TextFault::BadPayload);
+        };
+        let cipher = cipher.finish()?;
+        Ok(Payload::new(label, salt, tag, cipher))
+    }
+}

@@ -1,0 +1,62 @@
+//! A part of the inner text that is short: the salt or the tag.
+ghost use Rattle.std.specs.Prelude.{◌≡◌, ◌≤◌, ℕ, [], MatchResult, Ok, Err, length};
+ghost use Rattle.vault_text.specs.InnerReader.{TakesDigits, new_part, part_on};
+ghost use Rattle.vault_text.specs.declared.fault.TextFault.TheVariants.{BadPayload};
+
+use super::RUN_LIMIT;
+use crate::fault::TextFault;
+use crate::hexadecimal::HexDecoder;
+use arrayvec::ArrayVec;
+use std::marker::Model;
+
+/// A salt or a tag so far.
+#[derive(Drop)]
+pub(super) struct ShortPart<const LIMIT: usize> {
+    bytes: ArrayVec<u8, LIMIT>,
+    decoder: HexDecoder,
+    /// Whether the part has more bytes than fit.
+    is_long: bool,
+}
+
+impl<const LIMIT: usize> Model for ShortPart<LIMIT> {
+    ghost use Rattle.std.specs.Prelude.{◌≤◌, length};
+    ghost use Rattle.vault_text.specs.InnerReader.{PartState};
+
+    ghost Value = { PartState };
+
+    ghost view = { λ p. record { bytes = p.bytes.items; decoder = p.decoder; is_long = p.is_long } };
+}
+
+impl<const LIMIT: usize> ShortPart<LIMIT> {
+    pub(super) fn new() -> Self
+        ensures { result ≡ new_part }
+    {
+        ShortPart {
+            bytes: ArrayVec::new(),
+            decoder: HexDecoder::new(),
+            is_long: false,
+        }
+    }
+
+    /// Takes the digits that come next.
+    pub(super) fn extend(&mut self, digits: &[u8])
+        requires { length digits.now ≤ RUN_LIMIT }
+        ensures { TakesDigits LIMIT self.old digits.now self.new }
+    {
+        let mut bytes = [0; RUN_LIMIT];
+        let count = self.decoder.decode(digits, &mut bytes);
+        if self.bytes.try_extend_from_slice(&bytes[..count]).is_err() {
+            self.is_long = true;
+        }
+    }
+
+    /// The bytes of the part, where no digit follows.
+    pub(super) fn finish(&self) -> Result<&[u8], TextFault>
+        ensures { MatchResult result (λ bytes. part_on LIMIT BadPayload self.now [] ≡ Ok bytes.now) (λ fault. part_on LIMIT BadPayload self.now [] ≡ Err fault) }
+    {
+        if self.is_long || !self.decoder.is_complete() {
+            return Err(TextFault::BadPayload);
+        }
+        Ok(self.bytes.as_slice())
+    }
+}

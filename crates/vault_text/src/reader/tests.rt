@@ -1,0 +1,286 @@
+//! Envelopes in pieces, held against the whole-list reader and the answers wanted.
+ghost use Rattle.std.specs.Prelude.{◌≡◌, ◌<◌, length};
+ghost use Rattle.vault_text.specs.declared.limits.TheConstants.{CIPHERTEXT_LIMIT};
+
+mod whole_list;
+
+use super::EnvelopeReader;
+use crate::fault::TextFault;
+use crate::limits::{CIPHERTEXT_LIMIT, ENVELOPE_LIMIT};
+use crate::payload::Payload;
+use std::alloc::{AllocError, Global};
+use std::process::Abort;
+use std::test::Fail;
+use whole_list::{OwnedPayload, read_envelope};
+
+const HEADER: &str = "$ANSIBLE_VAULT;1.1;AES256";
+
+/// The body with an empty salt, a tag of zeros and an empty ciphertext.
+const EMPTY: [&str; 2] = [
+    "0a303030303030303030303030303030303030303030303030303030303030303030303030303030",
+    "303030303030303030303030303030303030303030303030300a",
+];
+
+/// A body that Python's `binascii.hexlify` made.
+const FILLED: [&str; 4] = [
+    "3730363537303730363537323230363136653634323037333631366337340a303030313032303330",
+    "34303530363037303830393061306230633064306530663130313131323133313431353136313731",
+    "3831393161316231633164316531660a663066316632663366346635663666376638663966616662",
+    "66636664666566663330333133323333333433353336333733383339363136323633363436353636",
+];
+
+/// The header line and the lines, each ended by `end`.
+fn text_of(alloc: Global, header: &str, lines: &[&str], end: &str) -> Result<Vec<u8>, AllocError> {
+    let mut text = Vec::new(alloc);
+    text.extend_from_slice(header.as_bytes())?;
+    text.extend_from_slice(end.as_bytes())?;
+    for line in lines {
+        text.extend_from_slice(line.as_bytes())?;
+        text.extend_from_slice(end.as_bytes())?;
+    }
+    Ok(text)
+}
+
+/// Both readers answered the same.
+fn assert_same(
+    rt: &impl Abort,
+    reading: Result<Payload<'_>, TextFault>,
+    whole: &Result<OwnedPayload, TextFault>,
+) {
+    match (reading, whole) {
+        (Ok(payload), Ok(owned)) => {
+            assert_eq!(rt; payload.label().as_str(), owned.label.as_str());
+            assert_eq!(rt; payload.salt().as_bytes(), owned.salt.as_slice());
+            assert_eq!(rt; payload.tag().as_slice(), owned.tag.as_slice());
+            assert_eq!(rt; payload.cipher(), owned.cipher.as_slice());
+            let body: &[u8] = payload.into_body();
+            assert_eq!(rt; body, owned.cipher.as_slice());
+        }
+        (Err(fault), Err(expected)) => assert_eq!(rt; fault, *expected),
+        (Ok(_), Err(_)) => assert!(rt; false, "only the reader of pieces accepts"),
+        (Err(_), Ok(_)) => assert!(rt; false, "only the whole-list reader accepts"),
+    }
+}
+
+/// Reads the input cut in two at every place, with an empty piece between, and in single bytes; the answer
+/// is that of the whole-list reader.
+fn read_in_pieces(
+    rt: &impl Abort,
+    alloc: Global,
+    work: &mut [u8],
+    input: &[u8],
+) -> Result<Result<OwnedPayload, TextFault>, AllocError>
+    requires { length work.old ≡ CIPHERTEXT_LIMIT }
+{
+    let whole = read_envelope(alloc, input)?;
+    for cut in 0..input.len() {
+        let mut reader = EnvelopeReader::new(work);
+        reader.feed(&input[..cut]);
+        reader.feed(&[]);
+        reader.feed(&input[cut..]);
+        assert_same(rt, reader.finish(), &whole);
+    }
+    let mut reader = EnvelopeReader::new(work);
+    for byte in input {
+        reader.feed([*byte].as_slice());
+    }
+    assert_same(rt, reader.finish(), &whole);
+    Ok(whole)
+}
+
+/// Memory for a ciphertext.
+fn work_memory(alloc: Global) -> Result<Vec<u8>, AllocError> {
+    vec![in alloc; 0u8; CIPHERTEXT_LIMIT]
+}
+
+#[test]
+fn first_fault_of_the_header_line(rt: HostRuntime) -> Result<(), Fail> {
+    let alloc = rt.alloc();
+    let mut memory = work_memory(alloc)?;
+    let work = memory.as_mut_slice();
+    assert_eq!(rt; work.len(), CIPHERTEXT_LIMIT);
+    let long = [b';'; 232];
+    let mut long_header = text_of(alloc, HEADER, &[], "")?;
+    long_header.extend_from_slice(&long)?;
+    assert_eq!(rt; long_header.len(), 257);
+    let whole = read_in_pieces(&rt, alloc, work, long_header.as_slice())?;
+    assert_eq!(rt; whole.err(), Some(TextFault::HeaderTooLong));
+    let cases = [
+        ("", TextFault::NotVault),
+        ("$ANSIBLE_VAUL", TextFault::NotVault),
+        ("$ANSIBLE_VAULT", TextFault::BadHeader),
+        ("$ANSIBLE_VAULT;1.1;AES256", TextFault::BadPayload),
+        ("$ANSIBLE_VAULT;1.0;AES\n", TextFault::BadVersion),
+        ("$ANSIBLE_VAULT;1.1;AES\n", TextFault::BadCipher),
+        ("$ANSIBLE_VAULT;1.1\n", TextFault::BadHeader),
+        ("$ANSIBLE_VAULT;1.1;AES256\n0a0a", TextFault::BadPayload),
+        ("$ANSIBLE_VAULT;1.1;AES256\nabc", TextFault::BadHex),
+    ];
+    for (input, fault) in cases {
+        let whole = read_in_pieces(&rt, alloc, work, input.as_bytes())?;
+        assert_eq!(rt; whole.err(), Some(fault), "at {input}");
+    }
+    Ok(())
+}
+
+/// The empty envelope was read, under this label.
+fn assert_empty(rt: &impl Abort, reading: Result<OwnedPayload, TextFault>, label: &str) {
+    match reading {
+        Ok(payload) => {
+            assert_eq!(rt; payload.label.as_str(), label);
+            assert_eq!(rt; payload.salt.as_slice(), [].as_slice());
+            assert_eq!(rt; payload.tag.as_slice(), [0; 32].as_slice());
+            assert_eq!(rt; payload.cipher.as_slice(), [].as_slice());
+        }
+        Err(fault) => assert!(rt; false, "refused as {fault:?}"),
+    }
+}
+
+#[test]
+fn lines_of_any_form(rt: HostRuntime) -> Result<(), Fail> {
+    let alloc = rt.alloc();
+    let mut memory = work_memory(alloc)?;
+    let work = memory.as_mut_slice();
+    assert_eq!(rt; work.len(), CIPHERTEXT_LIMIT);
+    let [first, second] = EMPTY;
+    let mut single_digits = text_of(alloc, HEADER, &[], "\n")?;
+    for digit in first.bytes().chain(second.bytes()) {
+        single_digits.extend_from_slice(&[digit, b'\n'])?;
+    }
+    let mut no_last_end = text_of(alloc, HEADER, &[first], "\n")?;
+    no_last_end.extend_from_slice(second.as_bytes())?;
+    let upper = [
+        "0A303030303030303030303030303030303030303030303030303030303030303030303030303030",
+        "303030303030303030303030303030303030303030303030300A",
+    ];
+    let inputs = [
+        text_of(alloc, HEADER, &EMPTY, "\n")?,
+        text_of(alloc, HEADER, &EMPTY, "\r\n")?,
+        text_of(alloc, HEADER, &upper, "\n")?,
+        single_digits,
+        no_last_end,
+        text_of(alloc, "$ANSIBLE_VAULT; 1.2 ;AES256; ;x", &EMPTY, "\n")?,
+    ];
+    for input in inputs {
+        let whole = read_in_pieces(&rt, alloc, work, input.as_slice())?;
+        assert_empty(&rt, whole, "default");
+    }
+    Ok(())
+}
+
+#[test]
+fn first_lines_that_name_a_label(rt: HostRuntime) -> Result<(), Fail> {
+    let alloc = rt.alloc();
+    let mut memory = work_memory(alloc)?;
+    let work = memory.as_mut_slice();
+    assert_eq!(rt; work.len(), CIPHERTEXT_LIMIT);
+    let cases = [
+        ("$ANSIBLE_VAULTX;1.1;AES256;dev", "dev"),
+        ("$ANSIBLE_VAULT;1.2;AES256;a b", "a b"),
+    ];
+    for (header, label) in cases {
+        let input = text_of(alloc, header, &EMPTY, "\n")?;
+        let whole = read_in_pieces(&rt, alloc, work, input.as_slice())?;
+        assert_empty(&rt, whole, label);
+    }
+    let [first, second] = EMPTY;
+    let spaced = text_of(alloc, HEADER, &[first, " ", second], "\n")?;
+    let whole = read_in_pieces(&rt, alloc, work, spaced.as_slice())?;
+    assert_eq!(rt; whole.err(), Some(TextFault::BadHex));
+    Ok(())
+}
+
+#[test]
+fn all_parts_of_an_envelope(rt: HostRuntime) -> Result<(), Fail> {
+    let alloc = rt.alloc();
+    let mut memory = work_memory(alloc)?;
+    let work = memory.as_mut_slice();
+    assert_eq!(rt; work.len(), CIPHERTEXT_LIMIT);
+    let input = text_of(alloc, "$ANSIBLE_VAULT;1.2;AES256;dev", &FILLED, "\n")?;
+    let whole = read_in_pieces(&rt, alloc, work, input.as_slice())?;
+    let payload = whole.map_err(|_| "refused")?;
+    let mut tag = [0; 32];
+    for i in 0..32 {
+        tag[i as usize] = i;
+    }
+    assert_eq!(rt; payload.label.as_str(), "dev");
+    assert_eq!(rt; payload.salt.as_slice(), b"pepper and salt".as_slice());
+    assert_eq!(rt; payload.tag.as_slice(), tag.as_slice());
+    assert_eq!(rt; payload.cipher.len(), 32);
+    assert_eq!(rt; &payload.cipher[..3], [0xf0, 0xf1, 0xf2].as_slice());
+    assert_eq!(rt; &payload.cipher[16..], b"0123456789abcdef".as_slice());
+    Ok(())
+}
+
+/// Reads the input in pieces of `step` bytes, and perhaps a shorter last one.
+fn read_in_steps<'w>(
+    work: &'w mut [u8],
+    input: &[u8],
+    step: usize,
+) -> Result<Payload<'w>, TextFault>
+    requires room { length work.old ≡ CIPHERTEXT_LIMIT }
+    requires some { 0 < step }
+{
+    let mut reader = EnvelopeReader::new(work);
+    for piece in input.chunks(step) {
+        reader.feed(piece);
+    }
+    reader.finish()
+}
+
+#[test]
+fn no_envelope_over_the_limit(rt: HostRuntime) -> Result<(), Fail> {
+    let alloc = rt.alloc();
+    let mut memory = work_memory(alloc)?;
+    let work = memory.as_mut_slice();
+    assert_eq!(rt; work.len(), CIPHERTEXT_LIMIT);
+    let mut input = text_of(alloc, HEADER, &["zz"], "\n")?;
+    for _ in input.len()..ENVELOPE_LIMIT {
+        input.push(b'\n')?;
+    }
+    for step in [1, 7, 4_096] {
+        let reading = read_in_steps(work, input.as_slice(), step);
+        assert_eq!(rt;
+            reading.err(),
+            Some(TextFault::BadHex),
+            "in steps of {step}"
+        );
+    }
+    input.push(b'\n')?;
+    for step in [1, 7, 4_096] {
+        let reading = read_in_steps(work, input.as_slice(), step);
+        assert_eq!(rt;
+            reading.err(),
+            Some(TextFault::TooLong),
+            "in steps of {step}"
+        );
+    }
+    Ok(())
+}
+
+#[test]
+fn no_ciphertext_over_the_limit(rt: HostRuntime) -> Result<(), Fail> {
+    let alloc = rt.alloc();
+    let mut memory = work_memory(alloc)?;
+    let work = memory.as_mut_slice();
+    assert_eq!(rt; work.len(), CIPHERTEXT_LIMIT);
+    let mut input = text_of(alloc, HEADER, &EMPTY, "\n")?;
+    for _ in 0..2 * CIPHERTEXT_LIMIT {
+        input.extend_from_slice(b"30")?;
+    }
+    for step in [1, 7, 4_096] {
+        let reading = read_in_steps(work, input.as_slice(), step);
+        let payload = reading.map_err(|_| "refused")?;
+        assert_eq!(rt; payload.cipher().len(), CIPHERTEXT_LIMIT);
+    }
+    input.extend_from_slice(b"3030")?;
+    for step in [1, 7, 4_096] {
+        let reading = read_in_steps(work, input.as_slice(), step);
+        assert_eq!(rt;
+            reading.err(),
+            Some(TextFault::CipherTooLong),
+            "in steps of {step}"
+        );
+    }
+    Ok(())
+}

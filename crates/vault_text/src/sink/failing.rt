@@ -1,0 +1,147 @@
+ghost use Rattle.std.specs.Prelude.{◌≡◌, ℕ, ◌-◌, ◌^◌, ◌<◌, ◌≤◌, ◌⊎◌, ◌↔◌, [], IsErr, IfOk, OnOk, OnErr, length, take, min};
+ghost use Rattle.vault_text.specs.Failures.{CountsFailure};
+ghost use Rattle.vault_text.specs.Sink.{Takes, failing_state_of, has_begun, taken};
+
+use super::{MemSink, Sink, SinkFailed, Stage};
+use std::alloc::Global;
+use std::marker::Model;
+
+/// A sink that keeps what it took in memory, and fails at each call after a number of them. A
+/// growth that is refused counts as a failure too, and takes nothing.
+#[derive(Drop)]
+pub struct FailingSink {
+    memory: MemSink,
+    calls: usize,
+    failures: u64,
+}
+
+impl Model for FailingSink {
+    ghost use Rattle.std.specs.Prelude.{◌≤◌};
+    ghost use Rattle.vault_text.specs.Sink.{FailingState};
+
+    ghost Value = { FailingState };
+
+    ghost view = { λ s. record { memory = s.memory; calls = s.calls; failures = s.failures } };
+
+    ghost invariant = { λ s. s.memory.failures ≤ s.failures };
+}
+
+impl FailingSink {
+    /// Takes at most `step` bytes per call, and fails after `calls` calls. `begin`, `put` and
+    /// `finish` each count as one.
+    pub fn new(alloc: Global, step: usize, calls: usize) -> Self
+        requires { 1 ≤ step }
+        ensures { result ≡ record {
+          memory = record { held = []; stage = Stage.Unbegun; failures = 0; step = step };
+          calls = calls;
+          failures = 0;
+        } }
+    {
+        FailingSink {
+            memory: MemSink::new(alloc, step),
+            calls,
+            failures: 0,
+        }
+    }
+
+    /// The bytes taken so far.
+    pub fn bytes(&self) -> &[u8]
+        ensures { result.now ≡ self.now.memory.held }
+    {
+        self.memory.bytes()
+    }
+
+    /// Whether `begin` has answered `Ok`.
+    pub fn begun(&self) -> bool
+        ensures { result ≡ has_begun self.now.memory.stage }
+    {
+        self.memory.begun()
+    }
+
+    /// Uses up one call; fails where none was left, or where the count of failures is full.
+    fn use_call(&mut self) -> Result<(), SinkFailed>
+        ensures takes { Takes (failing_state_of self.old) [] (failing_state_of self.new) }
+        ensures memory { self.new.memory ≡ self.old.memory }
+        ensures calls { self.new.calls ≡ self.old.calls - 1 }
+        ensures fails { IsErr result ↔ ((self.old.calls ≡ 0) ⊎ (2 ^ 64 - 1 ≤ self.old.failures)) }
+        ensures failed { CountsFailure self.old.failures self.new.failures result }
+    {
+        let calls = self.calls;
+        self.calls = calls.saturating_sub(1);
+        if calls == 0 || self.failures == u64::MAX {
+            self.failures = self.failures.saturating_add(1);
+            return Err(SinkFailed);
+        }
+        Ok(())
+    }
+}
+
+impl Sink for FailingSink {
+    ghost use Rattle.std.specs.Prelude.{◌≡◌, refl};
+    ghost use Rattle.std.proofs.Common.{◌∙◌};
+    ghost use Rattle.vault_text.specs.SinkLaws.{Takes-none, Takes-more};
+
+    ghost takes = { λ s xs t. Takes (failing_state_of s) xs (failing_state_of t) × (t.memory.step ≡ s.memory.step) };
+
+    ghost stage = { λ s. s.memory.stage };
+
+    ghost failures = { λ s. s.failures };
+
+    ghost takes_none = { λ s. (Takes-none (failing_state_of s), refl) };
+
+    ghost takes_more = { λ s t u xs ys g h. (Takes-more (failing_state_of s) (failing_state_of t) (failing_state_of u) xs ys g.0 h.0, h.1 ∙ g.1) };
+
+    ghost failures_stay = { λ s t xs g. g.0.failures_stay };
+
+    fn begin(&mut self) -> Result<(), SinkFailed>
+        requires { self.old.memory.stage ≡ Stage.Unbegun }
+        ensures takes { Takes (failing_state_of self.old) [] (failing_state_of self.new)
+            × (self.new.memory.step ≡ self.old.memory.step) }
+        ensures begun { OnOk result (self.new.memory.stage ≡ Stage.Begun) }
+        ensures unbegun { OnErr result (self.new.memory.stage ≡ Stage.Unbegun) }
+        ensures calls { self.new.calls ≡ self.old.calls - 1 }
+        ensures fails { IsErr result ↔ ((self.old.calls ≡ 0) ⊎ (2 ^ 64 - 1 ≤ self.old.failures)) }
+        ensures failed { CountsFailure self.old.failures self.new.failures result }
+        ensures full { 2 ^ 64 - 1 ≤ self.old.failures → IsErr result }
+    {
+        self.use_call()?;
+        self.memory.begin()
+    }
+
+    fn put(&mut self, bytes: &[u8]) -> Result<usize, SinkFailed>
+        requires begun { self.old.memory.stage ≡ Stage.Begun }
+        requires some { 0 < length bytes.now }
+        ensures takes { Takes (failing_state_of self.old) (taken result bytes.now) (failing_state_of self.new)
+            × (self.new.memory.step ≡ self.old.memory.step) }
+        ensures count { IfOk result (λ n. n ≡ min (length bytes.now) self.old.memory.step) }
+        ensures progress { IfOk result (λ n. 1 ≤ n) }
+        ensures bound { IfOk result (λ n. n ≤ length bytes.now) }
+        ensures stage { self.new.memory.stage ≡ self.old.memory.stage }
+        ensures calls { self.new.calls ≡ self.old.calls - 1 }
+        ensures fails { self.old.calls ≡ 0 → IsErr result }
+        ensures failed { CountsFailure self.old.failures self.new.failures result }
+        ensures full { 2 ^ 64 - 1 ≤ self.old.failures → IsErr result }
+    {
+        self.use_call()?;
+        let result = self.memory.put(bytes);
+        if result.is_err() {
+            self.failures += 1;
+        }
+        result
+    }
+
+    fn finish(&mut self) -> Result<(), SinkFailed>
+        requires { self.old.memory.stage ≡ Stage.Begun }
+        ensures takes { Takes (failing_state_of self.old) [] (failing_state_of self.new)
+            × (self.new.memory.step ≡ self.old.memory.step) }
+        ensures finished { OnOk result (self.new.memory.stage ≡ Stage.Finished) }
+        ensures unfinished { OnErr result (self.new.memory.stage ≡ Stage.Begun) }
+        ensures calls { self.new.calls ≡ self.old.calls - 1 }
+        ensures fails { IsErr result ↔ ((self.old.calls ≡ 0) ⊎ (2 ^ 64 - 1 ≤ self.old.failures)) }
+        ensures failed { CountsFailure self.old.failures self.new.failures result }
+        ensures full { 2 ^ 64 - 1 ≤ self.old.failures → IsErr result }
+    {
+        self.use_call()?;
+        self.memory.finish()
+    }
+}

@@ -1,0 +1,112 @@
+//! Envelopes and blocks, written into a sink.
+ghost use Rattle.std.specs.Prelude.{◌≡◌, ◌≤◌, [], ℕ, OnOk, length, take, unwrap_or};
+ghost use Rattle.std.specs.Option.{option_copied};
+ghost use Rattle.vault_text.specs.Block.{block, first_line};
+ghost use Rattle.vault_text.specs.Failures.{CountsFailure};
+ghost use Rattle.vault_text.specs.Written.{text_of_lines, written, written_lines};
+
+mod body;
+mod header;
+mod lines;
+#[cfg(test)]
+mod tests;
+
+use crate::label::Label;
+use crate::limits::TAG_LENGTH;
+use crate::salt::Salt;
+use crate::sink::{Sink, SinkFailed, Stage, put_all};
+use body::put_body;
+use header::header_line_of;
+use lines::INDENTATION_LIMIT;
+
+/// What stands before each line of an envelope in a block.
+const BLOCK_INDENTATION: &[u8; INDENTATION_LIMIT] = b"          ";
+
+#[tactic(auto, unfolding(crate::specs::Written::written))]
+/// Writes an envelope of format 1.1 for the label `default`, and of format 1.2 for any other. After
+/// a failure the sink has taken a prefix of it.
+pub fn write_envelope<K: Sink>(
+    sink: &mut K,
+    label: &Label,
+    salt: &Salt,
+    tag: &[u8; TAG_LENGTH],
+    cipher: &[u8],
+) -> Result<(), SinkFailed>
+    requires { K.stage sink.old ≡ Stage.Begun }
+    ensures takes { OnOk result
+        (K.takes sink.old (written label.now salt.now tag.now cipher.now) sink.new) }
+    ensures prefix { (n : ℕ)
+        × K.takes sink.old (take n (written label.now salt.now tag.now cipher.now)) sink.new }
+    ensures stage { K.stage sink.new ≡ Stage.Begun }
+    ensures failed { CountsFailure (K.failures sink.old) (K.failures sink.new) result }
+{
+    put_lines(sink, &[], label, salt, tag, cipher)
+}
+
+/// Writes an envelope as a YAML block, for a variable of the name if there is one that is not
+/// empty. After a failure the sink has taken a prefix of it.
+pub fn write_block<K: Sink>(
+    sink: &mut K,
+    name: Option<&str>,
+    label: &Label,
+    salt: &Salt,
+    tag: &[u8; TAG_LENGTH],
+    cipher: &[u8],
+) -> Result<(), SinkFailed>
+    requires { K.stage sink.old ≡ Stage.Begun }
+    ensures takes { let text = block (option_copied name.entry) label.now salt.now tag.now cipher.now in
+        OnOk result (K.takes sink.old text sink.new) }
+    ensures prefix { let text = block (option_copied name.entry) label.now salt.now tag.now cipher.now in
+        (n : ℕ) × K.takes sink.old (take n text) sink.new }
+    ensures stage { K.stage sink.new ≡ Stage.Begun }
+    ensures failed { CountsFailure (K.failures sink.old) (K.failures sink.new) result }
+{
+    put_block_start(sink, name_or_empty(name))?;
+    put_lines(sink, BLOCK_INDENTATION, label, salt, tag, cipher)
+}
+
+fn name_or_empty(name: Option<&str>) -> &str
+    ensures { result.now ≡ unwrap_or (option_copied name.entry) [] }
+{
+    match name {
+        Some(name) => name,
+        None => "",
+    }
+}
+
+/// Writes the first line of a block.
+fn put_block_start<K: Sink>(sink: &mut K, name: &str) -> Result<(), SinkFailed>
+    requires { K.stage sink.old ≡ Stage.Begun }
+    ensures takes { OnOk result (K.takes sink.old (first_line name.now) sink.new) }
+    ensures prefix { (n : ℕ) × K.takes sink.old (take n (first_line name.now)) sink.new }
+    ensures stage { K.stage sink.new ≡ Stage.Begun }
+    ensures failed { CountsFailure (K.failures sink.old) (K.failures sink.new) result }
+{
+    if name.is_empty() {
+        return put_all(sink, b"!vault |\n");
+    }
+    put_all(sink, name.as_bytes())?;
+    put_all(sink, b": !vault |\n")
+}
+
+/// Writes the lines of an envelope behind an indentation.
+fn put_lines<K: Sink>(
+    sink: &mut K,
+    indentation: &[u8],
+    label: &Label,
+    salt: &Salt,
+    tag: &[u8; TAG_LENGTH],
+    cipher: &[u8],
+) -> Result<(), SinkFailed>
+    requires begun { K.stage sink.old ≡ Stage.Begun }
+    requires narrow { length indentation.now ≤ INDENTATION_LIMIT }
+    ensures takes { let lines = written_lines label.now salt.now tag.now cipher.now in
+        OnOk result (K.takes sink.old (text_of_lines indentation.now lines) sink.new) }
+    ensures prefix { let lines = written_lines label.now salt.now tag.now cipher.now in
+        (n : ℕ) × K.takes sink.old (take n (text_of_lines indentation.now lines)) sink.new }
+    ensures stage { K.stage sink.new ≡ Stage.Begun }
+    ensures failed { CountsFailure (K.failures sink.old) (K.failures sink.new) result }
+{
+    put_all(sink, header_line_of(indentation, label).as_slice())?;
+    put_body(sink, indentation, salt, tag, cipher)
+}

@@ -1,0 +1,104 @@
+//! The body of an envelope: the inner text in lines of hexadecimal digits.
+ghost use Rattle.std.specs.Prelude.{◌≡◌, ◌+◌, ◌*◌, ◌≤◌, ◌⊎◌, ◌++◌, [], ℕ, OnOk, length, take};
+ghost use Rattle.arrayvec.specs.ArrayVec.{array_vec_len};
+ghost use Rattle.hex.specs.Hex.{encode_lower};
+ghost use Rattle.vault_text.specs.Failures.{CountsFailure};
+ghost use Rattle.vault_text.specs.Written.{hexadecimal_lines, inner_text};
+
+use super::lines::{BATCH_BYTES, INDENTATION_LIMIT, Text, append, append_hexadecimal, lines_of};
+use crate::limits::TAG_LENGTH;
+use crate::salt::Salt;
+use crate::sink::{Sink, SinkFailed, Stage, put_all};
+
+/// Bytes of ciphertext whose digits fill a batch.
+const BATCH_CIPHERTEXT: usize = BATCH_BYTES / 2;
+
+/// Writes the body behind an indentation.
+pub(super) fn put_body<K: Sink>(
+    sink: &mut K,
+    indentation: &[u8],
+    salt: &Salt,
+    tag: &[u8; TAG_LENGTH],
+    cipher: &[u8],
+) -> Result<(), SinkFailed>
+    requires begun { K.stage sink.old ≡ Stage.Begun }
+    requires narrow { length indentation.now ≤ INDENTATION_LIMIT }
+    ensures takes { let text = hexadecimal_lines indentation.now (inner_text salt.now tag.now cipher.now) in
+        OnOk result (K.takes sink.old text sink.new) }
+    ensures prefix { let text = hexadecimal_lines indentation.now (inner_text salt.now tag.now cipher.now) in
+        (n : ℕ) × K.takes sink.old (take n text) sink.new }
+    ensures stage { K.stage sink.new ≡ Stage.Begun }
+    ensures failed { CountsFailure (K.failures sink.old) (K.failures sink.new) result }
+{
+    let (first, rest) = first_batch(salt, tag, cipher);
+    put_all(sink, lines_of(indentation, first.as_slice()).as_slice())?;
+    put_ciphertext(sink, indentation, rest)
+}
+
+/// The inner text as far as it fits into a batch, and the ciphertext that is left.
+fn first_batch<'a>(salt: &Salt, tag: &[u8; TAG_LENGTH], cipher: &'a [u8]) -> (Text, &'a [u8])
+    ensures text { result.0.items ++ encode_lower result.1.now
+        ≡ inner_text salt.now tag.now cipher.now }
+    ensures batch { array_vec_len result.0 ≤ BATCH_BYTES }
+    ensures full { (array_vec_len result.0 ≡ BATCH_BYTES) ⊎ (result.1.now ≡ []) }
+{
+    let mut inner = salt_and_tag(salt, tag);
+    let room = (BATCH_BYTES - inner.len()) / 2;
+    let (front, rest) = cipher.split_at(cipher.len().min(room));
+    append_hexadecimal(&mut inner, front);
+    (inner, rest)
+}
+
+/// The inner text up to the digits of the ciphertext.
+fn salt_and_tag(salt: &Salt, tag: &[u8; TAG_LENGTH]) -> Text
+    ensures text { result.items ≡ inner_text salt.now tag.now [] }
+    ensures length { array_vec_len result ≡ 2 * length salt.now + 66 }
+    ensures short { array_vec_len result ≤ BATCH_BYTES }
+{
+    let mut inner = Text::new();
+    append_hexadecimal(&mut inner, salt.as_bytes());
+    append(&mut inner, b"\n");
+    append_hexadecimal(&mut inner, tag);
+    append(&mut inner, b"\n");
+    inner
+}
+
+/// Writes lines that spell the digits of the ciphertext, from the start of a line on.
+fn put_ciphertext<K: Sink>(
+    sink: &mut K,
+    indentation: &[u8],
+    cipher: &[u8],
+) -> Result<(), SinkFailed>
+    requires begun { K.stage sink.old ≡ Stage.Begun }
+    requires narrow { length indentation.now ≤ INDENTATION_LIMIT }
+    ensures takes { let text = hexadecimal_lines indentation.now (encode_lower cipher.now) in
+        OnOk result (K.takes sink.old text sink.new) }
+    ensures prefix { let text = hexadecimal_lines indentation.now (encode_lower cipher.now) in
+        (n : ℕ) × K.takes sink.old (take n text) sink.new }
+    ensures stage { K.stage sink.new ≡ Stage.Begun }
+    ensures failed { CountsFailure (K.failures sink.old) (K.failures sink.new) result }
+{
+    let mut done = 0;
+    while cipher.len() - done > BATCH_CIPHERTEXT {
+        put_batch(sink, indentation, &cipher[done..done + BATCH_CIPHERTEXT])?;
+        done += BATCH_CIPHERTEXT;
+    }
+    put_batch(sink, indentation, &cipher[done..])
+}
+
+/// The same for at most a batch.
+fn put_batch<K: Sink>(sink: &mut K, indentation: &[u8], cipher: &[u8]) -> Result<(), SinkFailed>
+    requires begun { K.stage sink.old ≡ Stage.Begun }
+    requires narrow { length indentation.now ≤ INDENTATION_LIMIT }
+    requires batch { length cipher.now ≤ BATCH_CIPHERTEXT }
+    ensures takes { let text = hexadecimal_lines indentation.now (encode_lower cipher.now) in
+        OnOk result (K.takes sink.old text sink.new) }
+    ensures prefix { let text = hexadecimal_lines indentation.now (encode_lower cipher.now) in
+        (n : ℕ) × K.takes sink.old (take n text) sink.new }
+    ensures stage { K.stage sink.new ≡ Stage.Begun }
+    ensures failed { CountsFailure (K.failures sink.old) (K.failures sink.new) result }
+{
+    let mut digits = Text::new();
+    append_hexadecimal(&mut digits, cipher);
+    put_all(sink, lines_of(indentation, digits.as_slice()).as_slice())
+}

@@ -1,0 +1,35 @@
+//! The header line of an envelope.
+ghost use Rattle.std.specs.Prelude.{◌≡◌, ◌+◌, ◌≤◌, ◌++◌, ◌∷◌, [], length};
+ghost use Rattle.arrayvec.specs.ArrayVec.{array_vec_len};
+ghost use Rattle.vault_text.specs.Written.{text_of_lines, written_header};
+
+use super::lines::{INDENTATION_LIMIT, TEXT_LIMIT, Text, append};
+use crate::label::Label;
+
+#[tactic(auto, unfolding(crate::specs::Written::text_of_lines))]
+/// The header line behind an indentation, with its end.
+pub(super) fn header_line_of(indentation: &[u8], label: &Label) -> Text
+    requires { length indentation.now ≤ INDENTATION_LIMIT }
+    ensures { result.items ≡ text_of_lines indentation.now (written_header label.now ∷ []) }
+{
+    let mut line = Text::new();
+    append(&mut line, indentation);
+    append_header(&mut line, label.as_str());
+    append(&mut line, b"\n");
+    line
+}
+
+#[tactic(auto, unfolding(crate::specs::Written::written_header))]
+/// Appends the header line of a label, without its end.
+fn append_header(line: &mut Text, label: &str)
+    requires { array_vec_len line.old + 26 + length label.now ≤ TEXT_LIMIT }
+    ensures line { line.new.items ≡ line.old.items ++ written_header label.now }
+    ensures length { array_vec_len line.new ≤ array_vec_len line.old + 26 + length label.now }
+{
+    if label == "default" {
+        append(line, b"$ANSIBLE_VAULT;1.1;AES256");
+    } else {
+        append(line, b"$ANSIBLE_VAULT;1.2;AES256;");
+        append(line, label.as_bytes());
+    }
+}
