@@ -10,16 +10,19 @@ all:
 		|| { cat ../../bin/build.log; exit 1; }
 	@cp crates/ansible_vault/out/ansible_vault bin/ansible-vault
 
-# The gate, and then every test of the program that was built.
+# The gate, and then the tests of the program that was built and of the cipher's tables.
 check:
 	rt ci
 	@$(MAKE) --no-print-directory test
 
 test: all
 	tests/end_to_end.py bin/ansible-vault
+	tests/tables_are_read
 
 bench: all
 	bench/view.py bin/ansible-vault
+	bench/counter_mode.py
+	bench/key_derivation.py
 
 install: all
 	install -d $(DESTDIR)$(PREFIX)/bin

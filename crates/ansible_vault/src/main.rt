@@ -1,10 +1,9 @@
 //! `ansible-vault`: `drive` over the arguments and the standard streams.
 #![tactic(auto)]
 
-use std::env;
 use std::env::Env;
-use std::io;
 use std::process::ExitCode;
+use std::{env, io};
 use vault_cli::{HostFiles, drive, reject_words};
 
 fn words(rt: &(impl Env + AllocGlobal)) -> io::Result<Vec<String>> {

@@ -84,7 +84,7 @@ head_of-goes_on kept text line rest new front ended same =
       | inl inside ↦
           let test : nat_lt (length line) (length text) ≡ true = grind (arith, nat_tests) in
           let short : length (header_line text) < length text = rw front at inside in
-          let last = rw (append-nil, append-nil) at (same []) in
+          let last = rw (append-nil line, append-nil new.kept) at (same []) in
           rw (ended, test, header_line-ended text rest short, ← front) last
       | inr past ↦
           let test : nat_lt (length line) (length text) ≡ false = grind (arith, nat_tests) in

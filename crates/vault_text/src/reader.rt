@@ -1,5 +1,5 @@
-//! Reading an envelope that comes in pieces: the header line, then the digits of the body, then the parts of
-//! the inner text that these spell. Each layer takes what the one above hands it, in pieces of any length.
+//! Reading an envelope that comes in pieces: the header line, then the digits of the body, then the
+//! parts of the inner text that these spell. Each layer takes what the one above hands it.
 ghost use Rattle.std.specs.Prelude.{◌≡◌, ℕ, List, [], ◌++◌, length};
 ghost use Rattle.vault_text.specs.Envelope.{read};
 ghost use Rattle.vault_text.specs.EnvelopeReader.{StandsFor};
@@ -23,9 +23,9 @@ use std::marker::Model;
 /// How many bytes are decoded at once.
 const RUN_LIMIT: usize = 256;
 
-/// Reads an envelope that comes in pieces of any length. Faults are told at the end alone, since one that
-/// comes earlier in the order may still follow. The ciphertext lies in the memory that the reader is lent; of
-/// the rest of the input it keeps no more than its type has room for.
+/// Reads an envelope that comes in pieces of any length. Faults are told at the end alone, since one
+/// that comes earlier in the order may still follow. The ciphertext lies in the memory that the
+/// reader is lent; of the rest of the input it keeps no more than its type has room for.
 #[derive(Drop)]
 pub struct EnvelopeReader<'a> {
     /// How many bytes were given, or the last number of 64 bits.
@@ -57,7 +57,8 @@ impl<'a> EnvelopeReader<'a> {
 
     /// Takes the piece of the input that comes next.
     pub fn feed(&mut self, piece: &[u8])
-        ensures { (input : List ℕ) → StandsFor self.old input → StandsFor self.new (input ++ piece.now) }
+        ensures { (input : List ℕ) →
+            StandsFor self.old input → StandsFor self.new (input ++ piece.now) }
     {
         self.fed = self.fed.saturating_add(piece.len());
         let rest = self.line.extend(piece);

@@ -56,7 +56,9 @@ impl<'a> BodyReader<'a> {
     fn extend_run<'t>(&mut self, text: &'t [u8]) -> &'t [u8]
         requires { 0 < length text.now }
         ensures shorter { length result.now < length text.now }
-        ensures taken { (label more : List ℕ) → body_on self.old label (without_line_ends text.now ++ more) ≡ body_on self.new label (without_line_ends result.now ++ more) }
+        ensures taken { (label more : List ℕ) →
+            body_on self.old label (without_line_ends text.now ++ more)
+            ≡ body_on self.new label (without_line_ends result.now ++ more) }
     {
         let digits = before_line_end(&text[..text.len().min(DIGITS_LIMIT)]);
         if digits.is_empty() {

@@ -60,7 +60,9 @@ impl<'a> CipherPart<'a> {
 
     /// The ciphertext, where no digit follows.
     pub(super) fn finish(self) -> Result<&'a mut [u8], TextFault>
-        ensures { MatchResult result (λ bytes. part_on CIPHERTEXT_LIMIT CipherTooLong self.entry [] ≡ Ok bytes.now) (λ fault. part_on CIPHERTEXT_LIMIT CipherTooLong self.entry [] ≡ Err fault) }
+        ensures { MatchResult result
+            (λ bytes. part_on CIPHERTEXT_LIMIT CipherTooLong self.entry [] ≡ Ok bytes.now)
+            (λ fault. part_on CIPHERTEXT_LIMIT CipherTooLong self.entry [] ≡ Err fault) }
     {
         let CipherPart {
             work,

@@ -40,8 +40,11 @@ impl HeaderLine {
 
     /// Takes what belongs to the header line, and answers what follows it.
     pub(super) fn extend<'t>(&mut self, text: &'t [u8]) -> &'t [u8]
-        ensures line { (rest : List ℕ) → head_of (line_on self.old (text.now ++ rest)) ≡ head_of (line_on self.new rest) }
-        ensures digits { (rest : List ℕ) → digits_on self.old (text.now ++ rest) ≡ without_line_ends result.now ++ digits_on self.new rest }
+        ensures line { (rest : List ℕ) →
+            head_of (line_on self.old (text.now ++ rest)) ≡ head_of (line_on self.new rest) }
+        ensures digits { (rest : List ℕ) →
+            digits_on self.old (text.now ++ rest)
+            ≡ without_line_ends result.now ++ digits_on self.new rest }
     {
         if self.has_ended {
             return text;
@@ -55,7 +58,8 @@ impl HeaderLine {
     /// Keeps as many of the bytes as fit.
     fn keep(&mut self, bytes: &[u8])
         ensures ended { self.new.has_ended ≡ self.old.has_ended }
-        ensures line { (more : List ℕ) → head_of (self.old.kept ++ (bytes.now ++ more)) ≡ head_of (self.new.kept ++ more) }
+        ensures line { (more : List ℕ) →
+            head_of (self.old.kept ++ (bytes.now ++ more)) ≡ head_of (self.new.kept ++ more) }
     {
         let count = bytes.len().min(self.kept.remaining_capacity());
         // So many always fit.

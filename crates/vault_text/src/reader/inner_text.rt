@@ -1,5 +1,5 @@
-//! The inner text of an envelope, as it comes in pieces: salt, tag and ciphertext in hexadecimal, with LF
-//! between them.
+//! The inner text of an envelope, as it comes in pieces: salt, tag and ciphertext in hexadecimal,
+//! with LF between them.
 ghost use Rattle.std.specs.Prelude.{◌≡◌, ◌<◌, ◌≤◌, ◌∷◌, ◌++◌, ℕ, List, [], IfSome, IfNone, length};
 ghost use Rattle.std.specs.List.{before_first};
 ghost use Rattle.vault_text.specs.InnerText.{is_line_feed};
@@ -88,7 +88,9 @@ impl<'a> InnerReader<'a> {
         requires some { 0 < length text.now }
         requires short { length text.now ≤ RUN_LIMIT }
         ensures shorter { length result.now < length text.now }
-        ensures taken { (label more : List ℕ) → payload_on self.old label (text.now ++ more) ≡ payload_on self.new label (result.now ++ more) }
+        ensures taken { (label more : List ℕ) →
+            payload_on self.old label (text.now ++ more)
+            ≡ payload_on self.new label (result.now ++ more) }
     {
         match self.part {
             Part::Salt => {

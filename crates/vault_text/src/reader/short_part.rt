@@ -52,7 +52,9 @@ impl<const LIMIT: usize> ShortPart<LIMIT> {
 
     /// The bytes of the part, where no digit follows.
     pub(super) fn finish(&self) -> Result<&[u8], TextFault>
-        ensures { MatchResult result (λ bytes. part_on LIMIT BadPayload self.now [] ≡ Ok bytes.now) (λ fault. part_on LIMIT BadPayload self.now [] ≡ Err fault) }
+        ensures { MatchResult result
+            (λ bytes. part_on LIMIT BadPayload self.now [] ≡ Ok bytes.now)
+            (λ fault. part_on LIMIT BadPayload self.now [] ≡ Err fault) }
     {
         if self.is_long || !self.decoder.is_complete() {
             return Err(TextFault::BadPayload);

@@ -62,8 +62,8 @@ fn assert_same(
     }
 }
 
-/// Reads the input cut in two at every place, with an empty piece between, and in single bytes; the answer
-/// is that of the whole-list reader.
+/// Reads the input cut in two at every place, with an empty piece between, and in single bytes;
+/// the answer is that of the whole-list reader.
 fn read_in_pieces(
     rt: &impl Abort,
     alloc: Global,

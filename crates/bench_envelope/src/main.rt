@@ -1,0 +1,109 @@
+//! The work that the benchmark of envelopes times: `bench_envelope read N` reads the envelope on
+//! standard input N times, and `bench_envelope write N` writes one of a MiB of ciphertext N times.
+//! Both print how many bytes the last one had: of ciphertext, or of text.
+#![tactic(auto)]
+
+ghost use Rattle.std.specs.Prelude.{◌≡◌, length};
+ghost use Rattle.vault_text.specs.declared.limits.TheConstants.{CIPHERTEXT_LIMIT};
+
+use std::io::{ErrorKind, Read, Write};
+use std::{env, io};
+use vault_text::{
+    CIPHERTEXT_LIMIT, EnvelopeReader, Label, PLAINTEXT_LIMIT, Salt, Sink, WriteSink, write_envelope,
+};
+
+const PIECE: usize = 4096;
+
+/// Takes all that it is given and looks at each byte.
+#[derive(Drop)]
+struct Count {
+    bytes: u64,
+    sum: u64,
+}
+
+impl Write for Count {
+    fn write(&mut self, bytes: &[u8]) -> io::Result<usize> {
+        for byte in bytes {
+            self.sum = self.sum.rotate_left(5) ^ u64::from(*byte);
+        }
+        self.bytes = self.bytes.wrapping_add(bytes.len() as u64);
+        Ok(bytes.len())
+    }
+
+    fn flush(&mut self) -> io::Result<()> {
+        Ok(())
+    }
+}
+
+fn write_once(label: &Label, salt: &Salt, cipher: &[u8]) -> Count {
+    let mut sink = WriteSink::new(Count { bytes: 0, sum: 0 });
+    if let Ok(()) = sink.begin() {
+        let _ = write_envelope(&mut sink, label, salt, &[9; 32], cipher);
+    }
+    sink.into_inner()
+}
+
+fn write(rt: &HostRuntime, times: u32) -> io::Result<u64> {
+    let mut cipher = vec![in rt.alloc(); 0u8; PLAINTEXT_LIMIT]?;
+    let mut state: u32 = 1;
+    for byte in cipher.iter_mut() {
+        state = state.wrapping_mul(1664525).wrapping_add(1013904223);
+        *byte = (state >> 24) as u8;
+    }
+    let Some(salt) = Salt::new(&[7; 32]) else {
+        return Err(usage());
+    };
+    let mut count = Count { bytes: 0, sum: 0 };
+    for _ in 0..times {
+        count = write_once(&Label::default_label(), &salt, &cipher);
+    }
+    Ok(count.bytes)
+}
+
+/// The length of the ciphertext of an envelope that comes in pieces; 0 where there is none.
+fn read_once(work: &mut [u8], text: &[u8]) -> usize
+    requires { length work.old ≡ CIPHERTEXT_LIMIT }
+{
+    let mut reader = EnvelopeReader::new(work);
+    for piece in text.chunks(PIECE) {
+        reader.feed(piece);
+    }
+    match reader.finish() {
+        Ok(payload) => payload.cipher().len(),
+        Err(_) => 0,
+    }
+}
+
+fn read(rt: &HostRuntime, times: u32) -> io::Result<u64> {
+    let mut text = Vec::new(rt.alloc());
+    rt.stdin().read_to_end(&mut text)?;
+    let mut length = 0;
+    for _ in 0..times {
+        let mut work = vec![in rt.alloc(); 0u8; CIPHERTEXT_LIMIT]?;
+        length = read_once(work.as_mut_slice(), text.as_slice());
+    }
+    Ok(length as u64)
+}
+
+fn usage() -> io::Error {
+    io::Error::new(
+        ErrorKind::InvalidInput,
+        "usage: bench_envelope read|write N",
+    )
+}
+
+fn main(rt: HostRuntime) -> io::Result<()> {
+    let words: Vec<String> = env::args(&rt)?.collect(rt.alloc())?;
+    let [_, work, times] = words.as_slice() else {
+        return Err(usage());
+    };
+    let Ok(times) = times.parse() else {
+        return Err(usage());
+    };
+    let bytes = match work.as_str() {
+        "read" => read(&rt, times)?,
+        "write" => write(&rt, times)?,
+        _ => return Err(usage()),
+    };
+    println!(rt; "{}", bytes)
+}

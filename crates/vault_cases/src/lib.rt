@@ -1,0 +1,19 @@
+//! Tests that cross crates.
+#![tactic(auto)]
+
+#[cfg(test)]
+mod damage;
+#[cfg(test)]
+mod devices;
+#[cfg(test)]
+mod failures;
+#[cfg(test)]
+mod password_files;
+#[cfg(test)]
+mod program;
+#[cfg(test)]
+mod requests;
+#[cfg(test)]
+mod runs;
+#[cfg(test)]
+mod support;

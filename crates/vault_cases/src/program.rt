@@ -1,0 +1,75 @@
+//! Whole runs of the program that need no password file.
+use crate::support::{EMPTY_ENVELOPE, MemFiles, run_program_on};
+use std::test::Fail;
+use vault_cli::{FileFault, Status};
+
+const NO_FILES: MemFiles<'static> = MemFiles { files: &[] };
+
+#[test]
+fn refuses_without_secrets(rt: HostRuntime) -> Result<(), Fail> {
+    let cases: [(&[u8], &str); 2] = [
+        (b"", "ERROR! input is not vault encrypted data\n"),
+        (EMPTY_ENVELOPE, "ERROR! no secret decrypts this vault\n"),
+    ];
+    for (input, message) in cases {
+        for command in ["view", "decrypt"] {
+            let refused = run_program_on(rt.alloc(), &NO_FILES, &[command], input)?;
+            assert_eq!(rt; refused.status, Status::Refused, "{command}");
+            assert_eq!(rt; refused.message.as_str(), message, "{command}");
+            assert_eq!(rt; refused.output.len(), 0, "{command}");
+        }
+    }
+    Ok(())
+}
+
+#[test]
+fn explains_the_command_line(rt: HostRuntime) -> Result<(), Fail> {
+    let alloc = rt.alloc();
+    let asked: [(&[&str], &[u8]); 3] = [
+        (&["--help"], b"Usage: ansible-vault"),
+        (&["view", "--help"], b"Usage: ansible-vault view"),
+        (&["--version"], b"ansible-vault "),
+    ];
+    for (words, text) in asked {
+        let told = run_program_on(alloc, &NO_FILES, words, b"")?;
+        assert_eq!(rt; told.status, Status::Success, "{words:?}");
+        assert_eq!(rt; told.message.as_str(), "", "{words:?}");
+        assert!(rt;
+            told.output.windows(text.len()).any(|part| part == text),
+            "{words:?}"
+        );
+    }
+    let wrong: [&[&str]; 6] = [
+        &[],
+        &["show"],
+        &["help"],
+        &["view", "--loud"],
+        &["view", "--vault-id"],
+        &["--vault-id", "one", "view"],
+    ];
+    for words in wrong {
+        let refused = run_program_on(alloc, &NO_FILES, words, b"")?;
+        assert_eq!(rt; refused.status, Status::ParseFault, "{words:?}");
+        assert_eq!(rt; refused.output.len(), 0, "{words:?}");
+        assert_ne!(rt; refused.message.len(), 0, "{words:?}");
+    }
+    Ok(())
+}
+
+#[test]
+fn ends_with_each_status(rt: HostRuntime) -> Result<(), Fail> {
+    let files: [(&str, Result<&[u8], FileFault>); 1] = [("large", Err(FileFault::Memory))];
+    let files = MemFiles { files: &files };
+    let cases: [(&[&str], u8); 5] = [
+        (&["--version"], 0),
+        (&["view"], 1),
+        (&["show"], 2),
+        (&["view", "--vault-id", "missing"], 3),
+        (&["view", "--vault-id", "large"], 4),
+    ];
+    for (words, code) in cases {
+        let ended = run_program_on(rt.alloc(), &files, words, b"")?;
+        assert_eq!(rt; ended.status.code(), code, "{words:?}");
+    }
+    Ok(())
+}

@@ -1,0 +1,89 @@
+//! Runs that give the plaintext.
+use crate::devices::CountingReader;
+use crate::support::{MemFiles, run_decrypt, run_program, run_program_on};
+use std::test::Fail;
+use vault_cli::{FileFault, Status};
+use vault_made::envelope;
+use vault_text::{MemSink, MemSource};
+
+const FILES: &[(&str, Result<&[u8], FileFault>)] = &[
+    ("one", Ok(b"first\n")),
+    ("two", Ok(b" second \r\n")),
+];
+
+#[test]
+fn shows_plaintext(rt: HostRuntime) -> Result<(), Fail> {
+    let alloc = rt.alloc();
+    let plaintext = b"key: value\n".as_slice();
+    let vault = envelope(alloc, "dev", b"second", &[7; 32], plaintext)?;
+    let cases: [(&[&str], usize); 2] = [
+        (
+            &["view", "--vault-id", "prod@one", "--vault-id", "dev@two"],
+            65_536,
+        ),
+        (
+            &[
+                "decrypt",
+                "--vault-password-file",
+                "one",
+                "--vault-password-file=two",
+            ],
+            1,
+        ),
+    ];
+    for (words, step) in cases {
+        let mut stdin = CountingReader::new(vault.as_slice(), step);
+        let shown = run_program(alloc, &MemFiles { files: FILES }, words, &mut stdin)?;
+        assert_eq!(rt; shown.status, Status::Success, "{words:?}");
+        assert_eq!(rt; shown.output.as_slice(), plaintext, "{words:?}");
+        assert_eq!(rt; shown.message.as_str(), "", "{words:?}");
+        assert_eq!(rt; stdin.given, vault.len(), "{words:?}");
+    }
+    Ok(())
+}
+
+#[test]
+fn refuses_another_password(rt: HostRuntime) -> Result<(), Fail> {
+    let alloc = rt.alloc();
+    let vault = envelope(alloc, "dev", b"second", &[7; 32], b"key: value\n")?;
+    let words = ["view", "--vault-id", "dev@one"];
+    let refused = run_program_on(alloc, &MemFiles { files: FILES }, &words, vault.as_slice())?;
+    assert_eq!(rt; refused.status, Status::Refused);
+    assert_eq!(rt;
+        refused.message.as_str(),
+        "ERROR! no secret decrypts this vault\n"
+    );
+    assert_eq!(rt; refused.output.len(), 0);
+    Ok(())
+}
+
+#[test]
+fn runs_at_any_step(rt: HostRuntime) -> Result<(), Fail> {
+    let alloc = rt.alloc();
+    let plaintext = [b'p'; 200].as_slice();
+    let vault = envelope(alloc, "default", b"first", &[], plaintext)?;
+    for step in [1, 1_000_000] {
+        let mut src = MemSource::new(vault.as_slice(), step);
+        let mut out = MemSink::new(alloc, step);
+        let mut err = MemSink::new(alloc, step);
+        let status = run_decrypt(alloc, b"first\n", &mut src, &mut out, &mut err)?;
+        assert_eq!(rt; status, Status::Success, "{step}");
+        assert_eq!(rt; out.bytes(), plaintext, "{step}");
+        assert!(rt; !err.begun(), "{step}");
+    }
+    Ok(())
+}
+
+#[test]
+fn gives_empty_plaintext(rt: HostRuntime) -> Result<(), Fail> {
+    let alloc = rt.alloc();
+    let vault = envelope(alloc, "default", b"first", &[7; 32], b"")?;
+    let mut src = MemSource::new(vault.as_slice(), 100);
+    let mut out = MemSink::new(alloc, 100);
+    let mut err = MemSink::new(alloc, 100);
+    let status = run_decrypt(alloc, b"first", &mut src, &mut out, &mut err)?;
+    assert_eq!(rt; status, Status::Success);
+    assert_eq!(rt; out.bytes().len(), 0);
+    assert!(rt; out.begun() && !err.begun());
+    Ok(())
+}

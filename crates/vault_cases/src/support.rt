@@ -1,0 +1,140 @@
+//! What the tests share: files in memory, and whole runs of the program and of one request.
+ghost use Rattle.std.specs.Prelude.{◌≡◌, IfOk, vec_len};
+ghost use Rattle.vault_text.specs.declared.limits.TheConstants.{CIPHERTEXT_LIMIT};
+
+use crate::devices::CountingReader;
+use std::alloc::{AllocError, Global};
+use std::io::Read;
+use std::test::Fail;
+use vault_cli::{
+    Fault, FileFault, FileSystem, Request, Status, drive, has_command, parse, run, settle,
+};
+use vault_text::{CIPHERTEXT_LIMIT, Sink, Source, Stage};
+
+/// An envelope with no salt, a tag of 32 zero bytes and no ciphertext.
+pub const EMPTY_ENVELOPE: &[u8; 160] =
+    b"$ANSIBLE_VAULT;1.1;AES256\n0a303030303030303030303030303030303030303030303030303030303030303030303030303030\n303030303030303030303030303030303030303030303030300a\n";
+
+/// Files in memory, some of which fail.
+#[derive(Drop)]
+pub struct MemFiles<'a> {
+    pub files: &'a [(&'a str, Result<&'a [u8], FileFault>)],
+}
+
+impl FileSystem for MemFiles<'_> {
+    fn read_front(&self, alloc: Global, path: &str, limit: u64) -> Result<Vec<u8>, FileFault> {
+        for (name, content) in self.files {
+            if *name == path {
+                return front(alloc, *content, limit);
+            }
+        }
+        Err(FileFault::CannotOpen)
+    }
+}
+
+fn front(
+    alloc: Global,
+    content: Result<&[u8], FileFault>,
+    limit: u64,
+) -> Result<Vec<u8>, FileFault> {
+    let bytes = content?;
+    let length = bytes.len().min(limit as usize);
+    match Vec::from_slice(alloc, &bytes[..length]) {
+        Ok(copy) => Ok(copy),
+        Err(_) => Err(FileFault::Memory),
+    }
+}
+
+/// The words of a command line, with the program's name before them.
+pub fn line_of(alloc: Global, words: &[&str]) -> Result<Vec<String>, AllocError> {
+    let mut line = Vec::new(alloc);
+    line.push(String::from_str(alloc, "ansible-vault")?)?;
+    for word in words {
+        line.push(String::from_str(alloc, word)?)?;
+    }
+    Ok(line)
+}
+
+/// What the words behind the program's name settle.
+pub fn settled(alloc: Global, words: &[&str]) -> Result<Result<Request, Fault>, Fail> {
+    let line = line_of(alloc, words)?;
+    let matches = parse(alloc, line.as_slice())?;
+    if !has_command(&matches) {
+        return Err(Fail::from("the words name no command"));
+    }
+    Ok(settle(alloc, &matches))
+}
+
+/// What a run of the program left.
+#[derive(Drop)]
+pub struct Outcome {
+    pub status: Status,
+    pub output: Vec<u8>,
+    pub message: String,
+}
+
+/// Runs the program on these words behind its name, over these files and this standard input.
+pub fn run_program<R: Read>(
+    alloc: Global,
+    files: &MemFiles<'_>,
+    words: &[&str],
+    stdin: &mut R,
+) -> Result<Outcome, Fail> {
+    let line = line_of(alloc, words)?;
+    let mut output = Vec::new(alloc);
+    let mut error = Vec::new(alloc);
+    let status = drive(
+        files,
+        alloc,
+        line.as_slice(),
+        stdin,
+        &mut output,
+        &mut error,
+    );
+    let Ok(message) = String::from_utf8(error) else {
+        return Err(Fail::from("the message is no text"));
+    };
+    Ok(Outcome {
+        status,
+        output,
+        message,
+    })
+}
+
+/// Runs the program on these words behind its name, where standard input holds these bytes.
+pub fn run_program_on(
+    alloc: Global,
+    files: &MemFiles<'_>,
+    words: &[&str],
+    input: &[u8],
+) -> Result<Outcome, Fail> {
+    run_program(alloc, files, words, &mut CountingReader::new(input, 4_096))
+}
+
+/// Runs `decrypt` with one password file of these contents.
+pub fn run_decrypt<S: Source, K: Sink, E: Sink>(
+    alloc: Global,
+    secret_file: &[u8],
+    src: &mut S,
+    out: &mut K,
+    err: &mut E,
+) -> Result<Status, Fail>
+    requires out_unbegun { K.stage out.old ≡ Stage.Unbegun }
+    requires err_unbegun { E.stage err.old ≡ Stage.Unbegun }
+{
+    let request = settled(alloc, &["decrypt", "--vault-password-file", "one"])??;
+    let mut secret_files = Vec::new(alloc);
+    secret_files.push(Vec::from_slice(alloc, secret_file)?)?;
+    if secret_files.len() != request.files() {
+        return Err(Fail::from("the request has not one password file"));
+    }
+    let contents = secret_files.as_slice();
+    let mut work = work_memory(alloc)?;
+    Ok(run(&request, contents, &[], work.as_mut_slice(), src, out, err))
+}
+
+fn work_memory(alloc: Global) -> Result<Vec<u8>, AllocError>
+    ensures { IfOk result (λ work. vec_len work ≡ CIPHERTEXT_LIMIT) }
+{
+    vec![in alloc; 0u8; CIPHERTEXT_LIMIT]
+}
