@@ -21,6 +21,7 @@ test: all
 
 bench: all
 	bench/view.py bin/ansible-vault
+	bench/envelope.py
 	bench/counter_mode.py
 	bench/key_derivation.py
 

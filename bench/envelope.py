@@ -1,0 +1,91 @@
+#!/usr/bin/env python3
+"""Times reading and writing of envelopes, in MB of their text a second.
+
+Beside reading stands python3's `bytes.fromhex` twice on the same body. All are taken in turn in one
+run, and of each the best time counts.
+"""
+
+import os
+import subprocess
+import tempfile
+import time
+from pathlib import Path
+
+CRATE = Path(__file__).resolve().parent.parent / "crates" / "bench_envelope"
+PROGRAM = CRATE / "out" / "bench_envelope"
+PLAINTEXT_LIMIT = 1 << 20
+ENVELOPE_LIMIT = 6 * PLAINTEXT_LIMIT + 8192
+HEADER = b"$ANSIBLE_VAULT;1.1;AES256\n"
+REPEATS = 20
+RUNS = 7
+READING_TARGET, WRITING_TARGET = 150, 250
+
+
+def build():
+    """Builds the program, and shows that it writes the length that the format gives."""
+    command = [os.environ.get("RT", "rt"), "run", "--", "write", "1"]
+    run = subprocess.run(command, cwd=CRATE, stdout=subprocess.PIPE, stderr=subprocess.PIPE, text=True)
+    if run.returncode != 0:
+        raise SystemExit(run.stderr)
+    if int(run.stdout) != len(envelope(80, PLAINTEXT_LIMIT)):
+        raise SystemExit("the program writes an envelope of another length")
+
+
+def envelope(width, length):
+    """An envelope of that much ciphertext, with lines of that many digits."""
+    parts = bytes([7] * 32), bytes([9] * 32), os.urandom(length)
+    digits = b"\n".join(part.hex().encode() for part in parts).hex().encode()
+    return HEADER + b"".join(digits[i : i + width] + b"\n" for i in range(0, len(digits), width))
+
+
+def python_twice(text):
+    """Both levels of hexadecimal, and no more of the format."""
+    inner = bytes.fromhex(text[len(HEADER) :].decode()).split(b"\n")
+    return [bytes.fromhex(part.decode()) for part in inner]
+
+
+def read(file, length):
+    file.seek(0)
+    os.lseek(file.fileno(), 0, os.SEEK_SET)
+    command = [PROGRAM, "read", str(REPEATS)]
+    run = subprocess.run(command, stdin=file, stdout=subprocess.PIPE, check=True)
+    if int(run.stdout) != length:
+        raise SystemExit("the program reads an envelope of another length")
+
+
+def write():
+    subprocess.run([PROGRAM, "write", str(REPEATS)], stdout=subprocess.DEVNULL, check=True)
+
+
+def repeated_python(text):
+    for _ in range(REPEATS):
+        python_twice(text)
+
+
+def rate(work, size):
+    """MB of text a second."""
+    start = time.perf_counter()
+    work()
+    return size * REPEATS / 1e6 / (time.perf_counter() - start)
+
+
+def main():
+    build()
+    print(f"{'text of an envelope':36} {'MB/s':>6} {'python3':>8} {'ratio':>6}")
+    rows = [("read, lines of 80 digits", 80, PLAINTEXT_LIMIT), ("read, 6 MiB in lines of 2 digits", 2, PLAINTEXT_LIMIT)]
+    for name, width, length in rows:
+        text = envelope(width, length)
+        assert len(text) <= ENVELOPE_LIMIT
+        with tempfile.TemporaryFile() as file:
+            file.write(text)
+            file.flush()
+            ours = max(rate(lambda: read(file, length), len(text)) for _ in range(RUNS))
+            theirs = max(rate(lambda: repeated_python(text), len(text)) for _ in range(2))
+        print(f"{name:36} {ours:6.0f} {theirs:8.0f} {ours / theirs:6.2f}")
+    written = max(rate(write, len(envelope(80, PLAINTEXT_LIMIT))) for _ in range(RUNS))
+    print(f"{'write, lines of 80 digits':36} {written:6.0f}")
+    print(f"targets: {READING_TARGET} MB/s of reading, {WRITING_TARGET} MB/s of writing")
+
+
+if __name__ == "__main__":
+    main()
