@@ -182,6 +182,7 @@ fn envelopes_read_back(rt: HostRuntime) -> Result<(), Fail> {
     ] {
         let cipher = counting(alloc, length, 11, 5)?;
         let bytes = envelope(alloc, 4_096, label, salt_length, cipher.as_slice())?;
+        assert_eq!(rt; work.len(), CIPHERTEXT_LIMIT);
         let mut reader = EnvelopeReader::new(work.as_mut_slice());
         reader.feed(bytes.as_slice());
         let payload = reader.finish()?;
