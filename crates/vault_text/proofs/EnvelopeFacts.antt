@@ -2,7 +2,7 @@
 use Rattle.std.proofs.Common.{◌≡◌, ℕ, zero-add, ◌+◌, ◌-◌, ◌^◌, ◌<◌, ◌≤◌, ◌==◌, Bool, true, false, not, List, [], ◌++◌, length, take, drop, min, Option, Some, None, Result, Ok, Err, refl, sym, ap, ◌∙◌, arith, inl, inr, append_assoc, length-append}
 use Rattle.std.specs.Prelude.{if◌then◌else◌, nat_lt, nat_le, nat_eq, IsOk, OnOk}
 use Rattle.std.specs.List.{starts_with}
-use Rattle.std.specs.Option.{ok_or, option_and_then}
+use Rattle.std.specs.Option.{ok_or}
 use Rattle.std.proofs.lemmas.Bool.{cases_Bool, cases_lt, eqb-true}
 use Rattle.std.proofs.lemmas.Bool.Decides.{nat_tests}
 use Rattle.std.proofs.lemmas.List.{append-nil, drop-append-le, drop-drop, drop_all, drop_at, take-append-le, take_all, take-append-drop, length-take}
@@ -10,7 +10,8 @@ use Rattle.vault_text.specs.Header.{header_line, marker, read_header}
 use Rattle.vault_text.specs.Hexadecimal.{unhex}
 use Rattle.vault_text.specs.InnerText.{Parts, cut, fitting, parts_of}
 use Rattle.vault_text.specs.InnerReader.{new_inner, payload_of, payload_on, whole_tag}
-use Rattle.vault_text.specs.Envelope.{Payload, body, read, read_body, ◌>>=◌}
+use Rattle.vault_text.specs.Envelope.{Payload, body, read, read_body}
+use Rattle.vault_text.specs.Steps.{◌>>=◌}
 use Rattle.vault_text.specs.EnvelopeReader.{LineState, ReaderState, digits_on, line_on, StandsFor, TakesBody, body_on, head_of, new_body, new_line, without_line_ends}
 use Rattle.vault_text.specs.declared.limits.TheConstants.{HEADER_LIMIT, ENVELOPE_LIMIT, SALT_LIMIT, TAG_LENGTH, CIPHERTEXT_LIMIT}
 use Rattle.vault_text.specs.declared.fault.TextFault.{TextFault}
@@ -129,16 +130,21 @@ payload_by_parts label salt tag cipher = do
   c ← ok_or cipher BadPayload >>= bounded_list CIPHERTEXT_LIMIT CipherTooLong
   Ok (record { label = label; salt = s; tag = whole; cipher = c })
 
--- the same as the definition finds it
+-- the payload of three parts as the definition finds it
 abbrev bounded_payload : List ℕ → Parts → Result Payload TextFault
 bounded_payload label parts =
     if nat_lt CIPHERTEXT_LIMIT (length parts.cipher) then Err CipherTooLong
     else Ok (record { label = label; salt = parts.salt; tag = parts.tag; cipher = parts.cipher })
 
+abbrev parts_at_once : Option (List ℕ) → Option (List ℕ) → Option (List ℕ) → Result Parts TextFault
+parts_at_once salt tag cipher = do
+  s ← ok_or salt BadPayload
+  t ← ok_or tag BadPayload
+  c ← ok_or cipher BadPayload
+  fitting (record { salt = s; tag = t; cipher = c })
+
 abbrev payload_at_once : List ℕ → Option (List ℕ) → Option (List ℕ) → Option (List ℕ) → Result Payload TextFault
-payload_at_once label salt tag cipher =
-    ok_or (option_and_then (λ s. option_and_then (λ t. option_and_then (λ c. fitting (record { salt = s; tag = t; cipher = c })) cipher) tag) salt) BadPayload
-    >>= bounded_payload label
+payload_at_once label salt tag cipher = parts_at_once salt tag cipher >>= bounded_payload label
 
 -- a salt over the limit is refused by either
 salt_long : (label s : List ℕ) (tag cipher : Option (List ℕ)) → nat_lt SALT_LIMIT (length s) ≡ true
@@ -203,11 +209,11 @@ payload_by_parts-all label (Some s) (Some t) cipher =
 -- steps 8 and 9 from the start
 payload_of-new : (label : List ℕ) (digits : Option Parts)
     → (ok_or digits BadPayload >>= payload_of new_inner label)
-    ≡ (ok_or (option_and_then (λ d. option_and_then (λ s. option_and_then (λ t. option_and_then (λ c. fitting (record { salt = s; tag = t; cipher = c })) (unhex d.cipher)) (unhex d.tag)) (unhex d.salt)) digits) BadPayload >>= bounded_payload label)
+    ≡ (ok_or digits BadPayload >>= (λ d. parts_at_once (unhex d.salt) (unhex d.tag) (unhex d.cipher)) >>= bounded_payload label)
 payload_of-new label None = refl
 payload_of-new label (Some digits) = payload_by_parts-all label (unhex digits.salt) (unhex digits.tag) (unhex digits.cipher)
 
-payload_on-new : (label text : List ℕ) → payload_on new_inner label text ≡ (ok_or (parts_of text) BadPayload >>= bounded_payload label)
+payload_on-new : (label text : List ℕ) → payload_on new_inner label text ≡ (parts_of text >>= bounded_payload label)
 unfolding payload_on parts_of
 payload_on-new label text = payload_of-new label (cut text)
 

@@ -5,13 +5,12 @@ use Rattle.std.specs.List.{before_first, after_first, position_or_len, count_by}
 use Rattle.std.specs.Option.{option_map, ok_or}
 use Rattle.std.proofs.lemmas.Bool.{cases_Bool, eqb-true}
 use Rattle.std.proofs.lemmas.Bool.Decides.{nat_tests}
-use Rattle.std.proofs.lemmas.List.Sums.{sum_by-cons, passes_at_first, split_at_first}
-use Rattle.vault_text.specs.Envelope.{◌>>=◌}
-use Rattle.vault_text.specs.Hexadecimal.{unhex_on, Decodes}
+use Rattle.std.proofs.lemmas.List.Sums.{sum_by-cons}
+use Rattle.vault_text.specs.Steps.{◌>>=◌}
+use Rattle.vault_text.specs.Hexadecimal.{DecoderState, unhex_on, Decodes}
 use Rattle.vault_text.specs.InnerText.{Parts, cut, is_line_feed}
 use Rattle.vault_text.specs.InnerReader.{PartState, InnerState, TakesDigits, part_on, payload_of, payload_on, rest_of_parts}
 use Rattle.vault_text.specs.declared.limits.TheConstants.{SALT_LIMIT, TAG_LENGTH, CIPHERTEXT_LIMIT}
-use Rattle.vault_text.specs.declared.hexadecimal.HexDecoder.{HexDecoder}
 use Rattle.vault_text.specs.declared.fault.TextFault.{TextFault}
 use Rattle.vault_text.specs.declared.fault.TextFault.TheVariants.{BadPayload, CipherTooLong}
 use Rattle.vault_text.specs.declared.reader.inner_text.Part.{Part}
@@ -26,7 +25,7 @@ kept_bytes limit fault is_long bytes out None = refl
 kept_bytes limit fault is_long bytes out (Some rest) = rw (append_assoc bytes out rest) refl
 
 -- the bytes that the digits complete stand behind those of the part
-pub TakesDigits-kept : (limit : ℕ) (bytes digits out : List ℕ) (old new : HexDecoder) (is_long : Bool) → Decodes old digits out new
+pub TakesDigits-kept : (limit : ℕ) (bytes digits out : List ℕ) (old new : DecoderState) (is_long : Bool) → Decodes old digits out new
     → TakesDigits limit (record { bytes = bytes; decoder = old; is_long = is_long }) digits (record { bytes = bytes ++ out; decoder = new; is_long = is_long })
 TakesDigits-kept limit bytes digits out old new is_long decoded = record {
   same = λ fault more. rw (decoded.spelled more) (kept_bytes limit fault is_long bytes out (unhex_on new more));
@@ -51,14 +50,6 @@ after_first-other : (b : ℕ) (text : List ℕ) → is_line_feed b ≡ false
 after_first-other b text other =
     let step : 1 + position_or_len is_line_feed text + 1 ≡ suc (position_or_len is_line_feed text + 1) = omega arith in
     rw (other, step) refl
-
--- a text is what stands before its first LF, the LF, and what stands behind it
-pub line_feed_found : (text : List ℕ) (end : ℕ) → end ≡ position_or_len is_line_feed text → end < length text
-    → text ≡ take end text ++ 10 ∷ drop (end + 1) text
-line_feed_found text end place inside =
-    let inside_text : position_or_len is_line_feed text < length text = omega arith in
-    let byte : get_or text (position_or_len is_line_feed text) 0 ≡ 10 = eqb-true _ 10 (passes_at_first is_line_feed text 0 inside_text) in
-    rw place (rw byte at (split_at_first is_line_feed text 0 inside_text))
 
 -- ---- what the parts still get
 

@@ -118,12 +118,12 @@ parts_of-known : (text salt tag cipher digits_salt digits_tag digits_cipher : Li
     → cut text ≡ Some (record { salt = digits_salt; tag = digits_tag; cipher = digits_cipher })
     → unhex digits_salt ≡ Some salt → unhex digits_tag ≡ Some tag → unhex digits_cipher ≡ Some cipher
     → nat_le (length salt) 256 ≡ true → (length tag == 32) ≡ true
-    → parts_of text ≡ Some (record { salt = salt; tag = tag; cipher = cipher })
+    → parts_of text ≡ Ok (record { salt = salt; tag = tag; cipher = cipher })
 unfolding parts_of
 parts_of-known text salt tag cipher digits_salt digits_tag digits_cipher parts a b c short whole =
     rw (parts, a, b, c, short, whole) refl
 
-read_body-known : (label digits inner : List ℕ) (parts : Parts) → unhex digits ≡ Some inner → parts_of inner ≡ Some parts
+read_body-known : (label digits inner : List ℕ) (parts : Parts) → unhex digits ≡ Some inner → parts_of inner ≡ Ok parts
     → nat_lt 1048592 (length parts.cipher) ≡ false
     → read_body label digits ≡ Ok (record { label = label; salt = parts.salt; tag = parts.tag; cipher = parts.cipher })
 unfolding read_body

@@ -5,14 +5,10 @@ use Rattle.std.specs.Option.{ok_or}
 use Rattle.vault_text.specs.Header.{marker, is_line_end, header_line, read_header}
 use Rattle.vault_text.specs.Hexadecimal.{unhex}
 use Rattle.vault_text.specs.InnerText.{parts_of}
+use Rattle.vault_text.specs.Steps.{◌>>=◌}
 use Rattle.vault_text.specs.declared.limits.TheConstants.{ENVELOPE_LIMIT, CIPHERTEXT_LIMIT}
 use Rattle.vault_text.specs.declared.fault.TextFault.{TextFault}
-use Rattle.vault_text.specs.declared.fault.TextFault.TheVariants.{TooLong, NotVault, BadHex, BadPayload, CipherTooLong}
-
-infixl 10 ◌>>=◌
-abbrev pub ◌>>=◌ : {A B : Type 0} → Result A TextFault → (A → Result B TextFault) → Result B TextFault
-Ok x >>= f = f x
-Err e >>= f = Err e
+use Rattle.vault_text.specs.declared.fault.TextFault.TheVariants.{TooLong, NotVault, BadHex, CipherTooLong}
 
 -- what an envelope holds
 pub record Payload : Type 0 where
@@ -29,7 +25,7 @@ body input = filter (λ b. not (is_line_end b)) (drop (length (header_line input
 unfoldable pub read_body : List ℕ → List ℕ → Result Payload TextFault
 read_body label digits = do
   inner ← ok_or (unhex digits) BadHex
-  parts ← ok_or (parts_of inner) BadPayload
+  parts ← parts_of inner
   if nat_lt CIPHERTEXT_LIMIT (length parts.cipher) then Err CipherTooLong
       else Ok (record { label = label; salt = parts.salt; tag = parts.tag; cipher = parts.cipher })
 

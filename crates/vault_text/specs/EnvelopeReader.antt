@@ -2,12 +2,12 @@
 use Rattle.std.specs.Prelude.{◌≡◌, ℕ, ◌+◌, nat_lt, nat_eq, not, Bool, false, if◌then◌else◌, List, [], ◌++◌, length, filter, None, Result, Err}
 use Rattle.std.specs.List.{starts_with}
 use Rattle.std.specs.Option.{ok_or}
-use Rattle.vault_text.specs.Envelope.{Payload, body, read, ◌>>=◌}
+use Rattle.vault_text.specs.Envelope.{Payload, body, read}
 use Rattle.vault_text.specs.Header.{header_line, is_line_end, marker, read_header}
-use Rattle.vault_text.specs.Hexadecimal.{unhex_on}
+use Rattle.vault_text.specs.Hexadecimal.{DecoderState, new_decoder, unhex_on}
 use Rattle.vault_text.specs.InnerReader.{InnerState, new_inner, payload_on}
+use Rattle.vault_text.specs.Steps.{◌>>=◌}
 use Rattle.vault_text.specs.declared.limits.TheConstants.{ENVELOPE_LIMIT}
-use Rattle.vault_text.specs.declared.hexadecimal.HexDecoder.{HexDecoder}
 use Rattle.vault_text.specs.declared.fault.TextFault.{TextFault}
 use Rattle.vault_text.specs.declared.fault.TextFault.TheVariants.{TooLong, NotVault, BadHex}
 
@@ -38,7 +38,7 @@ head_of line = if not (starts_with nat_eq line marker) then Err NotVault else re
 
 -- the body so far: the decoder of its digits, and the inner text that they have spelled
 pub record BodyState : Type 0 where
-  pub decoder : HexDecoder
+  pub decoder : DecoderState
   pub inner : InnerState
 
 -- steps 7 to 9: the payload, where these digits are the rest of the body
@@ -49,7 +49,7 @@ body_on state label digits = do
 
 -- nothing of the body
 abbrev pub new_body : BodyState
-new_body = record { decoder = record { high = None; is_bad = false }; inner = new_inner }
+new_body = record { decoder = new_decoder; inner = new_inner }
 
 -- a reader of the body that takes these digits reads on as before, whatever follows
 pub record TakesBody (old : BodyState) (digits : List ℕ) (new : BodyState) : Type 0 where

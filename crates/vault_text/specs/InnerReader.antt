@@ -2,11 +2,11 @@
 use Rattle.std.specs.Prelude.{◌≡◌, ℕ, ◌==◌, ◌||◌, nat_lt, Bool, false, if◌then◌else◌, List, [], ◌++◌, length, count_by, Option, Some, None, Result, Ok, Err}
 use Rattle.std.specs.List.{before_first, after_first}
 use Rattle.std.specs.Option.{ok_or}
-use Rattle.vault_text.specs.Envelope.{Payload, ◌>>=◌}
-use Rattle.vault_text.specs.Hexadecimal.{unhex_on}
+use Rattle.vault_text.specs.Envelope.{Payload}
+use Rattle.vault_text.specs.Hexadecimal.{DecoderState, new_decoder, unhex_on}
 use Rattle.vault_text.specs.InnerText.{Parts, cut, is_line_feed}
+use Rattle.vault_text.specs.Steps.{◌>>=◌}
 use Rattle.vault_text.specs.declared.limits.TheConstants.{SALT_LIMIT, TAG_LENGTH, CIPHERTEXT_LIMIT}
-use Rattle.vault_text.specs.declared.hexadecimal.HexDecoder.{HexDecoder}
 use Rattle.vault_text.specs.declared.fault.TextFault.{TextFault}
 use Rattle.vault_text.specs.declared.fault.TextFault.TheVariants.{BadPayload, CipherTooLong}
 use Rattle.vault_text.specs.declared.reader.inner_text.Part.{Part}
@@ -16,7 +16,7 @@ use Rattle.vault_text.specs.declared.reader.inner_text.Part.TheVariants.{Salt, T
 -- the bytes mean nothing
 pub record PartState : Type 0 where
   pub bytes : List ℕ
-  pub decoder : HexDecoder
+  pub decoder : DecoderState
   pub is_long : Bool
 
 -- the bytes of a part, where these digits are the rest of it; the fault is that of one that is too long
@@ -31,7 +31,7 @@ pub record TakesDigits (limit : ℕ) (old : PartState) (digits : List ℕ) (new 
 
 -- nothing of a part
 abbrev pub new_part : PartState
-new_part = record { bytes = []; decoder = record { high = None; is_bad = false }; is_long = false }
+new_part = record { bytes = []; decoder = new_decoder; is_long = false }
 
 -- the inner text so far: the part that comes next, and the three parts
 pub record InnerState : Type 0 where

@@ -1,4 +1,5 @@
 pub mod Failures
+pub mod Steps
 pub mod Source
 pub mod SourceLaws
 pub mod Sink
