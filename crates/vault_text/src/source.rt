@@ -1,5 +1,5 @@
 //! Where input comes from.
-ghost use Rattle.std.specs.Prelude.{◌≡◌, ℕ, ◌-◌, ◌^◌, ◌<◌, ◌≤◌, ◌↔◌, ◌++◌, List, [], Bool, IsTrue, IsErr, IfOk, OnOk, length, take};
+ghost use Rattle.std.specs.Prelude.{◌≡◌, ℕ, ◌-◌, ◌^◌, ◌<◌, ◌≤◌, ◌↔◌, ◌++◌, List, [], Bool, IsTrue, IsErr, IfOk, OnErr, length, take};
 ghost use Rattle.vault_text.specs.Failures.{CountsFailure};
 ghost use Rattle.vault_text.specs.Source.{given};
 
@@ -54,6 +54,8 @@ pub fn fill_up<S: Source>(source: &mut S, buf: &mut [u8]) -> Result<usize, Sourc
     ensures some { (xs : List ℕ) × (length xs ≤ length buf.new) × S.gives source.old xs source.new }
     ensures bound { IfOk result (λ n. n ≤ length buf.new) }
     ensures short { IfOk result (λ n. n < length buf.new → IsTrue (S.ended source.new)) }
+    ensures unfilled { OnErr result
+        ((xs : List ℕ) × (length xs < length buf.new) × S.gives source.old xs source.new) }
     ensures failed { CountsFailure (S.failures source.old) (S.failures source.new) result }
 {
     let mut filled = 0;

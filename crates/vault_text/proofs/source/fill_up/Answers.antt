@@ -1,12 +1,27 @@
-use Rattle.std.proofs.Common.{rules, ◌-◌, take, drop, length, arith, length-take, length-drop}
+use Rattle.std.proofs.Common.{rules, ◌-◌, take, drop, length, Result, Ok, Err, arith, length-take, length-drop}
+use Rattle.std.specs.Prelude.{OnErr}
 use Rattle.vault_text.proofs.Progress.{taken_none, given_none, given_next, length-written}
 use Rattle.vault_text.proofs.source.fill_up.Goals as goal
+
+-- what holds in any case holds at Err
+always_err : {T E P : Type 0} (r : Result T E) → P → OnErr r P
+always_err (Ok x) p = tt
+always_err (Err e) p = p
 
 pub returns-in_err-n-clause-some : goal.returns-in_err-n-clause-some
 returns-in_err-n-clause-some g c =
     let l = c.loop-filled in (
       take l.filled l.buf,
       omega (arith, length-written l.filled l.buf c.fill.new.buf l.invariant.0 c.fill.auto.buf, length-take l.filled l.buf),
+      taken_none g.S.Source.gives g.met.S.Source.gives_more _ _ _ _ l.invariant.1 c.in_err-n.ensures.gives,
+    )
+
+pub returns-in_err-n-clause-unfilled : goal.returns-in_err-n-clause-unfilled
+returns-in_err-n-clause-unfilled g c =
+    let l = c.loop-filled in
+    always_err c.from_residual.result (
+      take l.filled l.buf,
+      omega (arith, length-written l.filled l.buf c.fill.new.buf l.invariant.0 c.fill.auto.buf, length-take l.filled l.buf, c.loop-filled-test.true),
       taken_none g.S.Source.gives g.met.S.Source.gives_more _ _ _ _ l.invariant.1 c.in_err-n.ensures.gives,
     )
 
