@@ -6,7 +6,8 @@ ghost use Rattle.vault_text.specs.ChainedSource.{GivesChained};
 use super::{Source, SourceFailed};
 use std::marker::Model;
 
-/// A source over bytes in memory, and behind them over another source, which alone tells the end.
+/// A source over bytes in memory, and behind them over another source, which alone tells the end
+/// and fails. It is asked once the bytes in memory are all given.
 #[derive(Drop)]
 pub struct ChainedSource<'a, S: Source> {
     front: &'a [u8],
@@ -37,6 +38,14 @@ impl<'a, S: Source> ChainedSource<'a, S> {
             rest,
             ended: false,
         }
+    }
+
+    /// The source behind the front, with what it has left by now.
+    pub fn into_rest(self) -> S
+        ensures { result ≡ self.entry.rest }
+    {
+        let ChainedSource { rest, .. } = self;
+        rest
     }
 }
 
