@@ -2,6 +2,8 @@ pub mod Failures
 pub mod Steps
 pub mod Source
 pub mod SourceLaws
+pub mod ChainedSource
+pub mod ChainedSourceLaws
 pub mod Sink
 pub mod SinkLaws
 pub mod Whitespace
