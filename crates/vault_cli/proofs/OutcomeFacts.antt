@@ -1,7 +1,7 @@
 -- The outcome of a request, step by step, and how it ends.
 use Rattle.std.proofs.Common.{◌≡◌, ℕ, true, nat_lt, List, [], ◌∷◌, length, Result, Ok, Err, inl, inr, refl, ap}
 use Rattle.std.proofs.lemmas.Bool.{cases_Bool}
-use Rattle.vault_text.specs.Envelope.{read}
+use Rattle.vault_text.specs.Envelope.{read_within}
 use Rattle.vault_text.specs.declared.limits.TheConstants.{ENVELOPE_LIMIT}
 use Rattle.vault_core.specs.Decryption.{decryption}
 use Rattle.vault_core.specs.Fault.{of_secret}
@@ -27,7 +27,7 @@ outcome-refused request contents salt input fault e = rw (← e) refl
 
 -- an input that is too long
 decryption-too_long : (secrets : List Secret) (input : List ℕ) → nat_lt ENVELOPE_LIMIT (length input) ≡ true → decryption secrets input ≡ Err TooLong
-unfolding decryption read
+unfolding decryption read_within
 decryption-too_long secrets input long = rw long refl
 
 performed-decrypts : (command : CommandName) (secrets : List Secret) (input : List ℕ) → performed command secrets input ≡ plain_of (decryption secrets input)

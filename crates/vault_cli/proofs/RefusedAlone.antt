@@ -9,6 +9,7 @@ use Rattle.vault_text.specs.declared.fault.TextFault.TheVariants as text
 use Rattle.vault_core.specs.Agreement.{agrees, keys_of}
 use Rattle.vault_core.specs.Decryption.{decryption, payload_of}
 use Rattle.vault_core.specs.Fault.{of_text}
+use Rattle.vault_text.specs.declared.limits.TheConstants.{PLAINTEXT_LIMIT}
 use Rattle.vault_core.specs.Opening.{Opened, deciphered_by, opening, ◌>>=◌}
 use Rattle.vault_core.specs.Secrets.{Secret, tried_order}
 use Rattle.vault_core.specs.Unpadding.{without_padding}
@@ -60,4 +61,4 @@ opens secrets payload =
 
 pub refused_alone-decryption : (secrets : List Secret) (input : List ℕ) → IsRefusedAlone (decryption secrets input)
 unfolding decryption
-refused_alone-decryption secrets input = next (payload_of input) _ (reading (read input)) (opens secrets)
+refused_alone-decryption secrets input = next (payload_of PLAINTEXT_LIMIT input) _ (reading (read input)) (opens secrets)

@@ -4,6 +4,7 @@ use Rattle.std.specs.Prelude.{find}
 use Rattle.vault_text.specs.Envelope.{Payload}
 use Rattle.vault_text.specs.declared.fault.TextFault.{TextFault}
 use Rattle.vault_text.specs.declared.fault.TextFault.TheVariants as text
+use Rattle.vault_text.specs.declared.limits.TheConstants.{PLAINTEXT_LIMIT}
 use Rattle.vault_core.specs.Agreement.{agrees, keys_of, tries}
 use Rattle.vault_core.specs.Decryption.{decryption, decryption_tries, payload_of}
 use Rattle.vault_core.specs.Fault.{of_text}
@@ -59,23 +60,23 @@ UnlessUnreadable-from before after (Ok x) other same p = (same, p)
 UnlessUnreadable-from before after (Err fault) other same p = inr (other fault refl, same, p)
 
 -- the input is no envelope
-pub decryption-Err : (secrets : List Secret) (input : List ℕ) (fault : Fault) → Err fault ≡ payload_of input
+pub decryption-Err : (secrets : List Secret) (input : List ℕ) (fault : Fault) → Err fault ≡ payload_of PLAINTEXT_LIMIT input
     → decryption secrets input ≡ Err fault
 unfolding decryption
 decryption-Err secrets input fault h = rw (← h) refl
 
-pub decryption_tries-Err : (secrets : List Secret) (input : List ℕ) (fault : Fault) → Err fault ≡ payload_of input
+pub decryption_tries-Err : (secrets : List Secret) (input : List ℕ) (fault : Fault) → Err fault ≡ payload_of PLAINTEXT_LIMIT input
     → decryption_tries secrets input ≡ 0
 unfolding decryption_tries
 decryption_tries-Err secrets input fault h = rw (← h) refl
 
 -- the input is an envelope
-pub decryption-Ok : (secrets : List Secret) (input : List ℕ) (payload : Payload) → Ok payload ≡ payload_of input
+pub decryption-Ok : (secrets : List Secret) (input : List ℕ) (payload : Payload) → Ok payload ≡ payload_of PLAINTEXT_LIMIT input
     → decryption secrets input ≡ opening secrets payload
 unfolding decryption
 decryption-Ok secrets input payload h = rw (← h) refl
 
-pub decryption_tries-Ok : (secrets : List Secret) (input : List ℕ) (payload : Payload) → Ok payload ≡ payload_of input
+pub decryption_tries-Ok : (secrets : List Secret) (input : List ℕ) (payload : Payload) → Ok payload ≡ payload_of PLAINTEXT_LIMIT input
     → decryption_tries secrets input ≡ tries payload (tried_order secrets payload.label)
 unfolding decryption_tries
 decryption_tries-Ok secrets input payload h = rw (← h) refl

@@ -2,7 +2,6 @@
 //! with LF between them.
 ghost use Rattle.std.specs.Prelude.{◌≡◌, ◌<◌, ◌≤◌, ◌++◌, ℕ, List, [], length};
 ghost use Rattle.vault_text.specs.InnerReader.{TakesText, payload_on};
-ghost use Rattle.vault_text.specs.declared.limits.TheConstants.{CIPHERTEXT_LIMIT};
 
 use super::RUN_LIMIT;
 use super::cipher_part::CipherPart;
@@ -10,7 +9,7 @@ use super::short_part::ShortPart;
 use crate::fault::TextFault;
 use crate::header::split_at_byte;
 use crate::label::Label;
-use crate::limits::{CIPHERTEXT_LIMIT, SALT_LIMIT, TAG_LENGTH};
+use crate::limits::{SALT_LIMIT, TAG_LENGTH};
 use crate::payload::Payload;
 use crate::salt::Salt;
 use std::marker::Model;
@@ -45,8 +44,7 @@ impl<'a> InnerReader<'a> {
     ghost use Rattle.vault_text.specs.InnerReader.{new_inner};
 
     pub(super) fn new(work: &'a mut [u8]) -> Self
-        requires { length work.old ≡ CIPHERTEXT_LIMIT }
-        ensures { result ≡ new_inner }
+        ensures { result ≡ new_inner (length work.old) }
     {
         InnerReader {
             part: Part::Salt,

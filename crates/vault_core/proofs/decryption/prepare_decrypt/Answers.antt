@@ -1,5 +1,7 @@
-use Rattle.std.proofs.Common.{◌≡◌, ◌+◌, arith, inl, inr, refl, ◌∙◌}
+use Rattle.std.proofs.Common.{◌≡◌, ◌+◌, arith, length, inl, inr, refl, ◌∙◌}
 use Rattle.std.proofs.lemmas.Result.{err_from_is_err_and}
+use Rattle.vault_text.specs.Limits.{limit_of}
+use Rattle.vault_text.specs.declared.limits.TheConstants.{PLAINTEXT_LIMIT}
 use Rattle.vault_core.specs.Decryption.{decryption_tries}
 use Rattle.vault_core.proofs.DecryptionLemmas.{UnlessUnreadable-from, decryption-Err, decryption-Ok, decryption_tries-Err, decryption_tries-Ok, opening-is_no_read}
 use Rattle.vault_core.proofs.decryption.prepare_decrypt.Goals as goal
@@ -7,7 +9,8 @@ use Rattle.vault_core.proofs.decryption.prepare_decrypt.Goals as goal
 pub returns-in_err-payload-clause-answer : goal.returns-in_err-payload-clause-answer
 returns-in_err-payload-clause-answer g c =
     let p = err_from_is_err_and c.from_residual.result c.from_residual.ensures.1 in
-    let read = c.in_err-payload.ensures in
+    let full : limit_of (length c.args.work.now) ≡ PLAINTEXT_LIMIT = omega (arith, c.requires.room) in
+    let read = rw full at c.in_err-payload.ensures in
     let secrets = c.args.secrets.now in
     rw (p.1, p.2) (
       read.0,
@@ -24,7 +27,8 @@ returns-in_err-payload-clause-answer g c =
 
 pub returns-clause-answer : goal.returns-clause-answer
 returns-clause-answer g c =
-    let read = c.in_ok-payload.ensures in
+    let full : limit_of (length c.args.work.now) ≡ PLAINTEXT_LIMIT = omega (arith, c.requires.room) in
+    let read = rw full at c.in_ok-payload.ensures in
     let secrets = c.args.secrets.now in
     let payload = c.in_ok-payload.payload in (
       read.0,

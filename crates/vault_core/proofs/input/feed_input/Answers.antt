@@ -28,7 +28,8 @@ loop-left-preserved g c =
       record {
         gives = g.met.S.Source.gives_more _ _ _ input piece kept.gives c.in_ok-piece.ensures.gives;
         left = omega (arith, kept.left, length-append input piece, short);
-        fed = λ before h. rw append_assoc at (c.feed.ensures (before ++ input) (kept.fed before h));
+        limit = c.feed.ensures.limit ∙ kept.limit;
+        fed = λ before h. rw append_assoc at (c.feed.ensures.taken (before ++ input) (kept.fed before h));
         failures = c.in_ok-piece.ensures.failed ∙ kept.failures;
       },
     )
