@@ -28,7 +28,7 @@ result_ok-digit : (c i : ℕ) (o : Option ℕ) → result_ok (digit_or_error c i
 result_ok-digit c i (Some v) = refl
 result_ok-digit c i None = refl
 
-abbrev pair_found : Option ℕ → Option ℕ → Option ℕ
+abbrev pub pair_found : Option ℕ → Option ℕ → Option ℕ
 pair_found (Some h) (Some l) = Some (h * 16 + l)
 pair_found (Some h) None = None
 pair_found None l = None
@@ -38,6 +38,9 @@ result_ok-pair : (high low i : ℕ) (h l : Option ℕ)
 result_ok-pair high low i (Some h) (Some l) = refl
 result_ok-pair high low i (Some h) None = refl
 result_ok-pair high low i None l = refl
+
+pub byte_of-pair : (high low : ℕ) → byte_of high low ≡ pair_found (hex_digit_value high) (hex_digit_value low)
+byte_of-pair high low = result_ok-pair high low 0 (hex_digit_value high) (hex_digit_value low)
 
 -- where a pair stands changes only its error
 byte_of-anywhere : (high low i : ℕ) → result_ok (pair_value high low i) ≡ byte_of high low

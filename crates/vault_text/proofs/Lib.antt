@@ -1,3 +1,4 @@
+pub mod DigitFacts
 pub mod EnvelopeFacts
 pub mod HexadecimalFacts
 pub mod InnerFacts
