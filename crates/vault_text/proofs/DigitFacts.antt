@@ -1,18 +1,17 @@
 -- Hexadecimal text, digit by digit.
-use Rattle.std.proofs.Common.{◌≡◌, ℕ, suc, ◌+◌, ◌-◌, ◌*◌, ◌%◌, ◌<◌, ◌≤◌, Bool, true, false, not, List, [], ◌∷◌, ◌++◌, length, take, set, get_or, Option, Some, None, Result, Ok, zero-add, refl, sym, ap, ◌∙◌, arith, inl, inr, append_assoc, length-take}
+use Rattle.std.proofs.Common.{◌≡◌, ℕ, suc, ◌+◌, ◌*◌, ◌%◌, ◌<◌, ◌≤◌, Bool, true, false, not, List, [], ◌∷◌, ◌++◌, length, take, set, get_or, Option, Some, None, zero-add, refl, sym, ◌∙◌, arith, inl, inr, append_assoc, length-take}
 use Rattle.std.specs.Prelude.{if◌then◌else◌, ◌&&◌, nat_lt, nat_le, IfSome, unwrap_or}
 use Rattle.std.specs.Int.Bits.{bit_or}
 use Rattle.std.specs.Option.{option_map}
-use Rattle.std.specs.Result.{result_ok}
 use Rattle.std.proofs.Math.Seq.{take-suc}
 use Rattle.std.proofs.lemmas.Bool.{cases_Bool}
 use Rattle.std.proofs.lemmas.Bool.Decides.{nat_tests}
 use Rattle.std.proofs.lemmas.List.{take_all, take_more_set}
 use Rattle.std.proofs.lemmas.Nat.{le_or_l, le_or_r, or_lt, or_shifted}
-use Rattle.hex.specs.Hex.{digit_or_error, hex_digit_value, pair_value, ◌>>=◌}
+use Rattle.hex.specs.Hex.{hex_digit_value}
 use Rattle.vault_text.specs.Hexadecimal.{digit_value, unhex}
 use Rattle.vault_text.specs.declared.hexadecimal.TheConstants.{LARGEST_DIGIT, NO_DIGIT}
-use Rattle.vault_text.proofs.HexadecimalFacts.{both_found, byte_of, cons_found, pair_found, byte_of-pair, spelled_bytes, spelled_bytes-append, unhex-spelled_bytes}
+use Rattle.vault_text.proofs.HexadecimalFacts.{both_found, cons_found, pair_found, byte_of-pair, spelled_bytes, spelled_bytes-append, unhex-spelled_bytes}
 
 -- ---- one digit
 

@@ -7,7 +7,7 @@ use Rattle.std.specs.Result.{result_ok}
 use Rattle.std.proofs.lemmas.Bool.{cases_Bool, eqb-true}
 use Rattle.hex.specs.Hex.{decode_of, decode_pairs, decode_sized, digit_or_error, hex_digit_value, pair_value, ◌>>=◌}
 use Rattle.hex.specs.declared.error.FromHexError.{FromHexError}
-use Rattle.vault_text.specs.Hexadecimal.{DecoderState, unhex, unhex_on, Decodes}
+use Rattle.vault_text.specs.Hexadecimal.{DecoderState, new_decoder, unhex, unhex_on, Decodes}
 
 -- the byte of two digits
 abbrev pub byte_of : ℕ → ℕ → Option ℕ
@@ -200,3 +200,13 @@ unhex_on-nil decoder is_complete good waits = rw good (ends decoder.high is_comp
     ends None false waits = cc
     ends (Some digit) true waits = cc
     ends (Some digit) false waits = unhex-spelled_bytes (digit ∷ [])
+
+-- a decoder to which nothing need follow is as a new one
+pub complete-is_new : (decoder : DecoderState) → unhex_on decoder [] ≡ Some [] → decoder ≡ new_decoder
+complete-is_new decoder complete = parts decoder.high decoder.is_bad complete
+  where
+    parts : (high : Option ℕ) (is_bad : Bool) → unhex_on (record { high = high; is_bad = is_bad }) [] ≡ Some [] → record { high = high; is_bad = is_bad } ≡ new_decoder
+    parts None false complete = refl
+    parts None true complete = cc
+    parts (Some digit) true complete = cc
+    parts (Some digit) false complete = let none = unhex-spelled_bytes (digit ∷ []) in cc

@@ -1,5 +1,5 @@
 //! Hexadecimal text that comes in pieces.
-ghost use Rattle.std.specs.Prelude.{◌≡◌, ◌*◌, ◌/◌, ◌≤◌, [], None, Some, Option, if◌then◌else◌, List, ℕ, length, take};
+ghost use Rattle.std.specs.Prelude.{◌≡◌, ◌*◌, ◌/◌, ◌≤◌, [], None, Some, Option, if◌then◌else◌, List, ℕ, true, length, take};
 ghost use Rattle.vault_text.specs.Hexadecimal.{Decodes, byte_count, digit_value, new_decoder, unhex, unhex_on};
 
 use std::marker::Model;
@@ -91,6 +91,16 @@ impl HexDecoder {
         self.high = None;
         self.is_bad |= !decode_pairs([high, *low].as_slice(), &mut bytes[..1]);
         1 + self.decode_aligned(rest, &mut bytes[1..])
+    }
+
+    /// Decodes pairs of digits to as many bytes, and answers whether all digits were good, those
+    /// before among them, and none waited for its second. Where not, the bytes mean nothing.
+    pub(crate) fn decode_whole(&self, pairs: &[u8], bytes: &mut [u8]) -> bool
+        requires { length pairs.now ≡ 2 * length bytes.old }
+        ensures good { result ≡ true → unhex pairs.now ≡ Some bytes.new }
+        ensures decoded { result ≡ true → Decodes self.now pairs.now bytes.new self.now }
+    {
+        self.is_complete() && decode_pairs(pairs, bytes)
     }
 
     /// Decodes where no digit waits for its second.

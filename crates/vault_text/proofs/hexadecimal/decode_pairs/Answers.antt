@@ -1,5 +1,4 @@
-use Rattle.std.proofs.Common.{◌≡◌, ◌*◌, length, take, arith}
-use Rattle.std.proofs.lemmas.List.{take_all}
+use Rattle.std.proofs.Common.{arith}
 use Rattle.vault_text.proofs.DigitFacts.{decoded_all, decoded_next}
 use Rattle.vault_text.proofs.hexadecimal.decode_pairs.Goals as goal
 
