@@ -13,8 +13,7 @@ from pathlib import Path
 
 CRATE = Path(__file__).resolve().parent.parent / "crates" / "bench_envelope"
 PROGRAM = CRATE / "out" / "bench_envelope"
-PLAINTEXT_LIMIT = 1 << 20
-ENVELOPE_LIMIT = 6 * PLAINTEXT_LIMIT + 8192
+CIPHER_LENGTH = 1 << 20
 HEADER = b"$ANSIBLE_VAULT;1.1;AES256\n"
 REPEATS = 20
 RUNS = 7
@@ -27,7 +26,7 @@ def build():
     run = subprocess.run(command, cwd=CRATE, stdout=subprocess.PIPE, stderr=subprocess.PIPE, text=True)
     if run.returncode != 0:
         raise SystemExit(run.stderr)
-    if int(run.stdout) != len(envelope(80, PLAINTEXT_LIMIT)):
+    if int(run.stdout) != len(envelope(80, CIPHER_LENGTH)):
         raise SystemExit("the program writes an envelope of another length")
 
 
@@ -72,17 +71,16 @@ def rate(work, size):
 def main():
     build()
     print(f"{'text of an envelope':36} {'MB/s':>6} {'python3':>8} {'ratio':>6}")
-    rows = [("read, lines of 80 digits", 80, PLAINTEXT_LIMIT), ("read, 6 MiB in lines of 2 digits", 2, PLAINTEXT_LIMIT)]
+    rows = [("read, lines of 80 digits", 80, CIPHER_LENGTH), ("read, 6 MiB in lines of 2 digits", 2, CIPHER_LENGTH)]
     for name, width, length in rows:
         text = envelope(width, length)
-        assert len(text) <= ENVELOPE_LIMIT
         with tempfile.TemporaryFile() as file:
             file.write(text)
             file.flush()
             ours = max(rate(lambda: read(file, length), len(text)) for _ in range(RUNS))
             theirs = max(rate(lambda: repeated_python(text), len(text)) for _ in range(2))
         print(f"{name:36} {ours:6.0f} {theirs:8.0f} {ours / theirs:6.2f}")
-    written = max(rate(write, len(envelope(80, PLAINTEXT_LIMIT))) for _ in range(RUNS))
+    written = max(rate(write, len(envelope(80, CIPHER_LENGTH))) for _ in range(RUNS))
     print(f"{'write, lines of 80 digits':36} {written:6.0f}")
     print(f"targets: {READING_TARGET} MB/s of reading, {WRITING_TARGET} MB/s of writing")
 

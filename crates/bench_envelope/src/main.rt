@@ -3,18 +3,22 @@
 //! Both print how many bytes the last one had: of ciphertext, or of text.
 #![tactic(auto)]
 
-ghost use Rattle.std.specs.Prelude.{◌≡◌, length};
-ghost use Rattle.vault_text.specs.declared.limits.TheConstants.{CIPHERTEXT_LIMIT};
+ghost use Rattle.std.specs.Prelude.{◌≡◌, IfOk, length, vec_len};
+ghost use Rattle.bench_envelope.specs.declared.TheConstants.{WORK_LENGTH};
 
+use std::alloc::{AllocError, Global};
 use std::io::{ErrorKind, Read, Write};
 use std::{env, io};
-use vault_text::{
-    CIPHERTEXT_LIMIT, EnvelopeReader, Label, PLAINTEXT_LIMIT, Salt, Sink, WriteSink, write_envelope,
-};
+use vault_text::{EnvelopeReader, Label, PADDING_LIMIT, Salt, Sink, WriteSink, write_envelope};
 
 const PIECE: usize = 4096;
 
-/// Takes all that it is given and looks at each byte.
+/// A MiB, the length of the ciphertext that is written, and of the longest that is read.
+const CIPHER_LENGTH: usize = 1_048_576;
+
+const WORK_LENGTH: usize = CIPHER_LENGTH + PADDING_LIMIT;
+
+/// Takes all that it is given and looks at each byte, which costs little beside writing it.
 #[derive(Drop)]
 struct Count {
     bytes: u64,
@@ -24,7 +28,7 @@ struct Count {
 impl Write for Count {
     fn write(&mut self, bytes: &[u8]) -> io::Result<usize> {
         for byte in bytes {
-            self.sum = self.sum.rotate_left(5) ^ u64::from(*byte);
+            self.sum = self.sum.wrapping_add(u64::from(*byte));
         }
         self.bytes = self.bytes.wrapping_add(bytes.len() as u64);
         Ok(bytes.len())
@@ -44,7 +48,7 @@ fn write_once(label: &Label, salt: &Salt, cipher: &[u8]) -> Count {
 }
 
 fn write(rt: &HostRuntime, times: u32) -> io::Result<u64> {
-    let mut cipher = vec![in rt.alloc(); 0u8; PLAINTEXT_LIMIT]?;
+    let mut cipher = vec![in rt.alloc(); 0u8; CIPHER_LENGTH]?;
     let mut state: u32 = 1;
     for byte in cipher.iter_mut() {
         state = state.wrapping_mul(1664525).wrapping_add(1013904223);
@@ -62,7 +66,7 @@ fn write(rt: &HostRuntime, times: u32) -> io::Result<u64> {
 
 /// The length of the ciphertext of an envelope that comes in pieces; 0 where there is none.
 fn read_once(work: &mut [u8], text: &[u8]) -> usize
-    requires { length work.old ≡ CIPHERTEXT_LIMIT }
+    requires { length work.old ≡ WORK_LENGTH }
 {
     let mut reader = EnvelopeReader::new(work);
     for piece in text.chunks(PIECE) {
@@ -74,12 +78,18 @@ fn read_once(work: &mut [u8], text: &[u8]) -> usize
     }
 }
 
+fn work_memory(alloc: Global) -> Result<Vec<u8>, AllocError>
+    ensures { IfOk result (λ work. vec_len work ≡ WORK_LENGTH) }
+{
+    vec![in alloc; 0u8; WORK_LENGTH]
+}
+
 fn read(rt: &HostRuntime, times: u32) -> io::Result<u64> {
     let mut text = Vec::new(rt.alloc());
     rt.stdin().read_to_end(&mut text)?;
+    let mut work = work_memory(rt.alloc())?;
     let mut length = 0;
     for _ in 0..times {
-        let mut work = vec![in rt.alloc(); 0u8; CIPHERTEXT_LIMIT]?;
         length = read_once(work.as_mut_slice(), text.as_slice());
     }
     Ok(length as u64)

@@ -14,7 +14,7 @@ use Rattle.vault_text.specs.Envelope.{Payload, body, read_body, read_within}
 use Rattle.vault_text.specs.Limits.{ciphertext_limit, envelope_limit}
 use Rattle.vault_text.specs.Steps.{◌>>=◌}
 use Rattle.vault_text.specs.EnvelopeReader.{LineState, ReaderState, digits_on, line_on, StandsFor, TakesBody, body_on, head_of, new_body, new_line, without_line_ends}
-use Rattle.vault_text.specs.declared.limits.TheConstants.{HEADER_LIMIT, PADDING_LIMIT, PLAINTEXT_LIMIT, SALT_LIMIT, TAG_LENGTH}
+use Rattle.vault_text.specs.declared.limits.TheConstants.{HEADER_LIMIT, PLAINTEXT_LIMIT, SALT_LIMIT, TAG_LENGTH}
 use Rattle.vault_text.specs.declared.fault.TextFault.{TextFault}
 use Rattle.vault_text.specs.declared.fault.TextFault.TheVariants.{TooLong, BadHex, BadPayload, CipherTooLong, NotVault}
 use Rattle.vault_text.proofs.LineEndFacts.{header_line-ended, header_line-goes_on, header_line-whole, starts_with-header_line, without_line_ends-append}

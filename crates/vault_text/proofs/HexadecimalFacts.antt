@@ -7,7 +7,7 @@ use Rattle.std.specs.Result.{result_ok}
 use Rattle.std.proofs.lemmas.Bool.{cases_Bool, eqb-true}
 use Rattle.hex.specs.Hex.{decode_of, decode_pairs, decode_sized, digit_or_error, hex_digit_value, pair_value, ◌>>=◌}
 use Rattle.hex.specs.declared.error.FromHexError.{FromHexError}
-use Rattle.vault_text.specs.Hexadecimal.{DecoderState, unhex, unhex_on, Decodes}
+use Rattle.vault_text.specs.Hexadecimal.{DecoderState, new_decoder, unhex, unhex_on, Decodes}
 
 -- the byte of two digits
 abbrev pub byte_of : ℕ → ℕ → Option ℕ
@@ -28,7 +28,7 @@ result_ok-digit : (c i : ℕ) (o : Option ℕ) → result_ok (digit_or_error c i
 result_ok-digit c i (Some v) = refl
 result_ok-digit c i None = refl
 
-abbrev pair_found : Option ℕ → Option ℕ → Option ℕ
+abbrev pub pair_found : Option ℕ → Option ℕ → Option ℕ
 pair_found (Some h) (Some l) = Some (h * 16 + l)
 pair_found (Some h) None = None
 pair_found None l = None
@@ -38,6 +38,9 @@ result_ok-pair : (high low i : ℕ) (h l : Option ℕ)
 result_ok-pair high low i (Some h) (Some l) = refl
 result_ok-pair high low i (Some h) None = refl
 result_ok-pair high low i None l = refl
+
+pub byte_of-pair : (high low : ℕ) → byte_of high low ≡ pair_found (hex_digit_value high) (hex_digit_value low)
+byte_of-pair high low = result_ok-pair high low 0 (hex_digit_value high) (hex_digit_value low)
 
 -- where a pair stands changes only its error
 byte_of-anywhere : (high low i : ℕ) → result_ok (pair_value high low i) ≡ byte_of high low
@@ -197,3 +200,13 @@ unhex_on-nil decoder is_complete good waits = rw good (ends decoder.high is_comp
     ends None false waits = cc
     ends (Some digit) true waits = cc
     ends (Some digit) false waits = unhex-spelled_bytes (digit ∷ [])
+
+-- a decoder to which nothing need follow is as a new one
+pub complete-is_new : (decoder : DecoderState) → unhex_on decoder [] ≡ Some [] → decoder ≡ new_decoder
+complete-is_new decoder complete = parts decoder.high decoder.is_bad complete
+  where
+    parts : (high : Option ℕ) (is_bad : Bool) → unhex_on (record { high = high; is_bad = is_bad }) [] ≡ Some [] → record { high = high; is_bad = is_bad } ≡ new_decoder
+    parts None false complete = refl
+    parts None true complete = cc
+    parts (Some digit) true complete = cc
+    parts (Some digit) false complete = let none = unhex-spelled_bytes (digit ∷ []) in cc

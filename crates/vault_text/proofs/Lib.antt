@@ -1,3 +1,4 @@
+pub mod DigitFacts
 pub mod EnvelopeFacts
 pub mod HexadecimalFacts
 pub mod InnerFacts
@@ -10,6 +11,7 @@ pub mod BlockFacts
 pub mod BodyFacts
 pub mod CleanText
 pub mod Prefixes
+pub mod WholeLineFacts
 pub mod WrittenBodyFacts
 pub mod WrittenHeaderFacts
 pub mod WrittenReadsBack

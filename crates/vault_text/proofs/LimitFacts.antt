@@ -1,5 +1,5 @@
 -- What reading answers under two limits.
-use Rattle.std.proofs.Common.{◌≡◌, ◌≢◌, ℕ, ◌+◌, ◌<◌, ◌≤◌, Bool, true, false, not, List, [], ◌∷◌, length, drop, suc, Option, Some, None, Result, Ok, Err, refl, ap, ◌∙◌, arith, inl, inr, length-drop}
+use Rattle.std.proofs.Common.{◌≡◌, ◌≢◌, ℕ, ◌+◌, ◌≤◌, Bool, true, false, not, List, [], ◌∷◌, length, drop, suc, Option, Some, None, Result, Ok, Err, refl, ◌∙◌, arith, inl, inr, length-drop}
 use Rattle.std.specs.Prelude.{if◌then◌else◌, nat_eq, nat_lt, IfOk, IfSome}
 use Rattle.std.specs.List.{after_first, count_by, filter, position_or_len, starts_with}
 use Rattle.std.specs.Option.{ok_or}

@@ -1,5 +1,5 @@
 -- An envelope that comes in pieces.
-use Rattle.std.specs.Prelude.{◌≡◌, ℕ, ◌+◌, nat_lt, nat_eq, not, Bool, false, if◌then◌else◌, List, [], ◌++◌, length, filter, None, Result, Err}
+use Rattle.std.specs.Prelude.{◌≡◌, ℕ, ◌+◌, nat_lt, nat_eq, not, Bool, false, if◌then◌else◌, List, [], ◌++◌, length, filter, Result, Err}
 use Rattle.std.specs.List.{starts_with}
 use Rattle.std.specs.Option.{ok_or}
 use Rattle.vault_text.specs.Envelope.{Payload, body, read_within}

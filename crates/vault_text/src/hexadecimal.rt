@@ -1,16 +1,40 @@
 //! Hexadecimal text that comes in pieces.
-ghost use Rattle.std.specs.Prelude.{◌≡◌, ◌*◌, ◌/◌, ◌≤◌, [], None, Some, Option, if◌then◌else◌, List, ℕ, length, take};
-ghost use Rattle.vault_text.specs.Hexadecimal.{Decodes, byte_count, new_decoder, unhex, unhex_on};
+ghost use Rattle.std.specs.Prelude.{◌≡◌, ◌*◌, ◌/◌, ◌≤◌, [], None, Some, Option, if◌then◌else◌, List, ℕ, true, length, take};
+ghost use Rattle.vault_text.specs.Hexadecimal.{Decodes, byte_count, digit_value, new_decoder, unhex, unhex_on};
 
 use std::marker::Model;
 
+/// The largest value of a digit.
+const LARGEST_DIGIT: u8 = 15;
+
+/// What stands for the value of a byte that is no digit.
+const NO_DIGIT: u8 = 255;
+
+/// The value of a digit of either case.
+fn digit_value(digit: u8) -> u8
+    ensures { result ≡ digit_value digit }
+{
+    let mut value = [0];
+    match hex::decode_to_slice([b'0', digit].as_slice(), &mut value) {
+        Ok(()) => value[0],
+        Err(_) => NO_DIGIT,
+    }
+}
+
 /// Decodes pairs of digits, each to a byte, and answers whether all were digits. Where one was not,
-/// the bytes mean nothing.
+/// the bytes mean nothing. Nothing branches on a digit, which no processor could foretell.
 fn decode_pairs(pairs: &[u8], bytes: &mut [u8]) -> bool
     requires { length pairs.now ≡ 2 * length bytes.old }
     ensures { unhex pairs.now ≡ (if result then Some bytes.new else None) }
 {
-    hex::decode_to_slice(pairs, bytes).is_ok()
+    let mut seen = 0;
+    for place in 0..bytes.len() {
+        let high = digit_value(pairs[2 * place]);
+        let low = digit_value(pairs[2 * place + 1]);
+        seen |= high | low;
+        bytes[place] = high << 4 | low;
+    }
+    seen <= LARGEST_DIGIT
 }
 
 /// Decodes hexadecimal text that may be cut anywhere, also between the two digits of a byte.
@@ -67,6 +91,16 @@ impl HexDecoder {
         self.high = None;
         self.is_bad |= !decode_pairs([high, *low].as_slice(), &mut bytes[..1]);
         1 + self.decode_aligned(rest, &mut bytes[1..])
+    }
+
+    /// Decodes pairs of digits to as many bytes, and answers whether all digits were good, those
+    /// before among them, and none waited for its second. Where not, the bytes mean nothing.
+    pub(crate) fn decode_whole(&self, pairs: &[u8], bytes: &mut [u8]) -> bool
+        requires { length pairs.now ≡ 2 * length bytes.old }
+        ensures good { result ≡ true → unhex pairs.now ≡ Some bytes.new }
+        ensures decoded { result ≡ true → Decodes self.now pairs.now bytes.new self.now }
+    {
+        self.is_complete() && decode_pairs(pairs, bytes)
     }
 
     /// Decodes where no digit waits for its second.

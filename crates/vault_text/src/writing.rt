@@ -18,6 +18,7 @@ use crate::sink::{Sink, SinkFailed, Stage, put_all};
 use body::put_body;
 use header::header_line_of;
 use lines::INDENTATION_LIMIT;
+pub(crate) use lines::{LINE_BYTES, LINE_DIGITS};
 
 /// What stands before each line of an envelope in a block.
 const BLOCK_INDENTATION: &[u8; INDENTATION_LIMIT] = b"          ";

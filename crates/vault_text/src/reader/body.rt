@@ -1,14 +1,15 @@
 //! The body of an envelope, as it comes in pieces: the inner text in hexadecimal, in lines.
-ghost use Rattle.std.specs.Prelude.{◌≡◌, ◌<◌, ◌≤◌, ◌++◌, ℕ, List, [], length};
+ghost use Rattle.std.specs.Prelude.{◌≡◌, ◌<◌, ◌≤◌, ◌++◌, ℕ, List, [], IfNone, IfSome, length};
 ghost use Rattle.vault_text.specs.EnvelopeReader.{TakesBody, body_on, new_body, without_line_ends};
 
 use super::RUN_LIMIT;
 use super::inner_text::InnerReader;
 use crate::fault::TextFault;
-use crate::header::before_line_end;
+use crate::header::{before_line_end, is_line_end};
 use crate::hexadecimal::HexDecoder;
 use crate::label::Label;
 use crate::payload::Payload;
+use crate::writing::{LINE_BYTES, LINE_DIGITS};
 use std::marker::Model;
 
 /// How many digits are decoded at once.
@@ -19,6 +20,8 @@ const DIGITS_LIMIT: usize = 2 * RUN_LIMIT - 1;
 pub(super) struct BodyReader<'a> {
     decoder: HexDecoder,
     inner: InnerReader<'a>,
+    /// Whether the line before had the length of a written one, or none has come yet.
+    expects_whole_line: bool,
 }
 
 impl<'a> Model for BodyReader<'a> {
@@ -36,6 +39,7 @@ impl<'a> BodyReader<'a> {
         BodyReader {
             decoder: HexDecoder::new(),
             inner: InnerReader::new(work),
+            expects_whole_line: true,
         }
     }
 
@@ -49,7 +53,7 @@ impl<'a> BodyReader<'a> {
         }
     }
 
-    /// Takes the digits before the first line end, or some of them, and answers what follows.
+    /// Takes a line end, or digits of a line, and answers what follows.
     fn extend_run<'t>(&mut self, text: &'t [u8]) -> &'t [u8]
         requires { 0 < length text.now }
         ensures shorter { length result.now < length text.now }
@@ -57,12 +61,37 @@ impl<'a> BodyReader<'a> {
             body_on self.old label (without_line_ends text.now ++ more)
             ≡ body_on self.new label (without_line_ends result.now ++ more) }
     {
-        let digits = before_line_end(&text[..text.len().min(DIGITS_LIMIT)]);
-        if digits.is_empty() {
+        if is_line_end(text[0]) {
             return &text[1..];
         }
+        if let Some(rest) = self.extend_line(text) {
+            return rest;
+        }
+        let digits = before_line_end(&text[..text.len().min(DIGITS_LIMIT)]);
+        self.expects_whole_line = digits.len() == LINE_DIGITS;
         self.extend_digits(digits);
         &text[digits.len()..]
+    }
+
+    /// Takes as many digits as a written line has, where this is expected and the text begins with
+    /// them, and answers what follows. This looks for no line end.
+    fn extend_line<'t>(&mut self, text: &'t [u8]) -> Option<&'t [u8]>
+        ensures shorter { IfSome result (λ rest. length rest.now < length text.now) }
+        ensures taken { IfSome result (λ rest. (label more : List ℕ) →
+            body_on self.old label (without_line_ends text.now ++ more)
+            ≡ body_on self.new label (without_line_ends rest.now ++ more)) }
+        ensures untouched { IfNone result (self.new ≡ self.old) }
+    {
+        if !self.expects_whole_line {
+            return None;
+        }
+        let (line, rest) = text.split_at_checked(LINE_DIGITS)?;
+        let mut bytes = [0; LINE_BYTES];
+        if !self.decoder.decode_whole(line, &mut bytes) {
+            return None;
+        }
+        self.inner.extend(&bytes);
+        Some(rest)
     }
 
     /// Takes the digits that come next.
@@ -79,7 +108,11 @@ impl<'a> BodyReader<'a> {
     pub(super) fn finish(self, label: Label) -> Result<Payload<'a>, TextFault>
         ensures { result ≡ body_on self.entry label [] }
     {
-        let BodyReader { decoder, inner } = self;
+        let BodyReader {
+            decoder,
+            inner,
+            expects_whole_line: _,
+        } = self;
         if !decoder.is_complete() {
             return Err(TextFault::BadHex);
         }

@@ -25,10 +25,10 @@ impl<'a> Model for CipherPart<'a> {
     ghost Value = { PartState };
 
     ghost view = { λ p. record {
-        bytes = take p.filled p.work.now;
-        decoder = p.decoder;
-        limit = length p.work.now;
-        is_long = p.is_long
+      bytes = take p.filled p.work.now;
+      decoder = p.decoder;
+      limit = length p.work.now;
+      is_long = p.is_long;
     } };
 
     ghost invariant = { λ p. p.filled ≤ length p.work.now };

@@ -24,10 +24,10 @@ impl<const LIMIT: usize> Model for ShortPart<LIMIT> {
     ghost Value = { PartState };
 
     ghost view = { λ p. record {
-        bytes = p.bytes.items;
-        decoder = p.decoder;
-        limit = LIMIT;
-        is_long = p.is_long
+      bytes = p.bytes.items;
+      decoder = p.decoder;
+      limit = LIMIT;
+      is_long = p.is_long;
     } };
 }
 

@@ -7,10 +7,10 @@ ghost use Rattle.vault_text.specs.Written.{hexadecimal_lines};
 use arrayvec::ArrayVec;
 
 /// Digits on a line of the body.
-pub(super) const LINE_DIGITS: usize = 80;
+pub(crate) const LINE_DIGITS: usize = 80;
 
 /// Bytes that the digits of a line spell.
-const LINE_BYTES: usize = LINE_DIGITS / 2;
+pub(crate) const LINE_BYTES: usize = LINE_DIGITS / 2;
 
 pub(super) const INDENTATION_LIMIT: usize = 10;
 

@@ -6,4 +6,5 @@ use Rattle.vault_text.proofs.reader.body.BodyReader.extend_run.Goals as goal
 pub returns-clause-taken : goal.returns-clause-taken
 returns-clause-taken c label more =
     let run = rw (← c.before_line_end-digits.ensures.line) at (without_line_ends-run c.args.text.now c.min.result) in
-    rw (take_rest, run, append_assoc) (c.extend_digits.ensures.same label _)
+    let untouched = rw c.in_default.is at c.extend_line.ensures.untouched in
+    rw (take_rest, run, append_assoc, ← untouched, ← c.self.view_is) (c.extend_digits.ensures.same label _)

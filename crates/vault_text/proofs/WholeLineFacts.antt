@@ -1,0 +1,79 @@
+-- Digits that are decoded before a line end is looked for.
+use Rattle.std.proofs.Common.{◌≡◌, ℕ, ◌==◌, Bool, true, not, List, [], ◌∷◌, ◌++◌, Option, Some, None, refl, inl, inr, append_assoc}
+use Rattle.std.specs.Prelude.{IfSome}
+use Rattle.std.specs.List.{list_all}
+use Rattle.std.specs.Option.{option_map, ok_or}
+use Rattle.std.proofs.lemmas.Bool.{cases_Bool, eqb-true}
+use Rattle.hex.specs.Hex.{hex_digit_value}
+use Rattle.vault_text.specs.EnvelopeReader.{BodyState, TakesBody, body_on, without_line_ends}
+use Rattle.vault_text.specs.Header.{is_line_end}
+use Rattle.vault_text.specs.Hexadecimal.{DecoderState, Decodes, unhex, unhex_on}
+use Rattle.vault_text.specs.InnerReader.{InnerState, TakesText, payload_on}
+use Rattle.vault_text.specs.Steps.{◌>>=◌}
+use Rattle.vault_text.specs.declared.fault.TextFault.TheVariants.{BadHex}
+use Rattle.vault_text.proofs.CleanText.{filter-clean}
+use Rattle.vault_text.proofs.HexadecimalFacts.{byte_of, byte_of-pair, cons_found, pair_found, spelled_bytes, unhex-spelled_bytes}
+use Rattle.vault_text.proofs.LineEndFacts.{without_line_ends-append}
+
+-- ---- digits are no line ends
+
+line_end-is_no_digit : (b : ℕ) → is_line_end b ≡ true → hex_digit_value b ≡ None
+line_end-is_no_digit b end =
+    elim (cases_Bool (b == 10)) [
+      | inl feed ↦ rw (eqb-true b 10 feed) refl
+      | inr other ↦
+          let return : (b == 13) ≡ true = rw other at end in
+          rw (eqb-true b 13 return) refl
+    ]
+
+pair_found-none : (high : Option ℕ) → pair_found high None ≡ None
+pair_found-none (Some h) = refl
+pair_found-none None = refl
+
+cons_found-clean : (byte : Option ℕ) (bytes : Option (List ℕ)) (clean rest : Bool) → clean ≡ true
+    → IfSome bytes (λ found. rest ≡ true) → IfSome (cons_found byte bytes) (λ found. rest ≡ true)
+cons_found-clean None bytes clean rest e later = tt
+cons_found-clean (Some byte) None clean rest e later = tt
+cons_found-clean (Some byte) (Some bytes) clean rest e later = later
+
+spelled_bytes-clean : (text : List ℕ) → IfSome (spelled_bytes text) (λ found. list_all (λ b. not (is_line_end b)) text ≡ true)
+spelled_bytes-clean [] = refl
+spelled_bytes-clean (digit ∷ []) = tt
+spelled_bytes-clean (high ∷ low ∷ rest) =
+    elim (cases_Bool (is_line_end high)) [
+      | inl end ↦ rw (byte_of-pair high low, line_end-is_no_digit high end) tt
+      | inr first ↦
+          elim (cases_Bool (is_line_end low)) [
+            | inl end ↦ rw (byte_of-pair high low, line_end-is_no_digit low end, pair_found-none (hex_digit_value high)) tt
+            | inr second ↦ rw (first, second) (cons_found-clean (byte_of high low) (spelled_bytes rest) true _ refl (spelled_bytes-clean rest))
+          ]
+    ]
+
+-- text that spells bytes has no line ends
+without_line_ends-digits : (digits bytes : List ℕ) → unhex digits ≡ Some bytes → without_line_ends digits ≡ digits
+without_line_ends-digits digits bytes spelled =
+    let found : spelled_bytes digits ≡ Some bytes = rw (unhex-spelled_bytes digits) at spelled in
+    filter-clean (λ b. not (is_line_end b)) digits (rw found at (spelled_bytes-clean digits))
+
+-- ---- the body
+
+-- digits that spell bytes, which the reader of the inner text takes
+pub TakesBody-decoded : (old new : DecoderState) (inner next : InnerState) (digits bytes : List ℕ)
+    → Decodes old digits bytes new → TakesText inner bytes next
+    → TakesBody (record { decoder = old; inner = inner }) digits (record { decoder = new; inner = next })
+TakesBody-decoded old new inner next digits bytes decoded taken = record {
+  same = λ label more. rw (decoded.spelled more) (read_on label (unhex_on new more));
+}
+  where
+    read_on : (label : List ℕ) (more : Option (List ℕ))
+        → (ok_or (option_map (λ rest. bytes ++ rest) more) BadHex >>= payload_on inner label) ≡ (ok_or more BadHex >>= payload_on next label)
+    read_on label None = refl
+    read_on label (Some rest) = taken.same label rest
+
+-- the front of a text, which spells bytes
+pub body_on-whole_line : (old new : BodyState) (text line rest bytes label more : List ℕ) → unhex line ≡ Some bytes
+    → TakesBody old line new → line ++ rest ≡ text
+    → body_on old label (without_line_ends text ++ more) ≡ body_on new label (without_line_ends rest ++ more)
+body_on-whole_line old new text line rest bytes label more spelled taken cut =
+    let clean = without_line_ends-digits line bytes spelled in
+    rw (← cut, without_line_ends-append line rest, clean, append_assoc) (taken.same label (without_line_ends rest ++ more))
