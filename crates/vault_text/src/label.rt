@@ -91,7 +91,7 @@ impl Label {
         Label { text }
     }
 
-    /// The same label.
+    /// A second label of this text.
     pub fn copy(&self) -> Self
         ensures { result ≡ self.now }
     {
@@ -100,6 +100,7 @@ impl Label {
         Label { text }
     }
 
+    /// The text, 1 to 128 bytes of ASCII.
     pub fn as_str(&self) -> &str
         ensures text { result.now ≡ self.now }
         ensures allowed { is_label result.now ≡ true }

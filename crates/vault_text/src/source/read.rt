@@ -24,6 +24,7 @@ impl<R: Read> Model for ReadSource<R> {
 }
 
 impl<R: Read> ReadSource<R> {
+    /// Gives what `reader` gives from where it stands.
     pub fn new(reader: R) -> Self
         ensures { result ≡ record { left = R.remaining reader; ended = false; failures = 0 } }
     {
