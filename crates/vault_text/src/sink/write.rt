@@ -1,6 +1,4 @@
-ghost use Rattle.std.specs.Prelude.{◌≡◌, ℕ, ◌-◌, ◌^◌, ◌<◌, ◌≤◌, IsErr, IfOk, OnOk, OnErr, length, take};
-ghost use Rattle.vault_text.specs.Failures.{CountsFailure};
-ghost use Rattle.vault_text.specs.Sink.{taken};
+ghost use Rattle.std.specs.Prelude.{◌≡◌};
 
 use super::{Sink, SinkFailed, Stage};
 use std::io::Write;

@@ -1,6 +1,4 @@
-ghost use Rattle.std.specs.Prelude.{◌≡◌, ℕ, ◌-◌, ◌^◌, ◌<◌, ◌≤◌, ◌↔◌, IsTrue, IsErr, IfOk, false, length, take};
-ghost use Rattle.vault_text.specs.Failures.{CountsFailure};
-ghost use Rattle.vault_text.specs.Source.{given};
+ghost use Rattle.std.specs.Prelude.{◌≡◌, false};
 
 use super::{Source, SourceFailed};
 use std::io::Read;
