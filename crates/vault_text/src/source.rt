@@ -3,10 +3,12 @@ ghost use Rattle.std.specs.Prelude.{◌≡◌, ℕ, ◌-◌, ◌^◌, ◌<◌, �
 ghost use Rattle.vault_text.specs.Failures.{CountsFailure};
 ghost use Rattle.vault_text.specs.Source.{given};
 
+mod chained;
 mod failing;
 mod memory;
 mod read;
 
+pub use chained::ChainedSource;
 pub use failing::FailingSource;
 pub use memory::MemSource;
 pub use read::ReadSource;
@@ -45,6 +47,26 @@ pub trait Source {
     ghost nothing_after_end: { (s t : Self) (xs : List ℕ) → gives s xs t → IsTrue (ended s) → (xs ≡ []) × IsTrue (ended t) };
 
     ghost failures_stay: { (s t : Self) (xs : List ℕ) → gives s xs t → failures s ≤ failures t };
+}
+
+impl<S: Source> Source for &mut S {
+    ghost gives = { λ s xs t. S.gives s.now xs t.now };
+
+    ghost ended = { λ s. S.ended s.now };
+
+    ghost failures = { λ s. S.failures s.now };
+
+    ghost gives_none = { λ s. S.gives_none s.now };
+
+    ghost gives_more = { λ s t u. S.gives_more s.now t.now u.now };
+
+    ghost nothing_after_end = { λ s t. S.nothing_after_end s.now t.now };
+
+    ghost failures_stay = { λ s t. S.failures_stay s.now t.now };
+
+    fn fill(&mut self, buf: &mut [u8]) -> Result<usize, SourceFailed> {
+        (**self).fill(buf)
+    }
 }
 
 /// Reads until the end or until `buf` is full, and answers how many bytes stand at its front. An
