@@ -1,5 +1,5 @@
 -- The outcome of a request, step by step, and how it ends.
-use Rattle.std.proofs.Common.{◌≡◌, ℕ, true, nat_lt, List, [], ◌∷◌, length, Result, Ok, Err, inl, inr, refl, ap}
+use Rattle.std.proofs.Common.{◌≡◌, ℕ, true, nat_lt, List, [], ◌∷◌, length, Result, Ok, Err, inl, inr, refl}
 use Rattle.std.proofs.lemmas.Bool.{cases_Bool}
 use Rattle.vault_text.specs.Envelope.{read}
 use Rattle.vault_text.specs.declared.limits.TheConstants.{ENVELOPE_LIMIT}
@@ -12,16 +12,14 @@ use Rattle.vault_core.specs.declared.fault.Fault.TheVariants.{TooLong}
 use Rattle.vault_core.specs.declared.password.SecretFault.{SecretFault}
 use Rattle.vault_core.specs.declared.password.SecretFault.TheVariants as secret
 use Rattle.vault_cli.proofs.RefusedAlone.{IsRefusedAlone, alone-err, alone-ok}
-use Rattle.vault_cli.specs.Outcome.{answered, input_limit, named, outcome, performed, plain_of, refused, secrets_of, ◌>>=◌}
+use Rattle.vault_cli.specs.Outcome.{answered, named, outcome, plain_of, refused, secrets_of, ◌>>=◌}
 use Rattle.vault_cli.specs.Request.{Request, SecretFile}
 use Rattle.vault_cli.specs.Status.{status_of}
-use Rattle.vault_cli.specs.declared.request.CommandName.{CommandName}
-use Rattle.vault_cli.specs.declared.request.CommandName.TheVariants.{Decrypt, View}
 use Rattle.vault_cli.specs.declared.status.Status.TheVariants.{Refused}
 
 -- password files that are refused
 pub outcome-refused : (request : Request) (contents : List (List ℕ)) (salt input : List ℕ) (fault : Fault)
-    → Err fault ≡ secrets_of request.files contents → outcome request contents salt input ≡ refused fault
+    → Err fault ≡ secrets_of request.secret_files contents → outcome request contents salt input ≡ refused fault
 unfolding outcome
 outcome-refused request contents salt input fault e = rw (← e) refl
 
@@ -30,23 +28,15 @@ decryption-too_long : (secrets : List Secret) (input : List ℕ) → nat_lt ENVE
 unfolding decryption read
 decryption-too_long secrets input long = rw long refl
 
-performed-decrypts : (command : CommandName) (secrets : List Secret) (input : List ℕ) → performed command secrets input ≡ plain_of (decryption secrets input)
-performed-decrypts Decrypt secrets input = refl
-performed-decrypts View secrets input = refl
-
-input_limit-envelope : (command : CommandName) → input_limit command ≡ ENVELOPE_LIMIT
-input_limit-envelope Decrypt = refl
-input_limit-envelope View = refl
-
 -- what is decrypted with the secrets that were found
 pub outcome-decrypted : (request : Request) (contents : List (List ℕ)) (salt input : List ℕ) (secrets : List Secret)
-    → Ok secrets ≡ secrets_of request.files contents → outcome request contents salt input ≡ answered (plain_of (decryption secrets input))
+    → Ok secrets ≡ secrets_of request.secret_files contents → outcome request contents salt input ≡ answered (plain_of (decryption secrets input))
 unfolding outcome
 outcome-decrypted request contents salt input secrets e =
-    rw (← e, input_limit-envelope request.command)
+    rw (← e)
     (elim (cases_Bool (nat_lt ENVELOPE_LIMIT (length input))) [
       | inl long ↦ rw (long, decryption-too_long secrets input long) refl
-      | inr short ↦ rw short (ap answered (performed-decrypts request.command secrets input))
+      | inr short ↦ rw short (refl)
     ])
 
 status-secret : (fault : SecretFault) → status_of (of_secret fault) ≡ Refused

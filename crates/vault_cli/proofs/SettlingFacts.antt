@@ -6,7 +6,8 @@ use Rattle.std.specs.Str.{bytes_eq}
 use Rattle.std.specs.Prelude.{codes, IfSome}
 use Rattle.clap.specs.Walk.{Row}
 use Rattle.vault_text.specs.Label.{is_label}
-use Rattle.vault_cli.specs.Request.{Request, Settles, request_of, settled}
+use Rattle.vault_cli.specs.Request.{Request}
+use Rattle.vault_cli.specs.Settled.{Settles, request_of, settled}
 use Rattle.vault_cli.specs.VaultId.{fault_of, first_fault, label_of, or_later, source_of}
 use Rattle.vault_core.specs.declared.fault.Fault.{Fault}
 use Rattle.vault_core.specs.declared.fault.Fault.TheVariants.{BadLabel, Memory, PromptSource}

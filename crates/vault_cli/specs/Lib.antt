@@ -3,6 +3,6 @@ pub mod Line
 pub mod Reports
 pub mod VaultId
 pub mod Request
-pub mod Files
+pub mod Settled
 pub mod CommandLine
 pub mod Outcome

@@ -13,7 +13,6 @@ use Rattle.vault_cli.specs.Line.{line_of}
 use Rattle.vault_cli.specs.Request.{Request, SecretFile}
 use Rattle.vault_cli.specs.Status.{status_of}
 use Rattle.vault_cli.specs.declared.request.CommandName.{CommandName}
-use Rattle.vault_cli.specs.declared.request.CommandName.TheVariants.{Decrypt, View}
 use Rattle.vault_cli.specs.declared.status.Status.{Status}
 use Rattle.vault_cli.specs.declared.status.Status.TheVariants.{Success}
 
@@ -51,8 +50,7 @@ secrets_of (file ∷ files) (bytes ∷ contents) = do
 
 -- how much input a command takes
 abbrev pub input_limit : CommandName → ℕ
-input_limit Decrypt = ENVELOPE_LIMIT
-input_limit View = ENVELOPE_LIMIT
+input_limit command = ENVELOPE_LIMIT
 
 abbrev pub plain_of : Result Opened Fault → Result (List ℕ) Fault
 plain_of (Ok opened) = Ok opened.plain
@@ -60,11 +58,10 @@ plain_of (Err fault) = Err fault
 
 -- what the command makes of the input
 abbrev pub performed : CommandName → List Secret → List ℕ → Result (List ℕ) Fault
-performed Decrypt secrets input = plain_of (decryption secrets input)
-performed View secrets input = plain_of (decryption secrets input)
+performed command secrets input = plain_of (decryption secrets input)
 
 -- the output, or the fault of the first step that refuses: the passwords, the length of the input, the command
 unfoldable pub outcome : Request → List (List ℕ) → List ℕ → List ℕ → Outcome
-outcome request contents salt input = answered (secrets_of request.files contents >>= (λ secrets.
+outcome request contents salt input = answered (secrets_of request.secret_files contents >>= (λ secrets.
     if nat_lt (input_limit request.command) (length input) then Err TooLong
     else performed request.command secrets input))

@@ -3,6 +3,7 @@
 
 mod command_line;
 mod file_system;
+mod limits;
 mod parsing;
 mod program;
 mod report_line;
@@ -14,6 +15,7 @@ mod vault_id;
 
 pub use command_line::command;
 pub use file_system::{FileFault, FileSystem, HostFiles};
+pub use limits::SALT_TEXT_LIMIT;
 pub use parsing::parse;
 pub use program::{drive, reject_words};
 pub use report_line::report;
@@ -21,4 +23,4 @@ pub use request::{CommandName, Request};
 pub use runs::run;
 pub use settling::{has_command, settle};
 pub use status::Status;
-pub use vault_core::{Fault, Role, SECRETS_LIMIT};
+pub use vault_core::{Fault, LabelRule, Role, SECRETS_LIMIT};

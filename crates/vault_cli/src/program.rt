@@ -1,7 +1,7 @@
 //! What the program does with its arguments, its files and its standard streams.
 ghost use Rattle.std.specs.Prelude.{◌≡◌, true, length, vec_len, IfOk, IsSomeAnd, OnErr};
 ghost use Rattle.clap.specs.Words.{subcommand_name_of};
-ghost use Rattle.vault_cli.specs.Request.{is_command};
+ghost use Rattle.vault_cli.specs.Settled.{is_command};
 ghost use Rattle.vault_text.specs.declared.limits.TheConstants.{CIPHERTEXT_LIMIT};
 
 use crate::file_system::{FileFault, FileSystem};
@@ -110,10 +110,10 @@ fn read_secret_files<F: FileSystem>(
     alloc: Global,
     request: &Request,
 ) -> Result<Vec<Vec<u8>>, Fault>
-    ensures { IfOk result (λ contents. vec_len contents ≡ length request.now.files) }
+    ensures { IfOk result (λ contents. vec_len contents ≡ length request.now.secret_files) }
 {
     let mut contents = Vec::new(alloc);
-    for i in 0..request.files() {
+    for i in 0..request.secret_count() {
         let bytes = rt
             .read_front(alloc, request.path(i), SECRET_LIMIT as u64 + 1)
             .map_err(secret_fault)?;

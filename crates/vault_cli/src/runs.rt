@@ -18,11 +18,11 @@ use vault_text::{CIPHERTEXT_LIMIT, ENVELOPE_LIMIT, Sink, Source, Stage};
 
 /// The secrets of a request: the password of each file under the file's label.
 fn secrets_of<'p>(request: &Request, secret_files: &'p [Vec<u8>]) -> Result<Secrets<'p>, Fault>
-    requires { length secret_files.now ≡ length request.now.files }
-    ensures { result ≡ secrets_of request.now.files (map (λ file. file.items) secret_files.now) }
+    requires { length secret_files.now ≡ length request.now.secret_files }
+    ensures { result ≡ secrets_of request.now.secret_files (map (λ file. file.items) secret_files.now) }
 {
     let mut secrets = Secrets::new();
-    for i in 0..request.files() {
+    for i in 0..request.secret_count() {
         match password(secret_files[i].as_slice()) {
             Ok(password) => secrets.push(request.label(i).copy(), password).unwrap(),
             Err(fault) => return Err(fault),
@@ -74,7 +74,7 @@ pub fn run<S: Source, K: Sink, E: Sink>(
     out: &mut K,
     err: &mut E,
 ) -> Status
-    requires files { length secret_files.now ≡ length request.now.files }
+    requires files { length secret_files.now ≡ length request.now.secret_files }
     requires work { length work.old ≡ CIPHERTEXT_LIMIT }
     requires out_unbegun { K.stage out.old ≡ Stage.Unbegun }
     requires err_unbegun { E.stage err.old ≡ Stage.Unbegun }
@@ -83,7 +83,7 @@ pub fn run<S: Source, K: Sink, E: Sink>(
     // source gave.
     ensures run_is_outcome { result ≢ Status.DeviceFailed →
         (input : List ℕ) × S.gives src.old input src.new
-        × (IsOk (secrets_of request.now.files (map (λ file. file.items) secret_files.now)) → IsWhole ENVELOPE_LIMIT (S.ended src.new) input)
+        × (IsOk (secrets_of request.now.secret_files (map (λ file. file.items) secret_files.now)) → IsWhole ENVELOPE_LIMIT (S.ended src.new) input)
         × (let answer = outcome request.now (map (λ file. file.items) secret_files.now) salt.now input in
         (result ≡ answer.status)
         × MatchOption answer.output (out.new ≡ out.old) (λ bytes. K.takes out.old bytes out.new × (K.stage out.new ≡ Stage.Finished))
@@ -103,7 +103,7 @@ pub fn run<S: Source, K: Sink, E: Sink>(
     ensures memory_suffices { result ≢ Status.OutOfMemory }
 
     // The source is asked only behind the secrets, and for no more than a byte past the limit.
-    ensures unread { IsErr (secrets_of request.now.files (map (λ file. file.items) secret_files.now)) → src.new ≡ src.old }
+    ensures unread { IsErr (secrets_of request.now.secret_files (map (λ file. file.items) secret_files.now)) → src.new ≡ src.old }
     ensures bounded { (input : List ℕ) × (length input ≤ ENVELOPE_LIMIT + 1) × S.gives src.old input src.new }
 {
     let secrets = match secrets_of(request, secret_files) {

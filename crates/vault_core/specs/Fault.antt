@@ -1,7 +1,7 @@
 -- The table of faults: the number and the text of each.
 use Rattle.std.specs.Prelude.{ℕ, List, codes}
 use Rattle.vault_core.specs.declared.fault.Fault.{Fault}
-use Rattle.vault_core.specs.declared.fault.Fault.TheVariants.{TooLong, NotVault, HeaderTooLong, BadHeader, BadVersion, BadCipher, BadHex, BadPayload, CipherTooLong, SecretTooLong, SecretIsScript, SecretIsVault, SecretEmpty, TooManySecrets, NoEncryptSecret, ManyEncryptSecrets, UnknownEncryptId, EmptyString, AlreadyVault, NoSecretFits, BadPadding, BadLabel, BadName, NameMismatch, PromptSource, NeedNewSecret, OutputNeeded, Read, Write, SaltShort, CannotOpen, Memory}
+use Rattle.vault_core.specs.declared.fault.Fault.TheVariants.{TooLong, NotVault, HeaderTooLong, BadHeader, BadVersion, BadCipher, BadHex, BadPayload, CipherTooLong, SecretTooLong, SecretIsScript, SecretIsVault, SecretEmpty, TooManySecrets, NoEncryptSecret, ManyEncryptSecrets, UnknownEncryptId, EmptyString, AlreadyVault, NoSecretFits, BadPadding, BadLabel, BadName, NameMismatch, PromptSource, NeedNewSecret, OutputNeeded, Read, Write, SaltShort, CannotOpen, Memory, SaltChoice, BadSalt}
 use Rattle.vault_core.specs.declared.fault.Role.TheVariants.{Input, Secret, Salt}
 use Rattle.vault_core.specs.declared.password.SecretFault.{SecretFault}
 use Rattle.vault_core.specs.declared.password.SecretFault.TheVariants as secret
@@ -41,6 +41,8 @@ number_of Write = 29
 number_of SaltShort = 30
 number_of (CannotOpen role) = 31
 number_of Memory = 32
+number_of SaltChoice = 33
+number_of BadSalt = 34
 
 abbrev pub text_of : Fault → List ℕ
 text_of TooLong = codes "input is longer than the limit"
@@ -79,6 +81,8 @@ text_of (CannotOpen Input) = codes "the input file cannot be opened"
 text_of (CannotOpen Secret) = codes "a password file cannot be opened"
 text_of (CannotOpen Salt) = codes "the salt file cannot be opened"
 text_of Memory = codes "out of memory"
+text_of SaltChoice = codes "--salt and --salt-file exclude each other"
+text_of BadSalt = codes "a salt text must have 1 to 64 bytes"
 
 -- the fault of its name
 abbrev pub of_text : TextFault → Fault

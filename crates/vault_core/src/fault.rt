@@ -55,10 +55,12 @@ pub enum Fault {
     SaltShort,
     CannotOpen(Role),
     Memory,
+    SaltChoice,
+    BadSalt,
 }
 
 impl Fault {
-    /// The fault's place in the table of faults, from 1 to 32.
+    /// The fault's place in the table of faults, from 1 to 34.
     pub fn number(self) -> u8
         ensures { result ≡ number_of self }
     {
@@ -95,6 +97,8 @@ impl Fault {
             Fault::SaltShort => 30,
             Fault::CannotOpen(_) => 31,
             Fault::Memory => 32,
+            Fault::SaltChoice => 33,
+            Fault::BadSalt => 34,
         }
     }
 
@@ -140,6 +144,8 @@ impl Fault {
             Fault::CannotOpen(Role::Secret) => "a password file cannot be opened",
             Fault::CannotOpen(Role::Salt) => "the salt file cannot be opened",
             Fault::Memory => "out of memory",
+            Fault::SaltChoice => "--salt and --salt-file exclude each other",
+            Fault::BadSalt => "a salt text must have 1 to 64 bytes",
         }
     }
 }

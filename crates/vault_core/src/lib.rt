@@ -20,4 +20,4 @@ pub use fault::{Fault, Role};
 pub use limits::{SECRET_LIMIT, SECRETS_LIMIT};
 pub use password::{SecretFault, password_of};
 pub use ready::{Ready, WriteFault};
-pub use secrets::{ListFault, Secrets};
+pub use secrets::{LabelRule, ListFault, Secrets};

@@ -50,6 +50,15 @@ impl<'p> Default for Secret<'p> {
     }
 }
 
+/// What the label of an envelope says of the secrets that are tried.
+#[derive(Clone, Copy, Debug, PartialEq, Eq)]
+pub enum LabelRule {
+    /// Secrets with the label are tried first, then the others.
+    Hint,
+    /// Secrets with the label alone are tried.
+    Required,
+}
+
 /// A list of at most 16 secrets. The passwords are borrowed.
 #[derive(Drop)]
 pub struct Secrets<'p> {

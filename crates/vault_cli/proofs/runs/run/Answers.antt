@@ -9,7 +9,7 @@ use Rattle.vault_cli.proofs.runs.run.Goals as goal
 pub returns-in-Err-clause-run_is_outcome : goal.returns-in-Err-clause-run_is_outcome
 returns-in-Err-clause-run_is_outcome g c = λ device.
     let contents = map (λ file. file.items) c.args.secret_files.now in
-    let refusal : Err c.in-Err.fault ≡ secrets_of c.args.request.now.files contents = c.in-Err.ensures in
+    let refusal : Err c.in-Err.fault ≡ secrets_of c.args.request.now.secret_files contents = c.in-Err.ensures in
     let same : outcome c.args.request.now contents c.args.salt.now [] ≡ refused c.in-Err.fault =
     outcome-refused c.args.request.now contents c.args.salt.now [] c.in-Err.fault refusal in (
       [],
@@ -21,14 +21,14 @@ returns-in-Err-clause-run_is_outcome g c = λ device.
 pub returns-in-Err-clause-device_failed : goal.returns-in-Err-clause-device_failed
 returns-in-Err-clause-device_failed g c = λ device.
     let contents = map (λ file. file.items) c.args.secret_files.now in
-    let status = (refused_alone-secrets c.args.request.now.files contents).status c.in-Err.fault (sym c.in-Err.ensures) in
+    let status = (refused_alone-secrets c.args.request.now.secret_files contents).status c.in-Err.fault (sym c.in-Err.ensures) in
     let other : Refused ≡ _ = sym status ∙ sym c.report.ensures.status ∙ device in
     cc
 
 pub returns-in-Err-clause-memory_suffices : goal.returns-in-Err-clause-memory_suffices
 returns-in-Err-clause-memory_suffices g c = λ memory.
     let contents = map (λ file. file.items) c.args.secret_files.now in
-    let status = (refused_alone-secrets c.args.request.now.files contents).status c.in-Err.fault (sym c.in-Err.ensures) in
+    let status = (refused_alone-secrets c.args.request.now.secret_files contents).status c.in-Err.fault (sym c.in-Err.ensures) in
     let other : Refused ≡ _ = sym status ∙ sym c.report.ensures.status ∙ memory in
     cc
 

@@ -1,22 +1,25 @@
-use Rattle.std.proofs.Common.{◌≡◌, ◌<◌, ◌++◌, ◌∷◌, [], arith, map, length, ◌∙◌}
+use Rattle.std.proofs.Common.{◌≡◌, ◌<◌, ◌++◌, ◌∷◌, [], arith, map, length, option_to_list, ap, sym, ◌∙◌}
+use Rattle.std.specs.Option.{option_map}
 use Rattle.std.proofs.lemmas.List.{length_push}
 use Rattle.vault_core.specs.Secrets.{Secret}
+use Rattle.vault_cli.proofs.RequestFacts.{slice_get-first}
 use Rattle.vault_cli.proofs.SecretFacts.{label_at, secrets_of-added, secrets_of-all, secrets_of-refused}
 use Rattle.vault_cli.proofs.runs.secrets_of.Goals as goal
 
 pub returns-in-Err : goal.returns-in-Err
 returns-in-Err c =
-    secrets_of-refused c.args.request.now.files c.args.secret_files.now c.loop-i.i c.index-secret_files-i.result c.loop-i.secrets c.in-Err.fault
+    secrets_of-refused c.args.request.now.secret_files c.args.secret_files.now c.loop-i.i c.index-secret_files-i.result c.loop-i.secrets c.in-Err.fault
     (omega arith) (omega arith) c.index-secret_files-i.is
     (rw c.as_slice.ensures.value at c.in-Err.ensures.refused) c.loop-i.invariant.1
 
 pub loop-i-preserved : goal.loop-i-preserved
 loop-i-preserved c =
-    let files = c.args.request.now.files in
+    let files = c.args.request.now.secret_files in
     let in_files : c.loop-i.i < length files = omega arith in
     let secret : Secret = record { label = c.copy.result; password = c.in-Ok.password.now } in
     let added : c.push.new.self ≡ c.loop-i.secrets ++ secret ∷ [] = rw c.unwrap.ensures at c.push.ensures.added in
-    let label = c.copy.ensures ∙ label_at files c.loop-i.i c.label.result.now in_files c.label.ensures in
+    let label = c.copy.ensures ∙ label_at files c.loop-i.i c.label.result.now in_files
+    (ap (option_map (λ file. file.label)) (sym (slice_get-first files (option_to_list c.args.request.now.new_secret) c.loop-i.i in_files)) ∙ c.label.ensures) in
     rw added (
       omega (arith, length_push c.loop-i.secrets secret, c.loop-i.invariant.0),
       secrets_of-added files c.args.secret_files.now c.loop-i.i c.index-secret_files-i.result c.loop-i.secrets c.copy.result c.in-Ok.password.now
@@ -26,4 +29,4 @@ loop-i-preserved c =
 
 pub returns : goal.returns
 returns c =
-    secrets_of-all c.loop-i.secrets c.args.request.now.files (map (λ file. file.items) c.args.secret_files.now) c.loop-i.i _ (omega arith) c.loop-i.invariant.1
+    secrets_of-all c.loop-i.secrets c.args.request.now.secret_files (map (λ file. file.items) c.args.secret_files.now) c.loop-i.i _ (omega arith) c.loop-i.invariant.1
