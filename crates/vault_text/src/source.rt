@@ -80,6 +80,7 @@ pub fn fill_up<S: Source>(source: &mut S, buf: &mut [u8]) -> Result<usize, Sourc
     ensures some { (xs : List ℕ) × (length xs ≤ length buf.new) × S.gives source.old xs source.new }
     ensures bound { IfOk result (λ n. n ≤ length buf.new) }
     ensures short { IfOk result (λ n. n < length buf.new → IsTrue (S.ended source.new)) }
+    ensures not_full { IfOk result (λ n. 0 < n → S.failures source.new < 2 ^ 64 - 1) }
     ensures unfilled { OnErr result
         ((xs : List ℕ) × (length xs < length buf.new) × S.gives source.old xs source.new) }
     ensures failed { CountsFailure (S.failures source.old) (S.failures source.new) result }
