@@ -21,4 +21,4 @@ pub use request::{CommandName, Request};
 pub use runs::run;
 pub use settling::{has_command, settle};
 pub use status::Status;
-pub use vault_core::{Fault, Role, SECRETS_LIMIT};
+pub use vault_core::{Fault, Role, SECRET_COUNT_LIMIT};

@@ -16,7 +16,7 @@ use clap::{ArgMatches, Error};
 use std::alloc::{AllocError, Global};
 use std::io;
 use std::io::{Read, Write};
-use vault_core::{Fault, Role, SECRET_LIMIT};
+use vault_core::{Fault, Role, PASSWORD_FILE_LIMIT};
 use vault_text::{CIPHERTEXT_LIMIT, ReadSource, Sink, SinkFailed, Stage, WriteSink, put_all};
 
 /// All that the program does: parses the words, of which the first is the program's name, settles
@@ -115,7 +115,7 @@ fn read_secret_files<F: FileSystem>(
     let mut contents = Vec::new(alloc);
     for i in 0..request.files() {
         let bytes = rt
-            .read_front(alloc, request.path(i), SECRET_LIMIT as u64 + 1)
+            .read_front(alloc, request.path(i), PASSWORD_FILE_LIMIT as u64 + 1)
             .map_err(secret_fault)?;
         contents.push(bytes)?;
     }

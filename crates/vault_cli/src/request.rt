@@ -1,7 +1,7 @@
 //! What a command line asks for.
 ghost use Rattle.std.specs.Prelude.{◌≡◌, ◌<◌, ◌≤◌, Some, is_some, length, slice_get};
 ghost use Rattle.std.specs.Option.{option_map};
-ghost use Rattle.vault_core.specs.declared.limits.TheConstants.{SECRETS_LIMIT};
+ghost use Rattle.vault_core.specs.declared.limits.TheConstants.{SECRET_COUNT_LIMIT};
 
 use std::marker::Model;
 use vault_text::Label;
@@ -35,13 +35,13 @@ impl Model for Request {
     ghost use Rattle.std.specs.Option.{option_map};
     ghost use Rattle.std.specs.String.{string_bytes};
     ghost use Rattle.vault_cli.specs.Request.{Request};
-    ghost use Rattle.vault_core.specs.declared.limits.TheConstants.{SECRETS_LIMIT};
+    ghost use Rattle.vault_core.specs.declared.limits.TheConstants.{SECRET_COUNT_LIMIT};
 
     ghost Value = { Request };
 
     ghost view = { λ r. record { command = r.command; files = map (λ file. record { label = file.label; path = string_bytes file.path }) r.files.items; input = option_map string_bytes r.input; output = option_map string_bytes r.output; salt = option_map string_bytes r.salt } };
 
-    ghost invariant = { λ r. vec_len r.files ≤ SECRETS_LIMIT };
+    ghost invariant = { λ r. vec_len r.files ≤ SECRET_COUNT_LIMIT };
 }
 
 impl Request {
@@ -55,7 +55,7 @@ impl Request {
     /// How many password files there are, at most 16.
     pub fn files(&self) -> usize
         ensures count { result ≡ length self.now.files }
-        ensures limit { result ≤ SECRETS_LIMIT }
+        ensures limit { result ≤ SECRET_COUNT_LIMIT }
     {
         self.files.len()
     }

@@ -1,4 +1,4 @@
 pub mod AgreementLemmas
 pub mod DecryptionLemmas
 pub mod OpeningLemmas
-pub mod UnpaddingLemmas
+pub mod PaddingLemmas

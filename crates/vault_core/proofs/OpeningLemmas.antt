@@ -5,7 +5,7 @@ use Rattle.vault_text.specs.Envelope.{Payload}
 use Rattle.vault_core.specs.Agreement.{agrees, keys_of, tries}
 use Rattle.vault_core.specs.Opening.{deciphered_by, opening}
 use Rattle.vault_core.specs.Secrets.{Secret, tried_order}
-use Rattle.vault_core.specs.Unpadding.{without_padding}
+use Rattle.vault_core.specs.Padding.{without_padding}
 use Rattle.vault_core.specs.declared.fault.Fault.TheVariants.{NoSecretFits, BadPadding}
 use Rattle.vault_core.proofs.AgreementLemmas.{tries-found}
 

@@ -6,7 +6,7 @@ use Rattle.std.proofs.lemmas.List.Elements.{All-replicate}
 use Rattle.std.proofs.lemmas.List.Sums.{AllPass-from_list_all, list_all-from_AllPass}
 use Rattle.vault_aes.specs.Padding.{IsPadded}
 use Rattle.vault_aes.proofs.PaddingLemmas.{IsPadded-from_tail, drop-IsPadded, last-IsPadded, length-IsPadded, take-IsPadded}
-use Rattle.vault_core.specs.Unpadding.{is_padded, padding_count, without_padding}
+use Rattle.vault_core.specs.Padding.{is_padded, padding_count, without_padding}
 
 pub is_padded-IsPadded : (plain padded : List ℕ) → IsPadded plain padded → is_padded padded ≡ true
 is_padded-IsPadded plain padded h =
