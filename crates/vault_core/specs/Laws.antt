@@ -1,6 +1,5 @@
 -- Laws of the definitions, which hold of all secrets, salts and inputs.
-use Rattle.std.specs.Prelude.{◌≡◌, ℕ, ◌≤◌, List, [], ◌∷◌, length, true, Ok}
-use Rattle.hex.specs.Hex.{IsBytes}
+use Rattle.std.specs.Prelude.{◌≡◌, ℕ, ◌<◌, ◌≤◌, List, [], ◌∷◌, length, slice_index, true, Ok}
 use Rattle.vault_text.specs.Label.{is_label}
 use Rattle.vault_text.specs.declared.limits.TheConstants.{SALT_LIMIT}
 use Rattle.vault_core.specs.Decryption.{decryption, payload_of}
@@ -14,6 +13,10 @@ use Rattle.vault_core.specs.Sealing.{sealed, text_in}
 use Rattle.vault_core.specs.Secrets.{Secret, SecretList, secret_at, tried_order}
 use Rattle.vault_core.specs.WorkLimits.{ciphertext_limit}
 use Rattle.vault_core.specs.declared.label_rule.LabelRule.{LabelRule}
+
+-- numbers below 256; past the end a list reads as 0
+abbrev pub IsBytes : List ℕ → Type 0
+IsBytes bytes = (i : ℕ) → slice_index bytes i < 256
 
 -- the first secret that is tried for a label has the password
 abbrev pub IsTriedFirst : SecretList → Secret → Type 0

@@ -1,7 +1,8 @@
 //! Choosing the secret that encrypts.
-ghost use Rattle.std.specs.Prelude.{◌≡◌};
+ghost use Rattle.std.specs.Prelude.{◌≡◌, position};
 ghost use Rattle.std.specs.Option.{option_copied};
 ghost use Rattle.vault_core.specs.Choice.{choice};
+ghost use Rattle.vault_core.specs.Secrets.{has_label};
 
 use crate::secret::Secret;
 use thiserror::Error;
@@ -26,11 +27,14 @@ pub(crate) fn choice(secrets: &[Secret], label: Option<&Label>) -> Result<usize,
         return Err(ChoiceFault::NoEncryptSecret);
     }
     match label {
-        Some(label) => secrets
-            .iter()
-            .position(|secret| secret.has_label(label))
-            .ok_or(ChoiceFault::UnknownEncryptId),
+        Some(label) => place_of(secrets, label).ok_or(ChoiceFault::UnknownEncryptId),
         None if secrets.len() == 1 => Ok(0),
         None => Err(ChoiceFault::ManyEncryptSecrets),
     }
+}
+
+fn place_of(secrets: &[Secret], label: &Label) -> Option<usize>
+    ensures { result ≡ position (has_label label.now) secrets.now }
+{
+    secrets.iter().position(|secret| secret.has_label(label))
 }

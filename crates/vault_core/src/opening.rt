@@ -1,8 +1,8 @@
 //! Opening an envelope in the memory that it was read into.
-ghost use Rattle.std.specs.Prelude.{◌≡◌, ℕ, ◌+◌, ◌<◌, ◌^◌, Err, IfSome, IfNone, None, Some, length, take};
+ghost use Rattle.std.specs.Prelude.{◌≡◌, ◌+◌, ◌<◌, ◌≤◌, ◌^◌, IfSome, IfNone, None, Some, length, take};
 ghost use Rattle.vault_core.specs.Agreement.{tries};
 ghost use Rattle.vault_core.specs.Opening.{deciphered_by, opening};
-ghost use Rattle.vault_core.specs.Padding.{without_padding};
+ghost use Rattle.vault_core.specs.Padding.{padded_length, without_padding};
 ghost use Rattle.vault_core.specs.Secrets.{tried_order};
 
 use crate::agreement::agreeing_keys;
@@ -61,6 +61,7 @@ fn decipher(body: &mut [u8], keys: &Keys) -> Option<usize>
     ensures deciphered { body.new ≡ deciphered_by keys.now body.old }
     ensures plain { IfSome result (λ len. without_padding body.new ≡ Some (take len body.new)) }
     ensures none { IfNone result (without_padding body.new ≡ None) }
+    ensures room { IfSome result (λ len. padded_length len ≤ length body.new) }
 {
     ctr_apply(&Key::new(&keys.cipher), &keys.iv, body);
     unpad(body)

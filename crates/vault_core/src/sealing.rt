@@ -30,6 +30,7 @@ impl<'a> Model for Sealed<'a> {
 
 impl<'a> Sealed<'a> {
     /// Writes the vault. After a failure the sink has taken a prefix of it.
+    #[tactic(auto, unfolding(crate::specs::Sealing::text_in))]
     pub(crate) fn write<K: Sink>(&self, form: Form, sink: &mut K) -> Result<(), SinkFailed>
         requires { K.stage sink.old ≡ Stage.Begun }
         ensures takes { OnOk result
