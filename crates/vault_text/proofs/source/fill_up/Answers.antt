@@ -17,6 +17,8 @@ loop-filled-preserved g c =
       omega (arith, whole, c.in_ok-n.ensures.bound, c.fill.auto.buf, length-take (length l.buf - l.filled) (drop l.filled l.buf), length-drop l.filled l.buf),
       given_next g.S.Source.gives g.met.S.Source.gives_more _ _ _ l.filled c.in_ok-n.n (length l.buf - l.filled) l.buf c.fill.new.buf l.invariant.0 c.in_ok-n.ensures.bound l.invariant.1 c.in_ok-n.ensures.gives,
       search rules,
+      (λ none. absurd (c.if-n-eq0.false (omega (arith, none)))),
+      search rules,
     )
 
 pub returns-then-n-eq0-clause-gives : goal.returns-then-n-eq0-clause-gives
