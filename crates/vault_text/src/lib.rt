@@ -20,13 +20,13 @@ pub use fault::TextFault;
 pub use header::MARKER;
 pub use label::{BadLabel, Label};
 pub use limits::{
-    CIPHERTEXT_LIMIT, ENVELOPE_LIMIT, HEADER_LIMIT, LABEL_LIMIT, PLAINTEXT_LIMIT, SALT_LIMIT,
-    TAG_LENGTH,
+    CIPHERTEXT_LIMIT, ENVELOPE_LIMIT, HEADER_LIMIT, LABEL_LIMIT, PADDING_LIMIT, PLAINTEXT_LIMIT,
+    SALT_LIMIT, TAG_LENGTH,
 };
 pub use payload::Payload;
 pub use reader::EnvelopeReader;
 pub use salt::Salt;
 pub use sink::{FailingSink, MemSink, Sink, SinkFailed, Stage, WriteSink, put_all};
-pub use source::{FailingSource, MemSource, ReadSource, Source, SourceFailed, fill_up};
+pub use source::{ChainedSource, FailingSource, MemSource, ReadSource, Source, SourceFailed, fill_up};
 pub use whitespace::strip;
 pub use writing::{write_block, write_envelope};
