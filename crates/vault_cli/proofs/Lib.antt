@@ -1,8 +1,6 @@
-pub mod OutcomeFacts
 pub mod ParsedFacts
 pub mod ParsedSamples
 pub mod Pieces
-pub mod RefusedAlone
 pub mod RequestFacts
-pub mod SecretFacts
 pub mod SettlingFacts
+pub mod SecretFacts

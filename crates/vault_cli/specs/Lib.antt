@@ -5,4 +5,7 @@ pub mod VaultId
 pub mod Request
 pub mod Settled
 pub mod CommandLine
+pub mod Task
+pub mod StoredTask
 pub mod Outcome
+pub mod Run

@@ -1,7 +1,7 @@
 -- What a request asks for.
 use Rattle.std.specs.Prelude.{◌≡◌, ◌≤◌, ℕ, Bool, true, false, List, ◌++◌, length, Option, option_to_list, is_some, IfSome}
-use Rattle.vault_core.specs.declared.limits.TheConstants.{SECRETS_LIMIT}
-use Rattle.vault_core.specs.declared.secrets.LabelRule.{LabelRule}
+use Rattle.vault_core.specs.declared.limits.TheConstants.{SECRET_COUNT_LIMIT}
+use Rattle.vault_core.specs.declared.label_rule.LabelRule.{LabelRule}
 use Rattle.vault_cli.specs.declared.limits.TheConstants.{SALT_TEXT_LIMIT}
 use Rattle.vault_cli.specs.declared.request.CommandName.{CommandName}
 use Rattle.vault_cli.specs.declared.request.CommandName.TheVariants.{Encrypt, Decrypt, View, Rekey, EncryptString}
@@ -54,6 +54,6 @@ pub record IsSaltText (text : List ℕ) : Type 0 where
 
 -- what is known of each request
 pub record IsSettled (request : Request) : Type 0 where
-  pub count : length request.secret_files ≤ SECRETS_LIMIT
+  pub count : length request.secret_files ≤ SECRET_COUNT_LIMIT
   pub salt_text : IfSome request.salt_text IsSaltText
   pub new_secret : is_some request.new_secret ≡ is_rekey request.command

@@ -7,8 +7,8 @@ use Rattle.vault_cli.specs.Request.{Request, SecretFile}
 use Rattle.vault_cli.specs.VaultId.{first_fault, label_of, source_of}
 use Rattle.vault_core.specs.declared.fault.Fault.{Fault}
 use Rattle.vault_core.specs.declared.fault.Fault.TheVariants.{Memory, TooManySecrets}
-use Rattle.vault_core.specs.declared.limits.TheConstants.{SECRETS_LIMIT}
-use Rattle.vault_core.specs.declared.secrets.LabelRule.TheVariants.{Hint}
+use Rattle.vault_core.specs.declared.limits.TheConstants.{SECRET_COUNT_LIMIT}
+use Rattle.vault_core.specs.declared.label_rule.LabelRule.TheVariants.{Hint}
 use Rattle.vault_cli.specs.declared.request.CommandName.{CommandName}
 use Rattle.vault_cli.specs.declared.request.CommandName.TheVariants.{Decrypt, View}
 
@@ -43,7 +43,7 @@ refused_or None request = Ok request
 -- the request of a command with these vault ids and password files, or the first fault
 unfoldable pub request_of : List ℕ → List (List ℕ) → List (List ℕ) → Result Request Fault
 request_of name ids paths =
-    if nat_lt SECRETS_LIMIT (length ids + length paths) then Err TooManySecrets
+    if nat_lt SECRET_COUNT_LIMIT (length ids + length paths) then Err TooManySecrets
     else refused_or (first_fault ids) (record { command = command_of name; secret_files = map file_of_id ids ++ map plain_file paths; new_secret = None; choice = None; name = None; string = None; salt_text = None; salt_path = None; rule = Hint; input = None; output = None })
 
 -- the request of a command and of the values under its options

@@ -6,13 +6,13 @@ ghost use Rattle.clap.specs.Words.{found_of, rows_of, subcommand_name_of, subcom
 ghost use Rattle.vault_cli.specs.Settled.{Settles, command_of, file_of_id, is_command, plain_file, request_of, settled};
 ghost use Rattle.vault_cli.specs.VaultId.{fault_of, first_fault};
 ghost use Rattle.vault_core.specs.declared.fault.Fault.TheVariants.{Memory};
-ghost use Rattle.vault_core.specs.declared.limits.TheConstants.{SECRETS_LIMIT};
+ghost use Rattle.vault_core.specs.declared.limits.TheConstants.{SECRET_COUNT_LIMIT};
 
 use crate::request::{CommandName, Request, SecretFile};
 use crate::vault_id;
 use clap::ArgMatches;
 use std::alloc::Global;
-use vault_core::{Fault, LabelRule, SECRETS_LIMIT};
+use vault_core::{Fault, LabelRule, SECRET_COUNT_LIMIT};
 use vault_text::Label;
 
 /// Whether the matches hold a command.
@@ -86,7 +86,7 @@ fn command_of(name: &str) -> CommandName
 fn request_of(alloc: Global, name: &str, ids: &[&str], paths: &[&str]) -> Result<Request, Fault>
     ensures { Settles result (request_of name.now (map (λ id. id.now) ids.now) (map (λ path. path.now) paths.now)) }
 {
-    if ids.len() > SECRETS_LIMIT || paths.len() > SECRETS_LIMIT - ids.len() {
+    if ids.len() > SECRET_COUNT_LIMIT || paths.len() > SECRET_COUNT_LIMIT - ids.len() {
         return Err(Fault::TooManySecrets);
     }
     if let Err(fault) = vault_id::check_all(ids) {

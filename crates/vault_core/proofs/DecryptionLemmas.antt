@@ -10,7 +10,7 @@ use Rattle.vault_core.specs.Fault.{of_text}
 use Rattle.vault_core.specs.Input.{UnlessUnreadable}
 use Rattle.vault_core.specs.Opening.{deciphered_by, opening}
 use Rattle.vault_core.specs.Secrets.{Secret, tried_order}
-use Rattle.vault_core.specs.Unpadding.{without_padding}
+use Rattle.vault_core.specs.Padding.{without_padding}
 use Rattle.vault_core.specs.declared.fault.Fault.{Fault}
 use Rattle.vault_core.specs.declared.fault.Fault.TheVariants.{BadPadding, NoSecretFits, Read}
 use Rattle.vault_core.specs.declared.fault.Role.TheVariants.{Input}

@@ -1,4 +1,6 @@
 pub mod AgreementLemmas
+pub mod ChoiceLemmas
 pub mod DecryptionLemmas
 pub mod OpeningLemmas
-pub mod UnpaddingLemmas
+pub mod PaddingLemmas
+pub mod SealingLemmas

@@ -2,6 +2,7 @@ pub mod EnvelopeFacts
 pub mod HexadecimalFacts
 pub mod InnerFacts
 pub mod LabelFacts
+pub mod LimitFacts
 pub mod LineEndFacts
 pub mod LineFacts
 pub mod Progress

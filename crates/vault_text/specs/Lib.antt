@@ -1,4 +1,6 @@
 pub mod Failures
+pub mod Steps
+pub mod Limits
 pub mod Source
 pub mod SourceLaws
 pub mod ChainedSource

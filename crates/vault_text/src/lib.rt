@@ -20,8 +20,8 @@ pub use fault::TextFault;
 pub use header::MARKER;
 pub use label::{BadLabel, Label};
 pub use limits::{
-    CIPHERTEXT_LIMIT, ENVELOPE_LIMIT, HEADER_LIMIT, LABEL_LIMIT, PLAINTEXT_LIMIT, SALT_LIMIT,
-    TAG_LENGTH,
+    CIPHERTEXT_LIMIT, ENVELOPE_LIMIT, HEADER_LIMIT, LABEL_LIMIT, PADDING_LIMIT, PLAINTEXT_LIMIT,
+    SALT_LIMIT, TAG_LENGTH,
 };
 pub use payload::Payload;
 pub use reader::EnvelopeReader;

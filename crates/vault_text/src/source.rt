@@ -1,5 +1,5 @@
 //! Where input comes from.
-ghost use Rattle.std.specs.Prelude.{◌≡◌, ℕ, ◌-◌, ◌^◌, ◌<◌, ◌≤◌, ◌↔◌, ◌++◌, List, [], Bool, IsTrue, IsErr, IfOk, OnErr, length, take};
+ghost use Rattle.std.specs.Prelude.{◌≡◌, ℕ, ◌-◌, ◌^◌, ◌<◌, ◌≤◌, ◌↔◌, ◌++◌, List, [], Bool, IsTrue, IsErr, IfOk, OnErr, OnOk, Ok, length, take};
 ghost use Rattle.vault_text.specs.Failures.{CountsFailure};
 ghost use Rattle.vault_text.specs.Source.{given};
 
@@ -76,14 +76,14 @@ impl<S: Source> Source for &mut S {
 /// Reads until the end or until `buf` is full, and answers how many bytes stand at its front. An
 /// empty `buf` asks nothing. After a failure `buf` holds any bytes.
 pub fn fill_up<S: Source>(source: &mut S, buf: &mut [u8]) -> Result<usize, SourceFailed>
+    ensures empty { length buf.old ≡ 0 → (result ≡ Ok 0) × (source.new ≡ source.old) }
     ensures gives { IfOk result (λ n. S.gives source.old (take n buf.new) source.new) }
-    ensures some { (xs : List ℕ) × (length xs ≤ length buf.new) × S.gives source.old xs source.new }
+    ensures some { (xs : List ℕ) × (length xs ≤ length buf.new)
+        × OnErr result (length xs < length buf.new) × S.gives source.old xs source.new }
     ensures bound { IfOk result (λ n. n ≤ length buf.new) }
     ensures short { IfOk result (λ n. n < length buf.new → IsTrue (S.ended source.new)) }
-    ensures not_full { IfOk result (λ n. 0 < n → S.failures source.new < 2 ^ 64 - 1) }
-    ensures unfilled { OnErr result
-        ((xs : List ℕ) × (length xs < length buf.new) × S.gives source.old xs source.new) }
     ensures failed { CountsFailure (S.failures source.old) (S.failures source.new) result }
+    ensures full { 2 ^ 64 - 1 ≤ S.failures source.old → 0 < length buf.old → IsErr result }
 {
     let mut filled = 0;
     while filled < buf.len() {

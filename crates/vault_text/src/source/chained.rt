@@ -4,7 +4,8 @@ ghost use Rattle.vault_text.specs.Source.{given};
 
 use super::{Source, SourceFailed};
 
-/// A source over bytes in memory, and behind them over another source, which alone tells the end.
+/// A source over bytes in memory, and behind them over another source, which alone tells the end
+/// and fails. It is asked once the bytes in memory are all given.
 #[derive(Drop)]
 pub struct ChainedSource<'a, S: Source> {
     front: &'a [u8],
@@ -28,6 +29,14 @@ impl<'a, S: Source> ChainedSource<'a, S> {
             rest,
             ended: false,
         }
+    }
+
+    /// The source behind the front, with what it has left by now.
+    pub fn into_rest(self) -> S
+        ensures { result ≡ self.entry.rest }
+    {
+        let ChainedSource { rest, .. } = self;
+        rest
     }
 }
 
