@@ -4,7 +4,7 @@ ghost use Rattle.vault_core.specs.Encryption.{encryption, is_vault};
 ghost use Rattle.vault_core.specs.Form.{form_of, is_block};
 ghost use Rattle.vault_core.specs.Input.{IsWhole, UnlessUnreadable};
 ghost use Rattle.vault_core.specs.Sealing.{sealing_derivations};
-ghost use Rattle.vault_core.specs.WorkLimits.{IsWorkLength, limit_of};
+ghost use Rattle.vault_text.specs.Limits.{IsWorkLength, limit_of};
 
 use crate::fault::Fault;
 use crate::form::Form;
