@@ -43,13 +43,13 @@ pub fn prepare_encrypt<'a, S: Source>(
         × (meter.new ≡ meter.old + sealing_derivations result)) }
 {
     let n = read_plaintext(src, work)?;
-    if matches!(form, Form::Block(_)) && n == 0 {
+    if form.is_block() && n == 0 {
         return Err(Fault::EmptyString);
     }
     if is_vault(&work[..n]) {
         return Err(Fault::AlreadyVault);
     }
-    let secret = &secrets.as_slice()[choice];
+    let secret = secrets.get(choice);
     let vault = seal(work, n, &secret.label, secret.password, salt, meter);
     Ok(Ready::vault(vault, form, 0))
 }
