@@ -1,6 +1,4 @@
-ghost use Rattle.std.specs.Prelude.{◌≡◌, ℕ, ◌-◌, ◌^◌, ◌<◌, ◌≤◌, ◌↔◌, [], IsTrue, IsErr, IfOk, false, length, take, min};
-ghost use Rattle.vault_text.specs.Failures.{CountsFailure};
-ghost use Rattle.vault_text.specs.Source.{given};
+ghost use Rattle.std.specs.Prelude.{◌≡◌, ◌-◌, ◌^◌, ◌<◌, IsTrue, false, length};
 
 use super::{Source, SourceFailed};
 
