@@ -1,6 +1,7 @@
 pub mod AgreementLemmas
 pub mod ChoiceLemmas
 pub mod DecryptionLemmas
+pub mod EncryptionLemmas
 pub mod OpeningLemmas
 pub mod PaddingLemmas
 pub mod SealingLemmas

@@ -1,13 +1,13 @@
 -- What `decrypt` and `view` answer.
 use Rattle.std.specs.Prelude.{ℕ, List, Result, Ok, Err}
 use Rattle.std.specs.Result.{result_map_both}
-use Rattle.vault_text.specs.Envelope.{Payload}
+use Rattle.vault_text.specs.Envelope.{Payload, read_within}
+use Rattle.vault_text.specs.Steps.{◌>>=◌}
 use Rattle.vault_core.specs.Agreement.{tries}
 use Rattle.vault_core.specs.Fault.{of_text}
-use Rattle.vault_core.specs.Opening.{opening, ◌>>=◌}
+use Rattle.vault_core.specs.Opening.{opening}
 use Rattle.vault_core.specs.Ready.{Ready}
 use Rattle.vault_core.specs.Secrets.{SecretList, tried_order}
-use Rattle.vault_core.specs.WorkLimits.{read_within}
 use Rattle.vault_core.specs.declared.fault.Fault.{Fault}
 
 -- the payload of the input, or the fault that refuses it

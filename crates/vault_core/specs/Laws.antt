@@ -11,7 +11,7 @@ use Rattle.vault_core.specs.Ready.{Ready}
 use Rattle.vault_core.specs.Rekeying.{rekeying}
 use Rattle.vault_core.specs.Sealing.{sealed, text_in}
 use Rattle.vault_core.specs.Secrets.{Secret, SecretList, secret_at, tried_order}
-use Rattle.vault_core.specs.WorkLimits.{ciphertext_limit}
+use Rattle.vault_text.specs.Limits.{ciphertext_limit}
 use Rattle.vault_core.specs.declared.label_rule.LabelRule.{LabelRule}
 
 -- numbers below 256; past the end a list reads as 0

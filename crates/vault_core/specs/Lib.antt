@@ -15,4 +15,3 @@ pub mod Rekeying
 pub mod Sealing
 pub mod Secrets
 pub mod TriedPart
-pub mod WorkLimits

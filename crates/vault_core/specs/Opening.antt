@@ -6,17 +6,13 @@ use Rattle.vault_aes.specs.CounterMode.{counter_mode}
 use Rattle.vault_aes.specs.KeyExpansion.{key_schedule}
 use Rattle.vault_kdf.specs.declared.keys.Keys.{Keys}
 use Rattle.vault_text.specs.Envelope.{Payload}
+use Rattle.vault_text.specs.Steps.{◌>>=◌}
 use Rattle.vault_core.specs.Agreement.{agrees, keys_of}
 use Rattle.vault_core.specs.Padding.{without_padding}
 use Rattle.vault_core.specs.Ready.{Ready}
 use Rattle.vault_core.specs.Secrets.{Secret, SecretList, tried_order}
 use Rattle.vault_core.specs.declared.fault.Fault.{Fault}
 use Rattle.vault_core.specs.declared.fault.Fault.TheVariants.{NoSecretFits, BadPadding}
-
-infixl 10 ◌>>=◌
-abbrev pub ◌>>=◌ : {A B E : Type 0} → Result A E → (A → Result B E) → Result B E
-Ok x >>= f = f x
-Err e >>= f = Err e
 
 -- the ciphertext deciphered, which gives the plaintext with its padding
 abbrev pub deciphered_by : Keys → List ℕ → List ℕ

@@ -2,7 +2,7 @@
 ghost use Rattle.std.specs.Prelude.{◌≡◌, ℕ, ◌+◌, ◌<◌, ◌≤◌, ◌^◌, List, length};
 ghost use Rattle.vault_core.specs.Decryption.{decryption, decryption_derivations};
 ghost use Rattle.vault_core.specs.Input.{IsWhole, UnlessUnreadable};
-ghost use Rattle.vault_core.specs.WorkLimits.{IsWorkLength, envelope_limit, limit_of};
+ghost use Rattle.vault_text.specs.Limits.{IsWorkLength, envelope_limit, limit_of};
 
 use crate::fault::Fault;
 use crate::input::read_payload;
@@ -17,9 +17,9 @@ use vault_text::Source;
 ///
 /// All of it happens in `work`, of 16 bytes to `CIPHERTEXT_LIMIT`: an envelope is taken whose
 /// ciphertext fits there. The input is read to its end, or to one byte more than is taken, also
-/// where a fault was met before. Faults come in the order of their numbers: [`Fault::Read`] first,
-/// then those of the envelope, then [`Fault::NoSecretFits`] and [`Fault::BadPadding`]. After one
-/// `work` holds any bytes.
+/// where a fault was met before. Faults come in the order of their numbers, but for
+/// [`Fault::Read`], which comes first: those of the envelope, then [`Fault::NoSecretFits`], then
+/// [`Fault::BadPadding`]. After one `work` holds any bytes.
 pub fn prepare_decrypt<'a, S: Source>(
     src: &mut S,
     work: &'a mut [u8],
@@ -37,7 +37,27 @@ pub fn prepare_decrypt<'a, S: Source>(
         × (result ≡ decryption limit secrets.now input)
         × (meter.new ≡ meter.old + decryption_derivations limit secrets.now input)) }
 {
+    Ok(Ready::plain(read_and_open(src, work, secrets, meter)?))
+}
+
+/// Reads an envelope and opens it, as `prepare_decrypt` says.
+pub(crate) fn read_and_open<'a, S: Source>(
+    src: &mut S,
+    work: &'a mut [u8],
+    secrets: &Secrets,
+    meter: &mut Meter,
+) -> Result<Opened<'a>, Fault>
+    requires room { IsWorkLength (length work.old) }
+    requires countable { meter.old < 2 ^ 62 }
+    ensures answer { let limit = limit_of (length work.old) in
+        (input : List ℕ) × S.gives src.old input src.new
+        × (length input ≤ envelope_limit limit + 1)
+        × UnlessUnreadable (S.failures src.old) (S.failures src.new) result
+        ((length input ≤ envelope_limit limit) × (meter.new ≡ meter.old))
+        (IsWhole (envelope_limit limit) (S.ended src.new) input
+        × (result ≡ decryption limit secrets.now input)
+        × (meter.new ≡ meter.old + decryption_derivations limit secrets.now input)) }
+{
     let payload = read_payload(src, work)?;
-    let Opened { body, len, tried } = open(payload, secrets, meter)?;
-    Ok(Ready::plain(&body[..len], tried))
+    open(payload, secrets, meter)
 }

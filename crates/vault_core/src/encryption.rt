@@ -4,7 +4,7 @@ ghost use Rattle.vault_core.specs.Encryption.{encryption, is_vault};
 ghost use Rattle.vault_core.specs.Form.{form_of, is_block};
 ghost use Rattle.vault_core.specs.Input.{IsWhole, UnlessUnreadable};
 ghost use Rattle.vault_core.specs.Sealing.{sealing_derivations};
-ghost use Rattle.vault_core.specs.WorkLimits.{IsWorkLength, limit_of};
+ghost use Rattle.vault_text.specs.Limits.{IsWorkLength, limit_of};
 
 use crate::fault::Fault;
 use crate::form::Form;
@@ -43,13 +43,13 @@ pub fn prepare_encrypt<'a, S: Source>(
         × (meter.new ≡ meter.old + sealing_derivations result)) }
 {
     let n = read_plaintext(src, work)?;
-    if matches!(form, Form::Block(_)) && n == 0 {
+    if form.is_block() && n == 0 {
         return Err(Fault::EmptyString);
     }
     if is_vault(&work[..n]) {
         return Err(Fault::AlreadyVault);
     }
-    let secret = &secrets.as_slice()[choice];
+    let secret = secrets.get(choice);
     let vault = seal(work, n, &secret.label, secret.password, salt, meter);
     Ok(Ready::vault(vault, form, 0))
 }

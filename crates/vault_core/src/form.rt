@@ -1,4 +1,6 @@
 //! In which form a vault is written.
+ghost use Rattle.std.specs.Prelude.{◌≡◌};
+ghost use Rattle.vault_core.specs.Form.{form_of, is_block};
 
 /// In which form a vault is written.
 #[derive(Clone, Copy, Debug)]
@@ -7,4 +9,12 @@ pub enum Form<'a> {
     Envelope,
     /// The envelope as a YAML block, for a variable of the name if there is one that is not empty.
     Block(Option<&'a str>),
+}
+
+impl<'a> Form<'a> {
+    pub(crate) fn is_block(self) -> bool
+        ensures { result ≡ is_block (form_of self.entry) }
+    {
+        matches!(self, Form::Block(_))
+    }
 }

@@ -4,16 +4,14 @@ ghost use Rattle.vault_text.specs.EnvelopeReader.{StandsFor};
 ghost use Rattle.vault_text.specs.Failures.{CountsFailure};
 ghost use Rattle.vault_core.specs.Decryption.{payload_of};
 ghost use Rattle.vault_core.specs.Input.{IsWhole, UnlessUnreadable};
-ghost use Rattle.vault_core.specs.WorkLimits.{IsWorkLength, envelope_limit, limit_of};
+ghost use Rattle.vault_text.specs.Limits.{IsWorkLength, envelope_limit, limit_of};
 ghost use Rattle.vault_core.specs.declared.fault.Fault.TheVariants.{Read, TooLong};
 
 use crate::fault::Fault;
-use vault_text::{CIPHERTEXT_LIMIT, ENVELOPE_LIMIT, EnvelopeReader, PLAINTEXT_LIMIT, Payload, Source, SourceFailed, fill_up};
+use vault_text::{EnvelopeReader, PADDING_LIMIT, Payload, Source, SourceFailed, fill_up};
 
 /// How many bytes of an envelope a source is asked for at once.
 const PIECE_LIMIT: usize = 4096;
-
-const PADDING_LIMIT: usize = CIPHERTEXT_LIMIT - PLAINTEXT_LIMIT;
 
 /// Reads a plaintext to its end, or to one byte more than is taken, to the front of `work`, and
 /// answers its length.
@@ -59,16 +57,18 @@ pub(crate) fn read_payload<'a, S: Source>(
 
 /// Feeds the reader with the input to its end, or to one byte more than is taken.
 fn feed_input<S: Source>(src: &mut S, reader: &mut EnvelopeReader) -> Result<(), SourceFailed>
-    ensures fed { (input : List ℕ) × S.gives src.old input src.new
-        × (length input ≤ ENVELOPE_LIMIT + 1)
-        × OnErr result (length input ≤ ENVELOPE_LIMIT)
-        × OnOk result (IsWhole ENVELOPE_LIMIT (S.ended src.new) input)
+    ensures limit { reader.new.limit ≡ reader.old.limit }
+    ensures fed { let limit = envelope_limit reader.old.limit in
+        (input : List ℕ) × S.gives src.old input src.new
+        × (length input ≤ limit + 1)
+        × MatchResult result (λ _. IsWhole limit (S.ended src.new) input)
+        (λ _. length input ≤ limit)
         × ((before : List ℕ) → StandsFor reader.old before
         → StandsFor reader.new (before ++ input)) }
     ensures failed { CountsFailure (S.failures src.old) (S.failures src.new) result }
 {
     let mut buffer = [0; PIECE_LIMIT];
-    let mut left = ENVELOPE_LIMIT + 1;
+    let mut left = reader.input_limit() + 1;
     while left > 0 {
         let piece = next_piece(src, &mut buffer[..left.min(PIECE_LIMIT)])?;
         if piece.is_empty() {

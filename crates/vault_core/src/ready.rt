@@ -5,6 +5,7 @@ ghost use Rattle.vault_core.specs.Form.{form_of};
 ghost use Rattle.vault_core.specs.Sealing.{text_in};
 
 use crate::form::Form;
+use crate::opening::Opened;
 use crate::output::Output;
 use crate::sealing::Sealed;
 use std::marker::Model;
@@ -44,11 +45,12 @@ impl<'a> Model for Ready<'a> {
 
 impl<'a> Ready<'a> {
     /// Plaintext that is written as it is.
-    pub(crate) fn plain(plain: &'a [u8], tried: usize) -> Self
-        ensures { result ≡ record { output = plain.now; tried = tried } }
+    pub(crate) fn plain(opened: Opened<'a>) -> Self
+        ensures { result ≡ opened.entry }
     {
+        let Opened { body, len, tried } = opened;
         Ready {
-            output: Output::Plain(plain),
+            output: Output::Plain(&body[..len]),
             tried,
         }
     }

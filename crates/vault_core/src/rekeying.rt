@@ -4,13 +4,13 @@ ghost use Rattle.vault_core.specs.Decryption.{decryption_derivations};
 ghost use Rattle.vault_core.specs.Input.{IsWhole, UnlessUnreadable};
 ghost use Rattle.vault_core.specs.Rekeying.{rekeying};
 ghost use Rattle.vault_core.specs.Sealing.{sealing_derivations};
-ghost use Rattle.vault_core.specs.WorkLimits.{IsWorkLength, envelope_limit, limit_of};
+ghost use Rattle.vault_text.specs.Limits.{IsWorkLength, envelope_limit, limit_of};
 
+use crate::decryption::read_and_open;
 use crate::encryption::is_vault;
 use crate::fault::Fault;
 use crate::form::Form;
-use crate::input::read_payload;
-use crate::opening::{Opened, open};
+use crate::opening::Opened;
 use crate::ready::Ready;
 use crate::sealing::seal;
 use crate::secrets::Secrets;
@@ -45,8 +45,7 @@ pub fn prepare_rekey<'a, S: Source>(
         × (meter.new ≡ meter.old + decryption_derivations limit secrets.now input
         + sealing_derivations result)) }
 {
-    let payload = read_payload(src, work)?;
-    let Opened { body, len, tried } = open(payload, secrets, meter)?;
+    let Opened { body, len, tried } = read_and_open(src, work, secrets, meter)?;
     if is_vault(&body[..len]) {
         return Err(Fault::AlreadyVault);
     }

@@ -1,5 +1,5 @@
 //! The secrets that a vault is tried with.
-ghost use Rattle.std.specs.Prelude.{◌≡◌, ◌≤◌, ◌↔◌, [], ◌∷◌, ◌++◌, length, IsErr, OnOk, OnErr};
+ghost use Rattle.std.specs.Prelude.{◌≡◌, ◌<◌, ◌≤◌, ◌↔◌, [], ◌∷◌, ◌++◌, length, IsErr, OnOk, OnErr};
 ghost use Rattle.std.specs.Option.{option_copied};
 ghost use Rattle.vault_core.specs.Choice.{choice};
 ghost use Rattle.vault_core.specs.Password.{IsPassword};
@@ -37,6 +37,8 @@ impl<'p> Model for Secrets<'p> {
 }
 
 impl<'p> Secrets<'p> {
+    ghost use Rattle.vault_core.specs.Secrets.{secret_at};
+
     /// No secrets, and labels that are hints.
     pub fn new() -> Self
         ensures { result ≡ record { secrets = []; rule = Hint } }
@@ -58,6 +60,14 @@ impl<'p> Secrets<'p> {
         ensures fits { length result.now ≤ SECRET_COUNT_LIMIT }
     {
         self.list.as_slice()
+    }
+
+    /// The secret at a place, counted from 0.
+    pub(crate) fn get(&self, place: usize) -> &Secret<'p>
+        requires { place < length self.now.secrets }
+        ensures { result.now ≡ secret_at place self.now.secrets }
+    {
+        &self.list.as_slice()[place]
     }
 
     pub(crate) fn rule(&self) -> LabelRule
