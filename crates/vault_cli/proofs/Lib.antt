@@ -4,3 +4,6 @@ pub mod Pieces
 pub mod RequestFacts
 pub mod SettlingFacts
 pub mod SecretFacts
+pub mod RefusedAlone
+pub mod TaskFacts
+pub mod OutcomeFacts

@@ -1,7 +1,7 @@
 -- What a run of a request answers, as a function of the request, the password files, the salt and the input: five
 -- steps, of which the first that refuses decides. Steps 1 to 3 stand with the tasks.
 use Rattle.std.specs.Prelude.{ℕ, ◌&&◌, not, Bool, List, [], Option, Some, None, is_ok, is_some, unwrap_or, Result, Ok, Err}
-use Rattle.vault_core.specs.WorkLimits.{envelope_limit}
+use Rattle.vault_text.specs.Limits.{envelope_limit}
 use Rattle.vault_text.specs.declared.limits.TheConstants.{PLAINTEXT_LIMIT}
 use Rattle.vault_core.specs.Decryption.{decryption}
 use Rattle.vault_core.specs.Encryption.{encryption}

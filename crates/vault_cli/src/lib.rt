@@ -1,6 +1,7 @@
 //! The command line of `ansible-vault`: requests, and the whole run of one.
 #![tactic(auto)]
 
+mod arguments;
 mod command_line;
 mod file_system;
 mod limits;

@@ -2,7 +2,7 @@
 ghost use Rattle.std.specs.Prelude.{◌≡◌, ◌≢◌, ◌+◌, ◌≤◌, ◌⊎◌, ℕ, List, false, is_some, length, map, take, IsTrue};
 ghost use Rattle.vault_text.specs.Failures.{HasRisen};
 ghost use Rattle.vault_core.specs.Input.{IsWhole, UnlessUnreadable};
-ghost use Rattle.vault_core.specs.WorkLimits.{IsWorkLength, limit_of};
+ghost use Rattle.vault_text.specs.Limits.{IsWorkLength, limit_of};
 ghost use Rattle.vault_core.specs.declared.fault.Fault.TheVariants.{Write};
 ghost use Rattle.vault_cli.specs.Line.{line_of};
 ghost use Rattle.vault_cli.specs.Outcome.{asks_for_input, input_limit, outcome_within, performed, task_limit, text_of_request};
