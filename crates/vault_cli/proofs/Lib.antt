@@ -1,7 +1,9 @@
-pub mod OutcomeFacts
 pub mod ParsedFacts
 pub mod ParsedSamples
 pub mod Pieces
-pub mod RefusedAlone
-pub mod SecretFacts
+pub mod RequestFacts
 pub mod SettlingFacts
+pub mod SecretFacts
+pub mod RefusedAlone
+pub mod TaskFacts
+pub mod OutcomeFacts

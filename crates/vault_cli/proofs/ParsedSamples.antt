@@ -5,7 +5,7 @@ use Rattle.clap.specs.Faults.{is_simple_and_free}
 use Rattle.clap.specs.declared.error.kind.ErrorKind.TheVariants as kind
 use Rattle.clap.proofs.OnLiterals.{clap_on_literals}
 use Rattle.vault_cli.specs.CommandLine.{vault_app}
-use Rattle.vault_cli.specs.Request.{password_files, vault_ids}
+use Rattle.vault_cli.specs.Settled.{password_files, vault_ids}
 
 pub vault_app-simple : is_simple_and_free vault_app ≡ true
 unfolding clap_on_literals vault_app

@@ -6,11 +6,12 @@ use Rattle.std.specs.Str.{bytes_eq}
 use Rattle.std.specs.Prelude.{codes, IfSome}
 use Rattle.clap.specs.Walk.{Row}
 use Rattle.vault_text.specs.Label.{is_label}
-use Rattle.vault_cli.specs.Request.{Request, Settles, request_of, settled}
+use Rattle.vault_cli.specs.Request.{Request}
+use Rattle.vault_cli.specs.Settled.{Settles, request_of, settled}
 use Rattle.vault_cli.specs.VaultId.{fault_of, first_fault, label_of, or_later, source_of}
 use Rattle.vault_core.specs.declared.fault.Fault.{Fault}
 use Rattle.vault_core.specs.declared.fault.Fault.TheVariants.{BadLabel, Memory, PromptSource}
-use Rattle.vault_core.specs.declared.limits.TheConstants.{SECRETS_LIMIT}
+use Rattle.vault_core.specs.declared.limits.TheConstants.{SECRET_COUNT_LIMIT}
 use denote.Ref.{Bor}
 
 -- a vault id is never refused for memory
@@ -65,9 +66,9 @@ pub settled_given : (given : Option (List ℕ × List Row)) (name : List ℕ) (r
 settled_given given name rows result e h = rw e h
 
 -- what the first fault refuses
-pub request_of-fault : (name : List ℕ) (ids paths : List (List ℕ)) (fault : Fault) → length ids + length paths ≤ SECRETS_LIMIT
+pub request_of-fault : (name : List ℕ) (ids paths : List (List ℕ)) (fault : Fault) → length ids + length paths ≤ SECRET_COUNT_LIMIT
     → first_fault ids ≡ Some fault → request_of name ids paths ≡ Err fault
 unfolding request_of
 request_of-fault name ids paths fault few e =
-    let test : nat_lt SECRETS_LIMIT (length ids + length paths) ≡ false = search (rules, tests) in
+    let test : nat_lt SECRET_COUNT_LIMIT (length ids + length paths) ≡ false = search (rules, tests) in
     rw (test, e) refl

@@ -1,26 +1,81 @@
 -- The command line as the parser reads it.
-use Rattle.std.specs.Prelude.{true, Some, codes}
-use Rattle.clap.specs.Simple.{App, new_app, new_rule, on_top, with_rule, with_subcommand}
-use Rattle.clap.specs.Walk.{Rule}
-use Rattle.clap.specs.declared.builder.action.ArgAction.TheVariants.{Append}
+use Rattle.std.specs.Prelude.{true, false, List, [], ◌∷◌, ◌++◌, Some, codes}
+use Rattle.clap.specs.Simple.{App, Shape, new_rule, new_shape}
+use Rattle.clap.specs.Walk.{Rule, Text}
+use Rattle.clap.specs.declared.builder.action.ArgAction.{ArgAction}
+use Rattle.clap.specs.declared.builder.action.ArgAction.TheVariants.{Append, Set, SetTrue}
 
--- `--vault-id` and `--vault-password-file`, which may be repeated
-abbrev pub vault_id_rule : Rule
-vault_id_rule = record (new_rule (codes "vault-id")) { long = Some (codes "vault-id"); action = Some Append; value_names = 1 }
+-- an option with a value
+abbrev pub valued : ArgAction → Text → Rule
+valued action name = record (new_rule name) { long = Some name; action = Some action; value_names = 1 }
 
-abbrev pub password_file_rule : Rule
-password_file_rule = record (new_rule (codes "vault-password-file")) { long = Some (codes "vault-password-file"); action = Some Append; value_names = 1 }
+-- one that is given at most once, and one that may be repeated
+abbrev pub option : Text → Rule
+option name = valued Set name
 
--- a command with the options that name password files
-abbrev pub with_secrets : App → App
-with_secrets command = with_rule (with_rule command vault_id_rule) password_file_rule
+abbrev pub repeated : Text → Rule
+repeated name = valued Append name
+
+-- an option without a value
+abbrev pub flag : Text → Rule
+flag name = record (new_rule name) { long = Some name; action = Some SetTrue }
+
+-- a word that belongs to no option
+abbrev pub positional : Text → Rule
+positional name = record (new_rule name) { action = Some Set }
+
+-- the options that name password files, and those of the salt
+abbrev pub secret_rules : List Rule
+secret_rules = repeated (codes "vault-id") ∷ repeated (codes "vault-password-file") ∷ []
+
+abbrev pub salt_rules : List Rule
+salt_rules = option (codes "salt-file") ∷ option (codes "salt") ∷ []
+
+abbrev pub new_secret_rules : List Rule
+new_secret_rules = option (codes "new-vault-id") ∷ option (codes "new-vault-password-file") ∷ []
+
+-- `-n` is short for `--name`
+abbrev pub name_rule : Rule
+name_rule = record (option (codes "name")) { short = Some 110 }
+
+abbrev pub name_rules : List Rule
+name_rules = name_rule ∷ option (codes "stdin-name") ∷ []
+
+-- a command of this name that takes these
+abbrev pub shape_with : Text → List Rule → Shape
+shape_with name rules = record (new_shape name) { rules = rules }
+
+abbrev pub app_with : Text → List Rule → App
+app_with name rules = record { top = shape_with name rules; subs = [] }
+
+abbrev pub encrypt : App
+encrypt = app_with (codes "encrypt")
+    (secret_rules ++ salt_rules ++ option (codes "encrypt-vault-id") ∷ option (codes "output") ∷ positional (codes "FILE") ∷ [])
+
+abbrev pub decrypt : App
+decrypt = app_with (codes "decrypt")
+    (secret_rules ++ flag (codes "require-id-match") ∷ option (codes "output") ∷ positional (codes "FILE") ∷ [])
+
+abbrev pub view : App
+view = app_with (codes "view") (secret_rules ++ flag (codes "require-id-match") ∷ positional (codes "FILE") ∷ [])
+
+abbrev pub rekey : App
+rekey = app_with (codes "rekey")
+    (secret_rules ++ salt_rules ++ new_secret_rules
+    ++ flag (codes "require-id-match") ∷ option (codes "output") ∷ positional (codes "FILE") ∷ [])
+
+abbrev pub encrypt_string : App
+encrypt_string = app_with (codes "encrypt_string")
+    (secret_rules ++ salt_rules ++ name_rules
+    ++ option (codes "encrypt-vault-id") ∷ option (codes "output") ∷ positional (codes "STRING") ∷ [])
 
 -- a command is required, and there is no command `help`
-abbrev pub top_command : App
-top_command = on_top (λ top. record top { has_version = true; subcommand_required = true; disable_help_subcommand = true })
-    (new_app (codes "ansible-vault"))
+abbrev pub top_shape : Shape
+top_shape = record (new_shape (codes "ansible-vault")) { has_version = true; subcommand_required = true; disable_help_subcommand = true }
 
 -- the program's command line
 unfoldable pub vault_app : App
-vault_app = with_subcommand (with_subcommand top_command (with_secrets (new_app (codes "decrypt"))).top)
-    (with_secrets (new_app (codes "view"))).top
+vault_app = record {
+  top = record top_shape { is_leaf = false };
+  subs = encrypt.top ∷ decrypt.top ∷ view.top ∷ rekey.top ∷ encrypt_string.top ∷ [];
+}

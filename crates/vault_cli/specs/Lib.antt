@@ -3,6 +3,9 @@ pub mod Line
 pub mod Reports
 pub mod VaultId
 pub mod Request
-pub mod Files
+pub mod Settled
 pub mod CommandLine
+pub mod Task
+pub mod StoredTask
 pub mod Outcome
+pub mod Run

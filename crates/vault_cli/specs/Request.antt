@@ -1,69 +1,59 @@
--- What a request asks for, and what settles one.
-use Rattle.std.specs.Prelude.{◌≡◌, ℕ, ◌+◌, ◌||◌, nat_lt, Bool, if◌then◌else◌, List, [], ◌++◌, length, map, codes, unwrap_or, Option, Some, None, Result, Ok, Err, IsOk}
-use Rattle.std.specs.Str.{bytes_eq}
-use Rattle.clap.specs.Walk.{Row, all_of}
-use Rattle.vault_text.specs.Label.{default_label}
-use Rattle.vault_cli.specs.VaultId.{first_fault, label_of, source_of}
-use Rattle.vault_core.specs.declared.fault.Fault.{Fault}
-use Rattle.vault_core.specs.declared.fault.Fault.TheVariants.{Memory, TooManySecrets}
-use Rattle.vault_core.specs.declared.limits.TheConstants.{SECRETS_LIMIT}
+-- What a request asks for.
+use Rattle.std.specs.Prelude.{◌≡◌, ◌≤◌, ℕ, Bool, true, false, List, ◌++◌, length, Option, option_to_list, is_some, IfSome}
+use Rattle.vault_core.specs.declared.limits.TheConstants.{SECRET_COUNT_LIMIT}
+use Rattle.vault_core.specs.declared.label_rule.LabelRule.{LabelRule}
+use Rattle.vault_cli.specs.declared.limits.TheConstants.{SALT_TEXT_LIMIT}
 use Rattle.vault_cli.specs.declared.request.CommandName.{CommandName}
-use Rattle.vault_cli.specs.declared.request.CommandName.TheVariants.{Decrypt, View}
+use Rattle.vault_cli.specs.declared.request.CommandName.TheVariants.{Encrypt, Decrypt, View, Rekey, EncryptString}
 
 -- a password file, and the label of its secret
 pub record SecretFile : Type 0 where
   pub label : List ℕ
   pub path : List ℕ
 
--- a request, as a contract sees it: the password files are those of `--vault-id`, then the others; the paths
--- of the input, the output and the salt file, none where there is no such file
+-- a request, as a contract sees it: the password files are those of `--vault-id`, then the others
 pub record Request : Type 0 where
   pub command : CommandName
-  pub files : List SecretFile
+  pub secret_files : List SecretFile
+  -- what `rekey` seals with
+  pub new_secret : Option SecretFile
+  -- the label of the secret to encrypt with
+  pub choice : Option (List ℕ)
+  -- the name of the variable that `encrypt_string` writes, and the STRING
+  pub name : Option (List ℕ)
+  pub string : Option (List ℕ)
+  -- what the salt is, or where it is read; neither for a command that does not seal
+  pub salt_text : Option (List ℕ)
+  pub salt_path : Option (List ℕ)
+  pub rule : LabelRule
+  -- none is standard input or the STRING
   pub input : Option (List ℕ)
+  -- none is standard output
   pub output : Option (List ℕ)
-  pub salt : Option (List ℕ)
 
-abbrev pub is_command : List ℕ → Bool
-is_command name = bytes_eq name (codes "view") || bytes_eq name (codes "decrypt")
+-- all password files, of which the new one is last
+abbrev pub files_of : Request → List SecretFile
+files_of request = request.secret_files ++ option_to_list request.new_secret
 
-abbrev pub command_of : List ℕ → CommandName
-command_of name = if bytes_eq name (codes "decrypt") then Decrypt else View
+-- whether a command writes an envelope or a block, for which it needs a salt
+abbrev pub seals : CommandName → Bool
+seals Encrypt = true
+seals Decrypt = false
+seals View = false
+seals Rekey = true
+seals EncryptString = true
 
--- the values under an option, in their order
-abbrev pub values_of : List ℕ → List Row → List (List ℕ)
-values_of option rows = unwrap_or (all_of option rows) []
+abbrev pub is_rekey : CommandName → Bool
+is_rekey Rekey = true
+is_rekey _ = false
 
-abbrev pub vault_ids : List Row → List (List ℕ)
-vault_ids rows = values_of (codes "vault-id") rows
+-- the bytes of a salt text
+pub record IsSaltText (text : List ℕ) : Type 0 where
+  pub some : 1 ≤ length text
+  pub limit : length text ≤ SALT_TEXT_LIMIT
 
-abbrev pub password_files : List Row → List (List ℕ)
-password_files rows = values_of (codes "vault-password-file") rows
-
--- the password file of a vault id
-abbrev pub file_of_id : List ℕ → SecretFile
-file_of_id id = record { label = label_of id; path = source_of id }
-
--- a password file without a label of its own
-abbrev pub plain_file : List ℕ → SecretFile
-plain_file path = record { label = default_label; path = path }
-
-abbrev pub refused_or : Option Fault → Request → Result Request Fault
-refused_or (Some fault) request = Err fault
-refused_or None request = Ok request
-
--- the request of a command with these vault ids and password files, or the first fault
-unfoldable pub request_of : List ℕ → List (List ℕ) → List (List ℕ) → Result Request Fault
-request_of name ids paths =
-    if nat_lt SECRETS_LIMIT (length ids + length paths) then Err TooManySecrets
-    else refused_or (first_fault ids) (record { command = command_of name; files = map file_of_id ids ++ map plain_file paths; input = None; output = None; salt = None })
-
--- the request of a command and of the values under its options
-abbrev pub settled : List ℕ → List Row → Result Request Fault
-settled name rows = request_of name (vault_ids rows) (password_files rows)
-
--- what `settle` answers: that, or Memory where that is a request
-abbrev pub Settles : Result Request Fault → Result Request Fault → Type 0
-Settles (Ok request) answer = answer ≡ Ok request
-Settles (Err Memory) answer = IsOk answer
-Settles (Err fault) answer = answer ≡ Err fault
+-- what is known of each request
+pub record IsSettled (request : Request) : Type 0 where
+  pub count : length request.secret_files ≤ SECRET_COUNT_LIMIT
+  pub salt_text : IfSome request.salt_text IsSaltText
+  pub new_secret : is_some request.new_secret ≡ is_rekey request.command

@@ -1,19 +1,24 @@
 //! The command line of `ansible-vault`: requests, and the whole run of one.
 #![tactic(auto)]
 
+mod arguments;
 mod command_line;
 mod file_system;
+mod limits;
 mod parsing;
+mod passwords;
 mod program;
 mod report_line;
 mod request;
 mod runs;
 mod settling;
 mod status;
+mod task;
 mod vault_id;
 
 pub use command_line::command;
 pub use file_system::{FileFault, FileSystem, HostFiles};
+pub use limits::{SALT_TEXT_LIMIT, SEALING_SALT_LENGTH};
 pub use parsing::parse;
 pub use program::{drive, reject_words};
 pub use report_line::report;
@@ -21,4 +26,4 @@ pub use request::{CommandName, Request};
 pub use runs::run;
 pub use settling::{has_command, settle};
 pub use status::Status;
-pub use vault_core::{Fault, Role, SECRETS_LIMIT};
+pub use vault_core::{Fault, LabelRule, Role, SECRET_COUNT_LIMIT};

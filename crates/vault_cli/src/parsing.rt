@@ -4,9 +4,9 @@ ghost use Rattle.std.specs.String.{string_bytes};
 ghost use Rattle.clap.specs.Words.{FailsBy, fault_of, subcommand_of, subcommand_rows_of};
 ghost use Rattle.vault_cli.specs.CommandLine.{vault_app};
 
-use crate::command_line::describe;
+use crate::command_line::command;
 use clap::{ArgMatches, Error};
-use std::alloc::Global;
+use std::alloc::{AllocError, Global};
 
 /// Parses the words, of which the first is the program's name: the command and the values under its
 /// options are those that the parser's definition gives for this command line, and an error is of
@@ -15,9 +15,8 @@ pub fn parse<'a>(alloc: Global, words: &'a [String]) -> Result<ArgMatches<'a>, E
     ensures matches { IfOk result (λ matches. subcommand_rows_of matches ≡ subcommand_of vault_app (map string_bytes words.now)) }
     ensures kinds { FailsBy (fault_of vault_app (map string_bytes words.now)) result }
 {
-    let command = match describe(alloc) {
-        Ok(command) => command,
-        Err(error) => return Err(Error::from(error)),
-    };
-    command.try_get_matches_from(words)
+    match command(alloc) {
+        Ok(command) => command.try_get_matches_from(words),
+        Err(_) => Err(Error::from(AllocError)),
+    }
 }

@@ -1,7 +1,8 @@
 //! What the program does with its arguments, its files and its standard streams.
 ghost use Rattle.std.specs.Prelude.{◌≡◌, true, length, vec_len, IfOk, IsSomeAnd, OnErr};
 ghost use Rattle.clap.specs.Words.{subcommand_name_of};
-ghost use Rattle.vault_cli.specs.Request.{is_command};
+ghost use Rattle.vault_cli.specs.Request.{files_of};
+ghost use Rattle.vault_cli.specs.Settled.{is_command};
 ghost use Rattle.vault_text.specs.declared.limits.TheConstants.{CIPHERTEXT_LIMIT};
 
 use crate::file_system::{FileFault, FileSystem};
@@ -16,7 +17,7 @@ use clap::{ArgMatches, Error};
 use std::alloc::{AllocError, Global};
 use std::io;
 use std::io::{Read, Write};
-use vault_core::{Fault, Role, SECRET_LIMIT};
+use vault_core::{Fault, Role, PASSWORD_FILE_LIMIT};
 use vault_text::{CIPHERTEXT_LIMIT, ReadSource, Sink, SinkFailed, Stage, WriteSink, put_all};
 
 /// All that the program does: parses the words, of which the first is the program's name, settles
@@ -110,12 +111,12 @@ fn read_secret_files<F: FileSystem>(
     alloc: Global,
     request: &Request,
 ) -> Result<Vec<Vec<u8>>, Fault>
-    ensures { IfOk result (λ contents. vec_len contents ≡ length request.now.files) }
+    ensures { IfOk result (λ contents. vec_len contents ≡ length (files_of request.now)) }
 {
     let mut contents = Vec::new(alloc);
     for i in 0..request.files() {
         let bytes = rt
-            .read_front(alloc, request.path(i), SECRET_LIMIT as u64 + 1)
+            .read_front(alloc, request.path(i), PASSWORD_FILE_LIMIT as u64 + 1)
             .map_err(secret_fault)?;
         contents.push(bytes)?;
     }

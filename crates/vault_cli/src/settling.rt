@@ -3,17 +3,16 @@ ghost use Rattle.std.specs.Prelude.{◌≡◌, ◌≢◌, ◌+◌, ◌≤◌, �
 ghost use Rattle.std.specs.Option.{option_map};
 ghost use Rattle.std.specs.String.{string_bytes};
 ghost use Rattle.clap.specs.Words.{found_of, rows_of, subcommand_name_of, subcommand_rows_of};
-ghost use Rattle.vault_cli.specs.Request.{Settles, command_of, file_of_id, is_command, plain_file, request_of, settled};
-ghost use Rattle.vault_cli.specs.Files.{files_of};
+ghost use Rattle.vault_cli.specs.Settled.{Settles, command_of, file_of_id, is_command, plain_file, request_of, settled};
 ghost use Rattle.vault_cli.specs.VaultId.{fault_of, first_fault};
 ghost use Rattle.vault_core.specs.declared.fault.Fault.TheVariants.{Memory};
-ghost use Rattle.vault_core.specs.declared.limits.TheConstants.{SECRETS_LIMIT};
+ghost use Rattle.vault_core.specs.declared.limits.TheConstants.{SECRET_COUNT_LIMIT};
 
 use crate::request::{CommandName, Request, SecretFile};
 use crate::vault_id;
 use clap::ArgMatches;
 use std::alloc::Global;
-use vault_core::{Fault, SECRETS_LIMIT};
+use vault_core::{Fault, LabelRule, SECRET_COUNT_LIMIT};
 use vault_text::Label;
 
 /// Whether the matches hold a command.
@@ -28,7 +27,7 @@ pub fn has_command(matches: &ArgMatches<'_>) -> bool
 
 /// Adds the password file of a vault id.
 fn add_id(alloc: Global, files: &mut Vec<SecretFile>, id: &str) -> Result<(), Fault>
-    ensures added { OnOk result (files_of files.new.items ≡ files_of files.old.items ++ file_of_id id.now ∷ []) }
+    ensures added { OnOk result (files.new.items ≡ files.old.items ++ file_of_id id.now ∷ []) }
     ensures refused { IfErr result (λ fault. (fault ≡ Memory) ⊎ (fault_of id.now ≡ Some fault)) }
 {
     let (label, path) = vault_id::parse(id)?;
@@ -39,7 +38,7 @@ fn add_id(alloc: Global, files: &mut Vec<SecretFile>, id: &str) -> Result<(), Fa
 
 /// Adds a password file without a label of its own.
 fn add_plain(alloc: Global, files: &mut Vec<SecretFile>, path: &str) -> Result<(), Fault>
-    ensures added { OnOk result (files_of files.new.items ≡ files_of files.old.items ++ plain_file path.now ∷ []) }
+    ensures added { OnOk result (files.new.items ≡ files.old.items ++ plain_file path.now ∷ []) }
     ensures refused { IfErr result (λ fault. fault ≡ Memory) }
 {
     let label = Label::default_label();
@@ -51,7 +50,7 @@ fn add_plain(alloc: Global, files: &mut Vec<SecretFile>, path: &str) -> Result<(
 /// Adds the password files of vault ids that have no fault.
 fn add_ids(alloc: Global, files: &mut Vec<SecretFile>, ids: &[&str]) -> Result<(), Fault>
     requires { first_fault (map (λ id. id.now) ids.now) ≡ None }
-    ensures added { OnOk result (files_of files.new.items ≡ files_of files.old.items ++ map file_of_id (map (λ id. id.now) ids.now)) }
+    ensures added { OnOk result (files.new.items ≡ files.old.items ++ map file_of_id (map (λ id. id.now) ids.now)) }
     ensures refused { IfErr result (λ fault. fault ≡ Memory) }
 {
     for id in ids {
@@ -62,7 +61,7 @@ fn add_ids(alloc: Global, files: &mut Vec<SecretFile>, ids: &[&str]) -> Result<(
 
 /// Adds password files without labels of their own.
 fn add_plain_files(alloc: Global, files: &mut Vec<SecretFile>, paths: &[&str]) -> Result<(), Fault>
-    ensures added { OnOk result (files_of files.new.items ≡ files_of files.old.items ++ map plain_file (map (λ path. path.now) paths.now)) }
+    ensures added { OnOk result (files.new.items ≡ files.old.items ++ map plain_file (map (λ path. path.now) paths.now)) }
     ensures refused { IfErr result (λ fault. fault ≡ Memory) }
 {
     for path in paths {
@@ -81,13 +80,13 @@ fn command_of(name: &str) -> CommandName
     }
 }
 
-#[tactic(auto, unfolding(crate::specs::Request::request_of))]
+#[tactic(auto, unfolding(crate::specs::Settled::request_of))]
 /// The request of a command with these vault ids and password files: all is checked before the
 /// first growth.
 fn request_of(alloc: Global, name: &str, ids: &[&str], paths: &[&str]) -> Result<Request, Fault>
     ensures { Settles result (request_of name.now (map (λ id. id.now) ids.now) (map (λ path. path.now) paths.now)) }
 {
-    if ids.len() > SECRETS_LIMIT || paths.len() > SECRETS_LIMIT - ids.len() {
+    if ids.len() > SECRET_COUNT_LIMIT || paths.len() > SECRET_COUNT_LIMIT - ids.len() {
         return Err(Fault::TooManySecrets);
     }
     if let Err(fault) = vault_id::check_all(ids) {
@@ -99,10 +98,16 @@ fn request_of(alloc: Global, name: &str, ids: &[&str], paths: &[&str]) -> Result
     let command = command_of(name);
     Ok(Request {
         command,
-        files,
+        secret_files: files,
+        new_secret: None,
+        choice: None,
+        name: None,
+        string: None,
+        salt_text: None,
+        salt_path: None,
+        rule: LabelRule::Hint,
         input: None,
         output: None,
-        salt: None,
     })
 }
 

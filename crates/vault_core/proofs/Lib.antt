@@ -1,4 +1,8 @@
 pub mod AgreementLemmas
+pub mod ChoiceLemmas
 pub mod DecryptionLemmas
+pub mod EncryptionLemmas
 pub mod OpeningLemmas
-pub mod UnpaddingLemmas
+pub mod PaddingLemmas
+pub mod RekeyingLemmas
+pub mod SealingLemmas

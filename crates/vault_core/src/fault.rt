@@ -1,9 +1,10 @@
 //! The faults of a run, with their numbers and texts.
 ghost use Rattle.std.specs.Prelude.{◌≡◌};
-ghost use Rattle.vault_core.specs.Fault.{number_of, of_secret, of_text, text_of};
+ghost use Rattle.vault_core.specs.Fault.{number_of, of_choice, of_secret, of_text, text_of};
 ghost use Rattle.vault_core.specs.declared.fault.Fault.TheVariants.{BadLabel as LabelFault, Memory, Read, TooManySecrets, Write};
 ghost use Rattle.vault_core.specs.declared.fault.Role.TheVariants.{Input};
 
+use crate::choice::ChoiceFault;
 use crate::password::SecretFault;
 use crate::ready::WriteFault;
 use crate::secrets::ListFault;
@@ -55,10 +56,12 @@ pub enum Fault {
     SaltShort,
     CannotOpen(Role),
     Memory,
+    SaltChoice,
+    BadSalt,
 }
 
 impl Fault {
-    /// The fault's place in the table of faults, from 1 to 32.
+    /// The fault's place in the table of faults, from 1 to 34.
     pub fn number(self) -> u8
         ensures { result ≡ number_of self }
     {
@@ -95,6 +98,8 @@ impl Fault {
             Fault::SaltShort => 30,
             Fault::CannotOpen(_) => 31,
             Fault::Memory => 32,
+            Fault::SaltChoice => 33,
+            Fault::BadSalt => 34,
         }
     }
 
@@ -140,6 +145,8 @@ impl Fault {
             Fault::CannotOpen(Role::Secret) => "a password file cannot be opened",
             Fault::CannotOpen(Role::Salt) => "the salt file cannot be opened",
             Fault::Memory => "out of memory",
+            Fault::SaltChoice => "--salt and --salt-file exclude each other",
+            Fault::BadSalt => "a salt text must have 1 to 64 bytes",
         }
     }
 }
@@ -180,6 +187,18 @@ impl From<ListFault> for Fault {
 
     fn from(_: ListFault) -> Self {
         Fault::TooManySecrets
+    }
+}
+
+impl From<ChoiceFault> for Fault {
+    ghost from_gives = { λ fault of. of ≡ of_choice fault };
+
+    fn from(fault: ChoiceFault) -> Self {
+        match fault {
+            ChoiceFault::NoEncryptSecret => Fault::NoEncryptSecret,
+            ChoiceFault::ManyEncryptSecrets => Fault::ManyEncryptSecrets,
+            ChoiceFault::UnknownEncryptId => Fault::UnknownEncryptId,
+        }
     }
 }
 

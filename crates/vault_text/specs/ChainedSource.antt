@@ -7,6 +7,9 @@ pub record ChainedState (S : Type 0) : Type 0 where
   pub rest : S
   pub ended : Bool
 
+abbrev pub chained : {S : Type 0} → List ℕ → S → Bool → ChainedState S
+chained front rest ended = record { front = front; rest = rest; ended = ended }
+
 -- the bytes are the next ones of the front, and the source behind it was not asked
 abbrev pub GivesFront : {S : Type 0} → ChainedState S → List ℕ → ChainedState S → Type 0
 GivesFront old given new = (old.front ≡ given ++ new.front) × (new.rest ≡ old.rest)

@@ -50,19 +50,23 @@ pub trait Source {
 }
 
 impl<S: Source> Source for &mut S {
-    ghost gives = { λ s xs t. S.gives s.now xs t.now };
+    ghost use Rattle.std.specs.Prelude.{◌≡◌, refl};
+    ghost use Rattle.std.proofs.Common.{◌∙◌};
+
+    // the reference stays, so that what it lends can be followed
+    ghost gives = { λ s xs t. S.gives s.now xs t.now × (t.ghost_name ≡ s.ghost_name) };
 
     ghost ended = { λ s. S.ended s.now };
 
     ghost failures = { λ s. S.failures s.now };
 
-    ghost gives_none = { λ s. S.gives_none s.now };
+    ghost gives_none = { λ s. (S.gives_none s.now, refl) };
 
-    ghost gives_more = { λ s t u. S.gives_more s.now t.now u.now };
+    ghost gives_more = { λ s t u xs ys g h. (S.gives_more s.now t.now u.now xs ys g.0 h.0, h.1 ∙ g.1) };
 
-    ghost nothing_after_end = { λ s t. S.nothing_after_end s.now t.now };
+    ghost nothing_after_end = { λ s t xs g. S.nothing_after_end s.now t.now xs g.0 };
 
-    ghost failures_stay = { λ s t. S.failures_stay s.now t.now };
+    ghost failures_stay = { λ s t xs g. S.failures_stay s.now t.now xs g.0 };
 
     fn fill(&mut self, buf: &mut [u8]) -> Result<usize, SourceFailed> {
         (**self).fill(buf)
@@ -74,11 +78,10 @@ impl<S: Source> Source for &mut S {
 pub fn fill_up<S: Source>(source: &mut S, buf: &mut [u8]) -> Result<usize, SourceFailed>
     ensures empty { length buf.old ≡ 0 → (result ≡ Ok 0) × (source.new ≡ source.old) }
     ensures gives { IfOk result (λ n. S.gives source.old (take n buf.new) source.new) }
-    ensures some { (xs : List ℕ) × (length xs ≤ length buf.new) × S.gives source.old xs source.new }
+    ensures some { (xs : List ℕ) × (length xs ≤ length buf.new)
+        × OnErr result (length xs < length buf.new) × S.gives source.old xs source.new }
     ensures bound { IfOk result (λ n. n ≤ length buf.new) }
     ensures short { IfOk result (λ n. n < length buf.new → IsTrue (S.ended source.new)) }
-    ensures unfilled { OnErr result
-        ((xs : List ℕ) × (length xs < length buf.new) × S.gives source.old xs source.new) }
     ensures failed { CountsFailure (S.failures source.old) (S.failures source.new) result }
     ensures full { 2 ^ 64 - 1 ≤ S.failures source.old → 0 < length buf.old → IsErr result }
 {

@@ -1,7 +1,6 @@
-ghost use Rattle.std.specs.Prelude.{◌≡◌, ◌-◌, ◌^◌, ◌<◌, false};
+ghost use Rattle.std.specs.Prelude.{◌≡◌, ◌-◌, ◌^◌, ◌<◌, IsTrue, false, length};
 
 use super::{Source, SourceFailed};
-use std::marker::Model;
 
 /// A source over bytes in memory, and behind them over another source, which alone tells the end
 /// and fails. It is asked once the bytes in memory are all given.
@@ -10,25 +9,18 @@ pub struct ChainedSource<'a, S: Source> {
     front: &'a [u8],
     rest: S,
     ended: bool,
-}
-
-impl<'a, S: Source> Model for ChainedSource<'a, S> {
-    ghost use Rattle.std.specs.Prelude.{◌≡◌, ◌-◌, ◌^◌, ◌<◌, ◌⊎◌, [], IsTrue};
-    ghost use Rattle.vault_text.specs.ChainedSource.{ChainedState};
-
-    ghost Value = { ChainedState S };
-
-    ghost view = { λ s. record { front = s.front.now; rest = s.rest; ended = s.ended } };
-
-    ghost invariant = { λ s. ((s.front.now ≡ []) ⊎ (S.failures s.rest < 2 ^ 64 - 1))
-        × (IsTrue s.ended → (s.front.now ≡ []) × IsTrue (S.ended s.rest)) };
+    // behind bytes of the front no call of the rest fails unasked
+    ghost not_full: { 0 < length front.now → S.failures rest < 2 ^ 64 - 1 },
+    ghost end_is_real: { IsTrue ended → (length front.now ≡ 0) × IsTrue (S.ended rest) },
 }
 
 impl<'a, S: Source> ChainedSource<'a, S> {
     /// Gives the bytes of `front`, and then those that `rest` has left.
     pub fn new(front: &'a [u8], rest: S) -> Self
         requires { S.failures rest < 2 ^ 64 - 1 }
-        ensures { result ≡ record { front = front.now; rest = rest; ended = false } }
+        ensures front { result.front.now ≡ front.now }
+        ensures rest { result.rest ≡ rest }
+        ensures ended { result.ended ≡ false }
     {
         ChainedSource {
             front,
@@ -48,22 +40,22 @@ impl<'a, S: Source> ChainedSource<'a, S> {
 
 impl<'a, S: Source> Source for ChainedSource<'a, S> {
     ghost use Rattle.std.specs.Prelude.{◌≡◌};
-    ghost use Rattle.vault_text.specs.ChainedSource.{GivesChained};
+    ghost use Rattle.vault_text.specs.ChainedSource.{GivesChained, chained};
     ghost use Rattle.vault_text.specs.ChainedSourceLaws.{GivesChained-none, GivesChained-more, GivesChained-failures};
 
-    ghost gives = { GivesChained S.gives S.ended };
+    ghost gives = { λ s xs t. GivesChained S.gives S.ended (chained s.front.now s.rest s.ended) xs (chained t.front.now t.rest t.ended) };
 
     ghost ended = { λ s. s.ended };
 
     ghost failures = { λ s. S.failures s.rest };
 
-    ghost gives_none = { GivesChained-none S.gives S.ended };
+    ghost gives_none = { λ s. GivesChained-none S.gives S.ended (chained s.front.now s.rest s.ended) };
 
-    ghost gives_more = { GivesChained-more S.gives S.ended S.gives_more };
+    ghost gives_more = { λ s t u xs ys g h. GivesChained-more S.gives S.ended S.gives_more (chained s.front.now s.rest s.ended) (chained t.front.now t.rest t.ended) (chained u.front.now u.rest u.ended) xs ys g h };
 
     ghost nothing_after_end = { λ s t xs g. g.nothing_after_end };
 
-    ghost failures_stay = { GivesChained-failures S.gives S.ended S.failures S.failures_stay };
+    ghost failures_stay = { λ s t xs g. GivesChained-failures S.gives S.ended S.failures S.failures_stay (chained s.front.now s.rest s.ended) (chained t.front.now t.rest t.ended) xs g };
 
     fn fill(&mut self, buf: &mut [u8]) -> Result<usize, SourceFailed> {
         if self.front.is_empty() {

@@ -4,7 +4,7 @@ use Rattle.clap.specs.Words.{found_of, rows_of}
 use Rattle.clap.specs.declared.parser.matches.ArgMatches.{out-ArgMatches}
 use Rattle.clap.specs.declared.parser.matches.SubCommand.{out-SubCommand}
 use Rattle.clap.proofs.WalkLemmas.{raw_values-rows}
-use Rattle.vault_cli.specs.Request.{vault_ids, password_files}
+use Rattle.vault_cli.specs.Settled.{vault_ids, password_files}
 use Rattle.vault_cli.proofs.SettlingFacts.{name_and_rows, settled_given, values_or_none}
 use Rattle.vault_cli.proofs.settling.settle.Goals as goal
 

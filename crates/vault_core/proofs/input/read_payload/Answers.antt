@@ -1,4 +1,4 @@
-use Rattle.std.proofs.Common.{ap, inr, [], ◌∙◌}
+use Rattle.std.proofs.Common.{ap, inl, inr, [], ◌∙◌}
 use Rattle.std.specs.Result.{result_map_both}
 use Rattle.std.proofs.lemmas.Result.{err_from_is_err_and}
 use Rattle.vault_core.specs.Fault.{of_text}
@@ -16,7 +16,7 @@ returns-in_err-finish g c =
       read.0,
       read.1,
       rw new at read.2,
-      inr (of_text-is_no_read _, c.in_ok-feed_input.ensures.failed, (rw new at read.3, ap (result_map_both (λ payload. payload) of_text) answer)),
+      inr ((of_text-is_no_read _, c.in_ok-feed_input.ensures.failed), (rw new at read.3, ap (result_map_both (λ payload. payload) of_text) answer)),
     )
 
 pub returns : goal.returns

@@ -1,12 +1,13 @@
 -- The two ways of saying that a list is padded agree.
-use Rattle.std.proofs.Common.{◌≡◌, ℕ, ◌-◌, ◌%◌, eqb, ltb, leb, true, List, length, take, Option, Some, None, replicate, arith, refl, inl, inr}
+use Rattle.std.proofs.Common.{◌≡◌, ℕ, ◌-◌, ◌%◌, ◌<◌, ◌≤◌, eqb, ltb, leb, true, List, length, take, Option, Some, None, replicate, length-take-le, arith, refl, inl, inr}
 use Rattle.std.specs.List.{list_all}
+use Rattle.std.specs.Prelude.{IfNone, IfSome}
 use Rattle.std.proofs.lemmas.Bool.{and_parts, cases_Bool, eq-eqb, eqb-true, le-leb, leb-true, lt-ltb, ltb-true}
 use Rattle.std.proofs.lemmas.List.Elements.{All-replicate}
 use Rattle.std.proofs.lemmas.List.Sums.{AllPass-from_list_all, list_all-from_AllPass}
 use Rattle.vault_aes.specs.Padding.{IsPadded}
-use Rattle.vault_aes.proofs.PaddingLemmas.{IsPadded-from_tail, drop-IsPadded, last-IsPadded, length-IsPadded, take-IsPadded}
-use Rattle.vault_core.specs.Unpadding.{is_padded, padding_count, without_padding}
+use Rattle.vault_aes.proofs.PaddingLemmas.{IsPadded-from, IsPadded-from_tail, IsPadded-padded_once, drop-IsPadded, last-IsPadded, length-IsPadded, take-IsPadded}
+use Rattle.vault_core.specs.Padding.{is_padded, padded, padded_length, padding_count, without_padding}
 
 pub is_padded-IsPadded : (plain padded : List ℕ) → IsPadded plain padded → is_padded padded ≡ true
 is_padded-IsPadded plain padded h =
@@ -63,3 +64,40 @@ none_unless (Some plain) refuted = absurd (refuted plain refl)
 pub without_padding-None : (padded : List ℕ) → ((plain : List ℕ) → IsPadded plain padded → ⊥) → without_padding padded ≡ None
 without_padding-None padded refuted =
     none_unless (without_padding padded) (λ plain h. refuted plain (IsPadded-without_padding plain padded h))
+
+-- the padding that is put on
+pub IsPadded-padded : (plain : List ℕ) → IsPadded plain (padded plain)
+unfolding padded
+IsPadded-padded plain =
+    IsPadded-from plain _ (16 - length plain % 16) (omega arith) (omega arith) (omega arith) refl
+
+pub padded-once : (plain bytes : List ℕ) → IsPadded plain bytes → bytes ≡ padded plain
+padded-once plain bytes h = IsPadded-padded_once plain bytes (padded plain) h (IsPadded-padded plain)
+
+pub without_padding-padded : (plain : List ℕ) → without_padding (padded plain) ≡ Some plain
+without_padding-padded plain = without_padding-IsPadded plain (padded plain) (IsPadded-padded plain)
+
+pub length-padded_by : (plain bytes : List ℕ) → IsPadded plain bytes → length bytes ≡ padded_length (length plain)
+length-padded_by plain bytes h =
+    omega (arith, length-IsPadded plain bytes h, h.not_empty, h.at_most_a_block, h.whole_blocks)
+
+pub length-padded : (plain : List ℕ) → length (padded plain) ≡ padded_length (length plain)
+length-padded plain = length-padded_by plain (padded plain) (IsPadded-padded plain)
+
+-- what the length without padding says
+pub without_padding-found : (bytes : List ℕ) (found : Option ℕ) → IfSome found (λ n. IsPadded (take n bytes) bytes)
+    → IfSome found (λ n. without_padding bytes ≡ Some (take n bytes))
+without_padding-found bytes None h = h
+without_padding-found bytes (Some n) h = without_padding-IsPadded (take n bytes) bytes h
+
+pub without_padding-not_found : (bytes : List ℕ) (found : Option ℕ)
+    → ((plain : List ℕ) → IsPadded plain bytes → found ≡ Some (length plain)) → IfNone found (without_padding bytes ≡ None)
+without_padding-not_found bytes None every = without_padding-None bytes (λ plain h. let some = every plain h in cc)
+without_padding-not_found bytes (Some n) every = tt
+
+-- where padding was found, there is room for it
+pub padded_length-fits : (bytes : List ℕ) (found : Option ℕ) → IfSome found (λ n. n < length bytes) → IfSome found (λ n. IsPadded (take n bytes) bytes)
+    → IfSome found (λ n. padded_length n ≤ length bytes)
+padded_length-fits bytes None within h = h
+padded_length-fits bytes (Some n) within h =
+    omega (arith, length-padded_by (take n bytes) bytes h, length-take-le n bytes (omega arith))

@@ -1,6 +1,14 @@
--- The padding of RFC 5652, section 6.3, for blocks of 16 bytes, taken off again.
-use Rattle.std.specs.Prelude.{ℕ, ◌-◌, ◌%◌, ◌==◌, ◌&&◌, nat_le, nat_lt, Bool, if◌then◌else◌, List, length, take, drop, slice_index, Option, Some, None}
+-- The padding of RFC 5652, section 6.3, for blocks of 16 bytes, put on and taken off again.
+use Rattle.std.specs.Prelude.{ℕ, ◌+◌, ◌-◌, ◌%◌, ◌==◌, ◌&&◌, nat_le, nat_lt, Bool, if◌then◌else◌, List, ◌++◌, length, replicate, take, drop, slice_index, Option, Some, None}
 use Rattle.std.specs.List.{list_all}
+
+-- the length of that many bytes with their padding: whole blocks, and at least one byte more
+abbrev pub padded_length : ℕ → ℕ
+padded_length n = n - n % 16 + 16
+
+-- the bytes and behind them, as often as it says, how many bytes the padding has
+unfoldable pub padded : List ℕ → List ℕ
+padded plain = let count = 16 - length plain % 16 in plain ++ replicate count count
 
 -- the last byte
 abbrev pub padding_count : List ℕ → ℕ

@@ -1,0 +1,5 @@
+pub mod File
+pub mod Memory
+pub mod MemoryLaws
+pub mod Host
+pub mod HostLaws

@@ -1,0 +1,78 @@
+-- Files in memory.
+use Rattle.std.specs.Prelude.{◌≡◌, ℕ, ◌-◌, ◌^◌, ◌<◌, ◌≤◌, ◌&&◌, if◌then◌else◌, List, [], ◌∷◌, ◌++◌, Bool, true, false, IsTrue, Option, Some, None}
+use Rattle.std.specs.Str.{bytes_eq}
+use Rattle.vault_text.specs.Sink.{MemoryState, Takes, has_begun, state_of}
+use Rattle.vault_text.specs.declared.sink.Stage.TheVariants.{Unbegun}
+use Rattle.vault_files.specs.File.{File}
+use Rattle.vault_files.specs.File.File.{Missing, Whole, Broken}
+
+-- a file in memory, under its path
+pub record Entry : Type 0 where
+  pub path : List ℕ
+  pub file : File
+
+-- the first file under a path
+abbrev pub file_at : List Entry → List ℕ → File
+file_at [] path = Missing
+file_at (entry ∷ entries) path = if bytes_eq entry.path path then entry.file else file_at entries path
+
+-- a reader of a file: its bytes left, whether the file breaks behind them, whether it told its end, its failures
+pub record ReaderState : Type 0 where
+  pub left : List ℕ
+  pub breaks : Bool
+  pub ended : Bool
+  pub failures : ℕ
+
+-- a reader of the whole file
+abbrev pub IsReaderOf : File → ReaderState → Type 0
+IsReaderOf Missing reader = ⊥
+IsReaderOf (Whole bytes) reader = reader ≡ record { left = bytes; breaks = false; ended = false; failures = 0 }
+IsReaderOf (Broken bytes) reader = reader ≡ record { left = bytes; breaks = true; ended = false; failures = 0 }
+
+-- no byte is left, and the file ends there or breaks there
+abbrev pub IsAtEnd : ReaderState → Type 0
+IsAtEnd reader = (reader.left ≡ []) × (reader.breaks ≡ false)
+
+abbrev pub IsAtBreak : ReaderState → Type 0
+IsAtBreak reader = (reader.left ≡ []) × (reader.breaks ≡ true)
+
+-- between two states a reader gave these bytes
+pub record Reads (old : ReaderState) (given : List ℕ) (new : ReaderState) : Type 0 where
+  pub consumed : old.left ≡ given ++ new.left
+  pub breaks : new.breaks ≡ old.breaks
+  pub nothing_after_end : IsTrue old.ended → (given ≡ []) × IsTrue new.ended
+  pub end_is_real : (IsTrue old.ended → IsAtEnd old) → IsTrue new.ended → IsAtEnd new
+  pub break_is_real : old.failures < new.failures → IsAtBreak new
+  pub failures_stay : old.failures ≤ new.failures
+
+-- files in memory, the path of the output where one was chosen, and what the output has taken
+pub record StoreState : Type 0 where
+  pub entries : List Entry
+  pub aim : Option (List ℕ)
+  pub output : MemoryState
+
+-- between two states the output took these bytes, and all else stayed
+pub record StoreTakes (old : StoreState) (taken : List ℕ) (new : StoreState) : Type 0 where
+  pub output : Takes (state_of old.output) taken (state_of new.output)
+  pub entries : new.entries ≡ old.entries
+  pub aim : new.aim ≡ old.aim
+
+-- files whose output was not chosen yet
+abbrev pub new_store : List Entry → StoreState
+new_store entries = record { entries = entries; aim = None; output = record { held = []; stage = Unbegun; failures = 0; step = 2 ^ 64 - 1 } }
+
+abbrev pub is_aimed_at : Option (List ℕ) → List ℕ → Bool
+is_aimed_at None path = false
+is_aimed_at (Some aim) path = bytes_eq aim path
+
+-- what stands at a path: the output, once it was begun there, else the file that stood there before
+abbrev pub stands_at : StoreState → List ℕ → File
+stands_at store path =
+    if has_begun store.output.stage && is_aimed_at store.aim path then Whole store.output.held
+    else file_at store.entries path
+
+-- the bytes of a file, up to where it breaks
+abbrev pub bytes_of : File → Option (List ℕ)
+bytes_of Missing = None
+bytes_of (Whole bytes) = Some bytes
+bytes_of (Broken bytes) = Some bytes

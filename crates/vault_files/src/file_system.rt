@@ -1,0 +1,74 @@
+//! What a program asks of its files.
+ghost use Rattle.std.specs.Prelude.{◌≡◌, ◌≢◌, ℕ, ◌<◌, ◌≤◌, ◌⊎◌, List, Bool, IsTrue, Ok, Err, IfOk, IfErr, OnOk, OnErr, length, take};
+ghost use Rattle.vault_text.specs.Failures.{HasRisen};
+ghost use Rattle.vault_files.specs.File.{Answers, File};
+ghost use Rattle.vault_files.specs.File.File.{Missing};
+ghost use Rattle.vault_files.specs.declared.fault.FileFault.TheVariants.{CannotRead};
+
+use crate::fault::FileFault;
+use std::alloc::{AllocError, Global};
+use vault_text::{Sink, Source, SourceFailed, Stage, fill_up};
+
+/// Where a program finds its files. As a sink it is one file of its own, the output, which `aim`
+/// chooses and `begin` creates, or cuts to nothing where it is there already.
+pub trait FileSystem: Sink {
+    ghost use Rattle.vault_text.specs.declared.sink.Stage.{Stage};
+
+    type Reader: Source + Drop;
+
+    // What may be met at a path.
+    ghost meets: { Self → List ℕ → File → Type 0 };
+
+    // What was opened at a path.
+    ghost opened: { Self → List ℕ → Self.Reader → Type 0 };
+
+    // The same files, the output at this path.
+    ghost aimed: { Self → List ℕ → Self → Type 0 };
+
+    /// Opens a file for reading, before the output is begun. It answers `CannotOpen` where that
+    /// fails, and `Memory` where there is no memory for it.
+    fn open(&self, path: &str) -> Result<Self::Reader, FileFault>
+        requires { Self.stage self.now ≡ Stage.Unbegun }
+        ensures opened { IfOk result (λ reader. opened self.now path.now reader) }
+        ensures missing { IfErr result (λ fault. fault ≢ FileFault.Memory →
+            (fault ≡ FileFault.CannotOpen) × meets self.now path.now Missing) };
+
+    /// Chooses the path of the output. Nothing is created yet.
+    fn aim(&mut self, alloc: Global, path: &str) -> Result<(), AllocError>
+        requires { Self.stage self.old ≡ Stage.Unbegun }
+        ensures aimed { OnOk result (aimed self.old path.now self.new) }
+        ensures unbegun { Self.stage self.new ≡ Stage.Unbegun }
+        ensures failures { Self.failures self.new ≡ Self.failures self.old }
+        ensures refused { OnErr result (self.new ≡ self.old) };
+
+    // Something may be met at each path.
+    ghost meets_some: { (s : Self) (path : List ℕ) → (file : File) × meets s path file };
+
+    // What a reader gave to its end, or up to a limit, is the front of a file that may be met.
+    ghost front_met: { (s : Self) (path : List ℕ) (r t : Self.Reader) (xs : List ℕ) (n : ℕ)
+        → opened s path r → Self.Reader.gives r xs t → length xs ≤ n
+        → IsTrue (Self.Reader.ended t) ⊎ (length xs ≡ n) → Answers (meets s path) n (Ok xs) };
+
+    // Where it failed before that, such a file breaks there.
+    ghost break_met: { (s : Self) (path : List ℕ) (r t : Self.Reader) (xs : List ℕ) (n : ℕ)
+        → opened s path r → Self.Reader.gives r xs t → length xs < n
+        → HasRisen (Self.Reader.failures r) (Self.Reader.failures t)
+        → Answers (meets s path) n (Err CannotRead) };
+}
+
+/// Reads the front of a file, and answers how many bytes stand at the front of `buf`: fewer than it
+/// holds only where the file has no more. After a refusal `buf` holds any bytes.
+pub fn read_front<F: FileSystem>(files: &F, path: &str, buf: &mut [u8]) -> Result<usize, FileFault>
+    requires { F.stage files.now ≡ Stage.Unbegun }
+    ensures bound { IfOk result (λ n. n ≤ length buf.new) }
+    ensures front { IfOk result (λ n.
+        Answers (F.meets files.now path.now) (length buf.new) (Ok (take n buf.new))) }
+    ensures refused { IfErr result (λ fault. fault ≢ FileFault.Memory →
+        Answers (F.meets files.now path.now) (length buf.new) (Err fault)) }
+{
+    let mut reader = files.open(path)?;
+    match fill_up(&mut reader, buf) {
+        Ok(n) => Ok(n),
+        Err(SourceFailed) => Err(FileFault::CannotRead),
+    }
+}

@@ -1,0 +1,206 @@
+ghost use Rattle.std.specs.Prelude.{◌≡◌, None};
+ghost use Rattle.vault_files.specs.Host.{HostState};
+
+use crate::fault::FileFault;
+use crate::file_system::FileSystem;
+use std::alloc::{AllocError, Global};
+use std::fs::{Files, OpenOptions};
+use std::io::{ErrorKind, Write};
+use std::marker::Model;
+use std::os::unix::fs::OpenOptionsExt;
+use std::{fs, io};
+use vault_text::{ReadSource, Sink, SinkFailed, Stage};
+
+/// Readable and writable by its owner alone.
+const OWNER_ONLY: u32 = 0o600;
+
+/// The files of the system. An output that `begin` creates is readable and writable by its owner
+/// alone; one that is there already keeps its mode. Of their bytes no contract says anything.
+#[derive(Drop)]
+pub struct HostFiles<'a, R: Files> {
+    rt: &'a R,
+    aim: Option<String>,
+    output: Option<R::File>,
+    stage: Stage,
+    failures: u64,
+}
+
+impl<'a, R: Files> Model for HostFiles<'a, R> {
+    ghost use Rattle.std.specs.Option.{option_map};
+    ghost use Rattle.std.specs.String.{string_bytes};
+    ghost use Rattle.vault_files.specs.Host.{HostState};
+
+    ghost Value = { HostState };
+
+    ghost view = { λ s. record { aim = option_map string_bytes s.aim; stage = s.stage; failures = s.failures } };
+}
+
+impl<'a, R: Files> HostFiles<'a, R> {
+    pub fn new(rt: &'a R) -> Self
+        ensures { result ≡ record { aim = None; stage = Stage.Unbegun; failures = 0 } }
+    {
+        HostFiles {
+            rt,
+            aim: None,
+            output: None,
+            stage: Stage::Unbegun,
+            failures: 0,
+        }
+    }
+}
+
+/// Creates the file that is to be written, or cuts it to nothing where it is there already.
+fn create<R: Files>(rt: &R, path: &str) -> io::Result<R::File> {
+    let mut options = OpenOptions::new();
+    options.write(true).create(true).truncate(true);
+    options.mode(OWNER_ONLY);
+    options.open(rt, path)
+}
+
+impl<'a, R: Files> Sink for HostFiles<'a, R> {
+    ghost use Rattle.vault_files.specs.Host.{HostTakes};
+    ghost use Rattle.vault_files.specs.HostLaws.{HostTakes-none, HostTakes-more};
+
+    ghost takes = { HostTakes };
+
+    ghost stage = { λ s. s.stage };
+
+    ghost failures = { λ s. s.failures };
+
+    ghost takes_none = { HostTakes-none };
+
+    ghost takes_more = { HostTakes-more };
+
+    ghost failures_stay = { λ s t xs g. g.failures_stay };
+
+    fn begin(&mut self) -> Result<(), SinkFailed> {
+        if self.failures == u64::MAX {
+            return Err(SinkFailed);
+        }
+        let created = match &self.aim {
+            Some(path) => create(self.rt, path.as_str()).ok(),
+            None => None,
+        };
+        match created {
+            Some(file) => {
+                self.output = Some(file);
+                self.stage = Stage::Begun;
+                Ok(())
+            }
+            None => {
+                self.failures += 1;
+                Err(SinkFailed)
+            }
+        }
+    }
+
+    fn put(&mut self, bytes: &[u8]) -> Result<usize, SinkFailed> {
+        if self.failures == u64::MAX {
+            return Err(SinkFailed);
+        }
+        let written = match &mut self.output {
+            Some(file) => file.write(bytes),
+            None => Ok(0),
+        };
+        match written {
+            Ok(n) if n > 0 => Ok(n),
+            _ => {
+                self.failures += 1;
+                Err(SinkFailed)
+            }
+        }
+    }
+
+    fn finish(&mut self) -> Result<(), SinkFailed> {
+        if self.failures == u64::MAX {
+            return Err(SinkFailed);
+        }
+        let flushed = match &mut self.output {
+            Some(file) => file.flush().is_ok(),
+            None => false,
+        };
+        if !flushed {
+            self.failures += 1;
+            return Err(SinkFailed);
+        }
+        self.stage = Stage::Finished;
+        Ok(())
+    }
+}
+
+impl<'a, R: Files> FileSystem for HostFiles<'a, R> {
+    ghost use Rattle.std.specs.Prelude.{◌≡◌, refl, Some};
+    ghost use Rattle.std.proofs.Common.{arith};
+    ghost use Rattle.vault_files.specs.File.File.{Missing};
+    ghost use Rattle.vault_files.specs.HostLaws.{front-any, break-any};
+
+    type Reader = ReadSource<R::File>;
+
+    ghost meets = { λ s path file. Unit {0} };
+
+    ghost opened = { λ s path reader. Unit {0} };
+
+    ghost aimed = { λ s path t. t ≡ record s { aim = Some path } };
+
+    ghost meets_some = { λ s path. (Missing, tt) };
+
+    ghost front_met = { λ s path r t xs n opened gives fits end. front-any xs n fits };
+
+    ghost break_met = { λ s path r t xs n opened gives short risen. break-any n (Prim.omega (arith, short)) };
+
+    fn open(&self, path: &str) -> Result<ReadSource<R::File>, FileFault> {
+        match fs::open(self.rt, path) {
+            Ok(file) => Ok(ReadSource::new(file)),
+            Err(error) if matches!(error.kind(), ErrorKind::OutOfMemory) => Err(FileFault::Memory),
+            Err(_) => Err(FileFault::CannotOpen),
+        }
+    }
+
+    fn aim(&mut self, alloc: Global, path: &str) -> Result<(), AllocError> {
+        self.aim = Some(String::from_str(alloc, path)?);
+        Ok(())
+    }
+}
+
+#[cfg(test)]
+mod tests {
+    use super::*;
+    use crate::file_system::read_front;
+    use std::test::Fail;
+    use vault_text::put_all;
+
+    #[test]
+    fn reads_files_of_the_system(rt: HostRuntime) {
+        let files = HostFiles::new(&rt);
+        let mut buf = [1; 4];
+        assert_eq!(rt; read_front(&files, "/dev/zero", &mut buf), Ok(4));
+        assert_eq!(rt; buf, [0; 4]);
+        assert_eq!(rt; read_front(&files, "/dev/null", &mut buf), Ok(0));
+        assert_eq!(rt;
+            read_front(&files, "/", &mut buf),
+            Err(FileFault::CannotRead)
+        );
+        assert_eq!(rt;
+            read_front(&files, "", &mut buf),
+            Err(FileFault::CannotOpen)
+        );
+    }
+
+    #[test]
+    fn counts_what_cannot_be_written(rt: HostRuntime) -> Result<(), Fail> {
+        for (path, begins, takes) in [
+            ("/", false, false),
+            ("/dev/full", true, false),
+            ("/dev/null", true, true),
+        ] {
+            let mut files = HostFiles::new(&rt);
+            files.aim(rt.alloc(), path)?;
+            assert_eq!(rt; files.begin().is_ok(), begins, "{path}");
+            if begins {
+                assert_eq!(rt; put_all(&mut files, b"text").is_ok(), takes, "{path}");
+                assert_eq!(rt; files.failures, u64::from(!takes), "{path}");
+            }
+        }
+        Ok(())
+    }
+}

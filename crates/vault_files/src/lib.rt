@@ -1,0 +1,12 @@
+//! Where a program finds its files: over the runtime, or in memory.
+#![tactic(auto)]
+
+mod fault;
+mod file_system;
+mod host;
+mod memory;
+
+pub use fault::FileFault;
+pub use file_system::{FileSystem, read_front};
+pub use host::HostFiles;
+pub use memory::{MemFile, MemFileReader, MemFiles};

@@ -1,0 +1,8 @@
+//! Files in memory, for tests and for who embeds the program.
+mod entry;
+mod reader;
+mod store;
+
+pub use entry::MemFile;
+pub use reader::MemFileReader;
+pub use store::MemFiles;

@@ -1,0 +1,177 @@
+ghost use Rattle.std.specs.Prelude.{◌≡◌, [], None, MatchOption};
+ghost use Rattle.std.specs.Option.{option_map};
+ghost use Rattle.vault_files.specs.File.File.{Missing};
+ghost use Rattle.vault_files.specs.Memory.{bytes_of, file_at, new_store, stands_at};
+
+use super::entry::MemFile;
+use super::reader::MemFileReader;
+use crate::fault::FileFault;
+use crate::file_system::FileSystem;
+use std::alloc::{AllocError, Global};
+use std::marker::Model;
+use vault_text::{MemSink, Sink, SinkFailed};
+
+/// Files in memory. Of two files under one path the first counts. What is written stands at the
+/// path that was chosen, from `begin` on, in the place of what stood there; where none was chosen
+/// it stands at no path. A growth that is refused counts as a failure of the output.
+#[derive(Drop)]
+pub struct MemFiles<'a> {
+    entries: &'a [MemFile<'a>],
+    aim: Option<String>,
+    output: MemSink,
+}
+
+impl<'a> Model for MemFiles<'a> {
+    ghost use Rattle.std.specs.Option.{option_map};
+    ghost use Rattle.std.specs.String.{string_bytes};
+    ghost use Rattle.vault_files.specs.Memory.{StoreState};
+
+    ghost Value = { StoreState };
+
+    ghost view = { λ s. record { entries = s.entries.now; aim = option_map string_bytes s.aim; output = s.output } };
+}
+
+impl<'a> MemFiles<'a> {
+    pub fn new(alloc: Global, entries: &'a [MemFile<'a>]) -> Self
+        ensures { result ≡ new_store entries.now }
+    {
+        MemFiles {
+            entries,
+            aim: None,
+            output: MemSink::new(alloc, usize::MAX),
+        }
+    }
+
+    /// The bytes that stand at a path; None where no file does. Those of a file that breaks are the
+    /// ones before the break.
+    pub fn content(&self, path: &str) -> Option<&[u8]>
+        ensures { option_map (λ bytes. bytes.now) result ≡ bytes_of (stands_at self.now path.now) }
+    {
+        match &self.aim {
+            Some(aim) if self.output.begun() && aim.as_str() == path => Some(self.output.bytes()),
+            _ => find(self.entries, path).map(|entry| entry.bytes),
+        }
+    }
+}
+
+/// The first file under a path.
+fn find<'a>(entries: &'a [MemFile<'a>], path: &str) -> Option<&'a MemFile<'a>>
+    ensures { MatchOption result (file_at entries.now path.now ≡ Missing)
+        (λ entry. file_at entries.now path.now ≡ entry.now.file) }
+{
+    for entry in entries {
+        if entry.path == path {
+            return Some(entry);
+        }
+    }
+    None
+}
+
+impl<'a> Sink for MemFiles<'a> {
+    ghost use Rattle.vault_files.specs.Memory.{StoreTakes};
+    ghost use Rattle.vault_files.specs.MemoryLaws.{StoreTakes-none, StoreTakes-more};
+
+    ghost takes = { StoreTakes };
+
+    ghost stage = { λ s. s.output.stage };
+
+    ghost failures = { λ s. s.output.failures };
+
+    ghost takes_none = { StoreTakes-none };
+
+    ghost takes_more = { StoreTakes-more };
+
+    ghost failures_stay = { λ s t xs g. g.output.failures_stay };
+
+    fn begin(&mut self) -> Result<(), SinkFailed> {
+        self.output.begin()
+    }
+
+    fn put(&mut self, bytes: &[u8]) -> Result<usize, SinkFailed> {
+        self.output.put(bytes)
+    }
+
+    fn finish(&mut self) -> Result<(), SinkFailed> {
+        self.output.finish()
+    }
+}
+
+impl<'a> FileSystem for MemFiles<'a> {
+    ghost use Rattle.std.specs.Prelude.{◌≡◌, refl, Some};
+    ghost use Rattle.vault_files.specs.Memory.{IsReaderOf, file_at};
+    ghost use Rattle.vault_files.specs.MemoryLaws.{front-given, break-given};
+
+    type Reader = MemFileReader<'a>;
+
+    ghost meets = { λ s path file. file ≡ file_at s.entries path };
+
+    ghost opened = { λ s path reader. IsReaderOf (file_at s.entries path) reader };
+
+    ghost aimed = { λ s path t. t ≡ record s { aim = Some path } };
+
+    ghost meets_some = { λ s path. (file_at s.entries path, refl) };
+
+    ghost front_met = { λ s path r t xs n opened gives fits end. record { file = file_at s.entries path; met = refl; same = front-given (file_at s.entries path) r t xs n opened gives fits end } };
+
+    ghost break_met = { λ s path r t xs n opened gives short risen. record { file = file_at s.entries path; met = refl; same = break-given (file_at s.entries path) r t xs n opened gives short risen } };
+
+    fn open(&self, path: &str) -> Result<MemFileReader<'a>, FileFault> {
+        match find(self.entries, path) {
+            Some(entry) => Ok(entry.reader()),
+            None => Err(FileFault::CannotOpen),
+        }
+    }
+
+    fn aim(&mut self, alloc: Global, path: &str) -> Result<(), AllocError> {
+        self.aim = Some(String::from_str(alloc, path)?);
+        Ok(())
+    }
+}
+
+#[cfg(test)]
+mod tests {
+    use super::*;
+    use crate::file_system::read_front;
+    use std::test::Fail;
+    use vault_text::put_all;
+
+    #[test]
+    fn reads_fronts(rt: HostRuntime) {
+        let entries = [
+            MemFile::whole("one", b"abc"),
+            MemFile::broken("two", b"abc"),
+            MemFile::whole("one", b"later"),
+        ];
+        let files = MemFiles::new(rt.alloc(), &entries);
+        let mut buf = [0; 4];
+        assert_eq!(rt; read_front(&files, "one", &mut buf), Ok(3));
+        assert_eq!(rt; &buf[..3], b"abc".as_slice());
+        assert_eq!(rt; read_front(&files, "one", &mut buf[..2]), Ok(2));
+        assert_eq!(rt;
+            read_front(&files, "two", &mut buf),
+            Err(FileFault::CannotRead)
+        );
+        assert_eq!(rt; read_front(&files, "two", &mut buf[..3]), Ok(3));
+        assert_eq!(rt;
+            read_front(&files, "none", &mut buf),
+            Err(FileFault::CannotOpen)
+        );
+    }
+
+    #[test]
+    fn keeps_what_is_written(rt: HostRuntime) -> Result<(), Fail> {
+        let alloc = rt.alloc();
+        let entries = [MemFile::whole("one", b"abc"), MemFile::whole("two", b"de")];
+        let mut files = MemFiles::new(alloc, &entries);
+        files.aim(alloc, "one")?;
+        assert_eq!(rt; files.content("one"), Some(b"abc".as_slice()));
+        files.begin()?;
+        assert_eq!(rt; files.content("one"), Some(b"".as_slice()));
+        put_all(&mut files, b"new")?;
+        files.finish()?;
+        assert_eq!(rt; files.content("one"), Some(b"new".as_slice()));
+        assert_eq!(rt; files.content("two"), Some(b"de".as_slice()));
+        assert_eq!(rt; files.content("none"), None);
+        Ok(())
+    }
+}
