@@ -2,6 +2,7 @@ pub mod OutcomeFacts
 pub mod ParsedFacts
 pub mod ParsedSamples
 pub mod Pieces
+pub mod RefusalFacts
 pub mod RefusedAlone
 pub mod RequestFacts
 pub mod SecretFacts

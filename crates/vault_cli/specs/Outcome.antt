@@ -12,7 +12,7 @@ use Rattle.vault_core.specs.declared.password.SecretFault.{SecretFault}
 use Rattle.vault_cli.specs.Line.{line_of}
 use Rattle.vault_cli.specs.Request.{Request, SecretFile}
 use Rattle.vault_cli.specs.Status.{status_of}
-use Rattle.vault_cli.specs.declared.request.CommandName.{CommandName}
+use Rattle.vault_cli.specs.declared.command_name.CommandName.{CommandName}
 use Rattle.vault_cli.specs.declared.status.Status.{Status}
 use Rattle.vault_cli.specs.declared.status.Status.TheVariants.{Success}
 

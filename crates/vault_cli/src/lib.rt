@@ -3,10 +3,13 @@
 
 mod arguments;
 mod command_line;
+mod command_name;
 mod file_system;
 mod limits;
+mod options;
 mod parsing;
 mod program;
+mod refusals;
 mod report_line;
 mod request;
 mod runs;
@@ -15,12 +18,13 @@ mod status;
 mod vault_id;
 
 pub use command_line::command;
+pub use command_name::CommandName;
 pub use file_system::{FileFault, FileSystem, HostFiles};
 pub use limits::SALT_TEXT_LIMIT;
 pub use parsing::parse;
 pub use program::{drive, reject_words};
 pub use report_line::report;
-pub use request::{CommandName, Request};
+pub use request::Request;
 pub use runs::run;
 pub use settling::{has_command, settle};
 pub use status::Status;
