@@ -1,9 +1,10 @@
 pub mod ParsedFacts
 pub mod ParsedSamples
 pub mod Pieces
+pub mod RefusalFacts
+pub mod RefusedAlone
 pub mod RequestFacts
 pub mod SettlingFacts
 pub mod SecretFacts
-pub mod RefusedAlone
 pub mod TaskFacts
 pub mod OutcomeFacts
