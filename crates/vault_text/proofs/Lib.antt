@@ -10,6 +10,7 @@ pub mod Progress
 pub mod BlockFacts
 pub mod BodyFacts
 pub mod CleanText
+pub mod PayloadFacts
 pub mod Prefixes
 pub mod WholeLineFacts
 pub mod WrittenBodyFacts
