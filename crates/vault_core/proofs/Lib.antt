@@ -3,6 +3,8 @@ pub mod ByteLemmas
 pub mod ChoiceLemmas
 pub mod DecryptionLemmas
 pub mod EncryptionLemmas
+pub mod MadeVaultsDecrypt
+pub mod OpenedPlaintext
 pub mod OpeningLemmas
 pub mod PaddingLemmas
 pub mod RekeyingLemmas

@@ -17,7 +17,7 @@ use Rattle.vault_core.proofs.PaddingLemmas.{without_padding-padded}
 use Rattle.vault_core.proofs.SealingLemmas.{label-sealed}
 
 -- bytes are equal to themselves
-bytes_eq-same : (xs : List ℕ) → bytes_eq xs xs ≡ true
+pub bytes_eq-same : (xs : List ℕ) → bytes_eq xs xs ≡ true
 bytes_eq-same xs = (bytes_eq-Decides xs xs).1 refl
 
 module _ (sealing : Secret) (salt plain : List ℕ) where
