@@ -2,6 +2,8 @@
 #![tactic(auto)]
 
 #[cfg(test)]
+mod asked_once;
+#[cfg(test)]
 mod damage;
 #[cfg(test)]
 mod devices;

@@ -4,4 +4,5 @@ pub mod DecryptionLemmas
 pub mod EncryptionLemmas
 pub mod OpeningLemmas
 pub mod PaddingLemmas
+pub mod RekeyingLemmas
 pub mod SealingLemmas

@@ -19,6 +19,7 @@ pub(crate) fn agreeing_keys(secrets: &Secrets, payload: &Payload, meter: &mut Me
         (find (agrees payload.now) (tried_order secrets.now payload.now.label)) }
     ensures counted { meter.new
         ≡ meter.old + tries payload.now (tried_order secrets.now payload.now.label) }
+    ensures countable { meter.new < 2 ^ 63 }
 {
     let list = secrets.as_slice();
     if let Some(keys) = first_agreeing(list, true, payload, meter) {

@@ -57,6 +57,7 @@ pub(crate) fn read_and_open<'a, S: Source>(
         (IsWhole (envelope_limit limit) (S.ended src.new) input
         × (result ≡ decryption limit secrets.now input)
         × (meter.new ≡ meter.old + decryption_derivations limit secrets.now input)) }
+    ensures countable { meter.new < 2 ^ 63 }
 {
     let payload = read_payload(src, work)?;
     open(payload, secrets, meter)

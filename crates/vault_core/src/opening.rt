@@ -43,6 +43,7 @@ pub(crate) fn open<'a>(
     ensures opened { result ≡ opening secrets.now payload.entry }
     ensures counted { meter.new
         ≡ meter.old + tries payload.entry (tried_order secrets.now payload.entry.label) }
+    ensures countable { meter.new < 2 ^ 63 }
 {
     let derived_before = meter.count();
     let Some(keys) = agreeing_keys(secrets, &payload, meter) else {

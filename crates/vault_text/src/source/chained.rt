@@ -1,7 +1,4 @@
-ghost use Rattle.std.specs.Prelude.{◌≡◌, ℕ, ◌-◌, ◌^◌, ◌<◌, ◌≤◌, ◌↔◌, [], IsTrue, IsErr, IfOk, false, length, take, min};
-ghost use Rattle.vault_text.specs.Failures.{CountsFailure};
-ghost use Rattle.vault_text.specs.Source.{given};
-ghost use Rattle.vault_text.specs.ChainedSource.{GivesChained};
+ghost use Rattle.std.specs.Prelude.{◌≡◌, ◌-◌, ◌^◌, ◌<◌, false};
 
 use super::{Source, SourceFailed};
 use std::marker::Model;

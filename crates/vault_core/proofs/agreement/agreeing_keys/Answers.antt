@@ -1,4 +1,4 @@
-use Rattle.std.proofs.Common.{◌+◌, ap, arith, sym, true, ◌∙◌}
+use Rattle.std.proofs.Common.{◌+◌, ap, arith, false, sym, true, ◌∙◌}
 use Rattle.std.specs.Option.{option_map}
 use Rattle.std.specs.Prelude.{find}
 use Rattle.vault_core.specs.Agreement.{agrees, keys_of, tries}
@@ -53,3 +53,19 @@ returns-in-Required-clause-counted c =
     let first = rw c.as_slice-list.ensures.secrets at c.first_agreeing.ensures.counted in
     let order = tried_order-required c.args.secrets.now payload.label (sym c.rule.ensures ∙ c.in-Required.is) in
     omega (arith, first, ap (tries payload) order)
+
+pub returns-in-Some-clause-countable : goal.returns-in-Some-clause-countable
+returns-in-Some-clause-countable c =
+    let tried = tries-tried_part c.args.payload.now true c.args.payload.now.label c.as_slice-list.result.now in
+    omega (arith, c.requires, c.first_agreeing.ensures.counted, c.as_slice-list.ensures.fits, tried)
+
+pub returns-in-Hint-clause-countable : goal.returns-in-Hint-clause-countable
+returns-in-Hint-clause-countable c =
+    let labelled = tries-tried_part c.args.payload.now true c.args.payload.now.label c.as_slice-list.result.now in
+    let others = tries-tried_part c.args.payload.now false c.args.payload.now.label c.as_slice-list.result.now in
+    omega (arith, c.requires, c.first_agreeing.ensures.counted, c.first_agreeing-in-Hint.ensures.counted, c.as_slice-list.ensures.fits, labelled, others)
+
+pub returns-in-Required-clause-countable : goal.returns-in-Required-clause-countable
+returns-in-Required-clause-countable c =
+    let tried = tries-tried_part c.args.payload.now true c.args.payload.now.label c.as_slice-list.result.now in
+    omega (arith, c.requires, c.first_agreeing.ensures.counted, c.as_slice-list.ensures.fits, tried)
