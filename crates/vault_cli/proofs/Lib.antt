@@ -7,3 +7,5 @@ pub mod SecretFacts
 pub mod RefusedAlone
 pub mod TaskFacts
 pub mod OutcomeFacts
+pub mod LawFacts
+pub mod LawProofs

@@ -4,6 +4,7 @@
 mod arguments;
 mod command_line;
 mod file_system;
+pub mod laws;
 mod limits;
 mod parsing;
 mod passwords;
