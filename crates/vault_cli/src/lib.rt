@@ -3,12 +3,15 @@
 
 mod arguments;
 mod command_line;
+mod command_name;
 mod file_system;
 pub mod laws;
 mod limits;
+mod options;
 mod parsing;
 mod passwords;
 mod program;
+mod refusals;
 mod report_line;
 mod request;
 mod runs;
@@ -18,12 +21,13 @@ mod task;
 mod vault_id;
 
 pub use command_line::command;
+pub use command_name::CommandName;
 pub use file_system::{FileFault, FileSystem, HostFiles};
 pub use limits::{SALT_TEXT_LIMIT, SEALING_SALT_LENGTH};
 pub use parsing::parse;
 pub use program::{drive, reject_words};
 pub use report_line::report;
-pub use request::{CommandName, Request};
+pub use request::Request;
 pub use runs::run;
 pub use settling::{has_command, settle};
 pub use status::Status;

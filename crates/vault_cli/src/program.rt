@@ -1,8 +1,8 @@
 //! What the program does with its arguments, its files and its standard streams.
-ghost use Rattle.std.specs.Prelude.{◌≡◌, true, length, vec_len, IfOk, IsSomeAnd, OnErr};
+ghost use Rattle.std.specs.Prelude.{◌≡◌, true, is_some, length, option_and_then, vec_len, IfOk, OnErr};
 ghost use Rattle.clap.specs.Words.{subcommand_name_of};
+ghost use Rattle.vault_cli.specs.CommandName.{command_of};
 ghost use Rattle.vault_cli.specs.Request.{files_of};
-ghost use Rattle.vault_cli.specs.Settled.{is_command};
 ghost use Rattle.vault_text.specs.declared.limits.TheConstants.{CIPHERTEXT_LIMIT};
 
 use crate::file_system::{FileFault, FileSystem};
@@ -77,7 +77,7 @@ fn carry_out<F: FileSystem, R: Read, O: Write, K: Sink>(
     stdout: &mut O,
     err: &mut K,
 ) -> Result<Status, Fault>
-    requires command { IsSomeAnd (subcommand_name_of matches.now) (λ name. is_command name ≡ true) }
+    requires command { is_some (option_and_then command_of (subcommand_name_of matches.now)) ≡ true }
     requires err_unbegun { K.stage err.old ≡ Stage.Unbegun }
     ensures { OnErr result (err.new ≡ err.old) }
 {

@@ -2,33 +2,13 @@
 ghost use Rattle.std.specs.Prelude.{◌≡◌, ◌+◌, ◌<◌, ◌≤◌, Some, IfSome, is_some, length, slice_get};
 ghost use Rattle.std.specs.Option.{option_map};
 ghost use Rattle.vault_core.specs.declared.limits.TheConstants.{SECRET_COUNT_LIMIT};
-ghost use Rattle.vault_cli.specs.Request.{IsSaltText, files_of, is_rekey, seals};
+ghost use Rattle.vault_cli.specs.CommandName.{rekeys, seals};
+ghost use Rattle.vault_cli.specs.Request.{IsSaltText, files_of};
 
+use crate::command_name::CommandName;
 use std::marker::Model;
 use vault_core::LabelRule;
 use vault_text::Label;
-
-/// What is to be done.
-#[derive(Clone, Copy, Debug, PartialEq, Eq)]
-pub enum CommandName {
-    Encrypt,
-    Decrypt,
-    View,
-    Rekey,
-    EncryptString,
-}
-
-impl CommandName {
-    /// Whether a salt is used.
-    pub(crate) fn seals(self) -> bool
-        ensures { result ≡ seals self }
-    {
-        match self {
-            CommandName::Encrypt | CommandName::Rekey | CommandName::EncryptString => true,
-            CommandName::Decrypt | CommandName::View => false,
-        }
-    }
-}
 
 /// A password file, and the label of its secret.
 #[derive(Debug, Drop)]
@@ -128,7 +108,7 @@ impl Request {
     /// The label of what `rekey` seals with; `None` for every other command.
     pub fn new_label(&self) -> Option<&Label>
         ensures label { option_map (λ label. label.now) result ≡ option_map (λ file. file.label) self.now.new_secret }
-        ensures rekey { is_some result ≡ is_rekey self.now.command }
+        ensures rekey { is_some result ≡ rekeys self.now.command }
     {
         match &self.new_secret {
             Some(file) => Some(&file.label),

@@ -10,7 +10,8 @@ ghost use Rattle.vault_cli.specs.Task.{HasPlace, prepared, reseal_of, salt_of, s
 
 use crate::limits::SEALING_SALT_LENGTH;
 use crate::passwords::{NewSecret, new_secret_of, secrets_of};
-use crate::request::{CommandName, Request};
+use crate::command_name::CommandName;
+use crate::request::Request;
 use vault_core::{Fault, Form, Ready, Secrets, prepare_decrypt, prepare_encrypt, prepare_rekey};
 use vault_kdf::Meter;
 use vault_text::{Salt, Source};
