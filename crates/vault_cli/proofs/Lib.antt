@@ -1,10 +1,12 @@
+pub mod LawFacts
+pub mod LawProofs
+pub mod OutcomeFacts
 pub mod ParsedFacts
 pub mod ParsedSamples
 pub mod Pieces
 pub mod RefusalFacts
 pub mod RefusedAlone
 pub mod RequestFacts
-pub mod SettlingFacts
 pub mod SecretFacts
+pub mod SettlingFacts
 pub mod TaskFacts
-pub mod OutcomeFacts

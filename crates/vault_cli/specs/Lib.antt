@@ -12,3 +12,4 @@ pub mod Task
 pub mod StoredTask
 pub mod Outcome
 pub mod Run
+pub mod Laws

@@ -27,8 +27,10 @@ pub fn command<'a>(alloc: Global) -> Result<Command<'a>, Fault>
 
 /// The program itself, with its first two commands.
 fn with_opening<'a>(alloc: Global) -> Result<Command<'a>, AllocError>
-    ensures shape { IfOk result (λ command. app_of command
-        ≡ record { top = record top_shape { is_leaf = false }; subs = encrypt.top ∷ decrypt.top ∷ [] }) }
+    ensures shape { IfOk result (λ command. app_of command ≡ record {
+      top = record top_shape { is_leaf = false };
+      subs = encrypt.top ∷ decrypt.top ∷ [];
+    }) }
     ensures local { IfOk result (λ command. (fields_of command).has_globals ≡ false) }
 {
     top(alloc)?
@@ -116,7 +118,8 @@ fn with_secrets<'a>(alloc: Global, name: &'a str, about: &'a str) -> Result<Comm
 
 /// A command that seals.
 fn with_salt<'a>(alloc: Global, name: &'a str, about: &'a str) -> Result<Command<'a>, AllocError>
-    ensures shape { IfOk result (λ command. app_of command ≡ app_with name.now (secret_rules ++ salt_rules)) }
+    ensures shape { IfOk result (λ command.
+        app_of command ≡ app_with name.now (secret_rules ++ salt_rules)) }
     ensures local { IfOk result (λ command. (fields_of command).has_globals ≡ false) }
 {
     let path = "The file whose first 32 bytes are the salt; /dev/urandom by default";

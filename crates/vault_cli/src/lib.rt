@@ -5,6 +5,7 @@ mod arguments;
 mod command_line;
 mod command_name;
 mod file_system;
+pub mod laws;
 mod limits;
 mod options;
 mod parsing;

@@ -35,7 +35,22 @@ impl<'m, 'a> Model for Options<'m, 'a> {
 
     ghost Value = { Options };
 
-    ghost view = { λ o. record { command = o.command; vault_ids = map (λ id. id.now) o.vault_ids.now; password_files = map (λ path. path.now) o.password_files.now; encrypt_vault_id = option_map (λ v. v.now) o.encrypt_vault_id; new_vault_id = option_map (λ v. v.now) o.new_vault_id; new_password_file = option_map (λ v. v.now) o.new_password_file; name = option_map (λ v. v.now) o.name; stdin_name = option_map (λ v. v.now) o.stdin_name; string = option_map (λ v. v.now) o.string; salt_file = option_map (λ v. v.now) o.salt_file; salt_text = option_map (λ v. v.now) o.salt_text; rule = o.rule; file = option_map (λ v. v.now) o.file; output = option_map (λ v. v.now) o.output } };
+    ghost view = { λ o. record {
+      command = o.command;
+      vault_ids = map (λ id. id.now) o.vault_ids.now;
+      password_files = map (λ path. path.now) o.password_files.now;
+      encrypt_vault_id = option_map (λ label. label.now) o.encrypt_vault_id;
+      new_vault_id = option_map (λ id. id.now) o.new_vault_id;
+      new_password_file = option_map (λ path. path.now) o.new_password_file;
+      name = option_map (λ name. name.now) o.name;
+      stdin_name = option_map (λ name. name.now) o.stdin_name;
+      string = option_map (λ string. string.now) o.string;
+      salt_file = option_map (λ path. path.now) o.salt_file;
+      salt_text = option_map (λ text. text.now) o.salt_text;
+      rule = o.rule;
+      file = option_map (λ path. path.now) o.file;
+      output = option_map (λ path. path.now) o.output;
+    } };
 }
 
 impl<'m, 'a> Options<'m, 'a> {
@@ -80,7 +95,8 @@ fn value<'a>(given: &ArgMatches<'a>, option: &str) -> Option<&'a str>
 
 /// The value under an option, where the command has it.
 fn value_if<'a>(has: bool, given: &ArgMatches<'a>, option: &str) -> Option<&'a str>
-    ensures { option_map (λ v. v.now) result ≡ value_if has option.now (rows_of (found_of given.now)) }
+    ensures { option_map (λ v. v.now) result
+        ≡ value_if has option.now (rows_of (found_of given.now)) }
 {
     if has { value(given, option) } else { None }
 }

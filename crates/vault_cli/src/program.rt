@@ -1,8 +1,8 @@
 //! What the program does with its arguments, its files and its standard streams.
 ghost use Rattle.std.specs.Prelude.{◌≡◌, true, is_some, length, option_and_then, vec_len, IfOk, OnErr};
 ghost use Rattle.clap.specs.Words.{subcommand_name_of};
-ghost use Rattle.vault_cli.specs.Request.{files_of};
 ghost use Rattle.vault_cli.specs.CommandName.{command_of};
+ghost use Rattle.vault_cli.specs.Request.{files_of};
 ghost use Rattle.vault_text.specs.declared.limits.TheConstants.{CIPHERTEXT_LIMIT};
 
 use crate::file_system::{FileFault, FileSystem};

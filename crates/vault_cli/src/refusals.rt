@@ -113,7 +113,8 @@ fn check_name(name: Option<&str>) -> Result<(), Fault>
 }
 
 fn check_salt(text: Option<&str>, path: Option<&str>) -> Result<(), Fault>
-    ensures { result_err result ≡ salt_fault (option_map (λ v. v.now) text.entry) (option_map (λ v. v.now) path.entry) }
+    ensures { result_err result
+        ≡ salt_fault (option_map (λ v. v.now) text.entry) (option_map (λ v. v.now) path.entry) }
 {
     match (text, path) {
         (Some(_), Some(_)) => Err(Fault::SaltChoice),

@@ -59,7 +59,8 @@ fn plain_file(alloc: Global, path: &str) -> Result<SecretFile, AllocError>
 /// Adds the password files of vault ids that have no fault.
 fn add_ids(alloc: Global, files: &mut Vec<SecretFile>, ids: &[&str]) -> Result<(), Fault>
     requires { first_fault (map (λ id. id.now) ids.now) ≡ None }
-    ensures added { OnOk result (files.new.items ≡ files.old.items ++ map file_of_id (map (λ id. id.now) ids.now)) }
+    ensures added { OnOk result (files.new.items
+        ≡ files.old.items ++ map file_of_id (map (λ id. id.now) ids.now)) }
     ensures refused { IfErr result (λ fault. fault ≡ Memory) }
 {
     for id in ids {
@@ -70,7 +71,8 @@ fn add_ids(alloc: Global, files: &mut Vec<SecretFile>, ids: &[&str]) -> Result<(
 
 /// Adds password files without labels of their own.
 fn add_plain_files(alloc: Global, files: &mut Vec<SecretFile>, paths: &[&str]) -> Result<(), Fault>
-    ensures added { OnOk result (files.new.items ≡ files.old.items ++ map plain_file (map (λ path. path.now) paths.now)) }
+    ensures added { OnOk result (files.new.items
+        ≡ files.old.items ++ map plain_file (map (λ path. path.now) paths.now)) }
     ensures refused { IfErr result (λ fault. fault ≡ Memory) }
 {
     for path in paths {
@@ -81,7 +83,8 @@ fn add_plain_files(alloc: Global, files: &mut Vec<SecretFile>, paths: &[&str]) -
 
 /// A copy of a text, where there is one.
 fn copied(alloc: Global, text: Option<&str>) -> Result<Option<String>, AllocError>
-    ensures { IfOk result (λ copy. option_map string_bytes copy ≡ option_map (λ text. text.now) text.entry) }
+    ensures { IfOk result (λ copy.
+        option_map string_bytes copy ≡ option_map (λ text. text.now) text.entry) }
 {
     match text {
         Some(text) => Ok(Some(String::from_str(alloc, text)?)),
@@ -92,7 +95,8 @@ fn copied(alloc: Global, text: Option<&str>) -> Result<Option<String>, AllocErro
 impl<'m, 'a> Options<'m, 'a> {
     fn secret_files(&self, alloc: Global) -> Result<Vec<SecretFile>, Fault>
         requires { first_fault self.now.vault_ids ≡ None }
-        ensures files { IfOk result (λ files. files.items ≡ map file_of_id self.now.vault_ids ++ map plain_file self.now.password_files) }
+        ensures files { IfOk result (λ files. files.items
+            ≡ map file_of_id self.now.vault_ids ++ map plain_file self.now.password_files) }
         ensures refused { IfErr result (λ fault. fault ≡ Memory) }
     {
         let mut files = Vec::new(alloc);
