@@ -5,6 +5,7 @@ use super::{Source, SourceFailed};
 
 /// A source over bytes in memory, and behind them over another source, which alone tells the end
 /// and fails. It is asked once the bytes in memory are all given, and not after its end.
+// No `Model`: behind one, a caller would not learn what it gets back from `rest`.
 #[derive(Drop)]
 pub struct ChainedSource<'a, 'b, S: Source> {
     front: &'a [u8],
