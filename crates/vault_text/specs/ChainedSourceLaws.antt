@@ -1,32 +1,22 @@
 -- What a source of two parts gave in two calls, one after the other.
-use Rattle.std.specs.Prelude.{◌≡◌, ℕ, ◌-◌, ◌^◌, ◌<◌, ◌≤◌, ◌++◌, List, [], ◌∷◌, Bool, refl}
+use Rattle.std.specs.Prelude.{◌≡◌, ℕ, ◌≤◌, ◌++◌, List, [], ◌∷◌, Bool, refl}
 use Rattle.std.proofs.Common.{arith, inl, inr, sym, ◌∙◌, append_assoc}
-use Rattle.std.proofs.lemmas.Bool.{cases_lt}
 use Rattle.std.proofs.lemmas.List.{append-nil}
-use Rattle.vault_text.specs.Failures.{HasRisen}
 use Rattle.vault_text.specs.ChainedSource.{ChainedState, GivesFront, GivesPast, GivesChained}
 
 empty_parts : (xs ys : List ℕ) → xs ++ ys ≡ [] → (xs ≡ []) × (ys ≡ [])
 empty_parts [] ys e = (refl, e)
 empty_parts (x ∷ xs) ys e = absurd cc
 
--- two counts of failures that rise together, after two calls
-one-failed : (own next last : ℕ) (count more most : ℕ) → own ≤ next → next ≤ last
-    → (next ≡ own → more ≡ count) → (last ≡ next → most ≡ more)
-    → (own < 2 ^ 64 - 1 → HasRisen own next → HasRisen count more)
-    → (next < 2 ^ 64 - 1 → HasRisen next last → HasRisen more most)
-    → own < 2 ^ 64 - 1 → HasRisen own last → HasRisen count most
-one-failed own next last count more most first then same again rose rises below risen =
-    elim (cases_lt own next) [
-      | inl risen_first ↦
-          let stays : last ≡ next = omega (arith, first, then, below, risen, risen_first) in
-          rw (again stays) (rose below (omega (arith, first, then, below, risen, risen_first)))
-      | inr not_first ↦
-          let stays : next ≡ own = omega (arith, first, not_first) in
-          rw (← same stays) (rises (omega (arith, below, stays)) (omega (arith, risen, stays)))
-    ]
+module _ {S : Type 0} (gives : S → List ℕ → S → Type 0) (ended : S → Bool) where
+  -- a source that was not asked gave nothing
+  pub GivesChained-none : (s : ChainedState S) → GivesChained gives ended s [] s
+  GivesChained-none s = record {
+    parts = inl (refl, refl);
+    nothing_after_end = λ e. (refl, e);
+    end_is_the_rests = λ sound e. sound e;
+  }
 
-module _ {S : Type 0} (gives : S → List ℕ → S → Type 0) (ended : S → Bool) (failures : S → ℕ) where
   front-more : (s t u : ChainedState S) (xs ys : List ℕ)
       → GivesFront s xs t → GivesFront t ys u → GivesFront s (xs ++ ys) u
   front-more s t u xs ys p q = (rw (p.0, q.0) (sym (append_assoc xs ys u.front)), q.1 ∙ p.1)
@@ -59,22 +49,10 @@ module _ {S : Type 0} (gives : S → List ℕ → S → Type 0) (ended : S → B
     ),
   )
 
-  -- a source that was not asked gave nothing
-  pub GivesChained-none : (s : ChainedState S) → GivesChained gives ended failures s [] s
-  GivesChained-none s = record {
-    parts = inl (refl, refl);
-    nothing_after_end = λ e. (refl, e);
-    end_of_rest = λ sound e. sound e;
-    failures_stay = omega arith;
-    none_failed = λ _. refl;
-    one_failed = λ below risen. absurd (omega (arith, below, risen));
-  }
-
   -- what was given first and what was given then are given one after the other
   pub GivesChained-more : ((s t u : S) (xs ys : List ℕ) → gives s xs t → gives t ys u → gives s (xs ++ ys) u)
       → (s t u : ChainedState S) (xs ys : List ℕ)
-      → GivesChained gives ended failures s xs t → GivesChained gives ended failures t ys u
-      → GivesChained gives ended failures s (xs ++ ys) u
+      → GivesChained gives ended s xs t → GivesChained gives ended t ys u → GivesChained gives ended s (xs ++ ys) u
   GivesChained-more more s t u xs ys p q = record {
     parts = elim p.parts [
       | inl front ↦ elim q.parts [
@@ -90,12 +68,13 @@ module _ {S : Type 0} (gives : S → List ℕ → S → Type 0) (ended : S → B
         let first = p.nothing_after_end e in
         let then = q.nothing_after_end first.1 in
         (rw (first.0, then.0) refl, then.1);
-    end_of_rest = λ sound e. q.end_of_rest (p.end_of_rest sound) e;
-    failures_stay = let a = p.failures_stay in let b = q.failures_stay in omega arith;
-    none_failed = λ same.
-        q.none_failed (omega (arith, same, p.failures_stay, q.failures_stay))
-        ∙ p.none_failed (omega (arith, same, p.failures_stay, q.failures_stay));
-    one_failed =
-        one-failed s.failures t.failures u.failures (failures s.rest) (failures t.rest) (failures u.rest)
-        p.failures_stay q.failures_stay p.none_failed q.none_failed p.one_failed q.one_failed;
+    end_is_the_rests = λ sound e. q.end_is_the_rests (p.end_is_the_rests sound) e;
   }
+
+  -- the failures are those of the source behind the front
+  pub GivesChained-failures : (failures : S → ℕ) → ((s t : S) (xs : List ℕ) → gives s xs t → failures s ≤ failures t)
+      → (s t : ChainedState S) (xs : List ℕ) → GivesChained gives ended s xs t → failures s.rest ≤ failures t.rest
+  GivesChained-failures failures stay s t xs p = elim p.parts [
+    | inl front ↦ rw (front.1) (omega arith)
+    | inr past ↦ stay s.rest t.rest past.1.0 past.1.2
+  ]

@@ -49,6 +49,26 @@ pub trait Source {
     ghost failures_stay: { (s t : Self) (xs : List ℕ) → gives s xs t → failures s ≤ failures t };
 }
 
+impl<S: Source> Source for &mut S {
+    ghost gives = { λ s xs t. S.gives s.now xs t.now };
+
+    ghost ended = { λ s. S.ended s.now };
+
+    ghost failures = { λ s. S.failures s.now };
+
+    ghost gives_none = { λ s. S.gives_none s.now };
+
+    ghost gives_more = { λ s t u. S.gives_more s.now t.now u.now };
+
+    ghost nothing_after_end = { λ s t. S.nothing_after_end s.now t.now };
+
+    ghost failures_stay = { λ s t. S.failures_stay s.now t.now };
+
+    fn fill(&mut self, buf: &mut [u8]) -> Result<usize, SourceFailed> {
+        (**self).fill(buf)
+    }
+}
+
 /// Reads until the end or until `buf` is full, and answers how many bytes stand at its front. An
 /// empty `buf` asks nothing. After a failure `buf` holds any bytes.
 pub fn fill_up<S: Source>(source: &mut S, buf: &mut [u8]) -> Result<usize, SourceFailed>

@@ -1,74 +1,75 @@
-ghost use Rattle.std.specs.Prelude.{◌≡◌, false};
-ghost use Rattle.vault_text.specs.ChainedSource.{chained_state};
+ghost use Rattle.std.specs.Prelude.{◌≡◌, ◌-◌, ◌^◌, ◌<◌, false};
 
 use super::{Source, SourceFailed};
+use std::marker::Model;
 
 /// A source over bytes in memory, and behind them over another source, which alone tells the end
-/// and fails. It is asked once the bytes in memory are all given, and not after its end.
-// No `Model`: behind one, a caller would not learn what it gets back from `rest`.
+/// and fails. It is asked once the bytes in memory are all given.
 #[derive(Drop)]
-pub struct ChainedSource<'a, 'b, S: Source> {
+pub struct ChainedSource<'a, S: Source> {
     front: &'a [u8],
-    rest: &'b mut S,
+    rest: S,
     ended: bool,
-    failures: u64,
 }
 
-impl<'a, 'b, S: Source> ChainedSource<'a, 'b, S> {
+impl<'a, S: Source> Model for ChainedSource<'a, S> {
+    ghost use Rattle.std.specs.Prelude.{◌≡◌, ◌-◌, ◌^◌, ◌<◌, ◌⊎◌, [], IsTrue};
+    ghost use Rattle.vault_text.specs.ChainedSource.{ChainedState};
+
+    ghost Value = { ChainedState S };
+
+    ghost view = { λ s. record { front = s.front.now; rest = s.rest; ended = s.ended } };
+
+    ghost invariant = { λ s. ((s.front.now ≡ []) ⊎ (S.failures s.rest < 2 ^ 64 - 1))
+        × (IsTrue s.ended → (s.front.now ≡ []) × IsTrue (S.ended s.rest)) };
+}
+
+impl<'a, S: Source> ChainedSource<'a, S> {
     /// Gives the bytes of `front`, and then those that `rest` has left.
-    pub fn new(front: &'a [u8], rest: &'b mut S) -> Self
-        ensures same_reference { result.rest.ghost_name ≡ rest.entry.ghost_name }
-        ensures state { chained_state result
-            ≡ record { front = front.now; rest = rest.old; ended = false; failures = 0 } }
+    pub fn new(front: &'a [u8], rest: S) -> Self
+        requires { S.failures rest < 2 ^ 64 - 1 }
+        ensures { result ≡ record { front = front.now; rest = rest; ended = false } }
     {
         ChainedSource {
             front,
             rest,
             ended: false,
-            failures: 0,
         }
+    }
+
+    /// The source behind the front, with what it has left by now.
+    pub fn into_rest(self) -> S
+        ensures { result ≡ self.entry.rest }
+    {
+        let ChainedSource { rest, .. } = self;
+        rest
     }
 }
 
-impl<'a, 'b, S: Source> Source for ChainedSource<'a, 'b, S> {
-    ghost use Rattle.std.specs.Prelude.{◌≡◌, refl};
-    ghost use Rattle.std.proofs.Common.{◌∙◌};
-    ghost use Rattle.vault_text.specs.ChainedSource.{GivesChained, chained_state};
-    ghost use Rattle.vault_text.specs.ChainedSourceLaws.{GivesChained-none, GivesChained-more};
+impl<'a, S: Source> Source for ChainedSource<'a, S> {
+    ghost use Rattle.std.specs.Prelude.{◌≡◌};
+    ghost use Rattle.vault_text.specs.ChainedSource.{GivesChained};
+    ghost use Rattle.vault_text.specs.ChainedSourceLaws.{GivesChained-none, GivesChained-more, GivesChained-failures};
 
-    ghost gives = { λ s xs t. (t.rest.ghost_name ≡ s.rest.ghost_name)
-        × GivesChained S.gives S.ended S.failures (chained_state s) xs (chained_state t) };
+    ghost gives = { GivesChained S.gives S.ended };
 
     ghost ended = { λ s. s.ended };
 
-    ghost failures = { λ s. s.failures };
+    ghost failures = { λ s. S.failures s.rest };
 
-    ghost gives_none = { λ s. (refl, GivesChained-none S.gives S.ended S.failures (chained_state s)) };
+    ghost gives_none = { GivesChained-none S.gives S.ended };
 
-    ghost gives_more = { λ s t u xs ys g h. (h.0 ∙ g.0, GivesChained-more S.gives S.ended S.failures S.gives_more (chained_state s) (chained_state t) (chained_state u) xs ys g.1 h.1) };
+    ghost gives_more = { GivesChained-more S.gives S.ended S.gives_more };
 
-    ghost nothing_after_end = { λ s t xs g. g.1.nothing_after_end };
+    ghost nothing_after_end = { λ s t xs g. g.nothing_after_end };
 
-    ghost failures_stay = { λ s t xs g. g.1.failures_stay };
+    ghost failures_stay = { GivesChained-failures S.gives S.ended S.failures S.failures_stay };
 
     fn fill(&mut self, buf: &mut [u8]) -> Result<usize, SourceFailed> {
-        if self.failures == u64::MAX {
-            return Err(SourceFailed);
-        }
-        if self.ended {
-            return Ok(0);
-        }
         if self.front.is_empty() {
-            return match self.rest.fill(buf) {
-                Ok(n) => {
-                    self.ended = n == 0;
-                    Ok(n)
-                }
-                Err(error) => {
-                    self.failures += 1;
-                    Err(error)
-                }
-            };
+            let n = self.rest.fill(buf)?;
+            self.ended = n == 0;
+            return Ok(n);
         }
         let n = buf.len().min(self.front.len());
         let (now, later) = self.front.split_at(n);
