@@ -1,7 +1,7 @@
 PREFIX ?= /usr/local
 DESTDIR ?=
 
-.PHONY: all check test bench install clean
+.PHONY: all check test fuzz bench install clean
 
 # Proves the program and the crates that it stands on, and builds it.
 all:
@@ -18,6 +18,11 @@ check:
 test: all
 	tests/end_to_end.py bin/ansible-vault
 	tests/tables_are_read
+	tests/fuzz.py bin/ansible-vault --seed 1 --runs 6000 --seconds 60
+
+# Random requests, until told to stop.
+fuzz: all
+	tests/fuzz.py bin/ansible-vault
 
 bench: all
 	bench/view.py bin/ansible-vault

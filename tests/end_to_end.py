@@ -13,7 +13,7 @@ from pathlib import Path
 
 sys.dont_write_bytecode = True
 
-from vaults import ENVELOPE, ENVELOPE_LIMIT, HEADER, LIMIT, padded, parts, seal, spelled
+from vaults import ENVELOPE, ENVELOPE_LIMIT, HEADER, PLAINTEXT_LIMIT as LIMIT, padded, parts, seal, spelled
 
 FIXTURES = Path(__file__).resolve().parent / "fixtures"
 SECONDS = 60
