@@ -41,6 +41,7 @@ test: all
 	tests/end_to_end.py bin/ansible-vault
 	tests/tables_are_read
 	tests/options_agree bin/ansible-vault
+	tests/tables_agree
 	tests/completions
 	tests/package
 	tests/fuzz.py bin/ansible-vault --seed 1 --runs 6000 --seconds 60
