@@ -1,5 +1,8 @@
 #!/usr/bin/env python3
-"""The model as a program: `end_to_end.py reference.py` shows that cases and model agree."""
+"""The model as a program. `end_to_end.py reference.py --offered WORD,..` shows that the cases agree with
+it, without `--help` and but for two things that come from Python: it does not start on a folder as
+standard input, and a closed standard input is given to the first file that is opened.
+"""
 
 import os
 import signal
