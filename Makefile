@@ -44,6 +44,7 @@ test: all
 	tests/tables_agree
 	tests/completions
 	tests/package
+	tests/workflows bin/ansible-vault
 	tests/with_ansible bin/ansible-vault
 	tests/fuzz.py bin/ansible-vault --seed 1 --runs 6000 --seconds 60
 
