@@ -20,7 +20,7 @@ all: bin/ansible-vault
 
 # Proves the program and the crates that it stands on, and builds it.
 bin/ansible-vault: $(SOURCES) bin/processor
-	@echo "Proving the program and the crates below it, where they changed (from nothing: about 4 minutes)"
+	@echo "Proving the program and the crates below it, where they changed; from nothing it takes minutes"
 	@tools/progress.py bin/build.log ansible_vault \
 		env -C crates/ansible_vault rt run ansible_vault $(if $(CPU),--cpu $(CPU)) -- --version
 	@cp crates/ansible_vault/out/ansible_vault $@
@@ -33,7 +33,7 @@ bin/processor: FORCE
 # The gate, and then the tests of the program that was built and of the cipher's tables.
 check:
 	@mkdir -p bin
-	@echo "Proving every crate and its tests from nothing, and trying the must-fail edits (about 15 minutes)"
+	@echo "Proving every crate and its tests from nothing, and trying the must-fail edits; it takes minutes"
 	@tools/progress.py bin/ci.log all rt ci
 	@$(MAKE) --no-print-directory test
 
