@@ -42,6 +42,7 @@ test: all
 	tests/tables_are_read
 	tests/options_agree bin/ansible-vault
 	tests/tables_agree
+	tests/audit_agrees
 	tests/completions
 	tests/package
 	tests/workflows bin/ansible-vault
