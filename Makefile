@@ -19,6 +19,8 @@ test: all
 	tests/end_to_end.py bin/ansible-vault
 	tests/tables_are_read
 	tests/with_ansible bin/ansible-vault
+	tests/hostile.py bin/ansible-vault
+	tests/with_valgrind bin/ansible-vault
 	tests/fuzz.py bin/ansible-vault --seed 1 --runs 6000 --seconds 60
 
 # Random requests, until told to stop.
