@@ -28,7 +28,8 @@ fuzz: all
 	tests/fuzz.py bin/ansible-vault
 
 bench: all
-	bench/view.py bin/ansible-vault
+	bench/commands.py bin/ansible-vault --chart docs/speed.svg
+	bench/parts.py bin/ansible-vault
 	bench/envelope.py
 	bench/counter_mode.py
 	bench/key_derivation.py
