@@ -47,6 +47,8 @@ test: all
 	tests/package
 	tests/workflows bin/ansible-vault
 	tests/with_ansible bin/ansible-vault
+	tests/hostile.py bin/ansible-vault
+	tests/with_valgrind bin/ansible-vault
 	tests/fuzz.py bin/ansible-vault --seed 1 --runs 6000 --seconds 60
 
 # Random requests, until told to stop.
@@ -54,7 +56,8 @@ fuzz: all
 	tests/fuzz.py bin/ansible-vault
 
 bench: all
-	bench/view.py bin/ansible-vault
+	bench/commands.py bin/ansible-vault --chart docs/speed.svg
+	bench/parts.py bin/ansible-vault
 	bench/envelope.py
 	bench/counter_mode.py
 	bench/key_derivation.py
