@@ -4,7 +4,7 @@ DESTDIR ?=
 CPU ?=
 
 VERSION := $(shell sed -n 's/^const VERSION: &str = "\(.*\)";$$/\1/p' crates/vault_cli/src/command_line.rt)
-SOURCES := $(shell find crates/*/src crates/*/specs crates/*/proofs -type f) crates.txt
+SOURCES := $(shell find crates/*/src crates/*/specs crates/*/proofs) crates.txt
 
 SHARE := $(DESTDIR)$(PREFIX)/share
 # Where Debian's tools look.
@@ -45,6 +45,7 @@ test: all
 	tests/audit_agrees
 	tests/completions
 	tests/package
+	tests/first_page bin/ansible-vault
 	tests/workflows bin/ansible-vault
 	tests/with_ansible bin/ansible-vault
 	tests/hostile.py bin/ansible-vault
