@@ -44,6 +44,7 @@ test: all
 	tests/tables_agree
 	tests/audit_agrees
 	tests/completions
+	tests/progress
 	tests/package
 	tests/first_page bin/ansible-vault
 	tests/workflows bin/ansible-vault
