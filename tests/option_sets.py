@@ -54,6 +54,12 @@ def help_options(text: str) -> set[str]:
     return {option for pair in found for option in pair if option}
 
 
+def help_of(text: str, option: str) -> str:
+    """What the help says behind an option."""
+    found = re.search(rf"{option} (.*(?:\n {{12,}}\S.*)*)", text)
+    return " ".join(found[1].split()) if found else ""
+
+
 def help_commands(text: str) -> list[str]:
     listed = text.partition("Commands:\n")[2].partition("\n\n")[0]
     return re.findall(r"^  (\w+)", listed, re.MULTILINE)
