@@ -42,23 +42,32 @@ _ansible_vault_before() {
     echo "${COMP_WORDS[place]}"
 }
 
-# The files whose path begins with the word, behind what stands before them in it.
+# The files whose path begins with the word.
 _ansible_vault_files() {
-    mapfile -t COMPREPLY < <(compgen -P "$2" -f -- "$1")
+    mapfile -t COMPREPLY < <(compgen -f -- "$1")
     compopt -o filenames 2>/dev/null
 }
 
+# Such files behind a label, whose `@` readline keeps in the word.
+_ansible_vault_labelled_files() {
+    local path
+    while read -r path; do
+        [[ -d $path ]] && path+=/
+        COMPREPLY+=("${1%%@*}@$path")
+    done < <(compgen -f -- "${1#*@}")
+    [[ ${COMPREPLY[*]} == */ ]] && compopt -o nospace 2>/dev/null
+}
+
 _ansible_vault() {
-    local word=${COMP_WORDS[COMP_CWORD]}
+    local word=$2
     local command
     command=$(_ansible_vault_command)
     COMPREPLY=()
-    [[ $word == [=@] ]] && word=
 
     case $(_ansible_vault_before) in
     --vault-id | --new-vault-id)
         case $word in
-        *@*) _ansible_vault_files "${word#*@}" "${word%%@*}@" ;;
+        *@*) _ansible_vault_labelled_files "$word" ;;
         *) _ansible_vault_files "$word" ;;
         esac
         ;;
@@ -78,6 +87,7 @@ _ansible_vault() {
         fi
         ;;
     esac
+    return 0
 }
 
 complete -F _ansible_vault ansible-vault

@@ -11,6 +11,7 @@ counts what passed.
 import pathlib
 import queue
 import re
+import shutil
 import subprocess
 import sys
 import threading
@@ -151,6 +152,8 @@ def follow(progress: Progress, lines: queue.Queue):
 
 def main():
     path, top, *command = sys.argv[1:]
+    if not shutil.which(command[0]):
+        sys.exit(f"{command[0]} is not on PATH; it comes with the Rattle kit")
     uses = libraries(CRATES.read_text())
     progress = Gate(list(uses)) if top == "all" else Build(uses, top)
     lines = queue.Queue()
