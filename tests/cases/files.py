@@ -205,3 +205,20 @@ def without_rights(cases: Cases) -> None:
         cases.refused(f"{sample.command} of a locked file", [*sample.words, locked, *to_output(sample)], Fault.INPUT_NOT_OPENED)
     for sample in with_output(cases):
         cases.refused(f"{sample.command} to a locked file", [*sample.words, "--output", locked], Fault.NOT_WRITTEN, sample.stdin)
+
+
+NEEDS = ["FILE", "--output"]
+GROUPS = [
+    inputs,
+    input_pipes,
+    output_needed,
+    outputs,
+    every_umask,
+    output_pipes,
+    unwritable,
+    onto_the_input,
+    onto_a_password_file,
+    refused_leaves_outputs,
+    order,
+    without_rights,
+]
