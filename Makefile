@@ -28,6 +28,7 @@ test: all
 	tests/tables_are_read
 	tests/documented.py bin/ansible-vault
 	tests/installed
+	tests/workflows bin/ansible-vault
 	tests/with_ansible bin/ansible-vault
 	tests/hostile.py bin/ansible-vault
 	tests/with_valgrind bin/ansible-vault
