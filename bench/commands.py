@@ -32,6 +32,15 @@ CHART_SIZES = {"4 KiB": 1 << 12, "16 KiB": 1 << 14, "256 KiB": 1 << 18, "4 MiB":
 RUNS = 5
 RIGHT = b"the right password"
 OURS, THEIRS = "ours", "theirs"
+# How many times faster the rows of these names shall be.
+GOALS = {
+    "view, 1 KiB": 23,
+    "view, 1 MiB": 13,
+    "view, 16 MiB": 3.8,
+    "encrypt, 1 KiB": 25,
+    "encrypt, 1 MiB": 8,
+    "rekey, 1 KiB": 20,
+}
 
 
 class Row(NamedTuple):
@@ -123,6 +132,7 @@ def line_of(name: str, times: dict[str, Times]) -> str:
     if THEIRS in times:
         steady = all(took.is_steady for took in times.values())
         line += f" {times[THEIRS].wall / times[OURS].wall:7.1f}" if steady else "    none: wall and processor time differ"
+        line += f"  (goal: {GOALS[name]})" if name in GOALS else ""
     return line
 
 

@@ -70,15 +70,22 @@ def expected(case: Case, salt: bytes) -> Answer:
     return answered
 
 
+def run(case: Case, program: list[str], folder: Path) -> subprocess.CompletedProcess:
+    return subprocess.run(
+        [*program, *case.words], input=case.stdin, capture_output=True, cwd=folder, timeout=SECONDS
+    )
+
+
 def differences(case: Case, program: list[str]) -> list[str]:
     """Runs the case in a folder of its own; what is other than the model has it."""
     with tempfile.TemporaryDirectory() as name:
         folder = Path(name)
         case.lay_out(folder)
         before = contents(folder)
-        done = subprocess.run(
-            [*program, *case.words], input=case.stdin, capture_output=True, cwd=folder, timeout=SECONDS
-        )
+        try:
+            done = run(case, program, folder)
+        except subprocess.TimeoutExpired:
+            return [f"no answer in {SECONDS} seconds"]
         after = contents(folder)
         modes = {path: stat.S_IMODE((folder / path).stat().st_mode) for path in after.keys() - before.keys()}
     changed = [content for path, content in after.items() if before.get(path) != content]

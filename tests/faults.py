@@ -50,8 +50,12 @@ class Fault(Enum):
         return self.value[0]
 
     @property
+    def text(self) -> str:
+        return self.value[1]
+
+    @property
     def line(self) -> bytes:
-        return f"ERROR! {self.value[1]}\n".encode()
+        return f"ERROR! {self.text}\n".encode()
 
     @property
     def status(self) -> int:

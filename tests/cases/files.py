@@ -13,6 +13,8 @@ from vaults import ENVELOPE_LIMIT, MAGIC, seal
 
 OLD = b"what stood here before\n" * 1_000
 NOT_ASKED = b"standard input is not asked"
+# The user and group that own nothing.
+NOBODY = 65_534
 
 
 def with_files(cases: Cases) -> list[Sample]:
@@ -196,12 +198,64 @@ def order(cases: Cases) -> None:
             cases.refused(f"{sample.command}, {name}", [*words, *out], fault, NOT_ASKED)
 
 
+def closed_streams(cases: Cases) -> None:
+    """Files that get the numbers of closed streams hold what they should."""
+    for sample in with_output(cases):
+        is_string = sample.command == "encrypt_string"
+        for redirections in (">&-", "2>&-", ">&- 2>&-", "<&- >&- 2>&-"):
+            given, path = cases.file(sample.stdin), cases.path()
+            words = [*sample.words, "--output", path] + ([] if is_string else [given])
+            script = f'exec "$0" "$@" {redirections}'
+            done = subprocess.run(["sh", "-c", script, cases.program, *words], input=sample.stdin, capture_output=True, timeout=SECONDS)
+            status = 3 if is_string and redirections.startswith("<") else 0
+            name = f"{sample.command} by names {redirections}"
+            cases.check(f"{name}: status and streams", (done.returncode, done.stdout, done.stderr), (status, b"", b""))
+            if status == 0:
+                cases.check(f"{name}: output", Path(path).read_bytes(), sample.output)
+            cases.check(f"{name}: input", Path(given).read_bytes(), sample.stdin)
+            cases.check(f"{name}: password file", Path(sample.words[2]).read_bytes(), b"right\n")
+
+
 def without_rights(cases: Cases) -> None:
-    """Files that their owner may neither read nor write; nothing keeps root from them."""
-    if os.geteuid() == 0:
+    """Files that may neither be read nor written; root runs the program as somebody else, since nothing
+    keeps root from them."""
+    other = {"user": NOBODY, "group": NOBODY} if os.geteuid() == 0 else {}
+    runs = lambda words, stdin: subprocess.run([cases.program, *words], input=stdin, capture_output=True, timeout=SECONDS, **other)
+    cases.folder.chmod(0o755)
+    try:
+        runs(["--version"], b"")
+    except PermissionError:
+        print("left out: nobody else may run the program where it lies")
         return
     locked = cases.file(OLD, 0)
     for sample in with_files(cases):
-        cases.refused(f"{sample.command} of a locked file", [*sample.words, locked, *to_output(sample)], Fault.INPUT_NOT_OPENED)
+        fault = Fault.INPUT_NOT_OPENED
+        done = runs([*sample.words, locked, *to_output(sample)], NOT_ASKED)
+        cases.check(f"{sample.command} of a locked file", (done.returncode, done.stdout, done.stderr), (fault.status, b"", fault.line))
     for sample in with_output(cases):
-        cases.refused(f"{sample.command} to a locked file", [*sample.words, "--output", locked], Fault.NOT_WRITTEN, sample.stdin)
+        fault = Fault.NOT_WRITTEN
+        for path in (locked, str(cases.folder / "new")):
+            done = runs([*sample.words, "--output", path], sample.stdin)
+            cases.check(f"{sample.command} to a locked place", (done.returncode, done.stdout, done.stderr), (fault.status, b"", fault.line))
+        fault = Fault.SECRET_NOT_OPENED
+        done = runs([*sample.words, *by_file(locked)], sample.stdin)
+        cases.check(f"{sample.command}, a locked password file", (done.returncode, done.stdout, done.stderr), (fault.status, b"", fault.line))
+    cases.check("the locked file stays", Path(locked).read_bytes(), OLD)
+
+
+NEEDS = ["FILE", "--output"]
+GROUPS = [
+    inputs,
+    input_pipes,
+    output_needed,
+    outputs,
+    every_umask,
+    output_pipes,
+    unwritable,
+    onto_the_input,
+    onto_a_password_file,
+    refused_leaves_outputs,
+    order,
+    closed_streams,
+    without_rights,
+]

@@ -59,3 +59,10 @@ def several_secrets(cases: Cases) -> None:
         cases.opens(f"{password} of two alike", both, seal(password, TEXT, b"a"), TEXT)
     for name, stdin, fault in (("text", b"key: value\n", Fault.NOT_VAULT), ("odd digits", HEADER + b"\nabc", Fault.BAD_HEX), ("no parts", HEADER, Fault.BAD_PAYLOAD)):
         cases.refuses(f"{name} with a secret", by_file(right), stdin, fault)
+
+
+NEEDS = []
+GROUPS = [
+    vault_ids,
+    several_secrets,
+]

@@ -52,3 +52,11 @@ def endless_pipe(cases: Cases) -> None:
     child = subprocess.Popen([cases.program, "view", "--loud"], stdin=subprocess.PIPE, stderr=subprocess.DEVNULL)
     cases.check("no input is asked for", child.wait(SECONDS), 2)
     child.stdin.close()
+
+
+NEEDS = ["--help"]
+GROUPS = [
+    texts,
+    refused_words,
+    endless_pipe,
+]

@@ -97,3 +97,11 @@ def password_paths(cases: Cases) -> None:
     cases.opens("a path with @", by_id(str(at), "dev"), vault, TEXT)
     cases.opens("a vault id without @", ["--vault-id", right], vault, TEXT)
     cases.opens("a vault id with nothing before @", ["--vault-id", f"@{right}"], vault, TEXT)
+
+
+NEEDS = []
+GROUPS = [
+    passwords,
+    refused_passwords,
+    password_paths,
+]

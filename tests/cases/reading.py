@@ -121,3 +121,13 @@ def damaged(cases: Cases) -> None:
         vault = spelled(*parts(b"right", whole))
         cases.refuses(f"wrong padding: {name}", right, vault, Fault.BAD_PADDING)
         cases.refuses(f"wrong padding after a wrong secret: {name}", wrong + right, vault, Fault.BAD_PADDING)
+
+
+NEEDS = []
+GROUPS = [
+    format_faults,
+    well_formed,
+    fixtures,
+    plaintexts,
+    damaged,
+]

@@ -8,7 +8,7 @@ from pathlib import Path
 from cases import SECONDS, TEXT, Cases, by_file
 from cases.samples import Sample, samples
 from faults import Fault
-from vaults import seal
+from vaults import ENVELOPE_LIMIT, HEADER, PLAINTEXT_LIMIT, seal
 
 FULL = "/dev/full"
 LARGE = 1 << 20
@@ -62,6 +62,18 @@ def nothing_to_write(cases: Cases) -> None:
                 cases.run_streams(f"{sample.command}, nothing to a full device", sample.words, 0, b"", input=sample.stdin, stdout=full, stderr=subprocess.PIPE)
 
 
+def bounded_reading(cases: Cases) -> None:
+    """Of a file that is too long, one byte more than the limit is read."""
+    for sample in samples(cases):
+        plain = sample.command.startswith("encrypt")
+        limit = PLAINTEXT_LIMIT if plain else ENVELOPE_LIMIT
+        with tempfile.TemporaryFile() as stdin:
+            stdin.write((b"" if plain else HEADER + b"\nzz").ljust(limit + 10_000, b"\n"))
+            stdin.seek(0)
+            cases.run_streams(f"{sample.command} of too long a file", sample.words, 1, Fault.TOO_LONG.line, stdin=stdin, stdout=subprocess.DEVNULL, stderr=subprocess.PIPE)
+            cases.check(f"{sample.command}: bytes read", os.lseek(stdin.fileno(), 0, os.SEEK_CUR), limit + 1)
+
+
 def full_standard_error(cases: Cases) -> None:
     for sample in samples(cases):
         with open(FULL, "wb") as full:
@@ -104,3 +116,17 @@ def leaving_reader(cases: Cases) -> None:
             message = child.stderr.read()
             child.stderr.close()
             cases.check(f"{sample.command}, a reader that leaves", (child.wait(SECONDS), message), (3, Fault.NOT_WRITTEN.line))
+
+
+NEEDS = []
+GROUPS = [
+    without_secrets,
+    folder_as_input,
+    failing_outputs,
+    nothing_to_write,
+    bounded_reading,
+    full_standard_error,
+    closed_streams,
+    single_bytes,
+    leaving_reader,
+]
