@@ -23,7 +23,8 @@ TERMINAL_PAUSE, PAUSE = 1, 30
 
 STARTED = re.compile(r"rt: chose --jobs \d+ for (\w+)$")
 CHECKED = re.compile(r"(?:so far: |checked \S+, )(\d+ of \d+)\b")
-PROVED = re.compile(r"rt: (\w+) (proved|NOT PROVED\b.*)$")
+PROVED = re.compile(r"rt: (\w+) proved$")
+NOT_PROVED = re.compile(r"rt: (\w+ NOT PROVED\b.*)$")
 TESTS_PROVED = re.compile(r"rt: (\w+): its tests are (proved|NOT PROVED)$")
 EDITS = re.compile(r"rt: (\w+): trying its must-fail edits \((\d+)\)$")
 EDIT_PASSES = re.compile(r"rt: (must-fail \S+: (?:NOT REFUSED|BAD EDIT).*)$")
@@ -108,7 +109,9 @@ class Gate(Progress):
 
     def take(self, line: str):
         if found := PROVED.match(line):
-            self.proved(found[1]) if found[2] == "proved" else self.tell(f"{found[1]} {found[2]}")
+            self.proved(found[1])
+        elif found := NOT_PROVED.match(line):
+            self.tell(found[1])
         elif found := TESTS_PROVED.match(line):
             self.tell(f"{found[1]}: its tests are {found[2]}")
         elif found := EDITS.match(line):
