@@ -2,32 +2,41 @@
 library, counter mode from the `openssl` command.
 """
 
+import functools
 import hashlib
 import hmac
 import subprocess
 
-HEADER = b"$ANSIBLE_VAULT;1.1;AES256"
+from offered import PLAINTEXT_LIMIT
+
+MAGIC = b"$ANSIBLE_VAULT"
+HEADER = MAGIC + b";1.1;AES256"
 
 # An envelope with no salt, a tag of 32 zero bytes and no ciphertext, as `format 1.1` spells it: the
 # inner text is LF, 64 digits 0, LF.
 BODY = b"0a" + b"30" * 39 + b"\n" + b"30" * 25 + b"0a" + b"\n"
 ENVELOPE = HEADER + b"\n" + BODY
 
-# L, in bytes of plaintext.
-LIMIT = 1_048_576
-# 6 L + 8192 bytes.
-ENVELOPE_LIMIT = 6 * LIMIT + 8_192
+CIPHERTEXT_LIMIT = PLAINTEXT_LIMIT + 16
+ENVELOPE_LIMIT = 6 * PLAINTEXT_LIMIT + 8_192
 
 SALT = bytes(range(32))
+# Key streams of up to this length are kept.
+KEPT = 1 << 13
 
 
 def spelled(salt: bytes, tag: bytes, cipher: bytes, label: bytes = b"") -> bytes:
     """An envelope, for the label `default` where none is given."""
-    header = b"$ANSIBLE_VAULT;1.2;AES256;" + label if label else HEADER
+    header = MAGIC + b";1.2;AES256;" + label if label else HEADER
     inner = b"\n".join(part.hex().encode() for part in (salt, tag, cipher))
     digits = inner.hex().encode()
     lines = [digits[i : i + 80] + b"\n" for i in range(0, len(digits), 80)]
     return header + b"\n" + b"".join(lines)
+
+
+def yaml_block(envelope: bytes, name: bytes = b"") -> bytes:
+    first = name + b": !vault |\n" if name else b"!vault |\n"
+    return first + b"".join(b" " * 10 + line for line in envelope.splitlines(keepends=True))
 
 
 def padded(plaintext: bytes) -> bytes:
@@ -35,12 +44,43 @@ def padded(plaintext: bytes) -> bytes:
     return plaintext + bytes([count]) * count
 
 
+@functools.lru_cache(maxsize=4096)
+def keys(password: bytes, salt: bytes) -> bytes:
+    """The cipher's key of 32 bytes, the tag's of 32, the first counter block."""
+    return hashlib.pbkdf2_hmac("sha256", password, salt, 10_000, 80)
+
+
+def enciphered(key: bytes, counter: bytes, data: bytes) -> bytes:
+    command = ["openssl", "enc", "-aes-256-ctr", "-K", key.hex(), "-iv", counter.hex()]
+    return subprocess.run(command, input=data, capture_output=True, check=True).stdout
+
+
+@functools.lru_cache(maxsize=1024)
+def first_key_stream(key: bytes, counter: bytes) -> bytes:
+    return enciphered(key, counter, bytes(KEPT))
+
+
+def counter_mode(key: bytes, counter: bytes, data: bytes) -> bytes:
+    if len(data) > KEPT:
+        return enciphered(key, counter, data)
+    stream = first_key_stream(key, counter)
+    return bytes(byte ^ other for byte, other in zip(data, stream))
+
+
+def tag_of(password: bytes, salt: bytes, cipher: bytes) -> bytes:
+    return hmac.digest(keys(password, salt)[32:64], cipher, "sha256")
+
+
+def applied(password: bytes, salt: bytes, data: bytes) -> bytes:
+    """Enciphers and deciphers."""
+    derived = keys(password, salt)
+    return counter_mode(derived[:32], derived[64:], data)
+
+
 def parts(password: bytes, whole: bytes, salt: bytes = SALT) -> tuple[bytes, bytes, bytes]:
     """Salt, tag and ciphertext of bytes that are taken as padded."""
-    keys = hashlib.pbkdf2_hmac("sha256", password, salt, 10_000, 80)
-    command = ["openssl", "enc", "-aes-256-ctr", "-K", keys[:32].hex(), "-iv", keys[64:].hex()]
-    cipher = subprocess.run(command, input=whole, capture_output=True, check=True).stdout
-    return salt, hmac.digest(keys[32:64], cipher, "sha256"), cipher
+    cipher = applied(password, salt, whole)
+    return salt, tag_of(password, salt, cipher), cipher
 
 
 def seal(password: bytes, plaintext: bytes, label: bytes = b"", salt: bytes = SALT) -> bytes:

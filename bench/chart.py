@@ -1,0 +1,54 @@
+#!/usr/bin/python3
+"""Draws time and memory of `view` against the size of the vault, from what `commands.py` measured.
+
+Usage: chart.py FILE.svg, with the points as JSON on standard input.
+"""
+
+import json
+import sys
+
+try:
+    import matplotlib
+except ImportError:
+    sys.exit("chart.py needs matplotlib: apt-get install python3-matplotlib")
+
+matplotlib.use("svg")
+# The drawing of the same numbers is the same file.
+matplotlib.rcParams["svg.hashsalt"] = "ansible-vault"
+
+from matplotlib import pyplot
+
+NAMES = {"ours": "here", "theirs": "Ansible's tool"}
+UNITS = [(1 << 20, "MiB"), (1 << 10, "KiB"), (1, "B")]
+
+
+def size_name(size):
+    unit, name = next((unit, name) for unit, name in UNITS if size >= unit)
+    return f"{size // unit} {name}"
+
+
+def draw(axes, points, quantity, title):
+    for tool, name in NAMES.items():
+        mine = [point for point in points if point["tool"] == tool]
+        if mine:
+            axes.plot([point["size"] for point in mine], [point[quantity] for point in mine], marker="o", label=name)
+    sizes = sorted({point["size"] for point in points})
+    axes.set_xscale("log", base=2)
+    axes.set_yscale("log")
+    axes.set_xticks(sizes, [size_name(size) for size in sizes], rotation=45)
+    axes.set_title(title)
+    axes.grid(True, which="both", alpha=0.3)
+    axes.legend()
+
+
+def main():
+    points = json.load(sys.stdin)
+    figure, (times, memory) = pyplot.subplots(1, 2, figsize=(10, 4.5))
+    draw(times, points, "milliseconds", "view: milliseconds")
+    draw(memory, points, "memory", "view: peak memory in MiB")
+    figure.tight_layout()
+    figure.savefig(sys.argv[1], metadata={"Date": None})
+
+
+if __name__ == "__main__":
+    main()

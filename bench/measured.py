@@ -1,0 +1,99 @@
+"""Runs of programs that take turns: least wall time, least processor time and peak memory of each."""
+
+import os
+import subprocess
+import sys
+import tempfile
+import threading
+import time
+from dataclasses import dataclass
+from pathlib import Path
+from typing import Callable
+
+# Wall and processor time that differ by more than this part show that the machine was busy.
+DIFFERENCE = 0.5
+# How often the memory of a running program is looked at, in seconds.
+LOOKS = 0.0005
+
+
+@dataclass
+class Work:
+    """A command, its standard input, and what its standard output must satisfy; `prepare` runs before
+    each run and is not timed."""
+
+    command: list[str]
+    stdin: bytes
+    accepts: Callable[[bytes], bool]
+    prepare: Callable[[], None] = lambda: None
+
+
+@dataclass
+class Times:
+    """Milliseconds and MiB."""
+
+    wall: float = float("inf")
+    processor: float = float("inf")
+    memory: float = 0.0
+
+    @property
+    def is_steady(self) -> bool:
+        """Whether both times say the same; only then a ratio says anything."""
+        return self.wall <= (1 + DIFFERENCE) * self.processor
+
+
+def peak_memory(process: int, seen: list[float]) -> None:
+    """Notes the most resident memory in MiB for as long as the process runs: what the system tells
+    behind its end would hold this program's own memory."""
+    try:
+        while True:
+            status = Path(f"/proc/{process}/status").read_text()
+            [line] = [line for line in status.splitlines() if line.startswith("VmHWM:")]
+            seen.append(int(line.split()[1]) / 1024)
+            time.sleep(LOOKS)
+    except (OSError, ValueError):
+        pass
+
+
+def run_once(work: Work, times: Times) -> None:
+    work.prepare()
+    with tempfile.TemporaryFile() as stdin, tempfile.TemporaryFile() as stdout:
+        stdin.write(work.stdin)
+        stdin.seek(0)
+        start = time.perf_counter()
+        child = subprocess.Popen(work.command, stdin=stdin, stdout=stdout, stderr=subprocess.DEVNULL)
+        _, status, used = os.wait4(child.pid, 0)
+        wall = time.perf_counter() - start
+        child.returncode = os.waitstatus_to_exitcode(status)
+        stdout.seek(0)
+        if child.returncode != 0 or not work.accepts(stdout.read()):
+            sys.exit(f"{' '.join(work.command)[:200]}: status {child.returncode}, or another output")
+    times.wall = min(times.wall, wall * 1000)
+    times.processor = min(times.processor, (used.ru_utime + used.ru_stime) * 1000)
+
+
+def memory_of(work: Work) -> float:
+    """In a run of its own, since to look takes time."""
+    work.prepare()
+    seen: list[float] = [0.0]
+    with tempfile.TemporaryFile() as stdin:
+        stdin.write(work.stdin)
+        stdin.seek(0)
+        child = subprocess.Popen(work.command, stdin=stdin, stdout=subprocess.PIPE, stderr=subprocess.DEVNULL)
+        looker = threading.Thread(target=peak_memory, args=(child.pid, seen))
+        looker.start()
+        child.stdout.read()
+        child.stdout.close()
+        looker.join()
+        child.wait()
+    return max(seen)
+
+
+def taken_in_turn(works: dict[str, Work], runs: int) -> dict[str, Times]:
+    """Each of the works once, then each of them again."""
+    times = {name: Times() for name in works}
+    for _ in range(runs):
+        for name, work in works.items():
+            run_once(work, times[name])
+    for name, work in works.items():
+        times[name].memory = max(memory_of(work) for _ in range(2))
+    return times

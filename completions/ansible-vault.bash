@@ -1,0 +1,93 @@
+# Completion of ansible-vault's commands, options and files for bash.
+
+# The options that a command takes; without one, those of the program itself.
+_ansible_vault_options() {
+    local common="--vault-id --vault-password-file --help -h"
+    local salt="--salt-file --salt"
+    case $1 in
+    encrypt) echo "$common --encrypt-vault-id $salt --output" ;;
+    decrypt) echo "$common --require-id-match --output" ;;
+    view) echo "$common --require-id-match" ;;
+    rekey)
+        echo "$common --new-vault-id --new-vault-password-file --require-id-match $salt --output"
+        ;;
+    encrypt_string)
+        echo "$common --encrypt-vault-id $salt --name -n --stdin-name --output"
+        ;;
+    *) echo "--help -h --version -V" ;;
+    esac
+}
+
+# The command among the words before the one that is completed.
+_ansible_vault_command() {
+    local word
+    for word in "${COMP_WORDS[@]:1:COMP_CWORD-1}"; do
+        case $word in
+        encrypt | decrypt | view | rekey | encrypt_string)
+            echo "$word"
+            return
+            ;;
+        esac
+    done
+}
+
+# The word before the one that is completed, its option where it is a value. Readline takes `=` and
+# `@` for words of their own, so the pieces in front of them are passed over.
+_ansible_vault_before() {
+    local place=$COMP_CWORD
+    while [[ ${COMP_WORDS[place]} == [=@] || ${COMP_WORDS[place - 1]} == [=@] ]]; do
+        place=$((place - 1))
+    done
+    [[ $place -lt $COMP_CWORD && ${COMP_WORDS[place]} == -* ]] || place=$((place - 1))
+    echo "${COMP_WORDS[place]}"
+}
+
+# The files whose path begins with the word.
+_ansible_vault_files() {
+    mapfile -t COMPREPLY < <(compgen -f -- "$1")
+    compopt -o filenames 2>/dev/null
+}
+
+# Such files behind a label, whose `@` readline keeps in the word.
+_ansible_vault_labelled_files() {
+    local path
+    while read -r path; do
+        [[ -d $path ]] && path+=/
+        COMPREPLY+=("${1%%@*}@$path")
+    done < <(compgen -f -- "${1#*@}")
+    [[ ${COMPREPLY[*]} == */ ]] && compopt -o nospace 2>/dev/null
+}
+
+_ansible_vault() {
+    local word=$2
+    local command
+    command=$(_ansible_vault_command)
+    COMPREPLY=()
+
+    case $(_ansible_vault_before) in
+    --vault-id | --new-vault-id)
+        case $word in
+        *@*) _ansible_vault_labelled_files "$word" ;;
+        *) _ansible_vault_files "$word" ;;
+        esac
+        ;;
+    --vault-password-file | --new-vault-password-file | --salt-file | --output)
+        _ansible_vault_files "$word"
+        ;;
+    --encrypt-vault-id | --salt | --name | -n | --stdin-name) ;;
+    *)
+        if [[ $word == -* ]]; then
+            mapfile -t COMPREPLY < <(compgen -W "$(_ansible_vault_options "$command")" -- "$word")
+        elif [[ -z $command ]]; then
+            mapfile -t COMPREPLY < <(
+                compgen -W "encrypt decrypt view rekey encrypt_string" -- "$word"
+            )
+        elif [[ $command != encrypt_string ]]; then
+            _ansible_vault_files "$word"
+        fi
+        ;;
+    esac
+    return 0
+}
+
+complete -F _ansible_vault ansible-vault

@@ -1,0 +1,45 @@
+# Completion of ansible-vault's commands, options and files for fish.
+
+# The files behind the label of a vault id.
+function __ansible_vault_ids
+    set -l value (commandline -ct | string replace -r '^--[a-z-]*=' '')
+    set -l label (string match -r '^[^@]*@' -- $value)
+    __fish_complete_path (string replace -r '^[^@]*@' '' -- $value) | string replace -r '^' "$label"
+end
+
+set -l commands encrypt decrypt view rekey encrypt_string
+set -l given __fish_seen_subcommand_from
+set -l none "not $given $commands"
+
+complete -c ansible-vault -f
+complete -c ansible-vault -n "$none" -a encrypt -d 'Plaintext to an envelope'
+complete -c ansible-vault -n "$none" -a decrypt -d 'An envelope to its plaintext'
+complete -c ansible-vault -n "$none" -a view -d 'An envelope to its plaintext, on standard output'
+complete -c ansible-vault -n "$none" -a rekey -d 'An envelope to one under a new secret'
+complete -c ansible-vault -n "$none" -a encrypt_string -d 'A text to a block of YAML'
+complete -c ansible-vault -n "$none" -s V -l version -d 'Print version'
+complete -c ansible-vault -s h -l help -d 'Print help'
+
+complete -c ansible-vault -n "$given $commands" -l vault-id -x -a '(__ansible_vault_ids)' \
+    -d 'A password file, with the label of its secret'
+complete -c ansible-vault -n "$given $commands" -l vault-password-file -r -F \
+    -d 'A password file for the label default'
+complete -c ansible-vault -n "$given encrypt encrypt_string" -l encrypt-vault-id -x \
+    -d 'The label of the secret to encrypt with'
+complete -c ansible-vault -n "$given decrypt view rekey" -l require-id-match \
+    -d 'Try the secrets of the envelope\'s label alone'
+complete -c ansible-vault -n "$given rekey" -l new-vault-id -x -a '(__ansible_vault_ids)' \
+    -d 'The password file of the new secret, with its label'
+complete -c ansible-vault -n "$given rekey" -l new-vault-password-file -r -F \
+    -d 'The password file of a new secret for the label default'
+complete -c ansible-vault -n "$given encrypt rekey encrypt_string" -l salt-file -r -F \
+    -d 'The file whose first 32 bytes are the salt'
+complete -c ansible-vault -n "$given encrypt rekey encrypt_string" -l salt -x \
+    -d 'The salt itself, used once'
+complete -c ansible-vault -n "$given encrypt_string" -s n -l name -x \
+    -d 'The name of the variable'
+complete -c ansible-vault -n "$given encrypt_string" -l stdin-name -x \
+    -d 'The name of the variable, for standard input'
+complete -c ansible-vault -n "$given encrypt decrypt rekey encrypt_string" -l output -r -F \
+    -d 'The file to write'
+complete -c ansible-vault -n "$given encrypt decrypt view rekey" -F

@@ -1,0 +1,65 @@
+#compdef ansible-vault
+# Completion of ansible-vault's commands, options and files for zsh.
+
+# A file, behind a label and `@` where there is one.
+_ansible_vault_id() {
+    compset -P '*@'
+    _files
+}
+
+_ansible_vault_commands() {
+    local -a commands=(
+        'encrypt:plaintext to an envelope'
+        'decrypt:an envelope to its plaintext'
+        'view:an envelope to its plaintext, on standard output'
+        'rekey:an envelope to one under a new secret'
+        'encrypt_string:a text to a block of YAML'
+    )
+    _describe command commands
+}
+
+# The options and the positional of a command.
+_ansible_vault_arguments() {
+    local -a help=('(- *)'{-h,--help}'[print help]')
+    local -a secrets=(
+        '*--vault-id=[a password file, with its label]:[label@]file:_ansible_vault_id'
+        '*--vault-password-file=[a password file for the label default]:file:_files'
+    )
+    local -a choice=('--encrypt-vault-id=[the label of the secret to encrypt with]:label: ')
+    local -a binding=('--require-id-match[try the secrets of the label alone]')
+    local -a salt=(
+        '(--salt)--salt-file=[the file whose first 32 bytes are the salt]:file:_files'
+        '(--salt-file)--salt=[the salt itself, used once]:text: '
+    )
+    local -a renewal=(
+        '(--new-vault-password-file)--new-vault-id=[the new password file, with its label]:[label@]file:_ansible_vault_id'
+        '(--new-vault-id)--new-vault-password-file=[a new password file for the label default]:file:_files'
+    )
+    local -a names=(
+        '(--stdin-name)'{-n,--name=}'[the name of the variable]:name: '
+        '(-n --name)--stdin-name=[the name of the variable, for standard input]:name: '
+    )
+    local -a output=('--output=[the file to write]:file:_files')
+    local -a file=('1:file:_files')
+
+    case $1 in
+        encrypt) _arguments -s $help $secrets $choice $salt $output $file ;;
+        decrypt) _arguments -s $help $secrets $binding $output $file ;;
+        view) _arguments -s $help $secrets $binding $file ;;
+        rekey) _arguments -s $help $secrets $renewal $binding $salt $output $file ;;
+        encrypt_string) _arguments -s $help $secrets $choice $salt $names $output '1:text: ' ;;
+    esac
+}
+
+_ansible_vault() {
+    local context state line
+    local -A opt_args
+    _arguments -C \
+        '(- *)'{-h,--help}'[print help]' \
+        '(- *)'{-V,--version}'[print version]' \
+        '1:command:_ansible_vault_commands' \
+        '*::argument:->arguments'
+    [[ $state == arguments ]] && _ansible_vault_arguments $line[1]
+}
+
+_ansible_vault "$@"

@@ -1,0 +1,261 @@
+"""FILE and `--output`: every kind of path, modes, and what a refusal leaves."""
+
+import os
+import stat
+import subprocess
+import threading
+from pathlib import Path
+
+from cases import SECONDS, TEXT, Cases, by_file
+from cases.samples import SALT_WORDS, Sample, samples
+from faults import Fault
+from vaults import ENVELOPE_LIMIT, MAGIC, seal
+
+OLD = b"what stood here before\n" * 1_000
+NOT_ASKED = b"standard input is not asked"
+# The user and group that own nothing.
+NOBODY = 65_534
+
+
+def with_files(cases: Cases) -> list[Sample]:
+    return [sample for sample in samples(cases) if sample.command != "encrypt_string"]
+
+
+def with_output(cases: Cases) -> list[Sample]:
+    return [sample for sample in samples(cases) if sample.command != "view"]
+
+
+def to_output(sample: Sample) -> list[str]:
+    """What a FILE makes necessary."""
+    return [] if sample.command == "view" else ["--output", "-"]
+
+
+def mode(path: str) -> int:
+    return stat.S_IMODE(os.stat(path).st_mode)
+
+
+def inputs(cases: Cases) -> None:
+    for sample in with_files(cases):
+        path, out = cases.file(sample.stdin), to_output(sample)
+        link = cases.path()
+        os.symlink(path, link)
+        for words in ([path, *out], [*out, path], [*out, "--", path], [os.path.relpath(path), *out], [link, *out]):
+            cases.run(f"{sample.command} {words}", [*sample.words, *words], NOT_ASKED, 0, sample.output)
+        for words in (["-"], ["-", *out], ["--", "-"]):
+            cases.run(f"{sample.command} {words}", [*sample.words, *words], sample.stdin, 0, sample.output)
+        refused = [
+            ("a missing file", cases.path(), Fault.INPUT_NOT_OPENED),
+            ("an empty path", "", Fault.INPUT_NOT_OPENED),
+            ("a file in the place of a folder", f"{path}/x", Fault.INPUT_NOT_OPENED),
+            ("a folder", str(cases.folder), Fault.INPUT_NOT_READ),
+            ("zeros without end", "/dev/zero", Fault.TOO_LONG),
+        ]
+        for name, file, fault in refused:
+            cases.refused(f"{sample.command} of {name}", [*sample.words, file, *out], fault, NOT_ASKED)
+        cases.check(f"{sample.command}: the input stays", Path(path).read_bytes(), sample.stdin)
+
+
+def input_pipes(cases: Cases) -> None:
+    """FILE is a pipe of the file system, into which single bytes are written."""
+    for sample in with_files(cases):
+        path = cases.path()
+        os.mkfifo(path)
+        writer = threading.Thread(target=write_singly, args=(path, sample.stdin))
+        writer.start()
+        cases.run(f"{sample.command} of a pipe", [*sample.words, path, *to_output(sample)], NOT_ASKED, 0, sample.output)
+        writer.join()
+
+
+def write_singly(path: str, content: bytes) -> None:
+    with open(path, "wb", buffering=0) as pipe:
+        for byte in content:
+            pipe.write(bytes([byte]))
+
+
+def output_needed(cases: Cases) -> None:
+    for sample in with_files(cases):
+        if sample.command == "view":
+            continue
+        path, plain = cases.file(sample.stdin), sample.words[:3]
+        needed = [[], ["--salt", ""], ["--salt", "a", "--salt-file", "b"]] if SALT_WORDS[0] in sample.words else [[]]
+        new = [word for word in sample.words if "prod@" in word]
+        for words in needed:
+            options = ["--new-vault-id", *new, *words] if new else words
+            cases.refused(f"{sample.command} FILE {words}", [*plain, path, *options], Fault.OUTPUT_NEEDED, NOT_ASKED)
+        missing = [sample.command, "--vault-password-file", cases.path(), path, *(["--new-vault-id", *new] if new else [])]
+        cases.refused(f"{sample.command} FILE, missing password", missing, Fault.OUTPUT_NEEDED, NOT_ASKED)
+
+
+def outputs(cases: Cases) -> None:
+    for sample in with_output(cases):
+        new, old, name = cases.path(), cases.file(OLD, 0o640), sample.command
+        written(cases, f"{name} to a new file", sample, new, 0o600)
+        written(cases, f"{name} to an old file", sample, old, 0o640)
+        link, target = cases.path(), cases.file(OLD, 0o644)
+        os.symlink(target, link)
+        written(cases, f"{name} through a link", sample, link, 0o644)
+        cases.check(f"{name}: the link stays", os.path.islink(link), True)
+        cases.run(f"{name} to -", [*sample.words, "--output", "-"], sample.stdin, 0, sample.output)
+        cases.check(f"{name}: no file called -", os.path.exists("-"), False)
+        cases.run(f"{name} to a device", [*sample.words, "--output", "/dev/null"], sample.stdin)
+        cases.run(f"{name} to standard output by name", [*sample.words, "--output=/dev/stdout"], sample.stdin, 0, sample.output)
+
+
+def written(cases: Cases, name: str, sample: Sample, path: str, wanted_mode: int) -> None:
+    cases.run(name, [*sample.words, "--output", path], sample.stdin)
+    cases.check(f"{name}: content", Path(path).read_bytes(), sample.output)
+    cases.check(f"{name}: mode", oct(mode(path)), oct(wanted_mode))
+
+
+def every_umask(cases: Cases) -> None:
+    for sample in with_output(cases)[:1]:
+        for umask, wanted in (("000", 0o600), ("077", 0o600), ("022", 0o600), ("277", 0o400)):
+            path = cases.path()
+            script = f'umask {umask}; exec "$0" "$@"'
+            words = ["sh", "-c", script, cases.program, *sample.words, "--output", path]
+            subprocess.run(words, input=sample.stdin, timeout=SECONDS, check=True)
+            cases.check(f"mode under umask {umask}", oct(mode(path)), oct(wanted))
+
+
+def output_pipes(cases: Cases) -> None:
+    for sample in with_output(cases):
+        path = cases.path()
+        os.mkfifo(path)
+        with subprocess.Popen(["cat", path], stdout=subprocess.PIPE) as reader:
+            cases.run(f"{sample.command} to a pipe", [*sample.words, "--output", path], sample.stdin)
+            cases.check(f"{sample.command}: what the pipe gave", reader.stdout.read(), sample.output)
+
+
+def unwritable(cases: Cases) -> None:
+    for sample in with_output(cases):
+        file = cases.file(OLD)
+        refused = [
+            ("a folder", str(cases.folder)),
+            ("a missing folder", f"{cases.path()}/x"),
+            ("a file in the place of a folder", f"{file}/x"),
+            ("an empty path", ""),
+            ("a full device", "/dev/full"),
+        ]
+        for name, path in refused:
+            cases.refused(f"{sample.command} to {name}", [*sample.words, "--output", path], Fault.NOT_WRITTEN, sample.stdin)
+        cases.check(f"{sample.command}: the file stays", Path(file).read_bytes(), OLD)
+    for sample in samples(cases, b""):
+        if sample.command == "decrypt":
+            cases.run("nothing to a full device by name", [*sample.words, "--output", "/dev/full"], sample.stdin)
+
+
+def onto_the_input(cases: Cases) -> None:
+    """All input is read before the output is begun."""
+    for text in (TEXT, bytes(range(256)) * 1_000):
+        for sample in samples(cases, text):
+            if sample.command not in ("view", "encrypt_string"):
+                path = cases.file(sample.stdin, 0o644)
+                written(cases, f"{sample.command} onto its input", Sample([*sample.words, path], NOT_ASKED, sample.output), path, 0o644)
+
+
+def onto_a_password_file(cases: Cases) -> None:
+    for sample in with_output(cases):
+        path = sample.words[2]
+        cases.run(f"{sample.command} onto its password file", [*sample.words, "--output", path], sample.stdin)
+        cases.check(f"{sample.command}: content", Path(path).read_bytes(), sample.output)
+
+
+def refused_leaves_outputs(cases: Cases) -> None:
+    """A refusal neither makes nor cuts the output, and leaves an output that is the input."""
+    for sample in with_output(cases):
+        empty, missing = cases.file(b""), cases.path()
+        inputs = [MAGIC, b"\n" * (ENVELOPE_LIMIT + 1)] if sample.command != "decrypt" else [TEXT, seal(b"other", TEXT)]
+        runs = [(sample.words, stdin) for stdin in inputs]
+        runs += [([*sample.words, *by_file(path)], sample.stdin) for path in (empty, missing, "prompt")]
+        runs.append(([*sample.words, "--loud"], sample.stdin))
+        for place, (words, stdin) in enumerate(runs):
+            new, old = cases.path(), cases.file(OLD, 0o640)
+            for path in (new, old):
+                done = cases.done([*words, "--output", path], stdin)
+                cases.check(f"{sample.command}, refusal {place}: refused", (done.returncode != 0, done.stdout), (True, b""))
+            cases.check(f"{sample.command}, refusal {place}: no new file", os.path.exists(new), False)
+            cases.check(f"{sample.command}, refusal {place}: the old file", (Path(old).read_bytes(), mode(old)), (OLD, 0o640))
+
+
+def order(cases: Cases) -> None:
+    """Which of two faults is told."""
+    empty, missing = cases.file(b""), cases.path()
+    for sample in with_files(cases):
+        out = [] if sample.command == "view" else ["--output", missing + "/x"]
+        bare = [word for word in sample.words if word not in SALT_WORDS]
+        runs = [
+            ("a missing password, then a missing input", [*sample.words, *by_file(missing), missing], Fault.SECRET_NOT_OPENED),
+            ("a missing input, then an empty password", [*sample.words, *by_file(empty), missing], Fault.INPUT_NOT_OPENED),
+            ("an empty password, then a folder", [*sample.words, *by_file(empty), "/"], Fault.SECRET_EMPTY),
+            ("a folder, then an output in no folder", [*sample.words, "/"], Fault.INPUT_NOT_READ),
+        ]
+        if bare != sample.words:
+            salted = [*bare, "--salt-file", missing, missing]
+            runs.append(("a missing salt, then a missing input", salted, Fault.SALT_NOT_OPENED))
+            runs.append(("a missing input, then a short salt", [*bare, "--salt-file", empty, missing], Fault.INPUT_NOT_OPENED))
+            runs.append(("a short salt, then a folder", [*bare, "--salt-file", empty, "/"], Fault.SALT_SHORT))
+        for name, words, fault in runs:
+            cases.refused(f"{sample.command}, {name}", [*words, *out], fault, NOT_ASKED)
+
+
+def closed_streams(cases: Cases) -> None:
+    """Files that get the numbers of closed streams hold what they should."""
+    for sample in with_output(cases):
+        is_string = sample.command == "encrypt_string"
+        for redirections in (">&-", "2>&-", ">&- 2>&-", "<&- >&- 2>&-"):
+            given, path = cases.file(sample.stdin), cases.path()
+            words = [*sample.words, "--output", path] + ([] if is_string else [given])
+            script = f'exec "$0" "$@" {redirections}'
+            done = subprocess.run(["sh", "-c", script, cases.program, *words], input=sample.stdin, capture_output=True, timeout=SECONDS)
+            status = 3 if is_string and redirections.startswith("<") else 0
+            name = f"{sample.command} by names {redirections}"
+            cases.check(f"{name}: status and streams", (done.returncode, done.stdout, done.stderr), (status, b"", b""))
+            if status == 0:
+                cases.check(f"{name}: output", Path(path).read_bytes(), sample.output)
+            cases.check(f"{name}: input", Path(given).read_bytes(), sample.stdin)
+            cases.check(f"{name}: password file", Path(sample.words[2]).read_bytes(), b"right\n")
+
+
+def without_rights(cases: Cases) -> None:
+    """Files that may neither be read nor written; root runs the program as somebody else, since nothing
+    keeps root from them."""
+    other = {"user": NOBODY, "group": NOBODY} if os.geteuid() == 0 else {}
+    runs = lambda words, stdin: subprocess.run([cases.program, *words], input=stdin, capture_output=True, timeout=SECONDS, **other)
+    cases.folder.chmod(0o755)
+    try:
+        runs(["--version"], b"")
+    except PermissionError:
+        print("left out: nobody else may run the program where it lies")
+        return
+    locked = cases.file(OLD, 0)
+    for sample in with_files(cases):
+        fault = Fault.INPUT_NOT_OPENED
+        done = runs([*sample.words, locked, *to_output(sample)], NOT_ASKED)
+        cases.check(f"{sample.command} of a locked file", (done.returncode, done.stdout, done.stderr), (fault.status, b"", fault.line))
+    for sample in with_output(cases):
+        fault = Fault.NOT_WRITTEN
+        for path in (locked, str(cases.folder / "new")):
+            done = runs([*sample.words, "--output", path], sample.stdin)
+            cases.check(f"{sample.command} to a locked place", (done.returncode, done.stdout, done.stderr), (fault.status, b"", fault.line))
+        fault = Fault.SECRET_NOT_OPENED
+        done = runs([*sample.words, *by_file(locked)], sample.stdin)
+        cases.check(f"{sample.command}, a locked password file", (done.returncode, done.stdout, done.stderr), (fault.status, b"", fault.line))
+    cases.check("the locked file stays", Path(locked).read_bytes(), OLD)
+
+
+NEEDS = ["FILE", "--output"]
+GROUPS = [
+    inputs,
+    input_pipes,
+    output_needed,
+    outputs,
+    every_umask,
+    output_pipes,
+    unwritable,
+    onto_the_input,
+    onto_a_password_file,
+    refused_leaves_outputs,
+    order,
+    closed_streams,
+    without_rights,
+]

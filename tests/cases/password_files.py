@@ -1,0 +1,107 @@
+"""Password files: what is stripped, what is refused, and their paths."""
+
+import os
+import subprocess
+
+from cases import FIXTURES, TEXT, Cases, by_file, by_id
+from faults import Fault
+from vaults import ENVELOPE_LIMIT, HEADER, seal
+
+
+def passwords(cases: Cases) -> None:
+    stripped = [
+        ("LF at the end", b"pw\n", b"pw"),
+        ("spaces, CR and LF around", b" pw \r\n", b"pw"),
+        ("every whitespace around", b"\t\n\x0b\x0c\r p w \r\x0c\x0b\n\t", b"p w"),
+        ("lines inside", b"\nfirst\n\nlast\n\n", b"first\n\nlast"),
+        ("byte 00 in front", b" \x00pw\n", b"\x00pw"),
+        ("byte 00 that guards a space", b"pw \x00", b"pw \x00"),
+        ("byte 00 alone", b"\x00", b"\x00"),
+        ("bytes 1c and 1f around", b"\x1cpw\x1f", b"\x1cpw\x1f"),
+        ("a no-break space in front", b"\xc2\xa0pw\x85", b"\xc2\xa0pw\x85"),
+        ("bytes that are not UTF-8", b"\xff\xfe\n", b"\xff\xfe"),
+        ("a space before #!", b" #!/bin/sh\n", b"#!/bin/sh"),
+        ("a number sign", b"#pw\n", b"#pw"),
+        ("a space before a header", b" " + HEADER, HEADER),
+        ("the start of a header", b"$ANSIBLE_VAUL\n", b"$ANSIBLE_VAUL"),
+        ("64 bytes", b"k" * 64, b"k" * 64),
+        ("65 bytes", b"k" * 65, b"k" * 65),
+        ("4096 bytes", b"k" * 4096, b"k" * 4096),
+        ("4096 bytes, most of them LF", b"pw".ljust(4096, b"\n"), b"pw"),
+    ]
+    for name, content, password in stripped:
+        path = cases.file(content)
+        for options in (by_file(path), by_id(path)):
+            cases.opens(f"password file with {name}", options, seal(password, TEXT), TEXT)
+
+
+def refused_passwords(cases: Cases) -> None:
+    refused = [
+        ("4097 bytes", b"k" * 4097, Fault.SECRET_TOO_LONG),
+        ("4097 bytes, most of them LF", b"pw".ljust(4097, b"\n"), Fault.SECRET_TOO_LONG),
+        ("a script of 4097 bytes", b"#!".ljust(4097, b"k"), Fault.SECRET_TOO_LONG),
+        ("a script", b"#!/bin/sh\necho pw\n", Fault.SECRET_IS_SCRIPT),
+        ("#! alone", b"#!", Fault.SECRET_IS_SCRIPT),
+        ("a vault", (FIXTURES / "format-1.1.vault").read_bytes(), Fault.SECRET_IS_VAULT),
+        ("the start of a vault alone", b"$ANSIBLE_VAULT", Fault.SECRET_IS_VAULT),
+        ("nothing", b"", Fault.SECRET_EMPTY),
+        ("a space and LF", b" \n", Fault.SECRET_EMPTY),
+        ("every whitespace", b"\t\n\x0b\x0c\r ", Fault.SECRET_EMPTY),
+    ]
+    right, empty, long = (cases.file(content) for content in (b"right\n", b"", b"k" * 4097))
+    vault = seal(b"right", TEXT)
+    for name, content, fault in refused:
+        path = cases.file(content)
+        cases.refuses(f"password file of {name}", by_file(path), vault, fault)
+        cases.refuses(f"vault id of {name}, after the right one", by_id(right) + by_id(path), vault, fault)
+        cases.refuses(f"password file of {name}, no vault", by_file(path), b"key: value\n", fault)
+    cases.refuses("an endless password file", by_file("/dev/zero"), vault, Fault.SECRET_TOO_LONG)
+    cases.refuses("an empty one, then a long one", by_id(empty) + by_id(long), vault, Fault.SECRET_EMPTY)
+    cases.refuses("ids come before password files", by_file(empty) + by_id(long), vault, Fault.SECRET_TOO_LONG)
+    cases.refuses("a password file before too long an input", by_file(empty), b"\n" * (ENVELOPE_LIMIT + 1), Fault.SECRET_EMPTY)
+    # Nobody writes to this pipe: who reads it waits.
+    reader, writer = os.pipe()
+    cases.run_streams("a password file before the input", ["view", *by_file(empty)], 1, Fault.SECRET_EMPTY.line, stdin=reader, stdout=subprocess.DEVNULL, stderr=subprocess.PIPE)
+    os.close(reader)
+    os.close(writer)
+
+
+def password_paths(cases: Cases) -> None:
+    folder, missing = str(cases.folder), str(cases.folder / "missing")
+    right, empty = cases.file(b"right\n"), cases.file(b"")
+    vault = seal(b"right", TEXT)
+    refused = [
+        ("a missing file", by_file(missing), Fault.SECRET_NOT_OPENED),
+        ("a missing file of a vault id", by_id(missing, "dev"), Fault.SECRET_NOT_OPENED),
+        ("a file in the place of a folder", by_file(f"{right}/x"), Fault.SECRET_NOT_OPENED),
+        ("an empty path", by_file(""), Fault.SECRET_NOT_OPENED),
+        ("an empty path of a vault id", ["--vault-id", "dev@"], Fault.SECRET_NOT_OPENED),
+        ("an empty vault id", ["--vault-id", ""], Fault.SECRET_NOT_OPENED),
+        ("a folder", by_file(folder), Fault.SECRET_NOT_READ),
+        ("a folder of a vault id", by_id(folder), Fault.SECRET_NOT_READ),
+        ("a missing file after the right one", by_id(right) + by_id(missing), Fault.SECRET_NOT_OPENED),
+        ("a missing file after an empty one", by_id(empty) + by_id(missing), Fault.SECRET_NOT_OPENED),
+        ("a folder after an empty file", by_id(empty) + by_id(folder), Fault.SECRET_NOT_READ),
+        ("a missing file, then a folder", by_id(missing) + by_id(folder), Fault.SECRET_NOT_OPENED),
+        ("a folder, then a missing file", by_id(folder) + by_id(missing), Fault.SECRET_NOT_READ),
+        ("a folder as vault id after a missing file", by_file(missing) + by_id(folder), Fault.SECRET_NOT_READ),
+    ]
+    for name, options, fault in refused:
+        cases.refuses(name, options, vault, fault)
+        cases.refuses(f"{name}, no vault", options, b"key: value\n", fault)
+    for path in ("-", "prompt"):
+        cases.refuses(f"a file called {path}", by_file(f"{path}"), vault, Fault.SECRET_NOT_OPENED)
+    cases.refuses("a vault id with a file called -", ["--vault-id", "dev@-"], vault, Fault.SECRET_NOT_OPENED)
+    at = cases.folder / "x@y"
+    at.write_bytes(b"right\n")
+    cases.opens("a path with @", by_id(str(at), "dev"), vault, TEXT)
+    cases.opens("a vault id without @", ["--vault-id", right], vault, TEXT)
+    cases.opens("a vault id with nothing before @", ["--vault-id", f"@{right}"], vault, TEXT)
+
+
+NEEDS = []
+GROUPS = [
+    passwords,
+    refused_passwords,
+    password_paths,
+]

@@ -1,0 +1,102 @@
+"""`rekey`: new secrets, options and inputs."""
+
+from cases import TEXT, Cases, by_file
+from faults import Fault
+from vaults import CIPHERTEXT_LIMIT, ENVELOPE, ENVELOPE_LIMIT, HEADER, MAGIC, PLAINTEXT_LIMIT, parts, seal, spelled
+
+SALT_WORDS = ["--salt", "abc"]
+SALT = b"abc"
+
+
+def rekeyed(cases: Cases) -> None:
+    right, new = cases.file(b"right\n"), cases.file(b" new one\n")
+    runs = [
+        ("a new vault id", ["--new-vault-id", f"prod@{new}"], b"new one", b"prod"),
+        ("a new vault id without a label", ["--new-vault-id", new], b"new one", b""),
+        ("a new vault id with nothing before @", ["--new-vault-id", f"@{new}"], b"new one", b""),
+        ("a new password file", ["--new-vault-password-file", new], b"new one", b""),
+        ("the old password", ["--new-vault-id", f"prod@{right}"], b"right", b"prod"),
+        ("the old password and label", ["--new-vault-password-file", right], b"right", b""),
+    ]
+    for label in (b"", b"dev"):
+        for text in (b"", TEXT, b"a" * 16, bytes(range(256)) * 300):
+            vault = seal(b"right", text, label)
+            for name, options, password, new_label in runs:
+                words = ["rekey", *by_file(right), *options, *SALT_WORDS]
+                cases.run(f"{name}, {len(text)} bytes", words, vault, 0, seal(password, text, new_label, SALT))
+    longest = b"a" * (PLAINTEXT_LIMIT + 15)
+    words = ["rekey", *by_file(right), "--new-vault-password-file", new, *SALT_WORDS]
+    cases.run("rekey of the longest plaintext", words, seal(b"right", longest), 0, seal(b"new one", longest, b"", SALT))
+
+
+def worked(cases: Cases) -> None:
+    """An empty vault rekeyed with a salt of 32 bytes 01, and rekeyed with the new secret alone."""
+    one, two, ones = cases.file(b"one\n"), cases.file(b"two\n"), cases.file(b"\x01" * 32)
+    words = ["rekey", *by_file(one), "--new-vault-id", f"prod@{two}", "--salt-file", ones]
+    vault = cases.run("rekey nothing", words, seal(b"one", b""), 0, lambda _: True)
+    cases.check("rekey nothing: first lines", vault.splitlines()[:2], [MAGIC + b";1.2;AES256;prod", b"3031" * 20])
+    cases.opens("the new secret", by_file(two), vault, b"")
+    cases.refuses("the old secret", by_file(one), vault, Fault.NO_SECRET_FITS)
+    cases.refused("the new secret is not tried", ["rekey", "--new-vault-id", f"x@{two}"], Fault.NO_SECRET_FITS, vault)
+    runs = [cases.run("rekey, salts differ", words[:5], seal(b"one", b""), 0, lambda _: True) for _ in range(2)]
+    cases.check("two runs differ", runs[0] == runs[1], False)
+
+
+def refused_options(cases: Cases) -> None:
+    right, new, missing, empty = cases.file(b"right\n"), cases.file(b"new\n"), cases.path(), cases.file(b"")
+    vault = seal(b"right", TEXT)
+    refused = [
+        ("no new secret", [], Fault.NEED_NEW_SECRET),
+        ("two new secrets", ["--new-vault-id", new, "--new-vault-password-file", new], Fault.NEED_NEW_SECRET),
+        ("two new secrets, one of them bad", ["--new-vault-id", "a;b@x", "--new-vault-password-file", new], Fault.NEED_NEW_SECRET),
+        ("a bad new label", ["--new-vault-id", f"a;b@{new}"], Fault.BAD_LABEL),
+        ("a bad new label and a prompt", ["--new-vault-id", "a;b@prompt"], Fault.BAD_LABEL),
+        ("a new prompt", ["--new-vault-id", "prod@prompt"], Fault.PROMPT_SOURCE),
+        ("a new prompt without a label", ["--new-vault-id", "prompt"], Fault.PROMPT_SOURCE),
+        ("a new prompt, then two salts", ["--new-vault-id", "prompt", "--salt", "", "--salt-file", new], Fault.PROMPT_SOURCE),
+        ("two salts", ["--new-vault-id", new, "--salt", "", "--salt-file", new], Fault.SALT_CHOICE),
+        ("an empty salt", ["--new-vault-id", new, "--salt", ""], Fault.BAD_SALT),
+        ("a missing new file", ["--new-vault-password-file", missing], Fault.SECRET_NOT_OPENED),
+        ("a missing new file, then a missing salt", ["--new-vault-id", missing, "--salt-file", missing], Fault.SECRET_NOT_OPENED),
+        ("a folder as new file", ["--new-vault-password-file", "/"], Fault.SECRET_NOT_READ),
+        ("a missing salt, then an empty new password", ["--new-vault-id", empty, "--salt-file", missing], Fault.SALT_NOT_OPENED),
+        ("an empty new password", ["--new-vault-password-file", empty], Fault.SECRET_EMPTY),
+        ("an empty new password, then a short salt", ["--new-vault-id", empty, "--salt-file", new], Fault.SECRET_EMPTY),
+        ("a short salt", ["--new-vault-id", new, "--salt-file", new], Fault.SALT_SHORT),
+    ]
+    for name, options, fault in refused:
+        cases.refused(f"rekey, {name}", ["rekey", *by_file(right), *options], fault, vault)
+    too_many = ["rekey", *by_file(right) * 17]
+    cases.refused("rekey, 17 secrets and no new one", too_many, Fault.TOO_MANY_SECRETS, vault)
+    cases.run("rekey, 16 secrets and a new one", [*too_many[:-2], "--new-vault-id", new, *SALT_WORDS], vault, 0, seal(b"new", TEXT, b"", SALT))
+
+
+def refused_inputs(cases: Cases) -> None:
+    right, new = cases.file(b"right\n"), cases.file(b"new\n")
+    words = ["rekey", *by_file(right), "--new-vault-id", f"prod@{new}", *SALT_WORDS]
+    refused = [
+        ("text", TEXT, Fault.NOT_VAULT),
+        ("too long an input", b"\n" * (ENVELOPE_LIMIT + 1), Fault.TOO_LONG),
+        ("format 1.0", b"$ANSIBLE_VAULT;1.0;AES256\n", Fault.BAD_VERSION),
+        ("odd digits", HEADER + b"\nabc", Fault.BAD_HEX),
+        ("no parts", HEADER, Fault.BAD_PAYLOAD),
+        ("ciphertext over the limit", spelled(b"", bytes(32), bytes(CIPHERTEXT_LIMIT + 1)), Fault.CIPHER_TOO_LONG),
+        ("another password", seal(b"other", TEXT), Fault.NO_SECRET_FITS),
+        ("the new password", seal(b"new", TEXT, b"prod"), Fault.NO_SECRET_FITS),
+        ("wrong padding", spelled(*parts(b"right", b"a" * 16)), Fault.BAD_PADDING),
+        ("a vault inside", seal(b"right", ENVELOPE), Fault.ALREADY_VAULT),
+        ("the start of a vault inside", seal(b"right", MAGIC), Fault.ALREADY_VAULT),
+    ]
+    for name, stdin, fault in refused:
+        cases.refused(f"rekey of {name}", words, fault, stdin)
+    almost = MAGIC[:-1]
+    cases.run("rekey of almost a vault", words, seal(b"right", almost), 0, seal(b"new", almost, b"prod", SALT))
+
+
+NEEDS = ["rekey"]
+GROUPS = [
+    rekeyed,
+    worked,
+    refused_options,
+    refused_inputs,
+]

@@ -1,0 +1,132 @@
+"""Standard streams that fail, end early, are closed or without end."""
+
+import os
+import subprocess
+import tempfile
+from pathlib import Path
+
+from cases import SECONDS, TEXT, Cases, by_file
+from cases.samples import Sample, samples
+from faults import Fault
+from vaults import ENVELOPE_LIMIT, HEADER, PLAINTEXT_LIMIT, seal
+
+FULL = "/dev/full"
+LARGE = 1 << 20
+# How a shell closes streams; the status, None where the system may give the output's number to no
+# file at all or drop the bytes; and whether the output comes.
+CLOSED = [("<&-", 3, False), (">&-", None, False), ("2>&-", 0, True), (">&- 2>&-", None, False), ("<&- >&- 2>&-", 3, False)]
+
+
+def without_secrets(cases: Cases) -> None:
+    nothing = {"stdin": subprocess.DEVNULL, "stdout": subprocess.DEVNULL}
+    with open(FULL, "wb") as full:
+        cases.run_streams("full standard error", ["view"], 1, **nothing, stderr=full)
+    with open("/dev/zero", "rb") as endless:
+        cases.run_streams("endless input", ["view"], 1, Fault.TOO_LONG.line, stdin=endless, stdout=subprocess.DEVNULL, stderr=subprocess.PIPE)
+    closed = [("standard input", "<&-", 3), ("standard output", ">&-", 1), ("standard error", "2>&-", 1)]
+    for name, descriptor, status in closed:
+        done = shell(cases, ["view"], descriptor, b"")
+        cases.check(f"closed {name}: status", done.returncode, status)
+
+
+def shell(cases: Cases, words: list[str], redirections: str, stdin: bytes) -> subprocess.CompletedProcess:
+    script = f'exec "$0" "$@" {redirections}'
+    return subprocess.run(["sh", "-c", script, cases.program, *words], input=stdin, capture_output=True, timeout=SECONDS)
+
+
+def folder_as_input(cases: Cases) -> None:
+    for sample in samples(cases):
+        folder = os.open("/", os.O_RDONLY)
+        cases.run_streams(f"{sample.command}, a folder as standard input", sample.words, 3, Fault.INPUT_NOT_READ.line, stdin=folder, stdout=subprocess.DEVNULL, stderr=subprocess.PIPE)
+        os.close(folder)
+
+
+def failing_outputs(cases: Cases) -> None:
+    refused = Sample(["view", *by_file(cases.file(b"wrong\n"))], seal(b"right", TEXT), b"")
+    runs = [(sample, Fault.NOT_WRITTEN) for text in (TEXT, bytes(LARGE)) for sample in samples(cases, text)]
+    for sample, fault in [*runs, (refused, Fault.NO_SECRET_FITS)]:
+        name = f"{sample.command} of {len(sample.stdin)} bytes"
+        with open(FULL, "wb") as full:
+            cases.run_streams(f"{name} to a full device", sample.words, fault.status, fault.line, input=sample.stdin, stdout=full, stderr=subprocess.PIPE)
+            cases.run_streams(f"{name} with both full", sample.words, fault.status, input=sample.stdin, stdout=full, stderr=full)
+        reader, writer = os.pipe()
+        os.close(reader)
+        cases.run_streams(f"{name} to a closed pipe", sample.words, fault.status, fault.line, input=sample.stdin, stdout=writer, stderr=subprocess.PIPE)
+        os.close(writer)
+
+
+def nothing_to_write(cases: Cases) -> None:
+    for sample in samples(cases, b""):
+        if sample.output == b"":
+            with open(FULL, "wb") as full:
+                cases.run_streams(f"{sample.command}, nothing to a full device", sample.words, 0, b"", input=sample.stdin, stdout=full, stderr=subprocess.PIPE)
+
+
+def bounded_reading(cases: Cases) -> None:
+    """Of a file that is too long, one byte more than the limit is read."""
+    for sample in samples(cases):
+        plain = sample.command.startswith("encrypt")
+        limit = PLAINTEXT_LIMIT if plain else ENVELOPE_LIMIT
+        with tempfile.TemporaryFile() as stdin:
+            stdin.write((b"" if plain else HEADER + b"\nzz").ljust(limit + 10_000, b"\n"))
+            stdin.seek(0)
+            cases.run_streams(f"{sample.command} of too long a file", sample.words, 1, Fault.TOO_LONG.line, stdin=stdin, stdout=subprocess.DEVNULL, stderr=subprocess.PIPE)
+            cases.check(f"{sample.command}: bytes read", os.lseek(stdin.fileno(), 0, os.SEEK_CUR), limit + 1)
+
+
+def full_standard_error(cases: Cases) -> None:
+    for sample in samples(cases):
+        with open(FULL, "wb") as full:
+            done = subprocess.run([cases.program, *sample.words], input=sample.stdin, stdout=subprocess.PIPE, stderr=full, timeout=SECONDS)
+        cases.check(f"{sample.command}, full standard error", (done.returncode, done.stdout), (0, sample.output))
+
+
+def closed_streams(cases: Cases) -> None:
+    for sample in samples(cases):
+        secret = sample.words[2].rpartition("@")[2]
+        for redirections, status, comes in CLOSED:
+            done = shell(cases, sample.words, redirections, sample.stdin)
+            name = f"{sample.command} {redirections}"
+            cases.check(f"{name}: status", done.returncode in ((0, 3) if status is None else (status,)), True)
+            cases.check(f"{name}: output", done.stdout, sample.output if comes else b"")
+            cases.check(f"{name}: password file", Path(secret).read_bytes(), b"right\n")
+
+
+def single_bytes(cases: Cases) -> None:
+    """Input from a pipe into which each byte is written alone."""
+    for sample in samples(cases):
+        child = subprocess.Popen([cases.program, *sample.words], stdin=subprocess.PIPE, stdout=subprocess.PIPE, bufsize=0)
+        for byte in sample.stdin:
+            child.stdin.write(bytes([byte]))
+        child.stdin.close()
+        output = child.stdout.read()
+        child.stdout.close()
+        cases.check(f"{sample.command}, single bytes", (child.wait(SECONDS), output), (0, sample.output))
+
+
+def leaving_reader(cases: Cases) -> None:
+    """The reader of the output goes away after its first byte."""
+    for sample in samples(cases, bytes(LARGE)):
+        with tempfile.TemporaryFile() as stdin:
+            stdin.write(sample.stdin)
+            stdin.seek(0)
+            child = subprocess.Popen([cases.program, *sample.words], stdin=stdin, stdout=subprocess.PIPE, stderr=subprocess.PIPE, bufsize=0)
+            cases.check(f"{sample.command}, a reader that leaves: first byte", child.stdout.read(1), sample.output[:1])
+            child.stdout.close()
+            message = child.stderr.read()
+            child.stderr.close()
+            cases.check(f"{sample.command}, a reader that leaves", (child.wait(SECONDS), message), (3, Fault.NOT_WRITTEN.line))
+
+
+NEEDS = []
+GROUPS = [
+    without_secrets,
+    folder_as_input,
+    failing_outputs,
+    nothing_to_write,
+    bounded_reading,
+    full_standard_error,
+    closed_streams,
+    single_bytes,
+    leaving_reader,
+]

@@ -1,0 +1,102 @@
+"""One request, run by the program and answered by the model."""
+
+import io
+import os
+import stat
+import subprocess
+import tempfile
+from pathlib import Path
+
+from faults import Fault
+from model import SALT_LENGTH, Answer, CannotOpen, HostFiles, answer, refusal
+from options import SALT_FILE
+from random_requests import Case
+
+SECONDS = 120
+OWNER_ALONE = 0o600
+FULL_DEVICE = "/dev/full"
+
+
+class CaseFiles(HostFiles):
+    """The files of a case and those of the host, where the source of salts gave these bytes."""
+
+    def __init__(self, case: Case, salt: bytes) -> None:
+        self.files = {**case.files, SALT_FILE: salt}
+
+    def open(self, path: str):
+        if os.path.isabs(path) and path not in self.files:
+            return super().open(path)
+        if path not in self.files:
+            raise CannotOpen
+        content = self.files[path]
+        return Folder() if content is None else io.BytesIO(content)
+
+    def can_be_written(self, answered: Answer) -> bool:
+        if answered.path == FULL_DEVICE:
+            return answered.output == b""
+        folder = os.path.dirname(answered.path)
+        is_folder = lambda path: path in self.files and self.files[path] is None
+        return answered.path != "" and not is_folder(answered.path) and (folder == "" or is_folder(folder))
+
+
+class Folder:
+    """It opens, and cannot be read."""
+
+    def read(self, size: int) -> bytes:
+        raise IsADirectoryError
+
+
+def salt_in(output: bytes) -> bytes:
+    """The salt of an envelope or block, 32 bytes; some other bytes where there is none."""
+    lines = [line.strip(b" ") for line in output.split(b"\n")]
+    start = next((place for place, line in enumerate(lines) if line.startswith(b"$ANSIBLE")), 0)
+    try:
+        inner = bytes.fromhex(b"".join(lines[start + 1 : start + 3]).decode())
+        return bytes.fromhex(inner[: 2 * SALT_LENGTH].decode()).ljust(SALT_LENGTH)
+    except ValueError:
+        return bytes(SALT_LENGTH)
+
+
+def contents(folder: Path) -> dict[str, bytes]:
+    paths = [path for path in folder.rglob("*") if path.is_file()]
+    return {str(path.relative_to(folder)): path.read_bytes() for path in paths}
+
+
+def expected(case: Case, salt: bytes) -> Answer:
+    store = CaseFiles(case, salt)
+    answered = answer(case.words, store, io.BytesIO(case.stdin))
+    if answered.path is not None and not store.can_be_written(answered):
+        return refusal(Fault.NOT_WRITTEN)
+    return answered
+
+
+def run(case: Case, program: list[str], folder: Path) -> subprocess.CompletedProcess:
+    return subprocess.run(
+        [*program, *case.words], input=case.stdin, capture_output=True, cwd=folder, timeout=SECONDS
+    )
+
+
+def differences(case: Case, program: list[str]) -> list[str]:
+    """Runs the case in a folder of its own; what is other than the model has it."""
+    with tempfile.TemporaryDirectory() as name:
+        folder = Path(name)
+        case.lay_out(folder)
+        before = contents(folder)
+        try:
+            done = run(case, program, folder)
+        except subprocess.TimeoutExpired:
+            return [f"no answer in {SECONDS} seconds"]
+        after = contents(folder)
+        modes = {path: stat.S_IMODE((folder / path).stat().st_mode) for path in after.keys() - before.keys()}
+    changed = [content for path, content in after.items() if before.get(path) != content]
+    want = expected(case, salt_in(changed[0] if changed else done.stdout))
+    if want.path is not None and want.path != FULL_DEVICE:
+        before[want.path] = want.output
+    pairs = {
+        "status": (done.returncode, want.status),
+        "message": (done.stderr, want.message if want.message is not None else done.stderr or b"a text"),
+        "output": (done.stdout, (want.output or b"") if want.path is None else b""),
+        "files": (after, before),
+        "modes": (modes, dict.fromkeys(modes, OWNER_ALONE)),
+    }
+    return [f"{what}: got {got!r:.400}, want {wanted!r:.400}" for what, (got, wanted) in pairs.items() if got != wanted]

@@ -1,0 +1,65 @@
+"""The options of each command, as the manual page and the program's help tell them.
+
+The key None stands for the program without a command.
+"""
+
+import pathlib
+import re
+import subprocess
+
+ROOT = pathlib.Path(__file__).resolve().parent.parent
+PAGE = ROOT / "doc" / "ansible-vault.1"
+
+OPTION = re.compile(r"\bFl (-?[\w-]+)")
+
+
+def sections(text: str) -> dict[str, str]:
+    """The sections of the page by their titles."""
+    _, *parts = re.split(r"^\.Sh (.+)$", text, flags=re.MULTILINE)
+    return dict(zip(parts[::2], parts[1::2]))
+
+
+def options_in(text: str) -> set[str]:
+    return {"-" + name for name in OPTION.findall(text)}
+
+
+def spellings(text: str) -> list[set[str]]:
+    """The spellings of each option that the page describes."""
+    return [options_in(line) for line in re.findall(r"^\.It (Fl .*)$", text, re.MULTILINE)]
+
+
+def page_sets() -> dict[str | None, set[str]]:
+    """The options of each command in the synopsis, in all their spellings, in the page's order."""
+    page = sections(PAGE.read_text())
+    described = spellings(page["DESCRIPTION"])
+    sets = {}
+    for part in re.split(r"^\.Nm$", page["SYNOPSIS"], flags=re.MULTILINE)[1:]:
+        command = re.search(r"^\.Cm (\S+)$", part, re.MULTILINE)
+        named = options_in(part)
+        sets[command and command[1]] = named.union(*(each for each in described if each & named))
+    return sets
+
+
+def described_options() -> set[str]:
+    return set().union(*spellings(sections(PAGE.read_text())["DESCRIPTION"]))
+
+
+def help_text(program: str, command: str | None) -> str:
+    words = [program, *([command] if command else []), "--help"]
+    return subprocess.run(words, capture_output=True, text=True, check=True).stdout
+
+
+def help_options(text: str) -> set[str]:
+    found = re.findall(r"^ +(?:(-\w), |  +)(--[\w-]+)", text, re.MULTILINE)
+    return {option for pair in found for option in pair if option}
+
+
+def help_of(text: str, option: str) -> str:
+    """What the help says behind an option."""
+    found = re.search(rf"{option} (.*(?:\n {{12,}}\S.*)*)", text)
+    return " ".join(found[1].split()) if found else ""
+
+
+def help_commands(text: str) -> list[str]:
+    listed = text.partition("Commands:\n")[2].partition("\n\n")[0]
+    return re.findall(r"^  (\w+)", listed, re.MULTILINE)

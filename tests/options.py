@@ -1,0 +1,208 @@
+"""From the words of a command line to a request, or to the fault that comes first."""
+
+from dataclasses import dataclass, field
+
+from faults import Fault, Refused
+
+COMMON = {"--vault-id", "--vault-password-file"}
+SALTS = {"--salt-file", "--salt"}
+# The options of each command besides the common ones.
+OPTIONS = {
+    "encrypt": {"--encrypt-vault-id", "--output"} | SALTS,
+    "decrypt": {"--output", "--require-id-match"},
+    "view": {"--require-id-match"},
+    "rekey": {"--new-vault-id", "--new-vault-password-file", "--output", "--require-id-match"} | SALTS,
+    "encrypt_string": {"--encrypt-vault-id", "--output", "--name", "--stdin-name"} | SALTS,
+}
+FLAGS = {"--require-id-match"}
+SEALING = {"encrypt", "rekey", "encrypt_string"}
+
+SECRETS_LIMIT = 16
+LABEL_LIMIT = 128
+SALT_TEXT_LIMIT = 64
+SALT_FILE = "/dev/urandom"
+DEFAULT_LABEL = "default"
+
+
+class NotParsed(Exception):
+    """The words are no command line: a text on standard error, status 2."""
+
+
+@dataclass
+class Matches:
+    """A command, the values under each option, and the words that stand alone."""
+
+    command: str
+    values: dict[str, list[str]] = field(default_factory=dict)
+    positionals: list[str] = field(default_factory=list)
+
+    def all(self, option: str) -> list[str]:
+        return self.values.get(option, [])
+
+    def one(self, option: str) -> str | None:
+        return self.all(option)[0] if self.all(option) else None
+
+
+@dataclass(frozen=True)
+class SecretFile:
+    label: str
+    path: str
+
+
+@dataclass(frozen=True)
+class Request:
+    """What is to be done; a path that is None stands for a standard stream."""
+
+    command: str
+    secrets: list[SecretFile]
+    new_secret: SecretFile | None
+    choice: str | None
+    name: str | None
+    string: str | None
+    salt_text: str | None
+    salt_path: str | None
+    label_required: bool
+    input: str | None
+    output: str | None
+
+    @property
+    def files(self) -> list[SecretFile]:
+        return self.secrets + ([self.new_secret] if self.new_secret else [])
+
+
+def add(matches: Matches, option: str, value: str) -> None:
+    values = matches.values.setdefault(option, [])
+    if values and option not in COMMON:
+        raise NotParsed(f"{option} is given twice")
+    values.append(value)
+
+
+def split_word(word: str) -> tuple[str, str | None]:
+    """An option and the value in its own word, if there is one."""
+    if not word.startswith("--"):
+        option, rest = word[:2], word[2:]
+        return {"-n": "--name"}.get(option, option), rest.removeprefix("=") if rest else None
+    option, equals, value = word.partition("=")
+    return option, value if equals else None
+
+
+def parse(words: list[str]) -> Matches:
+    """The matches of the words behind the program's name."""
+    if not words or words[0] not in OPTIONS:
+        raise NotParsed("no command")
+    matches = Matches(words[0])
+    rest = iter(words[1:])
+    for word in rest:
+        if word == "--":
+            matches.positionals += rest
+        elif not word.startswith("-") or word == "-":
+            matches.positionals.append(word)
+        else:
+            option, value = split_word(word)
+            if option not in COMMON | OPTIONS[matches.command]:
+                raise NotParsed(f"{option} is not known")
+            add(matches, option, given_value(option, value, rest))
+    if len(matches.positionals) > 1:
+        raise NotParsed("too many arguments")
+    return matches
+
+
+def given_value(option: str, value: str | None, rest) -> str:
+    if option in FLAGS:
+        if value is not None:
+            raise NotParsed(f"{option} takes no value")
+        return ""
+    if value is None:
+        value = next(rest, None)
+        if value is None or value.startswith("-") and value != "-":
+            raise NotParsed(f"{option} needs a value")
+    return value
+
+
+def is_label(text: str) -> bool:
+    printable = all(" " <= character <= "~" and character != ";" for character in text)
+    return 1 <= len(text) <= LABEL_LIMIT and printable and text == text.strip(" ")
+
+
+def vault_id(text: str) -> SecretFile:
+    label, at, path = text.partition("@")
+    if not at:
+        label, path = "", text
+    if label and not is_label(label):
+        raise Refused(Fault.BAD_LABEL)
+    if path == "prompt":
+        raise Refused(Fault.PROMPT_SOURCE)
+    return SecretFile(label or DEFAULT_LABEL, path)
+
+
+def secret_files(matches: Matches) -> list[SecretFile]:
+    ids, paths = matches.all("--vault-id"), matches.all("--vault-password-file")
+    if len(ids) + len(paths) > SECRETS_LIMIT:
+        raise Refused(Fault.TOO_MANY_SECRETS)
+    return [vault_id(text) for text in ids] + [SecretFile(DEFAULT_LABEL, path) for path in paths]
+
+
+def chosen_label(matches: Matches) -> str | None:
+    label = matches.one("--encrypt-vault-id")
+    if label is not None and not is_label(label):
+        raise Refused(Fault.BAD_LABEL)
+    return label
+
+
+def new_secret(matches: Matches) -> SecretFile | None:
+    if matches.command != "rekey":
+        return None
+    text, path = matches.one("--new-vault-id"), matches.one("--new-vault-password-file")
+    if (text is None) == (path is None):
+        raise Refused(Fault.NEED_NEW_SECRET)
+    return vault_id(text) if path is None else SecretFile(DEFAULT_LABEL, path)
+
+
+def variable_name(matches: Matches, positional: str | None) -> str | None:
+    name, stdin_name = matches.one("--name"), matches.one("--stdin-name")
+    if (name if positional is None else stdin_name) is not None:
+        raise Refused(Fault.NAME_MISMATCH)
+    given = stdin_name if name is None else name
+    if given is not None and any(character < " " or character == "\x7f" for character in given):
+        raise Refused(Fault.BAD_NAME)
+    return given
+
+
+def salts(matches: Matches) -> tuple[str | None, str | None]:
+    """The salt text and the path of the salt file."""
+    text, path = matches.one("--salt"), matches.one("--salt-file")
+    if text is not None and path is not None:
+        raise Refused(Fault.SALT_CHOICE)
+    if text is not None and not 1 <= len(text.encode()) <= SALT_TEXT_LIMIT:
+        raise Refused(Fault.BAD_SALT)
+    if text is not None or matches.command not in SEALING:
+        return text, None
+    return None, SALT_FILE if path is None else path
+
+
+def settle(matches: Matches) -> Request:
+    [positional] = matches.positionals or [None]
+    if positional == "-":
+        positional = None
+    is_string = matches.command == "encrypt_string"
+    secrets = secret_files(matches)
+    choice = chosen_label(matches)
+    new = new_secret(matches)
+    name = variable_name(matches, positional)
+    output = matches.one("--output")
+    if matches.command in ("encrypt", "decrypt", "rekey") and positional is not None and output is None:
+        raise Refused(Fault.OUTPUT_NEEDED)
+    salt_text, salt_path = salts(matches)
+    return Request(
+        command=matches.command,
+        secrets=secrets,
+        new_secret=new,
+        choice=choice,
+        name=name,
+        string=positional if is_string else None,
+        salt_text=salt_text,
+        salt_path=salt_path,
+        label_required=bool(matches.all("--require-id-match")),
+        input=None if is_string else positional,
+        output=None if output == "-" else output,
+    )

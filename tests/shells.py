@@ -1,0 +1,98 @@
+"""What bash, zsh and fish offer for a command line of the program."""
+
+import os
+import pathlib
+import pty
+import shutil
+import subprocess
+import tempfile
+
+ROOT = pathlib.Path(__file__).resolve().parent.parent
+COMPLETIONS = ROOT / "completions"
+NAME = "ansible-vault"
+
+# Calls the function as readline does: with the words cut at `=` and `@` too, and with the text that
+# a match replaces, which keeps its `@`.
+BASH = """
+source "$1"
+text=$2
+shift 2
+COMP_WORDS=("$@")
+COMP_CWORD=$(($# - 1))
+_ansible_vault ansible-vault "$text"
+printf '%s\\n' "${COMPREPLY[@]}"
+"""
+
+
+def readline_words(line: str) -> list[str]:
+    """The line's words; the last one is that to be completed."""
+    words = []
+    for word in line.split(" "):
+        pieces = word.replace("=", "\0=\0").replace("@", "\0@\0").split("\0")
+        words += [piece for piece in pieces[:-1] if piece]
+        if pieces[-1] or len(pieces) == 1:
+            words.append(pieces[-1])
+    return words
+
+
+def readline_text(line: str) -> str:
+    """What a match replaces."""
+    word = line.split(" ")[-1].split("=")[-1]
+    return "@" + word.split("@")[-1] if "@" in word else word
+
+
+def printed(command: list[str], folder: pathlib.Path) -> set[str]:
+    run = subprocess.run(command, cwd=folder, capture_output=True, text=True, timeout=60, check=True)
+    return {line for line in run.stdout.split("\n") if line}
+
+
+def bash(line: str, folder: pathlib.Path) -> set[str]:
+    script = str(COMPLETIONS / f"{NAME}.bash")
+    command = ["bash", "--norc", "-c", BASH, "bash", script, readline_text(line), *readline_words(line)]
+    return printed(command, folder)
+
+
+def all_shown(terminal: int) -> bytes:
+    """What comes until the shell on the other side ends."""
+    shown = b""
+    while True:
+        try:
+            piece = os.read(terminal, 4096)
+        except OSError:
+            piece = b""
+        if not piece:
+            return shown
+        shown += piece
+
+
+def typed_in_bash(line: str, folder: pathlib.Path) -> str:
+    """The arguments that a command gets whose line is typed on a terminal and ended by a tab."""
+    here, there = pty.openpty()
+    shell = subprocess.Popen(
+        ["bash", "--norc", "--noprofile", "-i"], cwd=folder, stdin=there, stdout=there, stderr=there
+    )
+    setup = f"bind 'set bell-style none'; source {COMPLETIONS / NAME}.bash; {NAME}() {{ echo \"got $*.\"; }}"
+    os.close(there)
+    os.write(here, f"{setup}\n{NAME} {line}\t\nexit\n".encode())
+    shown = all_shown(here).decode()
+    os.close(here)
+    shell.wait()
+    return shown.split("got ")[-1].split(".\r")[0].strip()
+
+
+def fish(line: str, folder: pathlib.Path) -> set[str]:
+    script = COMPLETIONS / f"{NAME}.fish"
+    # What fish brings along for the other tool of this name is dropped first.
+    text = 'complete -C "$argv[2] " >/dev/null; complete -e $argv[2]; source $argv[1]; complete -C "$argv[3]"'
+    found = printed(["fish", "--no-config", "-c", text, str(script), NAME, line], folder)
+    return {match.split("\t")[0] for match in found}
+
+
+def zsh(line: str, folder: pathlib.Path) -> set[str]:
+    with tempfile.TemporaryDirectory() as functions:
+        shutil.copy(COMPLETIONS / f"{NAME}.zsh", pathlib.Path(functions) / f"_{NAME}")
+        return printed([str(ROOT / "tests" / "zsh_matches"), functions, line], folder)
+
+
+SHELLS = {name: ask for name, ask in (("bash", bash), ("zsh", zsh), ("fish", fish)) if shutil.which(name)}
+MISSING = [name for name in ("bash", "zsh", "fish") if name not in SHELLS]

@@ -1,0 +1,181 @@
+#!/usr/bin/env python3
+"""Runs a command of the prover and says, in a line for each crate, how far it is and for how long.
+
+    tools/progress.py LOG TOP COMMAND..
+
+LOG keeps all that the command writes, and is printed where it fails. TOP is the crate that is proved
+with those below it, or `all`. The exit status is the command's, and so is the last line where it
+counts what passed.
+"""
+
+import pathlib
+import queue
+import re
+import shutil
+import subprocess
+import sys
+import threading
+import time
+
+CRATES = pathlib.Path(__file__).resolve().parent.parent / "crates.txt"
+# Seconds between two signs of life: on a terminal in one line, else in a line each.
+TERMINAL_PAUSE, PAUSE = 1, 30
+
+STARTED = re.compile(r"rt: chose --jobs \d+ for (\w+)$")
+CHECKED = re.compile(r"(?:so far: |checked \S+, )(\d+ of \d+)\b")
+PROVED = re.compile(r"rt: (\w+) proved$")
+NOT_PROVED = re.compile(r"rt: (\w+ NOT PROVED\b.*)$")
+TESTS_PROVED = re.compile(r"rt: (\w+): its tests are (proved|NOT PROVED)$")
+EDITS = re.compile(r"rt: (\w+): trying its must-fail edits \((\d+)\)$")
+EDIT_PASSES = re.compile(r"rt: (must-fail \S+: (?:NOT REFUSED|BAD EDIT).*)$")
+RAN = re.compile(r"rt: (\w+(?: ran\b|: its tests passed|: its tests FAILED).*)$")
+COUNT = re.compile(r"\d+ passed, \d+ failed$")
+
+
+def libraries(text: str) -> dict[str, list[str]]:
+    """The crates of crates.txt, each with those of them that it stands on."""
+    lines = [line.split("#")[0] for line in text.splitlines()]
+    named = {line.split(":")[0].split()[0]: line.split(":")[1].split() for line in lines if ":" in line}
+    return {name: [each for each in uses if each in named] for name, uses in named.items()}
+
+
+def crates_below(uses: dict[str, list[str]], top: str) -> list[str]:
+    """The crate and all that it stands on."""
+    found = [top]
+    for name in found:
+        found += [each for each in uses[name] if each not in found]
+    return found
+
+
+def clock(seconds: float) -> str:
+    return f"{int(seconds) // 60}:{int(seconds) % 60:02}"
+
+
+class Progress:
+    """How many crates are proved, and since when the command runs."""
+
+    def __init__(self, crates: list[str]):
+        self.total = len(crates)
+        self.left = crates
+        self.begun = time.monotonic()
+        self.count = None
+
+    def tell(self, text: str, end: str = "\n"):
+        ahead = "\r\033[K" if sys.stdout.isatty() else ""
+        print(f"{ahead}{clock(time.monotonic() - self.begun):>6}  {text}", end=end, flush=True)
+
+    def proved(self, crate: str):
+        self.left = [each for each in self.left if each != crate]
+        self.tell(f"{crate} is proved, {self.total - len(self.left)} of {self.total}")
+
+    def end(self):
+        """The command has ended well."""
+
+
+class Build(Progress):
+    """The lines of `rt run`, which proves the crates below a program one by one, where they changed."""
+
+    def __init__(self, uses: dict[str, list[str]], top: str):
+        super().__init__(crates_below(uses, top))
+        self.uses = uses
+        self.current = None
+        self.current_begun = self.begun
+        self.checked = ""
+
+    def take(self, line: str):
+        if found := STARTED.match(line):
+            self.end()
+            self.current, self.current_begun, self.checked = found[1], time.monotonic(), ""
+            standing = crates_below(self.uses, found[1])[1:]
+            self.left = [each for each in self.left if each not in standing]
+        elif found := CHECKED.match(line):
+            self.checked = f", {found[1]} functions"
+
+    def end(self):
+        if self.current:
+            self.proved(self.current)
+        self.current = None
+
+    def state(self) -> str:
+        if not self.current:
+            return "looking the sources over"
+        since = clock(time.monotonic() - self.current_begun)
+        place = self.total - len(self.left) + 1
+        return f"proving {self.current}, {place} of {self.total}, for {since}{self.checked}"
+
+
+class Gate(Progress):
+    """The lines of `rt ci`, which proves several crates at once and tells when each has ended."""
+
+    def take(self, line: str):
+        if found := PROVED.match(line):
+            self.proved(found[1])
+        elif found := NOT_PROVED.match(line):
+            self.tell(found[1])
+        elif found := TESTS_PROVED.match(line):
+            self.tell(f"{found[1]}: its tests are {found[2]}")
+        elif found := EDITS.match(line):
+            self.tell(f"{found[1]}: {found[2]} must-fail edits are tried")
+        elif found := EDIT_PASSES.match(line) or RAN.match(line):
+            self.tell(found[1])
+        elif COUNT.match(line):
+            self.count = line
+
+    def state(self) -> str:
+        if self.left:
+            return f"{len(self.left)} of {self.total} crates are left: {', '.join(self.left)}"
+        return "every crate is proved; tests, must-fail edits and programs are left"
+
+
+def lines_of(process, lines: queue.Queue, log):
+    for line in process.stdout:
+        log.write(line)
+        log.flush()
+        lines.put(line.rstrip("\n"))
+    lines.put(None)
+
+
+def follow(progress: Progress, lines: queue.Queue):
+    """Takes each line as it comes, and gives a sign of life where none comes."""
+    pause = TERMINAL_PAUSE if sys.stdout.isatty() else PAUSE
+    end = "" if sys.stdout.isatty() else "\n"
+    told = time.monotonic()
+    while True:
+        try:
+            line = lines.get(timeout=1)
+        except queue.Empty:
+            line = ""
+        if line is None:
+            return
+        progress.take(line)
+        if time.monotonic() - told >= pause:
+            progress.tell(progress.state(), end)
+            told = time.monotonic()
+
+
+def main():
+    path, top, *command = sys.argv[1:]
+    if not shutil.which(command[0]):
+        sys.exit(f"{command[0]} is not on PATH; it comes with the Rattle kit")
+    uses = libraries(CRATES.read_text())
+    progress = Gate(list(uses)) if top == "all" else Build(uses, top)
+    lines = queue.Queue()
+    with open(path, "w") as log:
+        process = subprocess.Popen(
+            command, stdout=subprocess.PIPE, stderr=subprocess.STDOUT, text=True, errors="replace"
+        )
+        threading.Thread(target=lines_of, args=(process, lines, log), daemon=True).start()
+        follow(progress, lines)
+        status = process.wait()
+    if status:
+        print(f"\n{pathlib.Path(path).read_text(errors='replace')}", end="")
+    else:
+        progress.end()
+    progress.tell(f"{'FAILED' if status else 'done'}; the whole log is {path}")
+    if progress.count:
+        print(progress.count)
+    return status
+
+
+if __name__ == "__main__":
+    sys.exit(main())
