@@ -17,7 +17,7 @@ use clap::{ArgMatches, Error};
 use std::alloc::{AllocError, Global};
 use std::io;
 use std::io::{Read, Write};
-use vault_core::{Fault, Role, PASSWORD_FILE_LIMIT};
+use vault_core::{Fault, PASSWORD_FILE_LIMIT, Role};
 use vault_text::{CIPHERTEXT_LIMIT, ReadSource, Sink, SinkFailed, Stage, WriteSink, put_all};
 
 /// All that the program does: parses the words, of which the first is the program's name, settles
