@@ -164,7 +164,7 @@ module _ (payload : Payload) (list : SecretList) (label : List ℕ) where
       let found = option_map-Some (keys_of payload) _ _ answer in
       let order = tried_order-front list label list.rule refl in (
         ap (find (agrees payload)) order.1 ∙ find-append (agrees payload) labelled_part order.0
-        ∙ ap (λ (o : Option Secret). option_or o (find (agrees payload) order.0)) found.1 ∙ sym found.1,
+            ∙ ap (λ (o : Option Secret). option_or o (find (agrees payload) order.0)) found.1 ∙ sym found.1,
         ap (tries payload) order.1 ∙ tries-append_found payload labelled_part order.0 found.0 found.1,
       )
 
@@ -176,7 +176,7 @@ module _ (payload : Payload) (list : SecretList) (label : List ℕ) where
       let none = option_map-None (keys_of payload) _ answer in
       let order = tried_order-hint list label hint in (
         ap (find (agrees payload)) order ∙ find-append (agrees payload) labelled_part other_part
-        ∙ ap (λ (o : Option Secret). option_or o (find (agrees payload) other_part)) none,
+            ∙ ap (λ (o : Option Secret). option_or o (find (agrees payload) other_part)) none,
         ap (tries payload) order ∙ tries-append_none payload labelled_part other_part none,
       )
 

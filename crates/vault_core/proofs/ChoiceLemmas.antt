@@ -1,9 +1,11 @@
 -- The answers of a choice, by how many secrets there are.
-use Rattle.std.proofs.Common.{◌≡◌, ◌≢◌, ℕ, List, [], ◌∷◌, length, Option, Some, None, Ok, Err, arith, refl}
-use Rattle.std.specs.Prelude.{position}
+use Rattle.std.proofs.Common.{◌≡◌, ◌≢◌, ℕ, ◌<◌, List, [], ◌∷◌, length, Option, Some, None, Result, Ok, Err, arith, refl, sym}
+use Rattle.std.specs.Prelude.{IfOk, position}
+use Rattle.std.proofs.lemmas.List.Quantifiers.{position-Some}
 use Rattle.std.specs.Option.{ok_or}
 use Rattle.vault_core.specs.Choice.{choice}
 use Rattle.vault_core.specs.Secrets.{Secret, has_label}
+use Rattle.vault_core.specs.declared.choice.ChoiceFault.{ChoiceFault}
 use Rattle.vault_core.specs.declared.choice.ChoiceFault.TheVariants.{NoEncryptSecret, ManyEncryptSecrets, UnknownEncryptId}
 
 pub choice-of_none : (secrets : List Secret) (label : Option (List ℕ)) → length secrets ≡ 0 → choice secrets label ≡ Err NoEncryptSecret
@@ -29,3 +31,24 @@ unfolding choice
 choice-by_label [] label not_none = absurd (not_none refl)
 choice-by_label (only ∷ []) label not_none = refl
 choice-by_label (first ∷ second ∷ others) label not_none = refl
+
+-- a place is one of the list
+found-within : (secrets : List Secret) (label : List ℕ) (place : ℕ) → (found : Option ℕ) → position (has_label label) secrets ≡ found
+    → ok_or found UnknownEncryptId ≡ Ok place → place < length secrets
+found-within secrets label place None known is = absurd cc
+found-within secrets label place (Some at) known is =
+    let same : at ≡ place = cc in
+    rw same at ((position-Some (has_label label) secrets at (record { label = []; password = [] }) known).0)
+
+choice-within : (secrets : List Secret) (label : Option (List ℕ)) (place : ℕ) → choice secrets label ≡ Ok place → place < length secrets
+unfolding choice
+choice-within [] label place is = absurd cc
+choice-within (only ∷ []) None place is = let first : 0 ≡ place = cc in omega (arith, first)
+choice-within (first ∷ second ∷ others) None place is = absurd cc
+choice-within (only ∷ []) (Some label) place is = found-within (only ∷ []) label place _ refl is
+choice-within (first ∷ second ∷ others) (Some label) place is = found-within (first ∷ second ∷ others) label place _ refl is
+
+pub IfOk-within : (secrets : List Secret) (label : Option (List ℕ)) (answer : Result ℕ ChoiceFault) → answer ≡ choice secrets label
+    → IfOk answer (λ place. place < length secrets)
+IfOk-within secrets label (Ok place) is = choice-within secrets label place (sym is)
+IfOk-within secrets label (Err fault) is = tt

@@ -11,3 +11,4 @@ pub mod RekeyingLemmas
 pub mod SealedOpens
 pub mod SealedReadsBack
 pub mod SealingLemmas
+pub mod ShortInputs

@@ -37,7 +37,6 @@ module _ (sealing : Secret) (salt plain : List ℕ) where
   unfolding sealed
   length-cipher = length-counter_mode _ _ _ ∙ length-padded plain
 
-
 pub sealed_reads_back : SealedReadsBack
 sealed_reads_back limit sealing salt plain label salt_bytes salt_fits plain_bytes fits =
     let vault : Payload = sealed sealing salt plain in

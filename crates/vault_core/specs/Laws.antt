@@ -4,7 +4,7 @@ use Rattle.vault_text.specs.Label.{is_label}
 use Rattle.vault_text.specs.declared.limits.TheConstants.{SALT_LIMIT}
 use Rattle.vault_core.specs.Decryption.{decryption, payload_of}
 use Rattle.vault_core.specs.Encryption.{encryption}
-use Rattle.vault_core.specs.Form.{Envelope}
+use Rattle.vault_core.specs.Form.{Form, Envelope}
 use Rattle.vault_core.specs.Opening.{opening}
 use Rattle.vault_core.specs.Padding.{padded_length}
 use Rattle.vault_core.specs.Ready.{Ready}
@@ -57,3 +57,12 @@ RekeyedDecrypts =
     → (plain : List ℕ) × (decryption limit secrets input ≡ Ok (record { output = plain; tried = ready.tried }))
     × ((rule : LabelRule) → decryption limit (record { secrets = new ∷ []; rule = rule }) ready.output
     ≡ Ok (record { output = plain; tried = 1 }))
+
+-- an input within a limit gets one answer under it and under every larger one
+abbrev pub ShortInputs : Type 0
+ShortInputs =
+    (smaller larger : ℕ) (input : List ℕ) → length input ≤ smaller → smaller ≤ larger
+    → (list : List Secret) (place : ℕ) (form : Form) (secrets : SecretList) (new : Secret) (salt : List ℕ)
+    → (encryption larger list place form salt input ≡ encryption smaller list place form salt input)
+    × (decryption larger secrets input ≡ decryption smaller secrets input)
+    × (rekeying larger secrets new salt input ≡ rekeying smaller secrets new salt input)

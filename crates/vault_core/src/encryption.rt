@@ -39,7 +39,8 @@ pub fn prepare_encrypt<'a, S: Source>(
         × UnlessUnreadable (S.failures src.old) (S.failures src.new) result
         ((length input ≤ limit) × (meter.new ≡ meter.old))
         (IsWhole limit (S.ended src.new) input
-        × (result ≡ encryption limit secrets.now.secrets choice (form_of form.entry) salt.now input)
+        × (result
+        ≡ encryption limit secrets.now.secrets choice (form_of form.entry) salt.now input)
         × (meter.new ≡ meter.old + sealing_derivations result)) }
 {
     let n = read_plaintext(src, work)?;

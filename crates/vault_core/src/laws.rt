@@ -1,7 +1,7 @@
 //! Laws of the definitions, each the contract of a function that does nothing.
 ghost use Rattle.std.specs.Prelude.{◌≡◌, ℕ, List, Some};
 ghost use Rattle.vault_aes.specs.Padding.{IsPadded};
-ghost use Rattle.vault_core.specs.Laws.{EncryptedDecrypts, RekeyedDecrypts, SealedOpens, SealedReadsBack};
+ghost use Rattle.vault_core.specs.Laws.{EncryptedDecrypts, RekeyedDecrypts, SealedOpens, SealedReadsBack, ShortInputs};
 ghost use Rattle.vault_core.specs.Padding.{padded, without_padding};
 
 /// What is put on is padding.
@@ -35,4 +35,9 @@ pub fn encrypted_decrypts()
 /// Decrypting what was rekeyed gives what decrypting gave before.
 pub fn rekeyed_decrypts()
     ensures { RekeyedDecrypts }
+{}
+
+/// An input within a limit gets one answer of each call under that limit and every larger one.
+pub fn short_inputs()
+    ensures { ShortInputs }
 {}

@@ -25,7 +25,9 @@ impl<'a> Model for Sealed<'a> {
 
     ghost Value = { Payload };
 
-    ghost view = { λ s. record { label = s.label.now; salt = s.salt.now; tag = s.tag; cipher = s.cipher.now } };
+    ghost view = { λ s. record {
+        label = s.label.now; salt = s.salt.now; tag = s.tag; cipher = s.cipher.now
+    } };
 }
 
 impl<'a> Sealed<'a> {
@@ -65,8 +67,8 @@ pub(crate) fn seal<'a>(
     requires within { n ≤ length work.old }
     requires room { padded_length n ≤ length work.old }
     requires countable { meter.old < 2 ^ 63 }
-    ensures sealed { result ≡ sealed (record { label = label.now; password = password.now }) salt.now
-        (take n work.old) }
+    ensures sealed { result
+        ≡ sealed (record { label = label.now; password = password.now }) salt.now (take n work.old) }
     ensures counted { meter.new ≡ meter.old + 1 }
 {
     let keys = derive(password, salt.as_bytes(), meter);

@@ -1,5 +1,5 @@
 //! The secrets that a vault is tried with.
-ghost use Rattle.std.specs.Prelude.{◌≡◌, ◌<◌, ◌≤◌, ◌↔◌, [], ◌∷◌, ◌++◌, length, IsErr, OnOk, OnErr};
+ghost use Rattle.std.specs.Prelude.{◌≡◌, ◌<◌, ◌≤◌, ◌↔◌, [], ◌∷◌, ◌++◌, length, IsErr, IfOk, OnOk, OnErr};
 ghost use Rattle.std.specs.Option.{option_copied};
 ghost use Rattle.vault_core.specs.Choice.{choice};
 ghost use Rattle.vault_core.specs.Password.{IsPassword};
@@ -21,7 +21,8 @@ pub enum ListFault {
     TooManySecrets,
 }
 
-/// A list of at most 16 secrets, whose passwords are borrowed, and the rule for an envelope's label.
+/// A list of at most 16 secrets, whose passwords are borrowed, and what an envelope's label means
+/// among them.
 #[derive(Drop)]
 pub struct Secrets<'p> {
     list: ArrayVec<Secret<'p>, SECRET_COUNT_LIMIT>,
@@ -101,7 +102,8 @@ impl<'p> Secrets<'p> {
     /// The place, from 0, of the secret to encrypt with: the first of the label, or the only one
     /// where no label is given.
     pub fn encrypt_choice(&self, label: Option<&Label>) -> Result<usize, ChoiceFault>
-        ensures { result ≡ choice self.now.secrets (option_copied label.entry) }
+        ensures choice { result ≡ choice self.now.secrets (option_copied label.entry) }
+        ensures within { IfOk result (λ place. place < length self.now.secrets) }
     {
         choice(self.as_slice(), label)
     }

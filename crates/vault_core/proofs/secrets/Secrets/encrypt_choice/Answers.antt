@@ -1,0 +1,7 @@
+use Rattle.std.specs.Option.{option_copied}
+use Rattle.vault_core.proofs.ChoiceLemmas.{IfOk-within}
+use Rattle.vault_core.proofs.secrets.Secrets.encrypt_choice.Goals as goal
+
+pub returns-clause-within : goal.returns-clause-within
+returns-clause-within c =
+    IfOk-within c.args.self.now.secrets (option_copied c.args.label) c.choice.result (rw c.as_slice.ensures.secrets at c.choice.ensures)
