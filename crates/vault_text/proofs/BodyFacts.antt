@@ -115,7 +115,7 @@ taken-line bytes line start end at inside until =
     ∙ ap (λ (n : ℕ). take n bytes) to
     ∙ take_min ((line + 1) * 40) bytes
 
--- the same, where the first digits fill whole lines unless none follow
+-- the lines of two texts, where the first fills whole lines unless the second is empty
 body_text-parts : (indentation xs ys : List ℕ) → (length xs % 80 ≡ 0) ⊎ (ys ≡ [])
     → text_of_lines indentation (body_lines xs) ++ text_of_lines indentation (body_lines ys) ≡ text_of_lines indentation (body_lines (xs ++ ys))
 body_text-parts indentation xs ys (inl whole) = body_text-append indentation xs ys whole

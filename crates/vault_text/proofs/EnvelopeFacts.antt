@@ -19,7 +19,7 @@ use Rattle.vault_text.specs.declared.fault.TextFault.{TextFault}
 use Rattle.vault_text.specs.declared.fault.TextFault.TheVariants.{TooLong, BadHex, BadPayload, CipherTooLong, NotVault}
 use Rattle.vault_text.proofs.LineEndFacts.{header_line-ended, header_line-goes_on, header_line-whole, starts_with-header_line, without_line_ends-append}
 
--- what follows a step may be another spelling of the same
+-- two spellings of what follows a step
 bind-same : (r : Result (List ℕ) TextFault) (f g : List ℕ → Result Payload TextFault) → ((found : List ℕ) → f found ≡ g found)
     → (r >>= f) ≡ (r >>= g)
 bind-same (Err e) f g same = refl

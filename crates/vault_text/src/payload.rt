@@ -35,25 +35,28 @@ impl<'a> Payload<'a> {
         }
     }
 
+    /// The label that the header line names, `default` where it names none.
     pub fn label(&self) -> &Label
         ensures { result.now ≡ self.now.label }
     {
         &self.label
     }
 
+    /// The salt, of at most `SALT_LIMIT` bytes. It may be empty.
     pub fn salt(&self) -> &Salt
         ensures { result.now ≡ self.now.salt }
     {
         &self.salt
     }
 
+    /// The tag as it was read, of which nothing says that it fits the ciphertext.
     pub fn tag(&self) -> &[u8; TAG_LENGTH]
         ensures { result.now ≡ self.now.tag }
     {
         &self.tag
     }
 
-    /// The ciphertext.
+    /// The ciphertext, which may be empty or of a length that no padding gives.
     pub fn cipher(&self) -> &[u8]
         ensures { result.now ≡ self.now.cipher }
     {

@@ -50,7 +50,8 @@ impl<'a> Model for EnvelopeReader<'a> {
 }
 
 impl<'a> EnvelopeReader<'a> {
-    /// A reader that writes the ciphertext to `work`, whose length limits what is read.
+    /// A reader that writes the ciphertext to `work`. Of `work`, all but `PADDING_LIMIT` bytes is the
+    /// limit of the plaintext, from which those of the ciphertext and of the input follow.
     pub fn new(work: &'a mut [u8]) -> Self
         requires { IsWorkLength (length work.old) }
         ensures limit { result.limit ≡ limit_of (length work.old) }
@@ -83,7 +84,9 @@ impl<'a> EnvelopeReader<'a> {
         self.body.extend(rest);
     }
 
-    /// The payload of the input, or its first fault in the order of the nine steps.
+    /// The payload of the input, or its first fault in the order of the nine steps: `TooLong` over
+    /// `input_limit`, then those of the header line, `BadHex`, `BadPayload`, and `CipherTooLong` where
+    /// the ciphertext does not fit in the memory.
     pub fn finish(self) -> Result<Payload<'a>, TextFault>
         ensures { (input : List ℕ) →
             StandsFor self.entry input → result ≡ read_within self.entry.limit input }

@@ -1,17 +1,24 @@
 //! Envelopes in pieces, held against the whole-list reader and the answers wanted.
-ghost use Rattle.std.specs.Prelude.{◌≡◌, ◌<◌, length};
-ghost use Rattle.vault_text.specs.declared.limits.TheConstants.{CIPHERTEXT_LIMIT};
+ghost use Rattle.std.specs.Prelude.{◌≡◌, ◌<◌, IfOk, length, vec_len};
+ghost use Rattle.vault_text.specs.Limits.{IsWorkLength};
+ghost use Rattle.vault_text.specs.declared.reader.tests.TheConstants.{WORK_LENGTH};
 
 mod whole_list;
 
 use super::EnvelopeReader;
 use crate::fault::TextFault;
-use crate::limits::{CIPHERTEXT_LIMIT, ENVELOPE_LIMIT};
+use crate::limits::PADDING_LIMIT;
 use crate::payload::Payload;
 use std::alloc::{AllocError, Global};
 use std::process::Abort;
 use std::test::Fail;
 use whole_list::{OwnedPayload, read_envelope};
+
+/// The memory that most tests lend: room for 100 bytes of plaintext.
+const WORK_LENGTH: usize = 100 + PADDING_LIMIT;
+
+/// The longest input that such memory reads: 6 times 100 and 8,192 bytes.
+const INPUT_LIMIT: usize = 8_792;
 
 const HEADER: &str = "$ANSIBLE_VAULT;1.1;AES256";
 
@@ -70,7 +77,7 @@ fn read_in_pieces(
     work: &mut [u8],
     input: &[u8],
 ) -> Result<Result<OwnedPayload, TextFault>, AllocError>
-    requires { length work.old ≡ CIPHERTEXT_LIMIT }
+    requires { length work.old ≡ WORK_LENGTH }
 {
     let whole = read_envelope(alloc, input)?;
     for cut in 0..input.len() {
@@ -89,8 +96,10 @@ fn read_in_pieces(
 }
 
 /// Memory for a ciphertext.
-fn work_memory(alloc: Global) -> Result<Vec<u8>, AllocError> {
-    vec![in alloc; 0u8; CIPHERTEXT_LIMIT]
+fn work_memory(alloc: Global) -> Result<Vec<u8>, AllocError>
+    ensures { IfOk result (λ work. vec_len work ≡ WORK_LENGTH) }
+{
+    vec![in alloc; 0u8; WORK_LENGTH]
 }
 
 #[test]
@@ -98,7 +107,7 @@ fn first_fault_of_the_header_line(rt: HostRuntime) -> Result<(), Fail> {
     let alloc = rt.alloc();
     let mut memory = work_memory(alloc)?;
     let work = memory.as_mut_slice();
-    assert_eq!(rt; work.len(), CIPHERTEXT_LIMIT);
+    assert_eq!(rt; work.len(), WORK_LENGTH);
     let long = [b';'; 232];
     let mut long_header = text_of(alloc, HEADER, &[], "")?;
     long_header.extend_from_slice(&long)?;
@@ -141,7 +150,7 @@ fn lines_of_any_form(rt: HostRuntime) -> Result<(), Fail> {
     let alloc = rt.alloc();
     let mut memory = work_memory(alloc)?;
     let work = memory.as_mut_slice();
-    assert_eq!(rt; work.len(), CIPHERTEXT_LIMIT);
+    assert_eq!(rt; work.len(), WORK_LENGTH);
     let [first, second] = EMPTY;
     let mut single_digits = text_of(alloc, HEADER, &[], "\n")?;
     for digit in first.bytes().chain(second.bytes()) {
@@ -173,7 +182,7 @@ fn first_lines_that_name_a_label(rt: HostRuntime) -> Result<(), Fail> {
     let alloc = rt.alloc();
     let mut memory = work_memory(alloc)?;
     let work = memory.as_mut_slice();
-    assert_eq!(rt; work.len(), CIPHERTEXT_LIMIT);
+    assert_eq!(rt; work.len(), WORK_LENGTH);
     let cases = [
         ("$ANSIBLE_VAULTX;1.1;AES256;dev", "dev"),
         ("$ANSIBLE_VAULT;1.2;AES256;a b", "a b"),
@@ -195,7 +204,7 @@ fn all_parts_of_an_envelope(rt: HostRuntime) -> Result<(), Fail> {
     let alloc = rt.alloc();
     let mut memory = work_memory(alloc)?;
     let work = memory.as_mut_slice();
-    assert_eq!(rt; work.len(), CIPHERTEXT_LIMIT);
+    assert_eq!(rt; work.len(), WORK_LENGTH);
     let input = text_of(alloc, "$ANSIBLE_VAULT;1.2;AES256;dev", &FILLED, "\n")?;
     let whole = read_in_pieces(&rt, alloc, work, input.as_slice())?;
     let payload = whole.map_err(|_| "refused")?;
@@ -218,7 +227,7 @@ fn read_in_steps<'w>(
     input: &[u8],
     step: usize,
 ) -> Result<Payload<'w>, TextFault>
-    requires room { length work.old ≡ CIPHERTEXT_LIMIT }
+    requires room { IsWorkLength (length work.old) }
     requires some { 0 < step }
 {
     let mut reader = EnvelopeReader::new(work);
@@ -233,9 +242,9 @@ fn no_envelope_over_the_limit(rt: HostRuntime) -> Result<(), Fail> {
     let alloc = rt.alloc();
     let mut memory = work_memory(alloc)?;
     let work = memory.as_mut_slice();
-    assert_eq!(rt; work.len(), CIPHERTEXT_LIMIT);
+    assert_eq!(rt; work.len(), WORK_LENGTH);
     let mut input = text_of(alloc, HEADER, &["zz"], "\n")?;
-    for _ in input.len()..ENVELOPE_LIMIT {
+    for _ in input.len()..INPUT_LIMIT {
         input.push(b'\n')?;
     }
     for step in [1, 7, 4_096] {
@@ -263,15 +272,15 @@ fn no_ciphertext_over_the_limit(rt: HostRuntime) -> Result<(), Fail> {
     let alloc = rt.alloc();
     let mut memory = work_memory(alloc)?;
     let work = memory.as_mut_slice();
-    assert_eq!(rt; work.len(), CIPHERTEXT_LIMIT);
+    assert_eq!(rt; work.len(), WORK_LENGTH);
     let mut input = text_of(alloc, HEADER, &EMPTY, "\n")?;
-    for _ in 0..2 * CIPHERTEXT_LIMIT {
+    for _ in 0..2 * WORK_LENGTH {
         input.extend_from_slice(b"30")?;
     }
     for step in [1, 7, 4_096] {
         let reading = read_in_steps(work, input.as_slice(), step);
         let payload = reading.map_err(|_| "refused")?;
-        assert_eq!(rt; payload.cipher().len(), CIPHERTEXT_LIMIT);
+        assert_eq!(rt; payload.cipher().len(), WORK_LENGTH);
     }
     input.extend_from_slice(b"3030")?;
     for step in [1, 7, 4_096] {
@@ -282,5 +291,29 @@ fn no_ciphertext_over_the_limit(rt: HostRuntime) -> Result<(), Fail> {
             "in steps of {step}"
         );
     }
+    Ok(())
+}
+
+#[test]
+fn memory_for_padding_alone(rt: HostRuntime) -> Result<(), Fail> {
+    let alloc = rt.alloc();
+    let mut memory = work_memory(alloc)?;
+    let work = &mut memory.as_mut_slice()[..PADDING_LIMIT];
+    assert_eq!(rt; work.len(), PADDING_LIMIT);
+    let mut input = text_of(alloc, HEADER, &EMPTY, "\n")?;
+    for _ in 0..2 * PADDING_LIMIT {
+        input.extend_from_slice(b"30")?;
+    }
+    let reading = read_in_steps(work, input.as_slice(), 7);
+    let payload = reading.map_err(|_| "refused")?;
+    assert_eq!(rt; payload.cipher().len(), 16);
+    input.extend_from_slice(b"3030")?;
+    let reading = read_in_steps(work, input.as_slice(), 7);
+    assert_eq!(rt; reading.err(), Some(TextFault::CipherTooLong));
+    for _ in input.len()..8_193 {
+        input.push(b'\n')?;
+    }
+    let reading = read_in_steps(work, input.as_slice(), 7);
+    assert_eq!(rt; reading.err(), Some(TextFault::TooLong));
     Ok(())
 }

@@ -1,9 +1,9 @@
 //! The texts were made in Python: `bytes.hex` of salt, tag and ciphertext joined by line feeds,
 //! then `bytes.hex` of that, cut every 80 digits.
-ghost use Rattle.std.specs.Prelude.{◌≤◌};
+ghost use Rattle.std.specs.Prelude.{◌≡◌, ◌≤◌, IfOk, vec_len};
+ghost use Rattle.vault_text.specs.declared.writing.tests.TheConstants.{WORK_LENGTH};
 
 use super::*;
-use crate::limits::CIPHERTEXT_LIMIT;
 use crate::reader::EnvelopeReader;
 use crate::sink::{FailingSink, MemSink};
 use std::alloc::{AllocError, Global};
@@ -110,6 +110,15 @@ const UNNAMED_BLOCK: &str = "\
     \x20         636562656165396538653765366535653465336532653165300a3035313031623236333133633437\n\
     ";
 
+/// Room for the longest ciphertext that is read back.
+const WORK_LENGTH: usize = 20_000;
+
+fn work_memory(alloc: Global) -> Result<Vec<u8>, AllocError>
+    ensures { IfOk result (λ work. vec_len work ≡ WORK_LENGTH) }
+{
+    vec![in alloc; 0u8; WORK_LENGTH]
+}
+
 /// `length` bytes, of which byte i is `step * i + first` modulo 256.
 fn counting(alloc: Global, length: u16, step: u8, first: u8) -> Result<Vec<u8>, AllocError> {
     let mut bytes = Vec::new(alloc);
@@ -171,7 +180,7 @@ fn envelopes_are_those_of_another_implementation(rt: HostRuntime) -> Result<(), 
 #[test]
 fn envelopes_read_back(rt: HostRuntime) -> Result<(), Fail> {
     let alloc = rt.alloc();
-    let mut work = vec![in alloc; 0u8; CIPHERTEXT_LIMIT]?;
+    let mut work = work_memory(alloc)?;
     for (label, salt_length, length) in [
         ("default", 0, 0),
         ("default", 1, 16),
@@ -182,7 +191,7 @@ fn envelopes_read_back(rt: HostRuntime) -> Result<(), Fail> {
     ] {
         let cipher = counting(alloc, length, 11, 5)?;
         let bytes = envelope(alloc, 4_096, label, salt_length, cipher.as_slice())?;
-        assert_eq!(rt; work.len(), CIPHERTEXT_LIMIT);
+        assert_eq!(rt; work.len(), WORK_LENGTH);
         let mut reader = EnvelopeReader::new(work.as_mut_slice());
         reader.feed(bytes.as_slice());
         let payload = reader.finish()?;

@@ -1,8 +1,9 @@
 //! A second reader: it follows the definition step by step, on the whole input in memory.
+use super::{INPUT_LIMIT, WORK_LENGTH};
 use crate::fault::TextFault;
 use crate::header::{MARKER, before_line_end, is_line_end, read_header};
 use crate::label::Label;
-use crate::limits::{CIPHERTEXT_LIMIT, ENVELOPE_LIMIT, SALT_LIMIT, TAG_LENGTH};
+use crate::limits::{SALT_LIMIT, TAG_LENGTH};
 use hex::FromHexError;
 use std::alloc::{AllocError, Global};
 
@@ -27,7 +28,7 @@ pub(super) fn read_envelope(
     alloc: Global,
     input: &[u8],
 ) -> Result<Result<OwnedPayload, TextFault>, AllocError> {
-    if input.len() > ENVELOPE_LIMIT {
+    if input.len() > INPUT_LIMIT {
         return Ok(Err(TextFault::TooLong));
     }
     if !input.starts_with(MARKER) {
@@ -58,7 +59,7 @@ fn read_body(
         return Ok(Err(TextFault::BadPayload));
     };
     let Parts { salt, tag, cipher } = parts;
-    if cipher.len() > CIPHERTEXT_LIMIT {
+    if cipher.len() > WORK_LENGTH {
         return Ok(Err(TextFault::CipherTooLong));
     }
     Ok(Ok(OwnedPayload {
