@@ -6,4 +6,5 @@ pub mod RefusalFacts
 pub mod RefusedAlone
 pub mod RequestFacts
 pub mod SecretFacts
+pub mod SettledSamples
 pub mod SettlingFacts
