@@ -2,6 +2,9 @@
 
 import sys
 
+# Characters of what was found that are shown.
+LONGEST = 1000
+
 
 class Outcome:
     def __init__(self):
@@ -10,7 +13,7 @@ class Outcome:
 
     def check(self, holds: bool, what: str, otherwise: str = ""):
         """Counts what was looked at; what was found instead is told where it does not hold."""
-        print(f"ok: {what}" if holds else f"FAILED: {what} {otherwise}".rstrip())
+        print(f"ok: {what}" if holds else f"FAILED: {what} {otherwise[:LONGEST]}".rstrip())
         if holds:
             self.passed += 1
         else:
