@@ -42,7 +42,7 @@ impl<'a> Payload<'a> {
         &self.label
     }
 
-    /// The salt, of at most `SALT_LIMIT` bytes. It may be empty.
+    /// The salt. It may be empty, and has at most `SALT_LIMIT` bytes.
     pub fn salt(&self) -> &Salt
         ensures { result.now ≡ self.now.salt }
     {
