@@ -1,5 +1,5 @@
 -- What is sealed has bytes alone.
-use Rattle.std.proofs.Common.{◌≡◌, ℕ, ◌+◌, ◌*◌, ◌-◌, ◌%◌, ◌<◌, ◌≤◌, List, length, lit<, ap, ◌∙◌, arith, inl, inr, replicate, take}
+use Rattle.std.proofs.Common.{ℕ, ◌+◌, ◌*◌, ◌-◌, ◌%◌, ◌<◌, List, length, lit<, arith, inl, inr, replicate, take}
 use Rattle.std.specs.Prelude.{bit_xor, slice_index}
 use Rattle.std.specs.List.{All, range_with_len}
 use Rattle.std.specs.Int.{to_be_bytes, w32}
@@ -9,7 +9,7 @@ use Rattle.std.proofs.lemmas.List.Elements.{All-append, All-from_recursion, All-
 use Rattle.std.proofs.lemmas.Nat.{xor_lt}
 use Rattle.vault_aes.specs.Cipher.{add_round_key, cipher, entry, matrix, shift_rows, sub_bytes, word_byte}
 use Rattle.vault_aes.specs.CounterMode.{counter_mode, stream_byte}
-use Rattle.vault_aes.specs.SubstitutionBox.{affine_bit, number_of_bits, s_box}
+use Rattle.vault_aes.specs.SubstitutionBox.{number_of_bits, s_box}
 use Rattle.vault_core.specs.Laws.{IsBytes}
 use Rattle.vault_core.specs.Padding.{padded}
 

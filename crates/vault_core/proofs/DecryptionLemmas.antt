@@ -10,7 +10,6 @@ use Rattle.vault_core.specs.Fault.{of_text}
 use Rattle.vault_core.specs.Input.{UnlessUnreadable}
 use Rattle.vault_core.specs.Opening.{deciphered_by, opening}
 use Rattle.vault_core.specs.Padding.{without_padding}
-use Rattle.vault_core.specs.Ready.{Ready}
 use Rattle.vault_core.specs.Secrets.{Secret, SecretList, tried_order}
 use Rattle.vault_core.specs.declared.fault.Fault.{Fault}
 use Rattle.vault_core.specs.declared.fault.Fault.TheVariants.{BadPadding, NoSecretFits, Read}

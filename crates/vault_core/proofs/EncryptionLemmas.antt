@@ -1,7 +1,7 @@
 -- The answers of encrypting, by what the input is.
 use Rattle.std.proofs.Common.{◌≡◌, ◌≢◌, ℕ, ◌<◌, ◌≤◌, ◌⊎◌, Bool, true, false, List, length, length-take-le, take, ap, ◌∙◌, Ok, Err, refl, inl, inr}
 use Rattle.std.specs.Prelude.{◌&&◌, ◌==◌}
-use Rattle.std.proofs.lemmas.Bool.{cases_Bool, eq-eqb, le-ltb, lt-ltb, ne_eqb}
+use Rattle.std.proofs.lemmas.Bool.{eq-eqb, le-ltb, lt-ltb, ne_eqb}
 use Rattle.vault_core.specs.Encryption.{encryption, is_vault}
 use Rattle.vault_core.specs.Form.{Form, is_block}
 use Rattle.vault_core.specs.Sealing.{sealed, text_in}

@@ -1,5 +1,5 @@
 -- What an opened plaintext is: bytes, and with their padding as many as the ciphertext has.
-use Rattle.std.proofs.Common.{◌≡◌, ℕ, ◌≤◌, List, length, take, Option, Some, None, Result, Ok, Err, refl, ap, sym, ◌∙◌, arith}
+use Rattle.std.proofs.Common.{◌≡◌, ℕ, ◌≤◌, List, length, Option, Some, None, Result, Ok, Err, refl, ap, sym, ◌∙◌, arith}
 use Rattle.std.specs.Prelude.{find}
 use Rattle.std.specs.Result.{result_map_both}
 use Rattle.vault_aes.specs.KeyExpansion.{key_schedule}
@@ -11,14 +11,13 @@ use Rattle.vault_text.specs.Limits.{ciphertext_limit}
 use Rattle.vault_text.specs.declared.fault.TextFault.{TextFault}
 use Rattle.vault_text.proofs.PayloadFacts.{HasFittingCipher, read_within-fits}
 use Rattle.vault_core.specs.Agreement.{agrees, keys_of}
-use Rattle.vault_core.specs.Decryption.{decryption, payload_of}
+use Rattle.vault_core.specs.Decryption.{decryption}
 use Rattle.vault_core.specs.Fault.{of_text}
 use Rattle.vault_core.specs.Laws.{IsBytes}
 use Rattle.vault_core.specs.Opening.{deciphered_by, opening}
 use Rattle.vault_core.specs.Padding.{padded_length, without_padding}
 use Rattle.vault_core.specs.Ready.{Ready}
 use Rattle.vault_core.specs.Secrets.{Secret, SecretList, tried_order}
-use Rattle.vault_core.specs.declared.fault.Fault.{Fault}
 use Rattle.vault_core.proofs.ByteLemmas.{counter_mode-bytes, take-bytes}
 use Rattle.vault_core.proofs.DecryptionLemmas.{decryption-Err, decryption-Ok}
 use Rattle.vault_core.proofs.OpeningLemmas.{opening-bad_padding, opening-no_secret, opening-plain}

@@ -1,5 +1,5 @@
 -- What was sealed opens to its plaintext.
-use Rattle.std.proofs.Common.{◌≡◌, ℕ, Bool, true, List, ◌∷◌, Some, Ok, refl, ap, sym, ◌∙◌}
+use Rattle.std.proofs.Common.{◌≡◌, ℕ, true, List, ◌∷◌, Some, Ok, refl, ap, ◌∙◌}
 use Rattle.std.specs.Prelude.{find}
 use Rattle.std.specs.Str.{bytes_eq}
 use Rattle.std.proofs.lemmas.Slice.Eq.{bytes_eq-Decides}
@@ -7,10 +7,10 @@ use Rattle.vault_aes.proofs.CounterModeLemmas.{counter_mode-counter_mode}
 use Rattle.vault_text.specs.Envelope.{Payload}
 use Rattle.vault_core.specs.Agreement.{agrees, keys_of, tries}
 use Rattle.vault_core.specs.Laws.{SealedOpens}
-use Rattle.vault_core.specs.Opening.{deciphered_by, opening}
+use Rattle.vault_core.specs.Opening.{deciphered_by}
 use Rattle.vault_core.specs.Padding.{padded, without_padding}
 use Rattle.vault_core.specs.Sealing.{sealed}
-use Rattle.vault_core.specs.Secrets.{Secret, SecretList, tried_order}
+use Rattle.vault_core.specs.Secrets.{Secret, tried_order}
 use Rattle.vault_core.proofs.AgreementLemmas.{tries-cons_yes}
 use Rattle.vault_core.proofs.OpeningLemmas.{opening-plain}
 use Rattle.vault_core.proofs.PaddingLemmas.{without_padding-padded}

@@ -1,5 +1,5 @@
 -- What was sealed and written is read.
-use Rattle.std.proofs.Common.{◌≡◌, ℕ, ◌≤◌, List, length, Ok, refl, ap, ◌∙◌, arith}
+use Rattle.std.proofs.Common.{◌≡◌, ℕ, ◌≤◌, List, length, ap, ◌∙◌, arith}
 use Rattle.std.specs.Result.{result_map_both}
 use Rattle.vault_aes.proofs.CounterModeLemmas.{length-counter_mode}
 use Rattle.vault_kdf.proofs.Bytes.{hmac-bytes}
@@ -11,10 +11,9 @@ use Rattle.vault_text.specs.declared.limits.TheConstants.{SALT_LIMIT, TAG_LENGTH
 use Rattle.vault_text.proofs.WrittenReadsBack.{written_reads_back}
 use Rattle.vault_core.specs.Decryption.{payload_of}
 use Rattle.vault_core.specs.Fault.{of_text}
-use Rattle.vault_core.specs.Form.{Envelope}
 use Rattle.vault_core.specs.Laws.{IsBytes, SealedReadsBack}
-use Rattle.vault_core.specs.Padding.{padded, padded_length}
-use Rattle.vault_core.specs.Sealing.{sealed, text_in}
+use Rattle.vault_core.specs.Padding.{padded_length}
+use Rattle.vault_core.specs.Sealing.{sealed}
 use Rattle.vault_core.specs.Secrets.{Secret}
 use Rattle.vault_core.proofs.ByteLemmas.{counter_mode-bytes, padded-bytes}
 use Rattle.vault_core.proofs.PaddingLemmas.{length-padded}

@@ -6,7 +6,6 @@ use Rattle.vault_aes.specs.Padding.{IsPadded}
 use Rattle.vault_kdf.specs.Hmac.{hmac}
 use Rattle.vault_kdf.specs.Keys.{vault_keys}
 use Rattle.vault_kdf.specs.declared.keys.Keys.{Keys}
-use Rattle.vault_core.specs.Padding.{padded}
 use Rattle.vault_text.specs.Envelope.{Payload}
 use Rattle.vault_text.specs.Written.{written}
 use Rattle.vault_core.specs.Form.{Envelope}

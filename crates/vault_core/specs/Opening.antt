@@ -1,5 +1,5 @@
 -- What an envelope holds for who has its password.
-use Rattle.std.specs.Prelude.{ℕ, ◌+◌, List, find, Result, Ok, Err}
+use Rattle.std.specs.Prelude.{ℕ, ◌+◌, List, find, Result, Ok}
 use Rattle.std.specs.List.{position_or_len}
 use Rattle.std.specs.Option.{ok_or}
 use Rattle.vault_aes.specs.CounterMode.{counter_mode}
@@ -10,7 +10,7 @@ use Rattle.vault_text.specs.Steps.{◌>>=◌}
 use Rattle.vault_core.specs.Agreement.{agrees, keys_of}
 use Rattle.vault_core.specs.Padding.{without_padding}
 use Rattle.vault_core.specs.Ready.{Ready}
-use Rattle.vault_core.specs.Secrets.{Secret, SecretList, tried_order}
+use Rattle.vault_core.specs.Secrets.{SecretList, tried_order}
 use Rattle.vault_core.specs.declared.fault.Fault.{Fault}
 use Rattle.vault_core.specs.declared.fault.Fault.TheVariants.{NoSecretFits, BadPadding}
 

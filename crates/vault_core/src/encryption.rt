@@ -1,7 +1,7 @@
 //! Encrypting a plaintext.
 ghost use Rattle.std.specs.Prelude.{◌≡◌, ℕ, ◌+◌, ◌<◌, ◌≤◌, ◌^◌, List, length};
 ghost use Rattle.vault_core.specs.Encryption.{encryption, is_vault};
-ghost use Rattle.vault_core.specs.Form.{form_of, is_block};
+ghost use Rattle.vault_core.specs.Form.{form_of};
 ghost use Rattle.vault_core.specs.Input.{IsWhole, UnlessUnreadable};
 ghost use Rattle.vault_core.specs.Sealing.{sealing_derivations};
 ghost use Rattle.vault_text.specs.Limits.{IsWorkLength, limit_of};

@@ -1,11 +1,11 @@
 //! Reading the input of a call.
-ghost use Rattle.std.specs.Prelude.{◌≡◌, ℕ, ◌+◌, ◌-◌, ◌<◌, ◌≤◌, ◌↔◌, List, [], ◌++◌, length, take, drop, IsTrue, IfOk, OnOk, OnErr, MatchResult};
+ghost use Rattle.std.specs.Prelude.{◌≡◌, ℕ, ◌+◌, ◌-◌, ◌<◌, ◌≤◌, ◌↔◌, List, [], ◌++◌, length, take, IsTrue, IfOk, OnErr, MatchResult};
 ghost use Rattle.vault_text.specs.EnvelopeReader.{StandsFor};
 ghost use Rattle.vault_text.specs.Failures.{CountsFailure};
 ghost use Rattle.vault_core.specs.Decryption.{payload_of};
 ghost use Rattle.vault_core.specs.Input.{IsWhole, UnlessUnreadable};
 ghost use Rattle.vault_text.specs.Limits.{IsWorkLength, envelope_limit, limit_of};
-ghost use Rattle.vault_core.specs.declared.fault.Fault.TheVariants.{Read, TooLong};
+ghost use Rattle.vault_core.specs.declared.fault.Fault.TheVariants.{TooLong};
 
 use crate::fault::Fault;
 use vault_text::{EnvelopeReader, PADDING_LIMIT, Payload, Source, SourceFailed, fill_up};

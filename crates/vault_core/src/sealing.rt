@@ -26,7 +26,10 @@ impl<'a> Model for Sealed<'a> {
     ghost Value = { Payload };
 
     ghost view = { λ s. record {
-        label = s.label.now; salt = s.salt.now; tag = s.tag; cipher = s.cipher.now
+      label = s.label.now;
+      salt = s.salt.now;
+      tag = s.tag;
+      cipher = s.cipher.now;
     } };
 }
 

@@ -1,4 +1,4 @@
-use Rattle.std.proofs.Common.{◌≡◌, eqb-true, sym, ◌∙◌, ap}
+use Rattle.std.proofs.Common.{eqb-true, sym, ◌∙◌, ap}
 use Rattle.std.proofs.lemmas.Bool.{eqb-false}
 use Rattle.std.specs.Option.{ok_or, option_copied}
 use Rattle.vault_core.specs.Choice.{choice}

@@ -1,2 +1,0 @@
-use Rattle.std.proofs.Common.{◌≡◌, inl, inr, ap, ◌∙◌, Ok}
-use Rattle.vault_core.proofs.decryption.prepare_decrypt.Goals as goal

@@ -1,4 +1,4 @@
-use Rattle.std.proofs.Common.{ap, inl, inr, [], ◌∙◌}
+use Rattle.std.proofs.Common.{ap, inr, [], ◌∙◌}
 use Rattle.std.specs.Result.{result_map_both}
 use Rattle.std.proofs.lemmas.Result.{err_from_is_err_and}
 use Rattle.vault_core.specs.Fault.{of_text}

@@ -1,4 +1,4 @@
-use Rattle.std.proofs.Common.{◌≡◌, ◌+◌, ◌-◌, arith, inl, length, length-take, refl, take}
+use Rattle.std.proofs.Common.{◌≡◌, ◌+◌, arith, inl, length, length-take, refl}
 use Rattle.std.proofs.lemmas.Result.{err_from_is_err_and}
 use Rattle.vault_text.specs.Limits.{limit_of}
 use Rattle.vault_core.proofs.input.read_plaintext.Goals as goal

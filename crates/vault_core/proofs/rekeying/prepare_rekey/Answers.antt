@@ -1,4 +1,4 @@
-use Rattle.std.proofs.Common.{◌≡◌, ◌+◌, Err, Ok, arith, ap, inl, inr, length, refl, sym, take, ◌∙◌}
+use Rattle.std.proofs.Common.{Ok, arith, ap, inl, inr, length, sym, ◌∙◌}
 use Rattle.std.proofs.lemmas.Result.{err_from_is_err_and}
 use Rattle.vault_text.specs.Envelope.{Payload}
 use Rattle.vault_text.specs.Limits.{limit_of}
