@@ -1,7 +1,9 @@
 //! Requests, settled from words.
-use crate::support::settled;
+use crate::support::{line_of, settled};
+use std::alloc::Global;
+use std::str;
 use std::test::Fail;
-use vault_cli::{CommandName, Fault};
+use vault_cli::{CommandName, Fault, LabelRule, parse};
 
 #[test]
 fn keeps_files_in_order(rt: HostRuntime) -> Result<(), Fail> {
@@ -37,22 +39,222 @@ fn keeps_files_in_order(rt: HostRuntime) -> Result<(), Fail> {
     Ok(())
 }
 
+/// The fault for which the words behind the program's name are refused.
+fn fault_of(alloc: Global, words: &[&str]) -> Result<Option<Fault>, Fail> {
+    match settled(alloc, words)? {
+        Ok(_) => Ok(None),
+        Err(fault) => Ok(Some(fault)),
+    }
+}
+
 #[test]
-fn names_the_first_fault(rt: HostRuntime) -> Result<(), Fail> {
-    let cases: [(&[&str], Fault); 4] = [
+fn names_the_first_fault_of_vault_ids(rt: HostRuntime) -> Result<(), Fail> {
+    let dev = "--vault-id=dev@prompt";
+    let cases: [(&[&str], Fault); 6] = [
         (&["view", "--vault-id", "a;b@f"], Fault::BadLabel),
-        (&["view", "--vault-id", "dev@prompt"], Fault::PromptSource),
+        (&["view", dev], Fault::PromptSource),
         (&["view", "--vault-id", "prompt"], Fault::PromptSource),
+        (&["view", dev, "--vault-id=a;b@f"], Fault::PromptSource),
         (
-            &["view", "--vault-id", "dev@prompt", "--vault-id", "a;b@f"],
+            &["encrypt", "--encrypt-vault-id=", dev],
+            Fault::PromptSource,
+        ),
+        (&["encrypt", "--encrypt-vault-id=", "f"], Fault::BadLabel),
+    ];
+    for (words, fault) in cases {
+        assert_eq!(rt; fault_of(rt.alloc(), words)?, Some(fault), "{words:?}");
+    }
+    Ok(())
+}
+
+#[test]
+fn needs_one_new_secret(rt: HostRuntime) -> Result<(), Fail> {
+    let file = "--new-vault-password-file=g";
+    let cases: [(&[&str], Fault); 5] = [
+        (&["rekey"], Fault::NeedNewSecret),
+        (&["rekey", "--vault-id=f"], Fault::NeedNewSecret),
+        (
+            &["rekey", "--new-vault-id=a;b@f", file],
+            Fault::NeedNewSecret,
+        ),
+        (&["rekey", "--new-vault-id=a;b@prompt"], Fault::BadLabel),
+        (
+            &["rekey", "--new-vault-id=prompt", "f"],
             Fault::PromptSource,
         ),
     ];
     for (words, fault) in cases {
-        match settled(rt.alloc(), words)? {
-            Ok(_) => assert!(rt; false, "{words:?}"),
-            Err(found) => assert_eq!(rt; found, fault, "{words:?}"),
-        }
+        assert_eq!(rt; fault_of(rt.alloc(), words)?, Some(fault), "{words:?}");
+    }
+    Ok(())
+}
+
+#[test]
+fn fits_the_name_to_the_string(rt: HostRuntime) -> Result<(), Fail> {
+    let command = "encrypt_string";
+    let cases: [(&[&str], Fault); 7] = [
+        (&[command, "--name", "k"], Fault::NameMismatch),
+        (&[command, "--name", "", "-"], Fault::NameMismatch),
+        (&[command, "--stdin-name", "k", "s"], Fault::NameMismatch),
+        (
+            &[command, "-n", "\t", "--stdin-name=k", "s"],
+            Fault::NameMismatch,
+        ),
+        (&[command, "--name", "a\tb", "s"], Fault::BadName),
+        (&[command, "--stdin-name", "\u{7f}"], Fault::BadName),
+        (&[command, "--name=\n", "s", "--salt="], Fault::BadName),
+    ];
+    for (words, fault) in cases {
+        assert_eq!(rt; fault_of(rt.alloc(), words)?, Some(fault), "{words:?}");
+    }
+    Ok(())
+}
+
+#[test]
+fn needs_an_output_for_a_file(rt: HostRuntime) -> Result<(), Fail> {
+    let cases: [(&[&str], Fault); 4] = [
+        (&["encrypt", "f"], Fault::OutputNeeded),
+        (&["decrypt", "f"], Fault::OutputNeeded),
+        (&["rekey", "--new-vault-id=g", "f"], Fault::OutputNeeded),
+        (&["encrypt", "f", "--salt="], Fault::OutputNeeded),
+    ];
+    for (words, fault) in cases {
+        assert_eq!(rt; fault_of(rt.alloc(), words)?, Some(fault), "{words:?}");
+    }
+    assert!(rt; settled(rt.alloc(), &["encrypt", "--output=-", "f"])?.is_ok());
+    assert!(rt; settled(rt.alloc(), &["encrypt", "--", "-"])?.is_ok());
+    Ok(())
+}
+
+#[test]
+fn takes_one_salt(rt: HostRuntime) -> Result<(), Fail> {
+    let bytes = [b'a'; 65];
+    let long = str::from_utf8(&bytes)?;
+    let most = str::from_utf8(&bytes[..64])?;
+    let cases: [(&[&str], Fault); 4] = [
+        (&["encrypt", "--salt="], Fault::BadSalt),
+        (&["encrypt", "--salt", long], Fault::BadSalt),
+        (
+            &["encrypt", "--salt", long, "--salt-file=g"],
+            Fault::SaltChoice,
+        ),
+        (&["encrypt", "--salt=", "--salt-file=g"], Fault::SaltChoice),
+    ];
+    for (words, fault) in cases {
+        assert_eq!(rt; fault_of(rt.alloc(), words)?, Some(fault), "{words:?}");
+    }
+    let request = settled(rt.alloc(), &["encrypt", "--salt", most])??;
+    assert_eq!(rt; request.salt_text(), Some(most));
+    Ok(())
+}
+
+#[test]
+fn reads_the_options_of_encrypt(rt: HostRuntime) -> Result<(), Fail> {
+    let words = [
+        "encrypt",
+        "--vault-id=b@f",
+        "--encrypt-vault-id=b",
+        "--salt-file=s",
+        "--output=o",
+        "x",
+    ];
+    let request = settled(rt.alloc(), &words)??;
+    assert_eq!(rt; request.command(), CommandName::Encrypt);
+    assert!(rt; request.choice().is_some_and(|label| label.as_str() == "b"));
+    assert_eq!(rt; request.salt_path(), Some("s"));
+    assert_eq!(rt; request.output(), Some("o"));
+    assert_eq!(rt; request.input(), Some("x"));
+    assert_eq!(rt; request.rule(), LabelRule::Hint);
+    Ok(())
+}
+
+#[test]
+fn reads_the_options_of_decrypt_and_view(rt: HostRuntime) -> Result<(), Fail> {
+    let words = ["decrypt", "--require-id-match", "--output=o", "x"];
+    let request = settled(rt.alloc(), &words)??;
+    assert_eq!(rt; request.rule(), LabelRule::Required);
+    assert_eq!(rt; request.output(), Some("o"));
+    assert_eq!(rt; request.input(), Some("x"));
+    let request = settled(rt.alloc(), &["view", "--require-id-match", "x"])??;
+    assert_eq!(rt; request.command(), CommandName::View);
+    assert_eq!(rt; request.rule(), LabelRule::Required);
+    assert_eq!(rt; request.input(), Some("x"));
+    assert!(rt; !request.seals());
+    Ok(())
+}
+
+#[test]
+fn reads_the_options_of_rekey(rt: HostRuntime) -> Result<(), Fail> {
+    let words = [
+        "rekey",
+        "--new-vault-id=prod@g",
+        "--vault-password-file=f",
+        "--salt=abc",
+        "--require-id-match",
+        "--output=-",
+        "-",
+    ];
+    let request = settled(rt.alloc(), &words)??;
+    assert_eq!(rt; request.command(), CommandName::Rekey);
+    assert!(rt; request.files() == 2 && request.secret_count() == 1);
+    assert_eq!(rt; request.path(1), "g");
+    assert_eq!(rt; request.label(1).as_str(), "prod");
+    assert_eq!(rt; request.salt_text(), Some("abc"));
+    assert!(rt; request.salt_path().is_none());
+    assert_eq!(rt; request.rule(), LabelRule::Required);
+    assert!(rt; request.input().is_none() && request.output().is_none());
+    let request = settled(rt.alloc(), &["rekey", "--new-vault-password-file=a@g"])??;
+    assert!(rt;
+        request
+            .new_label()
+            .is_some_and(|label| label.as_str() == "default")
+    );
+    assert_eq!(rt; request.files(), 1);
+    assert_eq!(rt; request.path(0), "a@g");
+    assert_eq!(rt; request.salt_path(), Some("/dev/urandom"));
+    Ok(())
+}
+
+#[test]
+fn reads_the_options_of_encrypt_string(rt: HostRuntime) -> Result<(), Fail> {
+    let words = [
+        "encrypt_string",
+        "-n",
+        "k",
+        "--encrypt-vault-id=default",
+        "--salt-file=s",
+        "--output=o",
+        "secret",
+    ];
+    let request = settled(rt.alloc(), &words)??;
+    assert_eq!(rt; request.command(), CommandName::EncryptString);
+    assert_eq!(rt; request.name(), Some("k"));
+    assert_eq!(rt; request.string(), Some("secret"));
+    assert!(rt; request.choice().is_some());
+    assert_eq!(rt; request.salt_path(), Some("s"));
+    assert_eq!(rt; request.output(), Some("o"));
+    let request = settled(rt.alloc(), &["encrypt_string", "--stdin-name="])??;
+    assert_eq!(rt; request.name(), Some(""));
+    assert!(rt; request.string().is_none() && request.input().is_none());
+    Ok(())
+}
+
+#[test]
+fn takes_no_option_of_another_command(rt: HostRuntime) -> Result<(), Fail> {
+    let lines: [&[&str]; 9] = [
+        &["encrypt", "--require-id-match"],
+        &["encrypt_string", "--require-id-match"],
+        &["decrypt", "--salt=a"],
+        &["view", "--output=o"],
+        &["rekey", "--encrypt-vault-id=a"],
+        &["encrypt", "--salt=a", "--salt=b"],
+        &["encrypt_string", "a", "b"],
+        &["help"],
+        &[],
+    ];
+    for words in lines {
+        let line = line_of(rt.alloc(), words)?;
+        assert!(rt; parse(rt.alloc(), line.as_slice()).is_err(), "{words:?}");
     }
     Ok(())
 }
@@ -67,9 +269,7 @@ fn takes_sixteen_secrets(rt: HostRuntime) -> Result<(), Fail> {
     assert!(rt; settled(rt.alloc(), words.as_slice())?.is_ok());
     // The seventeenth comes before its own faults.
     words.push("--vault-id=a;b@f")?;
-    match settled(rt.alloc(), words.as_slice())? {
-        Ok(_) => assert!(rt; false),
-        Err(found) => assert_eq!(rt; found, Fault::TooManySecrets),
-    }
+    let fault = fault_of(rt.alloc(), words.as_slice())?;
+    assert_eq!(rt; fault, Some(Fault::TooManySecrets));
     Ok(())
 }

@@ -8,5 +8,6 @@ pub mod RefusalFacts
 pub mod RefusedAlone
 pub mod RequestFacts
 pub mod SecretFacts
+pub mod SettledSamples
 pub mod SettlingFacts
 pub mod TaskFacts

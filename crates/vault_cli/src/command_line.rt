@@ -123,8 +123,8 @@ fn with_salt<'a>(alloc: Global, name: &'a str, about: &'a str) -> Result<Command
     ensures local { IfOk result (λ command. (fields_of command).has_globals ≡ false) }
 {
     let path = "The file whose first 32 bytes are the salt; /dev/urandom by default";
-    let text =
-        "The salt itself, 1 to 64 bytes, in place of a file; one salt used twice under one password repeats the key stream";
+    let text = "The salt itself, 1 to 64 bytes, in place of a file. One salt used twice under one \
+                password repeats the key stream";
     with_secrets(alloc, name, about)?
         .arg(arguments::option(alloc, "salt-file", "PATH", path))?
         .arg(arguments::option(alloc, "salt", "TEXT", text))
