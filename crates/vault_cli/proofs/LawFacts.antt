@@ -98,9 +98,9 @@ keeps-named P of (Ok x) h = keeps-ok P x (h x refl)
 keeps-named P of (Err e) h = record { is = λ y e. absurd cc }
 
 -- a request with what is known of it
-module _ (request : Request) (known : IsRequest request) (salt : List ℕ) (bytes : IsBytes salt) where
+module _ (request : Request) (known : IsRequest request) (salt : List ℕ) (texts : IfSome request.salt_text IsBytes) (bytes : IsBytes salt) where
   keeps-used : Keeps IsSalt (salt_of request.salt_text salt)
-  keeps-used = keeps-salt request.salt_text salt known.settled.salt_text known.salt_text bytes
+  keeps-used = keeps-salt request.salt_text salt known.settled.salt_text texts bytes
 
   keeps-seal : (secrets : List Secret) (form : Form) → AreLabelled secrets → Keeps IsSound (seal_of request secrets form salt)
   keeps-seal secrets form labels =
@@ -141,6 +141,6 @@ module _ (request : Request) (known : IsRequest request) (salt : List ℕ) (byte
       keeps-next (λ new. IfSome new (λ secret. is_label secret.label ≡ true)) IsSound (new_secret_of request.new_secret last) _ (keeps-new request.new_secret last parts.1) (λ new h.
       keeps-task request.command list new labels h))).is task e
 
-  -- it has no STRING
-  pub text-input : (input : List ℕ) → request.command ≢ command.EncryptString → text_of_request request input ≡ input
-  text-input input other = rw (known.string other) refl
+-- a request of another command than `encrypt_string` has no STRING
+pub text-input : (request : Request) (input : List ℕ) → IsRequest request → request.command ≢ command.EncryptString → text_of_request request input ≡ input
+text-input request input known other = rw (known.string other) refl

@@ -28,24 +28,24 @@ opened limit request contents salt input secrets opens =
       | inl decrypt ↦ let wrong : command.Decrypt ≡ command.EncryptString = sym decrypt ∙ string in absurd cc
       | inr view ↦ let wrong : command.View ≡ command.EncryptString = sym view ∙ string in absurd cc
     ] in
-    let text = text-input request opens.settled [] (λ i. omega arith) input other in
+    let text = text-input request input opens.settled other in
     outcome-performed request contents salt limit input (Open secrets) opens.found ∙ ap (λ t. answered (decryption limit secrets t)) text
 
 pub encrypt_then_decrypt : EncryptedDecrypts → EncryptThenDecrypt
-encrypt_then_decrypt law limit encrypting opening contents other_contents salt other_salt input envelope list place used secrets known encrypts salt_bytes input_bytes sealed written opens first =
+encrypt_then_decrypt law limit encrypting opening contents other_contents salt other_salt input envelope list place used secrets known encrypts text_bytes salt_bytes input_bytes sealed written opens first =
     let other : encrypting.command ≢ command.EncryptString = λ string. let wrong : command.Encrypt ≡ command.EncryptString = sym encrypts ∙ string in absurd cc in
-    let text = text-input encrypting known salt salt_bytes input other in
-    let (label, used_salt) = sound-prepared encrypting known salt salt_bytes contents (Seal list place Envelope used) sealed in
+    let text = text-input encrypting input known other in
+    let (label, used_salt) = sound-prepared encrypting known salt text_bytes salt_bytes contents (Seal list place Envelope used) sealed in
     let out = outcome-performed encrypting contents salt limit input (Seal list place Envelope used) sealed in
     let (ready, is, same) = answered-some (encryption limit list place Envelope used (text_of_request encrypting input)) envelope (sym (ap (λ (o : Outcome). o.output) out) ∙ written) in
     let plain = law limit list place used input ready label used_salt.bytes used_salt.limit input_bytes (sym (ap (encryption limit list place Envelope used) text) ∙ is) secrets first in
     opened limit opening other_contents other_salt envelope secrets opens ∙ ap answered (rw same at plain)
 
 pub rekey_keeps_the_plaintext : RekeyedDecrypts → RekeyKeepsThePlaintext
-rekey_keeps_the_plaintext law limit rekeying before after contents old_contents new_contents salt old_salt new_salt input envelope secrets new used rule known rekeys salt_bytes found written old opens =
+rekey_keeps_the_plaintext law limit rekeying before after contents old_contents new_contents salt old_salt new_salt input envelope secrets new used rule known rekeys text_bytes salt_bytes found written old opens =
     let other : rekeying.command ≢ command.EncryptString = λ string. let wrong : command.Rekey ≡ command.EncryptString = sym rekeys ∙ string in absurd cc in
-    let text = text-input rekeying known salt salt_bytes input other in
-    let (label, used_salt) = sound-prepared rekeying known salt salt_bytes contents (Reseal secrets new used) found in
+    let text = text-input rekeying input known other in
+    let (label, used_salt) = sound-prepared rekeying known salt text_bytes salt_bytes contents (Reseal secrets new used) found in
     let out = outcome-performed rekeying contents salt limit input (Reseal secrets new used) found in
     let (ready, is, same) = answered-some (performed limit (Reseal secrets new used) (text_of_request rekeying input)) envelope (sym (ap (λ (o : Outcome). o.output) out) ∙ written) in
     let (plain, was, opens_to) = law limit secrets new used input ready label used_salt.bytes used_salt.limit (sym (ap (performed limit (Reseal secrets new used)) text) ∙ is) in

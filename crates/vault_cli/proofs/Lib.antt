@@ -9,5 +9,6 @@ pub mod RefusedAlone
 pub mod RequestFacts
 pub mod SecretFacts
 pub mod SettledSamples
+pub mod SettledFacts
 pub mod SettlingFacts
 pub mod TaskFacts

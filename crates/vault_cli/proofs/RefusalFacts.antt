@@ -15,7 +15,7 @@ use Rattle.vault_cli.specs.Settled.{file_of_id, new_secret_of, plain_file}
 use Rattle.vault_cli.specs.VaultId.{first_fault, or_later}
 use Rattle.vault_cli.specs.declared.limits.TheConstants.{SALT_TEXT_LIMIT}
 
-neither : (first later : Option Fault) → or_later first later ≡ None → (first ≡ None) × (later ≡ None)
+pub neither : (first later : Option Fault) → or_later first later ≡ None → (first ≡ None) × (later ≡ None)
 neither None later e = (refl, e)
 neither (Some fault) later e = cc
 

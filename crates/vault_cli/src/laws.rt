@@ -1,6 +1,11 @@
 //! Laws of the outcomes, each the contract of a function that does nothing but name the laws that
 //! it stands on.
-ghost use Rattle.vault_cli.specs.Laws.{EncryptThenDecrypt, RekeyKeepsThePlaintext, ShortTexts};
+ghost use Rattle.vault_cli.specs.Laws.{EncryptThenDecrypt, RekeyKeepsThePlaintext, SettledRequests, ShortTexts};
+
+/// What settles a request makes one that the laws below speak of.
+pub fn settled_requests()
+    ensures { SettledRequests }
+{}
 
 /// Decrypting what was encrypted gives the input.
 pub fn encrypt_then_decrypt()
