@@ -1,3 +1,4 @@
+pub mod FoundFacts
 pub mod ParsedFacts
 pub mod ParsedSamples
 pub mod Pieces

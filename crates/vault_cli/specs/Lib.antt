@@ -9,3 +9,4 @@ pub mod Task
 pub mod StoredTask
 pub mod Outcome
 pub mod Run
+pub mod Found

@@ -3,7 +3,9 @@
 
 mod arguments;
 mod command_line;
-mod file_system;
+mod explaining;
+mod fitting;
+mod gathering;
 mod limits;
 mod parsing;
 mod passwords;
@@ -17,13 +19,14 @@ mod task;
 mod vault_id;
 
 pub use command_line::command;
-pub use file_system::{FileFault, FileSystem, HostFiles};
+pub use explaining::reject_words;
 pub use limits::{SALT_TEXT_LIMIT, SEALING_SALT_LENGTH};
 pub use parsing::parse;
-pub use program::{drive, reject_words};
+pub use program::drive;
 pub use report_line::report;
 pub use request::{CommandName, Request};
 pub use runs::run;
 pub use settling::{has_command, settle};
 pub use status::Status;
 pub use vault_core::{Fault, LabelRule, Role, SECRET_COUNT_LIMIT};
+pub use vault_files::{FileSystem, HostFiles, MemFile, MemFiles};

@@ -1,0 +1,77 @@
+//! Runs in memory that fits the input.
+ghost use Rattle.std.specs.Prelude.{◌≡◌, length};
+ghost use Rattle.vault_text.specs.Limits.{IsWorkLength};
+ghost use Rattle.vault_cli.specs.Request.{files_of};
+
+use crate::report_line::report;
+use crate::request::Request;
+use crate::runs::{asks_for_input, run};
+use crate::status::Status;
+use std::alloc::Global;
+use vault_core::{Fault, Role};
+use vault_text::{
+    CIPHERTEXT_LIMIT, ChainedSource, MemSource, PADDING_LIMIT, Sink, Source, SourceFailed, Stage,
+    fill_up,
+};
+
+/// How much of an input is read before the memory to work in is taken. A vault that ends in it is
+/// worked on in memory of this length and of a block of padding.
+const FIRST_LENGTH: usize = 65_536;
+
+/// The whole run of a request, in memory of this length.
+fn run_in<S: Source, K: Sink, E: Sink>(
+    alloc: Global,
+    length: usize,
+    request: &Request,
+    secret_files: &[Vec<u8>],
+    salt: &[u8],
+    src: &mut S,
+    out: &mut K,
+    err: &mut E,
+) -> Status
+    requires files { length secret_files.now ≡ length (files_of request.now) }
+    requires room { IsWorkLength length }
+    requires out_unbegun { K.stage out.old ≡ Stage.Unbegun }
+    requires err_unbegun { E.stage err.old ≡ Stage.Unbegun }
+{
+    match vec![in alloc; 0u8; length] {
+        Ok(mut work) => run(request, secret_files, salt, work.as_mut_slice(), src, out, err),
+        Err(error) => report(Fault::from(error), err),
+    }
+}
+
+/// The whole run of a request. The memory that it works in is taken once it is known whether the
+/// input is short; where a run does not ask for its input, none of it is read.
+pub(crate) fn run_fitting<S: Source, K: Sink, E: Sink>(
+    alloc: Global,
+    request: &Request,
+    secret_files: &[Vec<u8>],
+    salt: &[u8],
+    src: &mut S,
+    out: &mut K,
+    err: &mut E,
+) -> Status
+    requires files { length secret_files.now ≡ length (files_of request.now) }
+    requires out_unbegun { K.stage out.old ≡ Stage.Unbegun }
+    requires err_unbegun { E.stage err.old ≡ Stage.Unbegun }
+{
+    if !asks_for_input(request, secret_files, salt) {
+        return run_in(alloc, CIPHERTEXT_LIMIT, request, secret_files, salt, src, out, err);
+    }
+    let mut first = match vec![in alloc; 0u8; FIRST_LENGTH] {
+        Ok(first) => first,
+        Err(error) => return report(Fault::from(error), err),
+    };
+    let n = match fill_up(src, first.as_mut_slice()) {
+        Ok(n) => n,
+        Err(SourceFailed) => return report(Fault::Read(Role::Input), err),
+    };
+    let front = &first[..n];
+    if n < FIRST_LENGTH {
+        let mut src = MemSource::new(front, usize::MAX);
+        let length = FIRST_LENGTH + PADDING_LIMIT;
+        return run_in(alloc, length, request, secret_files, salt, &mut src, out, err);
+    }
+    let mut src = ChainedSource::new(front, src);
+    run_in(alloc, CIPHERTEXT_LIMIT, request, secret_files, salt, &mut src, out, err)
+}
