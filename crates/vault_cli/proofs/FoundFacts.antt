@@ -1,15 +1,16 @@
 -- Files that are met one after the other, and the contents that they give.
-use Rattle.std.proofs.Common.{◌≡◌, ℕ, ◌+◌, ◌<◌, ◌≤◌, List, [], ◌∷◌, ◌++◌, length, map, take, drop, get_or, Some, Result, Ok, Err, arith, refl, sym, ap, ap₂, ◌∙◌, append_assoc}
+use Rattle.std.proofs.Common.{◌≡◌, ℕ, ◌+◌, ◌<◌, ◌≤◌, List, [], ◌∷◌, ◌++◌, length, map, take, drop, get_or, Some, Result, Ok, Err, arith, refl, subst, sym, ap, ◌∙◌, append_assoc}
 use Rattle.std.proofs.lemmas.List.{append-nil, drop_all, drop_more, get_or-map, length-map, take_all, take_more, take-append-drop}
 use Rattle.std.proofs.lemmas.Option.{slice_get-get_or}
 use Rattle.std.specs.Option.{option_map}
 use Rattle.std.specs.Prelude.{slice_get}
-use Rattle.vault_core.specs.Opening.{◌>>=◌}
+use Rattle.vault_text.specs.Steps.{◌>>=◌}
 use Rattle.vault_core.specs.declared.fault.Fault.{Fault}
+use Rattle.vault_core.specs.declared.fault.Role.{Role}
 use Rattle.vault_core.specs.declared.fault.Role.TheVariants.{Secret}
 use Rattle.vault_core.specs.declared.limits.TheConstants.{PASSWORD_FILE_LIMIT}
 use Rattle.vault_files.specs.File.{File, Met}
-use Rattle.vault_cli.specs.Found.{ContentsMet, contents_of, front_in}
+use Rattle.vault_cli.specs.Found.{ContentsMet, FrontMet, contents_of, front_in}
 use Rattle.vault_cli.specs.Request.{Request, SecretFile}
 
 -- contents in front of those that are still found
@@ -83,7 +84,8 @@ module _ (meets : List ℕ → File → Type 0) where
   ContentsMet-refused paths i contents path fault some at (files, met, given) (file, found, same) =
       let others = Met-some some (drop (i + 1) paths) in (
         files ++ file ∷ others.0,
-        rw at (Met-append (take i paths) (path ∷ drop (i + 1) paths) files (file ∷ others.0) met (found, others.1)),
+        subst (λ (all : List (List ℕ)). Met meets all (files ++ file ∷ others.0)) (sym at)
+            (Met-append (take i paths) (path ∷ drop (i + 1) paths) files (file ∷ others.0) met (found, others.1)),
         given (file ∷ others.0)
         ∙ ap (with_contents contents) (contents_of-first file others.0 ∙ ap (λ r. r >>= λ bytes. contents_of others.0 >>= λ contents. Ok (bytes ∷ contents)) same),
       )
@@ -96,3 +98,36 @@ module _ (meets : List ℕ → File → Type 0) where
     rw (take_all i paths past) at met,
     ap contents_of (sym (append-nil files)) ∙ given [] ∙ ap (with_contents contents) contents_of-none ∙ ap Ok (append-nil contents),
   )
+
+-- what is read past the end
+abbrev no_file : SecretFile
+no_file = record { label = []; path = [] }
+
+-- the path of the file at the index
+pub path_at : (files : List SecretFile) (i : ℕ) (path : List ℕ) → i < length files
+    → option_map (λ file. file.path) (slice_get files i) ≡ Some path → path ≡ get_or (map (λ file. file.path) files) i []
+path_at files i path inside e =
+    let some : Some ((get_or files i no_file).path) ≡ Some path = rw (slice_get-get_or files i no_file inside) at e in
+    let same : (get_or files i no_file).path ≡ path = cc in
+    sym (get_or-map (λ (file : SecretFile). file.path) files i no_file [] inside ∙ same)
+
+-- the paths before the index, the one at it, and those behind it
+pub split_at : (paths : List (List ℕ)) (i : ℕ) (path : List ℕ) → i < length paths → path ≡ get_or paths i []
+    → paths ≡ take i paths ++ path ∷ drop (i + 1) paths
+split_at paths i path inside e =
+    sym (take-append-drop i paths)
+    ∙ ap (λ (rest : List (List ℕ)). take i paths ++ rest)
+    (drop_more paths i [] inside ∙ ap (λ (p : List ℕ). p ∷ drop (i + 1) paths) (sym e))
+
+pub take_one_more : (paths : List (List ℕ)) (i : ℕ) (path : List ℕ) → i < length paths → path ≡ get_or paths i []
+    → take (i + 1) paths ≡ take i paths ++ path ∷ []
+take_one_more paths i path inside e =
+    take_more paths i [] inside ∙ ap (λ (p : List ℕ). take i paths ++ p ∷ []) (sym e)
+
+pub length-paths : (files : List SecretFile) → length (map (λ file. file.path) files) ≡ length files
+length-paths files = length-map files (λ (file : SecretFile). file.path)
+
+-- the room of a buffer is the limit
+pub at_limit : (meets : File → Type 0) (role : Role) (room limit : ℕ) (answer : Result (List ℕ) Fault) → room ≡ limit
+    → FrontMet meets role room answer → FrontMet meets role limit answer
+at_limit meets role room limit answer e (file, found, same) = (file, found, ap (λ (n : ℕ). front_in role n file) (sym e) ∙ same)

@@ -1,4 +1,5 @@
 pub mod FoundFacts
+pub mod FittingFacts
 pub mod ParsedFacts
 pub mod ParsedSamples
 pub mod Pieces
@@ -8,3 +9,5 @@ pub mod SecretFacts
 pub mod RefusedAlone
 pub mod TaskFacts
 pub mod OutcomeFacts
+pub mod LawFacts
+pub mod LawProofs

@@ -12,7 +12,8 @@ use Rattle.vault_core.specs.Decryption.{decryption, payload_of}
 use Rattle.vault_core.specs.Encryption.{encryption, is_vault}
 use Rattle.vault_core.specs.Fault.{of_choice, of_secret, of_text}
 use Rattle.vault_core.specs.Form.{Form, Envelope, Block, is_block}
-use Rattle.vault_core.specs.Opening.{deciphered_by, opening, ◌>>=◌}
+use Rattle.vault_core.specs.Opening.{deciphered_by, opening}
+use Rattle.vault_text.specs.Steps.{◌>>=◌}
 use Rattle.vault_core.specs.Padding.{without_padding}
 use Rattle.vault_core.specs.Password.{password_of}
 use Rattle.vault_core.specs.Ready.{Ready}

@@ -4,7 +4,7 @@ use Rattle.std.proofs.lemmas.List.{append-nil, get_or_append_left, drop_more, dr
 use Rattle.std.proofs.lemmas.Option.{slice_get-get_or}
 use Rattle.std.specs.Option.{option_map}
 use Rattle.std.specs.Prelude.{option_to_list, slice_get}
-use Rattle.vault_core.specs.Opening.{◌>>=◌}
+use Rattle.vault_text.specs.Steps.{◌>>=◌}
 use Rattle.vault_core.specs.Secrets.{Secret}
 use Rattle.vault_core.specs.declared.fault.Fault.{Fault}
 use Rattle.vault_cli.specs.Task.{password_in, secrets_of}

@@ -12,7 +12,7 @@ use Rattle.vault_core.specs.Encryption.{encryption}
 use Rattle.vault_core.specs.Form.{Form, Envelope, Block}
 use Rattle.vault_core.specs.Input.{IsWhole, UnlessUnreadable}
 use Rattle.vault_core.specs.Ready.{Ready}
-use Rattle.vault_core.specs.Opening.{◌>>=◌}
+use Rattle.vault_text.specs.Steps.{◌>>=◌}
 use Rattle.vault_core.specs.Rekeying.{rekeying}
 use Rattle.vault_core.specs.Secrets.{Secret, SecretList, has_label}
 use Rattle.vault_core.specs.declared.fault.Fault.{Fault}

@@ -7,10 +7,12 @@ use Rattle.vault_core.specs.declared.fault.Role.{Role}
 use Rattle.vault_core.specs.declared.fault.Role.TheVariants.{Secret, Salt, Input}
 use Rattle.vault_core.specs.declared.limits.TheConstants.{PASSWORD_FILE_LIMIT}
 use Rattle.vault_files.specs.File.{File, Met, front}
+use Rattle.vault_files.specs.File.File.{Missing}
 use Rattle.vault_files.specs.declared.fault.FileFault.{FileFault}
 use Rattle.vault_files.specs.declared.fault.FileFault.TheVariants as file
-use Rattle.vault_core.specs.Opening.{◌>>=◌}
+use Rattle.vault_text.specs.Steps.{◌>>=◌}
 use Rattle.vault_cli.specs.Request.{Request, files_of}
+use Rattle.vault_cli.specs.declared.limits.TheConstants.{SEALING_SALT_LENGTH}
 
 -- the fault of a file in its role
 abbrev pub fault_in : Role → FileFault → Fault
@@ -41,3 +43,20 @@ contents_of (file ∷ files) = do
 -- password files that may be met at the paths give this answer
 abbrev pub ContentsMet : (List ℕ → File → Type 0) → List (List ℕ) → Result (List (List ℕ)) Fault → Type 0
 ContentsMet meets paths answer = (files : List File) × Met meets paths files × (contents_of files ≡ answer)
+
+-- the salt file that may be met at a path, where there is one, gives this answer
+abbrev pub SaltMet : (List ℕ → File → Type 0) → Option (List ℕ) → Result (List ℕ) Fault → Type 0
+SaltMet meets None answer = answer ≡ Ok []
+SaltMet meets (Some path) answer = FrontMet (meets path) Salt SEALING_SALT_LENGTH answer
+
+-- a file was opened at a path, where there is one
+abbrev pub IsOpened : {R : Type 0} → (List ℕ → R → Type 0) → Option (List ℕ) → Option R → Type 0
+IsOpened opened None None = Unit {0}
+IsOpened opened None (Some reader) = ⊥
+IsOpened opened (Some path) None = ⊥
+IsOpened opened (Some path) (Some reader) = opened path reader
+
+-- there is a path, and no file that can be opened there
+abbrev pub IsMissing : (List ℕ → File → Type 0) → Option (List ℕ) → Type 0
+IsMissing meets None = ⊥
+IsMissing meets (Some path) = meets path Missing

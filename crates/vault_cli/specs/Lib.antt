@@ -10,3 +10,5 @@ pub mod StoredTask
 pub mod Outcome
 pub mod Run
 pub mod Found
+pub mod Fitting
+pub mod Laws

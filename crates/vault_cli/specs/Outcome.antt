@@ -5,7 +5,7 @@ use Rattle.vault_text.specs.Limits.{envelope_limit}
 use Rattle.vault_text.specs.declared.limits.TheConstants.{PLAINTEXT_LIMIT}
 use Rattle.vault_core.specs.Decryption.{decryption}
 use Rattle.vault_core.specs.Encryption.{encryption}
-use Rattle.vault_core.specs.Opening.{◌>>=◌}
+use Rattle.vault_text.specs.Steps.{◌>>=◌}
 use Rattle.vault_core.specs.Ready.{Ready}
 use Rattle.vault_core.specs.Rekeying.{rekeying}
 use Rattle.vault_core.specs.declared.fault.Fault.{Fault}

@@ -5,7 +5,7 @@ use Rattle.std.specs.Result.{result_map_both}
 use Rattle.vault_core.specs.Choice.{choice}
 use Rattle.vault_core.specs.Fault.{of_choice, of_secret}
 use Rattle.vault_core.specs.Form.{Form, Envelope, Block}
-use Rattle.vault_core.specs.Opening.{◌>>=◌}
+use Rattle.vault_text.specs.Steps.{◌>>=◌}
 use Rattle.vault_core.specs.Password.{password_of}
 use Rattle.vault_core.specs.Secrets.{Secret, SecretList}
 use Rattle.vault_core.specs.declared.fault.Fault.{Fault}

@@ -1,5 +1,5 @@
 //! Runs in memory that fits the input.
-ghost use Rattle.std.specs.Prelude.{◌≡◌, length};
+ghost use Rattle.std.specs.Prelude.{◌≡◌, ◌-◌, ◌^◌, ◌<◌, length};
 ghost use Rattle.vault_text.specs.Limits.{IsWorkLength};
 ghost use Rattle.vault_cli.specs.Request.{files_of};
 
@@ -21,7 +21,7 @@ const FIRST_LENGTH: usize = 65_536;
 /// The whole run of a request, in memory of this length.
 fn run_in<S: Source, K: Sink, E: Sink>(
     alloc: Global,
-    length: usize,
+    room: usize,
     request: &Request,
     secret_files: &[Vec<u8>],
     salt: &[u8],
@@ -30,11 +30,11 @@ fn run_in<S: Source, K: Sink, E: Sink>(
     err: &mut E,
 ) -> Status
     requires files { length secret_files.now ≡ length (files_of request.now) }
-    requires room { IsWorkLength length }
+    requires work { IsWorkLength room }
     requires out_unbegun { K.stage out.old ≡ Stage.Unbegun }
     requires err_unbegun { E.stage err.old ≡ Stage.Unbegun }
 {
-    match vec![in alloc; 0u8; length] {
+    match vec![in alloc; 0u8; room] {
         Ok(mut work) => run(request, secret_files, salt, work.as_mut_slice(), src, out, err),
         Err(error) => report(Fault::from(error), err),
     }
@@ -69,9 +69,28 @@ pub(crate) fn run_fitting<S: Source, K: Sink, E: Sink>(
     let front = &first[..n];
     if n < FIRST_LENGTH {
         let mut src = MemSource::new(front, usize::MAX);
-        let length = FIRST_LENGTH + PADDING_LIMIT;
-        return run_in(alloc, length, request, secret_files, salt, &mut src, out, err);
+        let room = FIRST_LENGTH + PADDING_LIMIT;
+        return run_in(alloc, room, request, secret_files, salt, &mut src, out, err);
     }
+    run_behind(alloc, request, secret_files, salt, front, src, out, err)
+}
+
+/// The whole run of a request whose input begins with `front`, and goes on with what `src` gives.
+fn run_behind<S: Source, K: Sink, E: Sink>(
+    alloc: Global,
+    request: &Request,
+    secret_files: &[Vec<u8>],
+    salt: &[u8],
+    front: &[u8],
+    src: &mut S,
+    out: &mut K,
+    err: &mut E,
+) -> Status
+    requires files { length secret_files.now ≡ length (files_of request.now) }
+    requires not_full { S.failures src.old < 2 ^ 64 - 1 }
+    requires out_unbegun { K.stage out.old ≡ Stage.Unbegun }
+    requires err_unbegun { E.stage err.old ≡ Stage.Unbegun }
+{
     let mut src = ChainedSource::new(front, src);
     run_in(alloc, CIPHERTEXT_LIMIT, request, secret_files, salt, &mut src, out, err)
 }

@@ -1,6 +1,8 @@
 //! What a request needs of its files before its input is read.
 ghost use Rattle.std.specs.Prelude.{◌≡◌, ◌≢◌, Ok, Err, IfOk, IfErr, length, map, vec_len};
-ghost use Rattle.vault_cli.specs.Found.{ContentsMet, FrontMet, fault_in, secret_paths};
+ghost use Rattle.vault_core.specs.declared.fault.Fault.TheVariants.{CannotOpen};
+ghost use Rattle.vault_core.specs.declared.fault.Role.TheVariants.{Input};
+ghost use Rattle.vault_cli.specs.Found.{ContentsMet, FrontMet, IsMissing, IsOpened, SaltMet, fault_in, secret_paths};
 ghost use Rattle.vault_cli.specs.Request.{files_of};
 
 use crate::limits::SEALING_SALT_LENGTH;
@@ -57,8 +59,10 @@ pub(crate) fn read_secret_files<F: FileSystem>(
     let mut contents = Vec::new(alloc);
     let mut buf = [0; PASSWORD_FILE_LIMIT + 1];
     for i in 0..request.files() {
-        let bytes = front_of(files, alloc, Role::Secret, request.path(i), &mut buf)?;
-        contents.push(bytes)?;
+        match front_of(files, alloc, Role::Secret, request.path(i), &mut buf) {
+            Ok(bytes) => contents.push(bytes)?,
+            Err(fault) => return Err(fault),
+        }
     }
     Ok(contents)
 }
@@ -70,6 +74,10 @@ pub(crate) fn read_salt<F: FileSystem>(
     request: &Request,
 ) -> Result<Vec<u8>, Fault>
     requires { F.stage files.now ≡ Stage.Unbegun }
+    ensures read { IfOk result (λ salt.
+        SaltMet (F.meets files.now) request.now.salt_path (Ok salt.items)) }
+    ensures refused { IfErr result (λ fault. fault ≢ Fault.Memory →
+        SaltMet (F.meets files.now) request.now.salt_path (Err fault)) }
 {
     let mut buf = [0; SEALING_SALT_LENGTH];
     match request.salt_path() {
@@ -84,6 +92,9 @@ pub(crate) fn open_input<F: FileSystem>(
     request: &Request,
 ) -> Result<Option<F::Reader>, Fault>
     requires { F.stage files.now ≡ Stage.Unbegun }
+    ensures opened { IfOk result (λ input. IsOpened (F.opened files.now) request.now.input input) }
+    ensures refused { IfErr result (λ fault. fault ≢ Fault.Memory →
+        (fault ≡ CannotOpen Input) × IsMissing (F.meets files.now) request.now.input) }
 {
     let Some(path) = request.input() else {
         return Ok(None);

@@ -7,7 +7,10 @@ use Rattle.vault_kdf.specs.Hmac.{hmac}
 use Rattle.vault_kdf.specs.Keys.{vault_keys}
 use Rattle.vault_kdf.specs.declared.keys.Keys.{Keys}
 use Rattle.vault_core.specs.Padding.{padded}
-use Rattle.vault_core.specs.Sealing.{sealed}
+use Rattle.vault_text.specs.Envelope.{Payload}
+use Rattle.vault_text.specs.Written.{written}
+use Rattle.vault_core.specs.Form.{Envelope}
+use Rattle.vault_core.specs.Sealing.{sealed, text_in}
 use Rattle.vault_core.specs.Secrets.{Secret}
 use Rattle.vault_core.proofs.PaddingLemmas.{padded-once}
 
@@ -18,3 +21,15 @@ pub sealed-from : (secret : Secret) (salt plain text cipher tag : List ℕ) (key
 unfolding sealed
 sealed-from secret salt plain text cipher tag keys derived is_padded enciphered tagged =
     rw (tagged, enciphered, padded-once plain text is_padded, derived) refl
+
+pub label-sealed : (secret : Secret) (salt plain : List ℕ) → (sealed secret salt plain).label ≡ secret.label
+unfolding sealed
+label-sealed secret salt plain = refl
+
+pub salt-sealed : (secret : Secret) (salt plain : List ℕ) → (sealed secret salt plain).salt ≡ salt
+unfolding sealed
+salt-sealed secret salt plain = refl
+
+pub text_in-Envelope : (vault : Payload) → text_in Envelope vault ≡ written vault.label vault.salt vault.tag vault.cipher
+unfolding text_in
+text_in-Envelope vault = refl

@@ -9,6 +9,7 @@ pub mod Progress
 pub mod BlockFacts
 pub mod BodyFacts
 pub mod CleanText
+pub mod PayloadFacts
 pub mod Prefixes
 pub mod WrittenBodyFacts
 pub mod WrittenHeaderFacts
