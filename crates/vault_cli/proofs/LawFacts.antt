@@ -21,8 +21,8 @@ use Rattle.vault_cli.specs.Outcome.{answered, text_of_request}
 use Rattle.vault_cli.specs.Request.{IsSaltText, IsSettled, Request, SecretFile, files_of}
 use Rattle.vault_cli.specs.Task.{Task, Seal, Open, Reseal, new_secret_of, password_in, place_of, prepared, salt_of, seal_of, reseal_of, secrets_of, secret_list_of, task_of}
 use Rattle.vault_cli.specs.declared.limits.TheConstants.{SALT_TEXT_LIMIT, SEALING_SALT_LENGTH}
-use Rattle.vault_cli.specs.declared.request.CommandName.{CommandName}
-use Rattle.vault_cli.specs.declared.request.CommandName.TheVariants as command
+use Rattle.vault_cli.specs.declared.command_name.CommandName.{CommandName}
+use Rattle.vault_cli.specs.declared.command_name.CommandName.TheVariants as command
 use Rattle.vault_cli.proofs.TaskFacts.{choice-within}
 
 -- an outcome with an output is an answer

@@ -15,8 +15,8 @@ use Rattle.vault_cli.specs.Laws.{EncryptThenDecrypt, Opens, RekeyKeepsThePlainte
 use Rattle.vault_cli.specs.Outcome.{Outcome, answered, outcome_within, performed, text_of_request}
 use Rattle.vault_cli.specs.Request.{Request}
 use Rattle.vault_cli.specs.Task.{Task, Seal, Open, Reseal, prepared}
-use Rattle.vault_cli.specs.declared.request.CommandName.{CommandName}
-use Rattle.vault_cli.specs.declared.request.CommandName.TheVariants as command
+use Rattle.vault_cli.specs.declared.command_name.CommandName.{CommandName}
+use Rattle.vault_cli.specs.declared.command_name.CommandName.TheVariants as command
 use Rattle.vault_cli.proofs.LawFacts.{answered-some, sound-prepared, text-input}
 use Rattle.vault_cli.proofs.OutcomeFacts.{outcome-performed, outcome-refused}
 
@@ -37,8 +37,8 @@ encrypt_then_decrypt law limit encrypting opening contents other_contents salt o
     let text = text-input encrypting known salt salt_bytes input other in
     let (label, used_salt) = sound-prepared encrypting known salt salt_bytes contents (Seal list place Envelope used) sealed in
     let out = outcome-performed encrypting contents salt limit input (Seal list place Envelope used) sealed in
-    let (ready, (is, same)) = answered-some (encryption limit list place Envelope used (text_of_request encrypting input)) envelope (rw out at written) in
-    let plain = law limit list place used input ready label used_salt.bytes used_salt.limit input_bytes (rw text at is) secrets first in
+    let (ready, is, same) = answered-some (encryption limit list place Envelope used (text_of_request encrypting input)) envelope (sym (ap (λ (o : Outcome). o.output) out) ∙ written) in
+    let plain = law limit list place used input ready label used_salt.bytes used_salt.limit input_bytes (sym (ap (encryption limit list place Envelope used) text) ∙ is) secrets first in
     opened limit opening other_contents other_salt envelope secrets opens ∙ ap answered (rw same at plain)
 
 pub rekey_keeps_the_plaintext : RekeyedDecrypts → RekeyKeepsThePlaintext
@@ -47,8 +47,8 @@ rekey_keeps_the_plaintext law limit rekeying before after contents old_contents 
     let text = text-input rekeying known salt salt_bytes input other in
     let (label, used_salt) = sound-prepared rekeying known salt salt_bytes contents (Reseal secrets new used) found in
     let out = outcome-performed rekeying contents salt limit input (Reseal secrets new used) found in
-    let (ready, (is, same)) = answered-some (performed limit (Reseal secrets new used) (text_of_request rekeying input)) envelope (rw out at written) in
-    let (plain, (was, opens_to)) = law limit secrets new used input ready label used_salt.bytes used_salt.limit (rw text at is) in
+    let (ready, is, same) = answered-some (performed limit (Reseal secrets new used) (text_of_request rekeying input)) envelope (sym (ap (λ (o : Outcome). o.output) out) ∙ written) in
+    let (plain, was, opens_to) = law limit secrets new used input ready label used_salt.bytes used_salt.limit (sym (ap (performed limit (Reseal secrets new used)) text) ∙ is) in
     opened limit after new_contents new_salt envelope (record { secrets = new ∷ []; rule = rule }) opens
     ∙ ap answered (rw same at (opens_to rule))
     ∙ sym (opened limit before old_contents old_salt input secrets old ∙ ap answered was)

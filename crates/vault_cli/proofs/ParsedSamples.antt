@@ -5,7 +5,7 @@ use Rattle.clap.specs.Faults.{is_simple_and_free}
 use Rattle.clap.specs.declared.error.kind.ErrorKind.TheVariants as kind
 use Rattle.clap.proofs.OnLiterals.{clap_on_literals}
 use Rattle.vault_cli.specs.CommandLine.{vault_app}
-use Rattle.vault_cli.specs.Settled.{password_files, vault_ids}
+use Rattle.vault_cli.specs.Options.{values_of}
 
 pub vault_app-simple : is_simple_and_free vault_app ≡ true
 unfolding clap_on_literals vault_app
@@ -13,7 +13,7 @@ vault_app-simple = refl
 
 -- the command, and the values under its two options
 abbrev given : List Text → Option (Text × List Text × List Text)
-given words = option_map (λ found. (found.0, vault_ids found.1, password_files found.1)) (subcommand_of vault_app words)
+given words = option_map (λ found. (found.0, values_of (codes "vault-id") found.1, values_of (codes "vault-password-file") found.1)) (subcommand_of vault_app words)
 
 alone : given (codes "ansible-vault" ∷ codes "view" ∷ []) ≡ Some (codes "view", [], [])
 unfolding clap_on_literals vault_app

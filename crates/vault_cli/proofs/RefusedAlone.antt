@@ -30,8 +30,8 @@ use Rattle.vault_cli.specs.Request.{Request, SecretFile}
 use Rattle.vault_cli.specs.Status.{status_of}
 use Rattle.vault_cli.specs.Task.{Task, Seal, Open, Reseal, new_secret_of, password_in, place_of, prepared, reseal_of, salt_of, seal_of, secrets_of, secret_list_of, task_of}
 use Rattle.vault_cli.specs.declared.limits.TheConstants.{SEALING_SALT_LENGTH}
-use Rattle.vault_cli.specs.declared.request.CommandName.{CommandName}
-use Rattle.vault_cli.specs.declared.request.CommandName.TheVariants as command
+use Rattle.vault_cli.specs.declared.command_name.CommandName.{CommandName}
+use Rattle.vault_cli.specs.declared.command_name.CommandName.TheVariants as command
 use Rattle.vault_cli.specs.declared.status.Status.TheVariants.{Refused}
 
 -- what is refused is refused with status 1

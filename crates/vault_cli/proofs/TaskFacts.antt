@@ -21,8 +21,8 @@ use Rattle.vault_core.specs.declared.choice.ChoiceFault.TheVariants.{UnknownEncr
 use Rattle.vault_cli.specs.Outcome.{input_limit, performed, task_limit}
 use Rattle.vault_cli.specs.Request.{Request}
 use Rattle.vault_cli.specs.Task.{Task, Seal, Open, Reseal, new_secret_of, place_of, prepared, salt_of, seal_of, secret_list_of, task_of}
-use Rattle.vault_cli.specs.declared.request.CommandName.{CommandName}
-use Rattle.vault_cli.specs.declared.request.CommandName.TheVariants as command
+use Rattle.vault_cli.specs.declared.command_name.CommandName.{CommandName}
+use Rattle.vault_cli.specs.declared.command_name.CommandName.TheVariants as command
 
 -- what was found
 found : {A : Type 0} {E : Type 0} (o : Option A) (e : E) (x : A) → ok_or o e ≡ Ok x → o ≡ Some x

@@ -9,7 +9,7 @@ use Rattle.vault_core.specs.declared.label_rule.LabelRule.{LabelRule}
 use Rattle.vault_cli.specs.Outcome.{outcome_within, text_of_request}
 use Rattle.vault_cli.specs.Request.{IsSettled, Request, files_of}
 use Rattle.vault_cli.specs.Task.{Seal, Open, Reseal, prepared}
-use Rattle.vault_cli.specs.declared.request.CommandName.TheVariants.{Encrypt, Decrypt, View, Rekey, EncryptString}
+use Rattle.vault_cli.specs.declared.command_name.CommandName.TheVariants.{Encrypt, Decrypt, View, Rekey, EncryptString}
 use Rattle.vault_cli.specs.declared.status.Status.TheVariants.{Success}
 
 -- what a request that was settled is: its labels are labels, its salt text is bytes, and only `encrypt_string` has a

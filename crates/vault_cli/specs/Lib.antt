@@ -2,7 +2,10 @@ pub mod Status
 pub mod Line
 pub mod Reports
 pub mod VaultId
+pub mod CommandName
 pub mod Request
+pub mod Options
+pub mod Refusal
 pub mod Settled
 pub mod CommandLine
 pub mod Task

@@ -13,8 +13,8 @@ use Rattle.vault_cli.specs.Line.{line_of}
 use Rattle.vault_cli.specs.Request.{Request}
 use Rattle.vault_cli.specs.Status.{status_of}
 use Rattle.vault_cli.specs.Task.{Task, Seal, Open, Reseal, prepared}
-use Rattle.vault_cli.specs.declared.request.CommandName.{CommandName}
-use Rattle.vault_cli.specs.declared.request.CommandName.TheVariants.{Encrypt, Decrypt, View, Rekey, EncryptString}
+use Rattle.vault_cli.specs.declared.command_name.CommandName.{CommandName}
+use Rattle.vault_cli.specs.declared.command_name.CommandName.TheVariants.{Encrypt, Decrypt, View, Rekey, EncryptString}
 use Rattle.vault_cli.specs.declared.status.Status.{Status}
 use Rattle.vault_cli.specs.declared.status.Status.TheVariants.{Success}
 

@@ -1,10 +1,10 @@
 -- What a request asks for.
-use Rattle.std.specs.Prelude.{◌≡◌, ◌≤◌, ℕ, Bool, true, false, List, ◌++◌, length, Option, option_to_list, is_some, IfSome}
+use Rattle.std.specs.Prelude.{◌≡◌, ◌≤◌, ℕ, List, ◌++◌, length, Option, option_to_list, is_some, IfSome}
+use Rattle.vault_cli.specs.CommandName.{rekeys}
 use Rattle.vault_core.specs.declared.limits.TheConstants.{SECRET_COUNT_LIMIT}
 use Rattle.vault_core.specs.declared.label_rule.LabelRule.{LabelRule}
 use Rattle.vault_cli.specs.declared.limits.TheConstants.{SALT_TEXT_LIMIT}
-use Rattle.vault_cli.specs.declared.request.CommandName.{CommandName}
-use Rattle.vault_cli.specs.declared.request.CommandName.TheVariants.{Encrypt, Decrypt, View, Rekey, EncryptString}
+use Rattle.vault_cli.specs.declared.command_name.CommandName.{CommandName}
 
 -- a password file, and the label of its secret
 pub record SecretFile : Type 0 where
@@ -35,18 +35,6 @@ pub record Request : Type 0 where
 abbrev pub files_of : Request → List SecretFile
 files_of request = request.secret_files ++ option_to_list request.new_secret
 
--- whether a command writes an envelope or a block, for which it needs a salt
-abbrev pub seals : CommandName → Bool
-seals Encrypt = true
-seals Decrypt = false
-seals View = false
-seals Rekey = true
-seals EncryptString = true
-
-abbrev pub is_rekey : CommandName → Bool
-is_rekey Rekey = true
-is_rekey _ = false
-
 -- the bytes of a salt text
 pub record IsSaltText (text : List ℕ) : Type 0 where
   pub some : 1 ≤ length text
@@ -56,4 +44,4 @@ pub record IsSaltText (text : List ℕ) : Type 0 where
 pub record IsSettled (request : Request) : Type 0 where
   pub count : length request.secret_files ≤ SECRET_COUNT_LIMIT
   pub salt_text : IfSome request.salt_text IsSaltText
-  pub new_secret : is_some request.new_secret ≡ is_rekey request.command
+  pub new_secret : is_some request.new_secret ≡ rekeys request.command

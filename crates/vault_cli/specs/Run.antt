@@ -18,7 +18,6 @@ module _ {S K E : Type 0} (ended : S → Bool) (read_failures : S → ℕ)
     (takes : K → List ℕ → K → Type 0) (stage : K → Stage) (write_failures : K → ℕ)
     (says : E → List ℕ → E → Type 0)
     (asked : Bool) (limit : ℕ) (input : List ℕ) (answer : Outcome) where
-
   -- the source did not fail, and gave the whole input where it was asked
   pub record IsRead (src : S) (new_src : S) : Type 0 where
     pub failures : read_failures new_src ≡ read_failures src

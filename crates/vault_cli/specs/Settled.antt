@@ -1,32 +1,16 @@
 -- What settles a request: the command, and the values under its options.
-use Rattle.std.specs.Prelude.{◌≡◌, ℕ, ◌+◌, ◌||◌, nat_lt, Bool, if◌then◌else◌, List, [], ◌++◌, length, map, codes, unwrap_or, Option, Some, None, Result, Ok, Err, IsOk}
-use Rattle.std.specs.Str.{bytes_eq}
-use Rattle.clap.specs.Walk.{Row, all_of}
+use Rattle.std.specs.Prelude.{◌≡◌, ◌⊎◌, ℕ, if◌then◌else◌, List, ◌++◌, map, codes, unwrap_or, Option, Some, None, option_and_then, is_some, Result, Ok, Err}
+use Rattle.std.specs.Option.{option_map, option_or}
+use Rattle.clap.specs.Walk.{Row, Text}
 use Rattle.vault_text.specs.Label.{default_label}
-use Rattle.vault_cli.specs.Request.{Request, SecretFile}
-use Rattle.vault_cli.specs.VaultId.{first_fault, label_of, source_of}
 use Rattle.vault_core.specs.declared.fault.Fault.{Fault}
-use Rattle.vault_core.specs.declared.fault.Fault.TheVariants.{Memory, TooManySecrets}
-use Rattle.vault_core.specs.declared.limits.TheConstants.{SECRET_COUNT_LIMIT}
-use Rattle.vault_core.specs.declared.label_rule.LabelRule.TheVariants.{Hint}
-use Rattle.vault_cli.specs.declared.request.CommandName.{CommandName}
-use Rattle.vault_cli.specs.declared.request.CommandName.TheVariants.{Decrypt, View}
-
-abbrev pub is_command : List ℕ → Bool
-is_command name = bytes_eq name (codes "view") || bytes_eq name (codes "decrypt")
-
-abbrev pub command_of : List ℕ → CommandName
-command_of name = if bytes_eq name (codes "decrypt") then Decrypt else View
-
--- the values under an option, in their order
-abbrev pub values_of : List ℕ → List Row → List (List ℕ)
-values_of option rows = unwrap_or (all_of option rows) []
-
-abbrev pub vault_ids : List Row → List (List ℕ)
-vault_ids rows = values_of (codes "vault-id") rows
-
-abbrev pub password_files : List Row → List (List ℕ)
-password_files rows = values_of (codes "vault-password-file") rows
+use Rattle.vault_core.specs.declared.fault.Fault.TheVariants.{Memory}
+use Rattle.vault_cli.specs.CommandName.{command_of, rekeys, seals}
+use Rattle.vault_cli.specs.Options.{Options, not_dash, options_of}
+use Rattle.vault_cli.specs.Refusal.{refusal}
+use Rattle.vault_cli.specs.Request.{Request, SecretFile}
+use Rattle.vault_cli.specs.VaultId.{label_of, source_of}
+use Rattle.vault_cli.specs.declared.command_name.CommandName.{CommandName}
 
 -- the password file of a vault id
 abbrev pub file_of_id : List ℕ → SecretFile
@@ -36,22 +20,50 @@ file_of_id id = record { label = label_of id; path = source_of id }
 abbrev pub plain_file : List ℕ → SecretFile
 plain_file path = record { label = default_label; path = path }
 
+abbrev pub new_secret_of : Options → Option SecretFile
+new_secret_of given =
+    if rekeys given.command then option_or (option_map file_of_id given.new_vault_id) (option_map plain_file given.new_password_file)
+    else None
+
+-- a salt text stands in the place of the salt file
+abbrev pub salt_path_of : Options → Option (List ℕ)
+salt_path_of given =
+    if is_some given.salt_text then None
+    else if seals given.command then Some (unwrap_or given.salt_file (codes "/dev/urandom"))
+    else None
+
+-- the request of options that are not refused
+abbrev pub request_of : Options → Request
+request_of given = record {
+  command = given.command;
+  secret_files = map file_of_id given.vault_ids ++ map plain_file given.password_files;
+  new_secret = new_secret_of given;
+  choice = given.encrypt_vault_id;
+  name = option_or given.name given.stdin_name;
+  string = given.string;
+  salt_text = given.salt_text;
+  salt_path = salt_path_of given;
+  rule = given.rule;
+  input = given.file;
+  output = not_dash given.output;
+}
+
 abbrev pub refused_or : Option Fault → Request → Result Request Fault
 refused_or (Some fault) request = Err fault
 refused_or None request = Ok request
 
--- the request of a command with these vault ids and password files, or the first fault
-unfoldable pub request_of : List ℕ → List (List ℕ) → List (List ℕ) → Result Request Fault
-request_of name ids paths =
-    if nat_lt SECRET_COUNT_LIMIT (length ids + length paths) then Err TooManySecrets
-    else refused_or (first_fault ids) (record { command = command_of name; secret_files = map file_of_id ids ++ map plain_file paths; new_secret = None; choice = None; name = None; string = None; salt_text = None; salt_path = None; rule = Hint; input = None; output = None })
+-- the request of what was given, or the first fault
+abbrev pub settled_by : Options → Result Request Fault
+settled_by given = refused_or (refusal given) (request_of given)
 
--- the request of a command and of the values under its options
-abbrev pub settled : List ℕ → List Row → Result Request Fault
-settled name rows = request_of name (vault_ids rows) (password_files rows)
+abbrev pub settled : CommandName → List Row → Result Request Fault
+settled command rows = settled_by (options_of command rows)
 
--- what `settle` answers: that, or Memory where that is a request
+-- what a parse asks for, where it names a command
+abbrev pub asked : Option (Text × List Row) → Option (Result Request Fault)
+asked parse = option_and_then (λ given. option_map (λ command. settled command given.1) (command_of given.0)) parse
+
+-- what `settle` answers: what is settled, or Memory where that is a request
 abbrev pub Settles : Result Request Fault → Result Request Fault → Type 0
-Settles (Ok request) answer = answer ≡ Ok request
-Settles (Err Memory) answer = IsOk answer
+Settles (Ok request) answer = (answer ≡ Ok request) ⊎ (answer ≡ Err Memory)
 Settles (Err fault) answer = answer ≡ Err fault

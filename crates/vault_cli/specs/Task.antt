@@ -12,8 +12,8 @@ use Rattle.vault_core.specs.declared.fault.Fault.{Fault}
 use Rattle.vault_core.specs.declared.fault.Fault.TheVariants.{NeedNewSecret, SaltShort}
 use Rattle.vault_cli.specs.Request.{Request, SecretFile}
 use Rattle.vault_cli.specs.declared.limits.TheConstants.{SEALING_SALT_LENGTH}
-use Rattle.vault_cli.specs.declared.request.CommandName.{CommandName}
-use Rattle.vault_cli.specs.declared.request.CommandName.TheVariants.{Encrypt, Decrypt, View, Rekey, EncryptString}
+use Rattle.vault_cli.specs.declared.command_name.CommandName.{CommandName}
+use Rattle.vault_cli.specs.declared.command_name.CommandName.TheVariants.{Encrypt, Decrypt, View, Rekey, EncryptString}
 
 -- what is to be done with the input: to seal it in a form, under the secret at a place; to open it; to open it and
 -- to seal it again under a new secret

@@ -40,9 +40,7 @@ fn positional<'a>(alloc: Global, name: &'a str, help: &'a str) -> Arg<'a>
     ensures rule { rule_of result ≡ positional name.now }
     ensures local { result.global ≡ false }
 {
-    Arg::new(alloc, name)
-        .action(ArgAction::Set)
-        .help(help)
+    Arg::new(alloc, name).action(ArgAction::Set).help(help)
 }
 
 pub(crate) fn encrypt_vault_id<'a>(alloc: Global) -> Arg<'a>

@@ -27,8 +27,10 @@ pub fn command<'a>(alloc: Global) -> Result<Command<'a>, Fault>
 
 /// The program itself, with its first two commands.
 fn with_opening<'a>(alloc: Global) -> Result<Command<'a>, AllocError>
-    ensures shape { IfOk result (λ command. app_of command
-        ≡ record { top = record top_shape { is_leaf = false }; subs = encrypt.top ∷ decrypt.top ∷ [] }) }
+    ensures shape { IfOk result (λ command. app_of command ≡ record {
+      top = record top_shape { is_leaf = false };
+      subs = encrypt.top ∷ decrypt.top ∷ [];
+    }) }
     ensures local { IfOk result (λ command. (fields_of command).has_globals ≡ false) }
 {
     top(alloc)?
@@ -102,11 +104,7 @@ fn encrypt_string<'a>(alloc: Global) -> Result<Command<'a>, AllocError>
 }
 
 /// A command with the options that name password files.
-fn with_secrets<'a>(
-    alloc: Global,
-    name: &'a str,
-    about: &'a str,
-) -> Result<Command<'a>, AllocError>
+fn with_secrets<'a>(alloc: Global, name: &'a str, about: &'a str) -> Result<Command<'a>, AllocError>
     ensures shape { IfOk result (λ command. app_of command ≡ app_with name.now secret_rules) }
     ensures local { IfOk result (λ command. (fields_of command).has_globals ≡ false) }
 {
@@ -120,11 +118,13 @@ fn with_secrets<'a>(
 
 /// A command that seals.
 fn with_salt<'a>(alloc: Global, name: &'a str, about: &'a str) -> Result<Command<'a>, AllocError>
-    ensures shape { IfOk result (λ command. app_of command ≡ app_with name.now (secret_rules ++ salt_rules)) }
+    ensures shape { IfOk result (λ command.
+        app_of command ≡ app_with name.now (secret_rules ++ salt_rules)) }
     ensures local { IfOk result (λ command. (fields_of command).has_globals ≡ false) }
 {
     let path = "The file whose first 32 bytes are the salt; /dev/urandom by default";
-    let text = "The salt itself, 1 to 64 bytes, in place of a file; one salt used twice under one password repeats the key stream";
+    let text =
+        "The salt itself, 1 to 64 bytes, in place of a file; one salt used twice under one password repeats the key stream";
     with_secrets(alloc, name, about)?
         .arg(arguments::option(alloc, "salt-file", "PATH", path))?
         .arg(arguments::option(alloc, "salt", "TEXT", text))

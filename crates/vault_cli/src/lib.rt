@@ -3,14 +3,17 @@
 
 mod arguments;
 mod command_line;
+mod command_name;
 mod explaining;
 mod fitting;
 mod gathering;
 pub mod laws;
 mod limits;
+mod options;
 mod parsing;
 mod passwords;
 mod program;
+mod refusals;
 mod report_line;
 mod request;
 mod runs;
@@ -20,12 +23,13 @@ mod task;
 mod vault_id;
 
 pub use command_line::command;
+pub use command_name::CommandName;
 pub use explaining::reject_words;
 pub use limits::{SALT_TEXT_LIMIT, SEALING_SALT_LENGTH};
 pub use parsing::parse;
 pub use program::drive;
 pub use report_line::report;
-pub use request::{CommandName, Request};
+pub use request::Request;
 pub use runs::run;
 pub use settling::{has_command, settle};
 pub use status::Status;

@@ -12,7 +12,8 @@ use std::alloc::{AllocError, Global};
 /// options are those that the parser's definition gives for this command line, and an error is of
 /// a kind that it gives, or says that memory ran out.
 pub fn parse<'a>(alloc: Global, words: &'a [String]) -> Result<ArgMatches<'a>, Error>
-    ensures matches { IfOk result (λ matches. subcommand_rows_of matches ≡ subcommand_of vault_app (map string_bytes words.now)) }
+    ensures matches { IfOk result (λ matches.
+        subcommand_rows_of matches ≡ subcommand_of vault_app (map string_bytes words.now)) }
     ensures kinds { FailsBy (fault_of vault_app (map string_bytes words.now)) result }
 {
     match command(alloc) {

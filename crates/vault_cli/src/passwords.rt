@@ -50,7 +50,9 @@ pub(crate) fn new_secret_of<'p>(
     secret_files: &'p [Vec<u8>],
 ) -> Result<Option<NewSecret<'p>>, Fault>
     requires { length secret_files.now ≡ length (files_of request.now) }
-    ensures { result ≡ new_secret_of request.now.new_secret (slice_index_or (map (λ file. file.items) secret_files.now) (length request.now.secret_files) []) }
+    ensures { let contents = map (λ file. file.items) secret_files.now in
+        let last = slice_index_or contents (length request.now.secret_files) [] in
+        result ≡ new_secret_of request.now.new_secret last }
 {
     let Some(label) = request.new_label() else {
         return Ok(None);

@@ -2,33 +2,13 @@
 ghost use Rattle.std.specs.Prelude.{◌≡◌, ◌+◌, ◌<◌, ◌≤◌, Some, IfSome, is_some, length, slice_get};
 ghost use Rattle.std.specs.Option.{option_map};
 ghost use Rattle.vault_core.specs.declared.limits.TheConstants.{SECRET_COUNT_LIMIT};
-ghost use Rattle.vault_cli.specs.Request.{IsSaltText, files_of, is_rekey, seals};
+ghost use Rattle.vault_cli.specs.CommandName.{rekeys, seals};
+ghost use Rattle.vault_cli.specs.Request.{IsSaltText, files_of};
 
+use crate::command_name::CommandName;
 use std::marker::Model;
 use vault_core::LabelRule;
 use vault_text::Label;
-
-/// What is to be done.
-#[derive(Clone, Copy, Debug, PartialEq, Eq)]
-pub enum CommandName {
-    Encrypt,
-    Decrypt,
-    View,
-    Rekey,
-    EncryptString,
-}
-
-impl CommandName {
-    /// Whether a salt is used.
-    pub(crate) fn seals(self) -> bool
-        ensures { result ≡ seals self }
-    {
-        match self {
-            CommandName::Encrypt | CommandName::Rekey | CommandName::EncryptString => true,
-            CommandName::Decrypt | CommandName::View => false,
-        }
-    }
-}
 
 /// A password file, and the label of its secret.
 #[derive(Debug, Drop)]
@@ -70,9 +50,33 @@ impl Model for Request {
 
     ghost Value = { Request };
 
-    ghost view = { λ r. record { command = r.command; secret_files = r.secret_files.items; new_secret = r.new_secret; choice = r.choice; name = option_map string_bytes r.name; string = option_map string_bytes r.string; salt_text = option_map string_bytes r.salt_text; salt_path = option_map string_bytes r.salt_path; rule = r.rule; input = option_map string_bytes r.input; output = option_map string_bytes r.output } };
+    ghost view = { λ r. record {
+      command = r.command;
+      secret_files = r.secret_files.items;
+      new_secret = r.new_secret;
+      choice = r.choice;
+      name = option_map string_bytes r.name;
+      string = option_map string_bytes r.string;
+      salt_text = option_map string_bytes r.salt_text;
+      salt_path = option_map string_bytes r.salt_path;
+      rule = r.rule;
+      input = option_map string_bytes r.input;
+      output = option_map string_bytes r.output;
+    } };
 
-    ghost invariant = { λ r. IsSettled (record { command = r.command; secret_files = r.secret_files.items; new_secret = r.new_secret; choice = r.choice; name = option_map string_bytes r.name; string = option_map string_bytes r.string; salt_text = option_map string_bytes r.salt_text; salt_path = option_map string_bytes r.salt_path; rule = r.rule; input = option_map string_bytes r.input; output = option_map string_bytes r.output }) };
+    ghost invariant = { λ r. IsSettled (record {
+      command = r.command;
+      secret_files = r.secret_files.items;
+      new_secret = r.new_secret;
+      choice = r.choice;
+      name = option_map string_bytes r.name;
+      string = option_map string_bytes r.string;
+      salt_text = option_map string_bytes r.salt_text;
+      salt_path = option_map string_bytes r.salt_path;
+      rule = r.rule;
+      input = option_map string_bytes r.input;
+      output = option_map string_bytes r.output;
+    }) };
 }
 
 impl Request {
@@ -102,7 +106,8 @@ impl Request {
     /// The path of a password file, counted from 0. The new one of `rekey` is last.
     pub fn path(&self, i: usize) -> &str
         requires { i < length (files_of self.now) }
-        ensures { option_map (λ file. file.path) (slice_get (files_of self.now) i) ≡ Some result.now }
+        ensures { option_map (λ file. file.path) (slice_get (files_of self.now) i)
+            ≡ Some result.now }
     {
         self.file(i).path.as_str()
     }
@@ -110,7 +115,8 @@ impl Request {
     /// The label of the secret in a password file, counted from 0.
     pub fn label(&self, i: usize) -> &Label
         requires { i < length (files_of self.now) }
-        ensures { option_map (λ file. file.label) (slice_get (files_of self.now) i) ≡ Some result.now }
+        ensures { option_map (λ file. file.label) (slice_get (files_of self.now) i)
+            ≡ Some result.now }
     {
         &self.file(i).label
     }
@@ -127,8 +133,9 @@ impl Request {
 
     /// The label of what `rekey` seals with; `None` for every other command.
     pub fn new_label(&self) -> Option<&Label>
-        ensures label { option_map (λ label. label.now) result ≡ option_map (λ file. file.label) self.now.new_secret }
-        ensures rekey { is_some result ≡ is_rekey self.now.command }
+        ensures label { option_map (λ label. label.now) result
+            ≡ option_map (λ file. file.label) self.now.new_secret }
+        ensures rekey { is_some result ≡ rekeys self.now.command }
     {
         match &self.new_secret {
             Some(file) => Some(&file.label),

@@ -27,7 +27,8 @@ pub(crate) fn asks_for_input<'r>(
     salt: &[u8],
 ) -> bool
     requires { length secret_files.now ≡ length (files_of request.now) }
-    ensures { result ≡ asks_for_input request.now (map (λ file. file.items) secret_files.now) salt.now }
+    ensures { let contents = map (λ file. file.items) secret_files.now in
+        result ≡ asks_for_input request.now contents salt.now }
 {
     prepare(request, secret_files, salt).is_ok() && request.string().is_none()
 }
@@ -47,7 +48,8 @@ fn perform<'a, S: Source>(
         × UnlessUnreadable (S.failures src.old) (S.failures src.new) result
         ((is_some request.now.string ≡ false) × (length input ≤ bound))
         ((is_some request.now.string ≡ false → IsWhole bound (S.ended src.new) input)
-        × (result ≡ performed limit (task_in task.now) (text_of_request request.now input))) }
+        × (result
+        ≡ performed limit (task_in task.now) (text_of_request request.now input))) }
     ensures unread { IsTrue (is_some request.now.string) → src.new ≡ src.old }
 {
     match request.string() {
@@ -61,10 +63,12 @@ fn deliver<K: Sink, E: Sink>(ready: Ready<'_>, out: &mut K, err: &mut E) -> Stat
     requires out_unbegun { K.stage out.old ≡ Stage.Unbegun }
     requires err_unbegun { E.stage err.old ≡ Stage.Unbegun }
     ensures status { (result ≡ Status.Success) ⊎ (result ≡ Status.DeviceFailed) }
-    ensures written { result ≢ Status.DeviceFailed → K.takes out.old ready.entry.output out.new × (K.stage out.new ≡ Stage.Finished) }
+    ensures written { result ≢ Status.DeviceFailed
+        → K.takes out.old ready.entry.output out.new × (K.stage out.new ≡ Stage.Finished) }
     ensures silent { result ≢ Status.DeviceFailed → err.new ≡ err.old }
     ensures intact { result ≢ Status.DeviceFailed → K.failures out.new ≡ K.failures out.old }
-    ensures failed { result ≡ Status.DeviceFailed → HasRisen (K.failures out.old) (K.failures out.new)
+    ensures failed { result ≡ Status.DeviceFailed
+        → HasRisen (K.failures out.old) (K.failures out.new)
         × Reports E.takes E.stage E.failures err.old (line_of Write) err.new }
     ensures prefix { (n : ℕ) × K.takes out.old (take n ready.entry.output) out.new }
 {
@@ -106,8 +110,8 @@ pub fn run<'r, S: Source, K: Sink, E: Sink>(
 
     // The source is left alone where the passwords, the secret or the salt are refused, and where
     // there is a STRING.
-    ensures unread { asks_for_input request.now (map (λ file. file.items) secret_files.now) salt.now ≡ false
-        → src.new ≡ src.old }
+    ensures unread { let contents = map (λ file. file.items) secret_files.now in
+        asks_for_input request.now contents salt.now ≡ false → src.new ≡ src.old }
 {
     let task = match prepare(request, secret_files, salt) {
         Ok(task) => task,

@@ -8,9 +8,10 @@ ghost use Rattle.vault_cli.specs.Request.{files_of};
 ghost use Rattle.vault_cli.specs.StoredTask.{task_in};
 ghost use Rattle.vault_cli.specs.Task.{HasPlace, prepared, reseal_of, salt_of, seal_of};
 
+use crate::command_name::CommandName;
 use crate::limits::SEALING_SALT_LENGTH;
 use crate::passwords::{NewSecret, new_secret_of, secrets_of};
-use crate::request::{CommandName, Request};
+use crate::request::Request;
 use vault_core::{Fault, Form, Ready, Secrets, prepare_decrypt, prepare_encrypt, prepare_rekey};
 use vault_kdf::Meter;
 use vault_text::{Salt, Source};
@@ -26,7 +27,9 @@ pub(crate) enum Task<'p> {
         salt: Salt,
     },
     /// To decrypt it.
-    Open { secrets: Secrets<'p> },
+    Open {
+        secrets: Secrets<'p>,
+    },
     /// To decrypt it, and to encrypt the plaintext with another secret.
     Reseal {
         secrets: Secrets<'p>,
@@ -35,8 +38,8 @@ pub(crate) enum Task<'p> {
     },
 }
 
-#[tactic(auto, unfolding(crate::specs::Task::prepared))]
 /// Finds the passwords of a request, the secret that seals and the salt; faults come in this order.
+#[tactic(auto, unfolding(crate::specs::Task::prepared))]
 pub(crate) fn prepare<'p>(
     request: &'p Request,
     secret_files: &'p [Vec<u8>],
@@ -73,8 +76,10 @@ fn seal<'p>(
 ) -> Result<Task<'p>, Fault>
     ensures chosen { IfOk result (λ task. HasPlace (task_in task)) }
     ensures sealed { MatchResult result
-        (λ task. seal_of request.now secrets.entry.secrets (form_of form.entry) salt.now ≡ Ok (task_in task))
-        (λ fault. seal_of request.now secrets.entry.secrets (form_of form.entry) salt.now ≡ Err fault) }
+        (λ task. seal_of request.now secrets.entry.secrets (form_of form.entry) salt.now
+        ≡ Ok (task_in task))
+        (λ fault. seal_of request.now secrets.entry.secrets (form_of form.entry) salt.now
+        ≡ Err fault) }
 {
     let place = match secrets.encrypt_choice(request.choice()) {
         Ok(place) => place,
@@ -134,7 +139,8 @@ impl<'p> Task<'p> {
             (input : List ℕ) × S.gives src.old input src.new × (length input ≤ bound + 1)
             × UnlessUnreadable (S.failures src.old) (S.failures src.new) result
             (length input ≤ bound)
-            (IsWhole bound (S.ended src.new) input × (result ≡ performed limit (task_in self.now) input)) }
+            (IsWhole bound (S.ended src.new) input
+            × (result ≡ performed limit (task_in self.now) input)) }
     {
         let mut meter = Meter::new();
         match self {
@@ -146,7 +152,15 @@ impl<'p> Task<'p> {
             } => prepare_encrypt(src, work, secrets, *place, *form, salt, &mut meter),
             Task::Open { secrets } => prepare_decrypt(src, work, secrets, &mut meter),
             Task::Reseal { secrets, new, salt } => {
-                prepare_rekey(src, work, secrets, new.label, new.password, salt, &mut meter)
+                prepare_rekey(
+                    src,
+                    work,
+                    secrets,
+                    new.label,
+                    new.password,
+                    salt,
+                    &mut meter,
+                )
             }
         }
     }

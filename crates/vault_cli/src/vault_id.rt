@@ -1,6 +1,6 @@
 //! The values of `--vault-id`: a source, or a label, `@` and a source.
 ghost use Rattle.std.specs.Prelude.{◌≡◌, ◌⊎◌, Some, None, is_ok, IfOk, IfErr, map};
-ghost use Rattle.std.specs.String.{string_bytes};
+ghost use Rattle.std.specs.Result.{result_err};
 ghost use Rattle.vault_text.specs.Header.{named_label};
 ghost use Rattle.vault_text.specs.Label.{is_label};
 ghost use Rattle.vault_cli.specs.VaultId.{fault_of, first_fault, label_of, label_part, source_of};
@@ -49,15 +49,22 @@ fn labelled(text: &str) -> Result<Label, BadLabel>
     }
 }
 
+/// Refuses a vault id that has a fault.
+pub(crate) fn check(id: &str) -> Result<(), Fault>
+    ensures { result_err result ≡ fault_of id.now }
+{
+    match parse(id) {
+        Ok(_) => Ok(()),
+        Err(fault) => Err(fault),
+    }
+}
+
 /// Refuses the first vault id that has a fault.
 pub(crate) fn check_all(ids: &[&str]) -> Result<(), Fault>
-    ensures allowed { IfOk result (λ _. first_fault (map (λ id. id.now) ids.now) ≡ None) }
-    ensures refused { IfErr result (λ fault. first_fault (map (λ id. id.now) ids.now) ≡ Some fault) }
+    ensures { result_err result ≡ first_fault (map (λ id. id.now) ids.now) }
 {
     for id in ids {
-        if let Err(fault) = parse(id) {
-            return Err(fault);
-        }
+        check(id)?;
     }
     Ok(())
 }

@@ -22,5 +22,5 @@ returns-in-Some-clause-answer g c =
       g.met.S.Source.gives_none c.args.src.now,
       omega arith,
       rw (← string) (performed-text limit task c.perform.result c.perform.new.src.ended c.in-Some.string.now front c.perform.new.src.left _ _ _
-      (sym text ∙ given) last cases (λ missing. absurd cc)),
+          (sym text ∙ given) last cases (λ missing. absurd cc)),
     )

@@ -67,12 +67,12 @@ returns-in-Ok-perform-clause-ends g c =
               line = c.deliver.ensures.silent fine;
             })
         | inr device ↦ inr (inr (record {
-            status = device;
-            read = record { failures = unfailed; whole = λ asked. whole (not-true _ asked) };
-            failed = (c.deliver.ensures.failed device).0;
-            output = (c.in-Ok-perform.ready.output, refl, c.deliver.ensures.prefix);
-            line = (c.deliver.ensures.failed device).1;
-          }))
+          status = device;
+          read = record { failures = unfailed; whole = λ asked. whole (not-true _ asked) };
+          failed = (c.deliver.ensures.failed device).0;
+          output = (c.in-Ok-perform.ready.output, refl, c.deliver.ensures.prefix);
+          line = (c.deliver.ensures.failed device).1;
+        }))
       ]),
     )
 
