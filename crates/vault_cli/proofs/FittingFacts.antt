@@ -1,7 +1,8 @@
 -- Runs over a source in memory, or over one of two parts, told of the source that the bytes came from.
-use Rattle.std.proofs.Common.{◌≡◌, ℕ, ◌+◌, ◌-◌, ◌^◌, ◌<◌, ◌≤◌, ◌⊎◌, inl, inr, List, [], ◌++◌, length, Bool, true, false, ◌&&◌, not, Option, Some, None, IsTrue, unwrap_or, arith, refl, subst, sym, ap, ◌∙◌, length-append}
+use Rattle.std.proofs.Common.{◌≡◌, ℕ, ◌+◌, ◌-◌, ◌^◌, ◌<◌, ◌≤◌, ◌⊎◌, inl, inr, List, [], ◌++◌, length, take, Bool, true, false, ◌&&◌, not, Option, Some, None, IsTrue, unwrap_or, arith, refl, subst, sym, ap, ◌∙◌, length-append}
 use Rattle.std.proofs.lemmas.Bool.{cases_lt, false≢true}
 use Rattle.std.specs.Prelude.{is_ok, is_some}
+use Rattle.std.proofs.Math.Seq.{take-append_seam}
 use Rattle.std.proofs.lemmas.List.{append-nil, nil_from_length}
 use Rattle.vault_text.specs.Failures.{HasRisen}
 use Rattle.vault_text.specs.Source.{Gives, MemoryState, state_of}
@@ -10,7 +11,7 @@ use Rattle.vault_core.specs.Input.{IsWhole}
 use Rattle.vault_text.specs.ChainedSource.{ChainedState, GivesChained}
 use Rattle.vault_text.specs.declared.limits.TheConstants.{PLAINTEXT_LIMIT}
 use Rattle.vault_text.specs.Limits.{limit_of}
-use Rattle.vault_cli.specs.Fitting.{NoMemory, RunsWithin}
+use Rattle.vault_cli.specs.Fitting.{EndsOn, NoMemory, RunsWithin}
 use Rattle.vault_cli.specs.Outcome.{Outcome, asks_for_input, input_limit, outcome_within, text_of_request}
 use Rattle.vault_cli.specs.Task.{prepared}
 use Rattle.vault_cli.specs.Laws.{ShortTexts}
@@ -86,6 +87,10 @@ below_last before after room same full some =
       | inl below ↦ rw same below
       | inr last ↦ absurd (full last some)
     ]
+
+-- a buffer that was written whole
+pub written_whole : (n : ℕ) (buffer rest : List ℕ) → n ≡ length buffer → take n (buffer ++ rest) ≡ buffer
+written_whole n buffer rest e = rw e (take-append_seam buffer rest)
 
 -- every command takes more than is read at first
 pub first_fits : (command : CommandName) → FIRST_LENGTH ≤ input_limit PLAINTEXT_LIMIT command
@@ -235,3 +240,24 @@ module _ {S K E : Type 0} (gives : S → List ℕ → S → Type 0) (ended : S �
               | inr risen ↦ absurd (omega (arith, risen))
             ]
       ]
+
+  -- a run over what a source gives behind a front is one over the source that gave the front
+  pub behind-runs : ((x y z : S) (xs ys : List ℕ) → gives x xs y → gives y ys z → gives x (xs ++ ys) z)
+      → (u : S) (front : List ℕ) → gives s front u → failures u ≡ failures s
+      → (later : List ℕ) × gives u later t
+      × EndsOn gives ended failures takes stage write_failures says (front ++ later) PLAINTEXT_LIMIT request contents salt result u t out new_out err new_err
+      → RunsWithin gives ended failures takes stage write_failures says PLAINTEXT_LIMIT request contents salt result s t out new_out err new_err
+  behind-runs more u front given stay (later, after, (fits, ends)) = (
+    front ++ later,
+    more s u t front later given after,
+    (
+      fits,
+      elim ends [
+        | inl memory ↦ inl memory
+        | inr run ↦ inr (ends-over ended failures takes stage write_failures says (asks_for_input request contents salt)
+            (input_limit PLAINTEXT_LIMIT request.command) (front ++ later) (outcome_within PLAINTEXT_LIMIT request contents salt (front ++ later))
+            result u t out new_out err new_err ended failures (input_limit PLAINTEXT_LIMIT request.command) s t
+            (λ same whole. (same ∙ stay, whole)) (λ risen short. (rw stay at risen, short)) run)
+      ],
+    ),
+  )

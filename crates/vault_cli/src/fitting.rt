@@ -119,6 +119,12 @@ pub(crate) fn run_fitting<S: Source, K: Sink, E: Sink>(
     requires files { length secret_files.now ≡ length (files_of request.now) }
     requires out_unbegun { K.stage out.old ≡ Stage.Unbegun }
     requires err_unbegun { E.stage err.old ≡ Stage.Unbegun }
+    ensures runs { RunsWithin S.gives S.ended S.failures K.takes K.stage K.failures
+        (Says E.takes E.stage E.failures)
+        PLAINTEXT_LIMIT request.now (map (λ file. file.items) secret_files.now) salt.now
+        result src.old src.new out.old out.new err.old err.new }
+    ensures unread { asks_for_input request.now (map (λ file. file.items) secret_files.now) salt.now ≡ false
+        → src.new ≡ src.old }
 {
     if !asks_for_input(request, secret_files, salt) {
         return run_in(alloc, CIPHERTEXT_LIMIT, request, secret_files, salt, src, out, err);
