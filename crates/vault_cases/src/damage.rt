@@ -1,6 +1,6 @@
 //! Envelopes that are damaged, and inputs that are too long.
 use crate::devices::CountingReader;
-use crate::support::{MemFiles, run_decrypt, run_program};
+use crate::support::{run_decrypt, run_program};
 use std::alloc::Global;
 use std::process::Abort;
 use std::test::Fail;
@@ -105,7 +105,6 @@ fn decrypts_up_to_the_limit(rt: HostRuntime) -> Result<(), Fail> {
 // limit.
 #[test]
 fn refuses_input_over_the_limit(rt: HostRuntime) -> Result<(), Fail> {
-    let no_files = MemFiles { files: &[] };
     let damaged = b"$ANSIBLE_VAULT;1.1;AES256\nzz".as_slice();
     let long = "ERROR! input is longer than the limit\n";
     let cases: [(&[u8], usize, usize, &str); 4] = [
@@ -121,7 +120,7 @@ fn refuses_input_over_the_limit(rt: HostRuntime) -> Result<(), Fail> {
     ];
     for (front, length, given, message) in cases {
         let mut stdin = CountingReader::with_line_feeds(front, length);
-        let refused = run_program(rt.alloc(), &no_files, &["decrypt"], &mut stdin)?;
+        let refused = run_program(rt.alloc(), &[], &["decrypt"], &mut stdin)?;
         assert_eq!(rt; refused.status, Status::Refused, "{length}");
         assert_eq!(rt; refused.message.as_str(), message, "{length}");
         assert_eq!(rt; refused.output.len(), 0, "{length}");

@@ -1,12 +1,10 @@
 //! Runs whose devices fail.
 use crate::devices::{CountingReader, NarrowWriter};
-use crate::support::{EMPTY_ENVELOPE, MemFiles, line_of, run_decrypt};
+use crate::support::{EMPTY_ENVELOPE, line_of, run_decrypt};
 use std::test::Fail;
-use vault_cli::{FileFault, Status, drive};
+use vault_cli::{MemFile, MemFiles, Status, drive};
 use vault_made::envelope;
-use vault_text::{FailingSink, FailingSource, MemSink, MemSource};
-
-const FILES: &[(&str, Result<&[u8], FileFault>)] = &[("one", Ok(b"first\n"))];
+use vault_text::{FailingSink, FailingSource, MemSink, MemSource, ReadSource, WriteSink};
 
 const PLAINTEXT: &[u8; 200] = &[b'p'; 200];
 
@@ -56,21 +54,22 @@ fn reports_a_writer_that_fails(rt: HostRuntime) -> Result<(), Fail> {
     let alloc = rt.alloc();
     let vault = envelope(alloc, "default", b"first", &[7; 32], PLAINTEXT)?;
     let words = line_of(alloc, &["view", "--vault-id", "one"])?;
-    let files = MemFiles { files: FILES };
+    let files = [MemFile::whole("one", b"first\n")];
     for room in [0, 100, 200] {
-        let mut stdin = CountingReader::new(vault.as_slice(), 1_000);
-        let mut out = NarrowWriter::new(alloc, room);
-        let mut err = Vec::new(alloc);
+        let stdin = CountingReader::new(vault.as_slice(), 1_000);
+        let mut out = WriteSink::new(NarrowWriter::new(alloc, room));
+        let mut err = MemSink::new(alloc, 100);
         let status = drive(
-            &files,
+            &mut MemFiles::new(alloc, &files),
             alloc,
             words.as_slice(),
-            &mut stdin,
+            &mut ReadSource::new(stdin),
             &mut out,
             &mut err,
         );
+        let out = out.into_inner();
         assert_eq!(rt; status, Status::DeviceFailed, "{room}");
-        assert_eq!(rt; err.as_slice(), WRITE_FAILED, "{room}");
+        assert_eq!(rt; err.bytes(), WRITE_FAILED, "{room}");
         assert_eq!(rt; out.taken.len(), room, "{room}");
         assert!(rt; PLAINTEXT.starts_with(out.taken.as_slice()), "{room}");
     }

@@ -1,24 +1,25 @@
 //! Password files of whole runs of the program.
 use crate::devices::CountingReader;
-use crate::support::{EMPTY_ENVELOPE, MemFiles, run_program};
+use crate::support::{EMPTY_ENVELOPE, run_program};
 use std::test::Fail;
-use vault_cli::{FileFault, Status};
+use vault_cli::{MemFile, Status};
 
-const FILES: &[(&str, Result<&[u8], FileFault>)] = &[
-    ("good", Ok(b"one\n")),
-    ("empty", Ok(b" \n")),
-    ("script", Ok(b"#!/bin/sh\n")),
-    ("vault", Ok(EMPTY_ENVELOPE)),
-    ("long", Ok(&[b'a'; 4_097])),
-    ("folder", Err(FileFault::CannotRead)),
-    ("large", Err(FileFault::Memory)),
-];
+fn files() -> [MemFile<'static>; 6] {
+    [
+        MemFile::whole("good", b"one\n"),
+        MemFile::whole("empty", b" \n"),
+        MemFile::whole("script", b"#!/bin/sh\n"),
+        MemFile::whole("vault", EMPTY_ENVELOPE),
+        MemFile::whole("long", &[b'a'; 4_097]),
+        MemFile::broken("folder", b""),
+    ]
+}
 
 // The input has no end: a password file that is refused leaves it unread.
 #[test]
 fn refuses_before_the_input_is_read(rt: HostRuntime) -> Result<(), Fail> {
     let alloc = rt.alloc();
-    let cases: [(&str, &str, Status); 7] = [
+    let cases: [(&str, &str, Status); 6] = [
         (
             "missing",
             "a password file cannot be opened",
@@ -29,7 +30,6 @@ fn refuses_before_the_input_is_read(rt: HostRuntime) -> Result<(), Fail> {
             "a password file cannot be read",
             Status::DeviceFailed,
         ),
-        ("large", "out of memory", Status::OutOfMemory),
         ("empty", "a password is empty", Status::Refused),
         ("script", "a password file is a script", Status::Refused),
         (
@@ -53,7 +53,7 @@ fn refuses_before_the_input_is_read(rt: HostRuntime) -> Result<(), Fail> {
             path,
         ];
         let mut stdin = CountingReader::with_line_feeds(b"", usize::MAX);
-        let refused = run_program(alloc, &MemFiles { files: FILES }, &words, &mut stdin)?;
+        let refused = run_program(alloc, &files(), &words, &mut stdin)?;
         assert_eq!(rt; refused.status, status, "{path}");
         assert_eq!(rt; refused.message.as_str(), line.as_str(), "{path}");
         assert_eq!(rt; refused.output.len(), 0, "{path}");
@@ -66,7 +66,7 @@ fn refuses_before_the_input_is_read(rt: HostRuntime) -> Result<(), Fail> {
 fn opens_all_before_one_is_refused(rt: HostRuntime) -> Result<(), Fail> {
     let words = ["view", "--vault-id", "empty", "--vault-id", "missing"];
     let mut stdin = CountingReader::new(b"", 1);
-    let refused = run_program(rt.alloc(), &MemFiles { files: FILES }, &words, &mut stdin)?;
+    let refused = run_program(rt.alloc(), &files(), &words, &mut stdin)?;
     assert_eq!(rt;
         refused.message.as_str(),
         "ERROR! a password file cannot be opened\n"
@@ -77,10 +77,10 @@ fn opens_all_before_one_is_refused(rt: HostRuntime) -> Result<(), Fail> {
 
 #[test]
 fn takes_the_longest_password(rt: HostRuntime) -> Result<(), Fail> {
-    let files: [(&str, Result<&[u8], FileFault>); 1] = [("longest", Ok(&[b'a'; 4_096]))];
+    let files = [MemFile::whole("longest", &[b'a'; 4_096])];
     let mut stdin = CountingReader::new(b"", 1);
     let words = ["view", "--vault-id", "longest"];
-    let refused = run_program(rt.alloc(), &MemFiles { files: &files }, &words, &mut stdin)?;
+    let refused = run_program(rt.alloc(), &files, &words, &mut stdin)?;
     assert_eq!(rt;
         refused.message.as_str(),
         "ERROR! input is not vault encrypted data\n"

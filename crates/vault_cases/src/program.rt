@@ -1,9 +1,7 @@
 //! Whole runs of the program that need no password file.
-use crate::support::{EMPTY_ENVELOPE, MemFiles, run_program_on};
+use crate::support::{EMPTY_ENVELOPE, run_program_on};
 use std::test::Fail;
-use vault_cli::{FileFault, Status};
-
-const NO_FILES: MemFiles<'static> = MemFiles { files: &[] };
+use vault_cli::Status;
 
 #[test]
 fn refuses_without_secrets(rt: HostRuntime) -> Result<(), Fail> {
@@ -13,7 +11,7 @@ fn refuses_without_secrets(rt: HostRuntime) -> Result<(), Fail> {
     ];
     for (input, message) in cases {
         for command in ["view", "decrypt"] {
-            let refused = run_program_on(rt.alloc(), &NO_FILES, &[command], input)?;
+            let refused = run_program_on(rt.alloc(), &[], &[command], input)?;
             assert_eq!(rt; refused.status, Status::Refused, "{command}");
             assert_eq!(rt; refused.message.as_str(), message, "{command}");
             assert_eq!(rt; refused.output.len(), 0, "{command}");
@@ -31,7 +29,7 @@ fn explains_the_command_line(rt: HostRuntime) -> Result<(), Fail> {
         (&["--version"], b"ansible-vault "),
     ];
     for (words, text) in asked {
-        let told = run_program_on(alloc, &NO_FILES, words, b"")?;
+        let told = run_program_on(alloc, &[], words, b"")?;
         assert_eq!(rt; told.status, Status::Success, "{words:?}");
         assert_eq!(rt; told.message.as_str(), "", "{words:?}");
         assert!(rt;
@@ -48,7 +46,7 @@ fn explains_the_command_line(rt: HostRuntime) -> Result<(), Fail> {
         &["--vault-id", "one", "view"],
     ];
     for words in wrong {
-        let refused = run_program_on(alloc, &NO_FILES, words, b"")?;
+        let refused = run_program_on(alloc, &[], words, b"")?;
         assert_eq!(rt; refused.status, Status::ParseFault, "{words:?}");
         assert_eq!(rt; refused.output.len(), 0, "{words:?}");
         assert_ne!(rt; refused.message.len(), 0, "{words:?}");
@@ -58,17 +56,14 @@ fn explains_the_command_line(rt: HostRuntime) -> Result<(), Fail> {
 
 #[test]
 fn ends_with_each_status(rt: HostRuntime) -> Result<(), Fail> {
-    let files: [(&str, Result<&[u8], FileFault>); 1] = [("large", Err(FileFault::Memory))];
-    let files = MemFiles { files: &files };
-    let cases: [(&[&str], u8); 5] = [
+    let cases: [(&[&str], u8); 4] = [
         (&["--version"], 0),
         (&["view"], 1),
         (&["show"], 2),
         (&["view", "--vault-id", "missing"], 3),
-        (&["view", "--vault-id", "large"], 4),
     ];
     for (words, code) in cases {
-        let ended = run_program_on(rt.alloc(), &files, words, b"")?;
+        let ended = run_program_on(rt.alloc(), &[], words, b"")?;
         assert_eq!(rt; ended.status.code(), code, "{words:?}");
     }
     Ok(())

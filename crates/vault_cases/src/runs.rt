@@ -1,15 +1,17 @@
 //! Runs that give the plaintext.
 use crate::devices::CountingReader;
-use crate::support::{MemFiles, run_decrypt, run_program, run_program_on};
+use crate::support::{run_decrypt, run_program, run_program_on};
 use std::test::Fail;
-use vault_cli::{FileFault, Status};
+use vault_cli::{MemFile, Status};
 use vault_made::envelope;
 use vault_text::{MemSink, MemSource};
 
-const FILES: &[(&str, Result<&[u8], FileFault>)] = &[
-    ("one", Ok(b"first\n")),
-    ("two", Ok(b" second \r\n")),
-];
+fn files() -> [MemFile<'static>; 2] {
+    [
+        MemFile::whole("one", b"first\n"),
+        MemFile::whole("two", b" second \r\n"),
+    ]
+}
 
 #[test]
 fn shows_plaintext(rt: HostRuntime) -> Result<(), Fail> {
@@ -33,7 +35,7 @@ fn shows_plaintext(rt: HostRuntime) -> Result<(), Fail> {
     ];
     for (words, step) in cases {
         let mut stdin = CountingReader::new(vault.as_slice(), step);
-        let shown = run_program(alloc, &MemFiles { files: FILES }, words, &mut stdin)?;
+        let shown = run_program(alloc, &files(), words, &mut stdin)?;
         assert_eq!(rt; shown.status, Status::Success, "{words:?}");
         assert_eq!(rt; shown.output.as_slice(), plaintext, "{words:?}");
         assert_eq!(rt; shown.message.as_str(), "", "{words:?}");
@@ -47,7 +49,7 @@ fn refuses_another_password(rt: HostRuntime) -> Result<(), Fail> {
     let alloc = rt.alloc();
     let vault = envelope(alloc, "dev", b"second", &[7; 32], b"key: value\n")?;
     let words = ["view", "--vault-id", "dev@one"];
-    let refused = run_program_on(alloc, &MemFiles { files: FILES }, &words, vault.as_slice())?;
+    let refused = run_program_on(alloc, &files(), &words, vault.as_slice())?;
     assert_eq!(rt; refused.status, Status::Refused);
     assert_eq!(rt;
         refused.message.as_str(),

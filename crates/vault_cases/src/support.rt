@@ -1,4 +1,4 @@
-//! What the tests share: files in memory, and whole runs of the program and of one request.
+//! What the tests share: whole runs of the program and of one request.
 ghost use Rattle.std.specs.Prelude.{◌≡◌, IfOk, vec_len};
 ghost use Rattle.vault_text.specs.declared.limits.TheConstants.{CIPHERTEXT_LIMIT};
 
@@ -7,43 +7,13 @@ use std::alloc::{AllocError, Global};
 use std::io::Read;
 use std::test::Fail;
 use vault_cli::{
-    Fault, FileFault, FileSystem, Request, Status, drive, has_command, parse, run, settle,
+    Fault, MemFile, MemFiles, Request, Status, drive, has_command, parse, run, settle,
 };
-use vault_text::{CIPHERTEXT_LIMIT, Sink, Source, Stage};
+use vault_text::{CIPHERTEXT_LIMIT, ReadSource, Sink, Source, Stage, WriteSink};
 
 /// An envelope with no salt, a tag of 32 zero bytes and no ciphertext.
 pub const EMPTY_ENVELOPE: &[u8; 160] =
     b"$ANSIBLE_VAULT;1.1;AES256\n0a303030303030303030303030303030303030303030303030303030303030303030303030303030\n303030303030303030303030303030303030303030303030300a\n";
-
-/// Files in memory, some of which fail.
-#[derive(Drop)]
-pub struct MemFiles<'a> {
-    pub files: &'a [(&'a str, Result<&'a [u8], FileFault>)],
-}
-
-impl FileSystem for MemFiles<'_> {
-    fn read_front(&self, alloc: Global, path: &str, limit: u64) -> Result<Vec<u8>, FileFault> {
-        for (name, content) in self.files {
-            if *name == path {
-                return front(alloc, *content, limit);
-            }
-        }
-        Err(FileFault::CannotOpen)
-    }
-}
-
-fn front(
-    alloc: Global,
-    content: Result<&[u8], FileFault>,
-    limit: u64,
-) -> Result<Vec<u8>, FileFault> {
-    let bytes = content?;
-    let length = bytes.len().min(limit as usize);
-    match Vec::from_slice(alloc, &bytes[..length]) {
-        Ok(copy) => Ok(copy),
-        Err(_) => Err(FileFault::Memory),
-    }
-}
 
 /// The words of a command line, with the program's name before them.
 pub fn line_of(alloc: Global, words: &[&str]) -> Result<Vec<String>, AllocError> {
@@ -76,22 +46,23 @@ pub struct Outcome {
 /// Runs the program on these words behind its name, over these files and this standard input.
 pub fn run_program<R: Read>(
     alloc: Global,
-    files: &MemFiles<'_>,
+    files: &[MemFile<'_>],
     words: &[&str],
     stdin: &mut R,
 ) -> Result<Outcome, Fail> {
     let line = line_of(alloc, words)?;
-    let mut output = Vec::new(alloc);
-    let mut error = Vec::new(alloc);
+    let mut out = WriteSink::new(Vec::new(alloc));
+    let mut err = WriteSink::new(Vec::new(alloc));
     let status = drive(
-        files,
+        &mut MemFiles::new(alloc, files),
         alloc,
         line.as_slice(),
-        stdin,
-        &mut output,
-        &mut error,
+        &mut ReadSource::new(stdin),
+        &mut out,
+        &mut err,
     );
-    let Ok(message) = String::from_utf8(error) else {
+    let output = out.into_inner();
+    let Ok(message) = String::from_utf8(err.into_inner()) else {
         return Err(Fail::from("the message is no text"));
     };
     Ok(Outcome {
@@ -104,7 +75,7 @@ pub fn run_program<R: Read>(
 /// Runs the program on these words behind its name, where standard input holds these bytes.
 pub fn run_program_on(
     alloc: Global,
-    files: &MemFiles<'_>,
+    files: &[MemFile<'_>],
     words: &[&str],
     input: &[u8],
 ) -> Result<Outcome, Fail> {

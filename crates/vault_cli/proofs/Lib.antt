@@ -1,3 +1,5 @@
+pub mod FoundFacts
+pub mod FittingFacts
 pub mod LawFacts
 pub mod LawProofs
 pub mod OutcomeFacts

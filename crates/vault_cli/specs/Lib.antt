@@ -12,4 +12,6 @@ pub mod Task
 pub mod StoredTask
 pub mod Outcome
 pub mod Run
+pub mod Found
+pub mod Fitting
 pub mod Laws

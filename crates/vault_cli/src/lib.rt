@@ -4,7 +4,9 @@
 mod arguments;
 mod command_line;
 mod command_name;
-mod file_system;
+mod explaining;
+mod fitting;
+mod gathering;
 pub mod laws;
 mod limits;
 mod options;
@@ -22,13 +24,15 @@ mod vault_id;
 
 pub use command_line::command;
 pub use command_name::CommandName;
-pub use file_system::{FileFault, FileSystem, HostFiles};
+pub use explaining::reject_words;
 pub use limits::{SALT_TEXT_LIMIT, SEALING_SALT_LENGTH};
 pub use parsing::parse;
-pub use program::{drive, reject_words};
+pub use program::drive;
 pub use report_line::report;
 pub use request::Request;
 pub use runs::run;
 pub use settling::{has_command, settle};
 pub use status::Status;
 pub use vault_core::{Fault, LabelRule, Role, SECRET_COUNT_LIMIT};
+pub use vault_files::{FileSystem, HostFiles, MemFile, MemFiles};
+pub use vault_text::{ReadSource, WriteSink};

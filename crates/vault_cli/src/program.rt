@@ -1,162 +1,143 @@
 //! What the program does with its arguments, its files and its standard streams.
-ghost use Rattle.std.specs.Prelude.{◌≡◌, true, is_some, length, option_and_then, vec_len, IfOk, OnErr};
-ghost use Rattle.clap.specs.Words.{subcommand_name_of};
-ghost use Rattle.vault_cli.specs.CommandName.{command_of};
+ghost use Rattle.std.specs.Prelude.{◌≡◌, length, vec_len, IfOk};
 ghost use Rattle.vault_cli.specs.Request.{files_of};
-ghost use Rattle.vault_text.specs.declared.limits.TheConstants.{CIPHERTEXT_LIMIT};
 
-use crate::file_system::{FileFault, FileSystem};
+use crate::explaining::explain;
+use crate::fitting::run_fitting;
+use crate::gathering::{open_input, read_salt, read_secret_files};
 use crate::parsing::parse;
 use crate::report_line::report;
 use crate::request::Request;
-use crate::runs::run;
 use crate::settling::{has_command, settle};
 use crate::status::Status;
-use clap::error::ErrorKind;
-use clap::{ArgMatches, Error};
-use std::alloc::{AllocError, Global};
-use std::io;
-use std::io::{Read, Write};
-use vault_core::{Fault, PASSWORD_FILE_LIMIT, Role};
-use vault_text::{CIPHERTEXT_LIMIT, ReadSource, Sink, SinkFailed, Stage, WriteSink, put_all};
+use clap::ArgMatches;
+use std::alloc::Global;
+use vault_core::Fault;
+use vault_files::FileSystem;
+use vault_text::{Sink, Source, Stage};
 
 /// All that the program does: parses the words, of which the first is the program's name, settles
-/// the request, reads its password files and runs it. Help and the version go to `stdout`, and
-/// every message to `stderr`.
-pub fn drive<F: FileSystem, R: Read, O: Write, E: Write>(
-    rt: &F,
+/// the request, reads its password files and its salt file, opens its input file, and runs it. The
+/// input is a file or `src`, the output a file or `out`. Help and the version go to `out`, and every
+/// message to `err`.
+pub fn drive<F: FileSystem, S: Source, K: Sink, E: Sink>(
+    files: &mut F,
     alloc: Global,
     words: &[String],
-    stdin: &mut R,
-    stdout: &mut O,
-    stderr: &mut E,
-) -> Status {
-    let mut err = WriteSink::new(stderr);
+    src: &mut S,
+    out: &mut K,
+    err: &mut E,
+) -> Status
+    requires files_unbegun { F.stage files.old ≡ Stage.Unbegun }
+    requires out_unbegun { K.stage out.old ≡ Stage.Unbegun }
+    requires err_unbegun { E.stage err.old ≡ Stage.Unbegun }
+{
     match parse(alloc, words) {
-        Ok(matches) => perform(rt, alloc, &matches, stdin, stdout, &mut err),
-        Err(error) => explain(alloc, &error, stdout, &mut err),
+        Ok(matches) => carry_out(files, alloc, &matches, src, out, err),
+        Err(error) => explain(alloc, &error, out, err),
     }
 }
 
-/// What the program says where its arguments are no text, or there is no memory for them.
-pub fn reject_words<E: Write>(error: &io::Error, stderr: &mut E) -> Status {
-    let mut err = WriteSink::new(stderr);
-    if matches!(error.kind(), io::ErrorKind::OutOfMemory) {
-        return report(Fault::Memory, &mut err);
-    }
-    let _ = write_text(b"error: an argument is not UTF-8\n", &mut err);
-    Status::ParseFault
-}
-
-/// Runs what the matches ask for, or reports why it cannot begin.
-fn perform<F: FileSystem, R: Read, O: Write, K: Sink>(
-    rt: &F,
+/// Settles what the matches ask for, and answers it.
+fn carry_out<F: FileSystem, S: Source, K: Sink, E: Sink>(
+    files: &mut F,
     alloc: Global,
     matches: &ArgMatches<'_>,
-    stdin: &mut R,
-    stdout: &mut O,
-    err: &mut K,
+    src: &mut S,
+    out: &mut K,
+    err: &mut E,
 ) -> Status
-    requires { K.stage err.old ≡ Stage.Unbegun }
+    requires files_unbegun { F.stage files.old ≡ Stage.Unbegun }
+    requires out_unbegun { K.stage out.old ≡ Stage.Unbegun }
+    requires err_unbegun { E.stage err.old ≡ Stage.Unbegun }
 {
     if !has_command(matches) {
         return Status::ParseFault;
     }
-    match carry_out(rt, alloc, matches, stdin, stdout, err) {
-        Ok(status) => status,
+    match settle(alloc, matches) {
+        Ok(request) => answer(files, alloc, &request, src, out, err),
         Err(fault) => report(fault, err),
     }
 }
 
-/// Settles the request, takes the memory that it works in, reads its password files and runs it.
-fn carry_out<F: FileSystem, R: Read, O: Write, K: Sink>(
-    rt: &F,
-    alloc: Global,
-    matches: &ArgMatches<'_>,
-    stdin: &mut R,
-    stdout: &mut O,
-    err: &mut K,
-) -> Result<Status, Fault>
-    requires command { is_some (option_and_then command_of (subcommand_name_of matches.now)) ≡ true }
-    requires err_unbegun { K.stage err.old ≡ Stage.Unbegun }
-    ensures { OnErr result (err.new ≡ err.old) }
-{
-    let request = settle(alloc, matches)?;
-    let mut work = work_memory(alloc)?;
-    let secret_files = read_secret_files(rt, alloc, &request)?;
-    let mut src = ReadSource::new(stdin);
-    let mut out = WriteSink::new(stdout);
-    let contents = secret_files.as_slice();
-    Ok(run(
-        &request,
-        contents,
-        &[],
-        work.as_mut_slice(),
-        &mut src,
-        &mut out,
-        err,
-    ))
+/// What a request needs of its files: the contents of its password files, its salt, and its input
+/// file, opened, where it names one.
+#[derive(Drop)]
+struct Gathered<R: Source + Drop> {
+    secret_files: Vec<Vec<u8>>,
+    salt: Vec<u8>,
+    input: Option<R>,
 }
 
-/// The memory in which an envelope is decoded and decrypted.
-fn work_memory(alloc: Global) -> Result<Vec<u8>, AllocError>
-    ensures { IfOk result (λ work. vec_len work ≡ CIPHERTEXT_LIMIT) }
-{
-    vec![in alloc; 0u8; CIPHERTEXT_LIMIT]
-}
-
-/// The contents of the password files, in their order, each up to one byte more than is taken.
-fn read_secret_files<F: FileSystem>(
-    rt: &F,
+fn gather<F: FileSystem>(
+    files: &F,
     alloc: Global,
     request: &Request,
-) -> Result<Vec<Vec<u8>>, Fault>
-    ensures { IfOk result (λ contents. vec_len contents ≡ length (files_of request.now)) }
+) -> Result<Gathered<F::Reader>, Fault>
+    requires { F.stage files.now ≡ Stage.Unbegun }
+    ensures { IfOk result (λ found. vec_len found.secret_files ≡ length (files_of request.now)) }
 {
-    let mut contents = Vec::new(alloc);
-    for i in 0..request.files() {
-        let bytes = rt
-            .read_front(alloc, request.path(i), PASSWORD_FILE_LIMIT as u64 + 1)
-            .map_err(secret_fault)?;
-        contents.push(bytes)?;
-    }
-    Ok(contents)
+    let secret_files = read_secret_files(files, alloc, request)?;
+    let salt = read_salt(files, alloc, request)?;
+    let input = open_input(files, request)?;
+    Ok(Gathered {
+        secret_files,
+        salt,
+        input,
+    })
 }
 
-/// The fault of a password file.
-fn secret_fault(fault: FileFault) -> Fault {
-    match fault {
-        FileFault::CannotOpen => Fault::CannotOpen(Role::Secret),
-        FileFault::CannotRead => Fault::Read(Role::Secret),
-        FileFault::Memory => Fault::Memory,
-    }
-}
-
-/// Writes what the parser says: help and the version to `stdout`, a mistake to `err`.
-fn explain<O: Write, K: Sink>(alloc: Global, error: &Error, stdout: &mut O, err: &mut K) -> Status
-    requires { K.stage err.old ≡ Stage.Unbegun }
+/// Answers a request over its files, its input and its output.
+fn answer<F: FileSystem, S: Source, K: Sink, E: Sink>(
+    files: &mut F,
+    alloc: Global,
+    request: &Request,
+    src: &mut S,
+    out: &mut K,
+    err: &mut E,
+) -> Status
+    requires files_unbegun { F.stage files.old ≡ Stage.Unbegun }
+    requires out_unbegun { K.stage out.old ≡ Stage.Unbegun }
+    requires err_unbegun { E.stage err.old ≡ Stage.Unbegun }
 {
-    if matches!(error.kind(), ErrorKind::OutOfMemory) {
-        return report(Fault::Memory, err);
-    }
-    let Ok(text) = error.to_string(alloc) else {
-        return report(Fault::Memory, err);
+    let found = match gather(files, alloc, request) {
+        Ok(found) => found,
+        Err(fault) => return report(fault, err),
     };
-    if error.use_stderr() {
-        let _ = write_text(text.as_bytes(), err);
-        return Status::ParseFault;
-    }
-    match write_text(text.as_bytes(), &mut WriteSink::new(stdout)) {
-        Ok(()) => Status::Success,
-        Err(SinkFailed) => report(Fault::Write, err),
+    let Gathered {
+        secret_files,
+        salt,
+        input,
+    } = found;
+    let secret_files = secret_files.as_slice();
+    let salt = salt.as_slice();
+    match input {
+        Some(mut reader) => send(files, alloc, request, secret_files, salt, &mut reader, out, err),
+        None => send(files, alloc, request, secret_files, salt, src, out, err),
     }
 }
 
-/// Begins the sink, puts the text and finishes.
-fn write_text<K: Sink>(text: &[u8], sink: &mut K) -> Result<(), SinkFailed>
-    requires { K.stage sink.old ≡ Stage.Unbegun }
+/// Runs a request, and sends its output where the request says.
+fn send<F: FileSystem, S: Source, K: Sink, E: Sink>(
+    files: &mut F,
+    alloc: Global,
+    request: &Request,
+    secret_files: &[Vec<u8>],
+    salt: &[u8],
+    src: &mut S,
+    out: &mut K,
+    err: &mut E,
+) -> Status
+    requires files { length secret_files.now ≡ length (files_of request.now) }
+    requires files_unbegun { F.stage files.old ≡ Stage.Unbegun }
+    requires out_unbegun { K.stage out.old ≡ Stage.Unbegun }
+    requires err_unbegun { E.stage err.old ≡ Stage.Unbegun }
 {
-    sink.begin()?;
-    put_all(sink, text)?;
-    sink.finish()
+    let Some(path) = request.output() else {
+        return run_fitting(alloc, request, secret_files, salt, src, out, err);
+    };
+    match files.aim(alloc, path) {
+        Ok(()) => run_fitting(alloc, request, secret_files, salt, src, files, err),
+        Err(error) => report(Fault::from(error), err),
+    }
 }

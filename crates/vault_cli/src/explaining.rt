@@ -1,0 +1,57 @@
+//! What the program says where its words are no command line.
+ghost use Rattle.std.specs.Prelude.{◌≡◌};
+
+use crate::report_line::report;
+use crate::status::Status;
+use clap::Error;
+use clap::error::ErrorKind;
+use std::alloc::Global;
+use std::io;
+use vault_core::Fault;
+use vault_text::{Sink, SinkFailed, Stage, put_all};
+
+/// What the program says where its arguments are no text, or there is no memory for them.
+pub fn reject_words<E: Sink>(error: &io::Error, err: &mut E) -> Status
+    requires { E.stage err.old ≡ Stage.Unbegun }
+{
+    if matches!(error.kind(), io::ErrorKind::OutOfMemory) {
+        return report(Fault::Memory, err);
+    }
+    let _ = write_text(b"error: an argument is not UTF-8\n", err);
+    Status::ParseFault
+}
+
+/// Writes what the parser says: help and the version to `out`, a mistake to `err`.
+pub(crate) fn explain<K: Sink, E: Sink>(
+    alloc: Global,
+    error: &Error,
+    out: &mut K,
+    err: &mut E,
+) -> Status
+    requires out_unbegun { K.stage out.old ≡ Stage.Unbegun }
+    requires err_unbegun { E.stage err.old ≡ Stage.Unbegun }
+{
+    if matches!(error.kind(), ErrorKind::OutOfMemory) {
+        return report(Fault::Memory, err);
+    }
+    let Ok(text) = error.to_string(alloc) else {
+        return report(Fault::Memory, err);
+    };
+    if error.use_stderr() {
+        let _ = write_text(text.as_bytes(), err);
+        return Status::ParseFault;
+    }
+    match write_text(text.as_bytes(), out) {
+        Ok(()) => Status::Success,
+        Err(SinkFailed) => report(Fault::Write, err),
+    }
+}
+
+/// Begins the sink, puts the text and finishes.
+fn write_text<K: Sink>(text: &[u8], sink: &mut K) -> Result<(), SinkFailed>
+    requires { K.stage sink.old ≡ Stage.Unbegun }
+{
+    sink.begin()?;
+    put_all(sink, text)?;
+    sink.finish()
+}

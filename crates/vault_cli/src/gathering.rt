@@ -1,0 +1,106 @@
+//! What a request needs of its files before its input is read.
+ghost use Rattle.std.specs.Prelude.{◌≡◌, ◌≢◌, Ok, Err, IfOk, IfErr, length, map, vec_len};
+ghost use Rattle.vault_core.specs.declared.fault.Fault.TheVariants.{CannotOpen};
+ghost use Rattle.vault_core.specs.declared.fault.Role.TheVariants.{Input};
+ghost use Rattle.vault_cli.specs.Found.{ContentsMet, FrontMet, IsMissing, IsOpened, SaltMet, fault_in, secret_paths};
+ghost use Rattle.vault_cli.specs.Request.{files_of};
+
+use crate::limits::SEALING_SALT_LENGTH;
+use crate::request::Request;
+use std::alloc::Global;
+use vault_core::{Fault, Role, PASSWORD_FILE_LIMIT};
+use vault_files::{FileFault, FileSystem, read_front};
+use vault_text::Stage;
+
+/// The fault of a file in its role.
+fn fault_in(role: Role, fault: FileFault) -> Fault
+    ensures { result ≡ fault_in role fault }
+{
+    match fault {
+        FileFault::CannotOpen => Fault::CannotOpen(role),
+        FileFault::CannotRead => Fault::Read(role),
+        FileFault::Memory => Fault::Memory,
+    }
+}
+
+/// The first bytes of a file, as many as `buf` has room for.
+fn front_of<F: FileSystem>(
+    files: &F,
+    alloc: Global,
+    role: Role,
+    path: &str,
+    buf: &mut [u8],
+) -> Result<Vec<u8>, Fault>
+    requires { F.stage files.now ≡ Stage.Unbegun }
+    ensures read { IfOk result (λ bytes.
+        FrontMet (F.meets files.now path.now) role (length buf.new) (Ok bytes.items)) }
+    ensures refused { IfErr result (λ fault. fault ≢ Fault.Memory →
+        FrontMet (F.meets files.now path.now) role (length buf.new) (Err fault)) }
+{
+    match read_front(files, path, buf) {
+        Ok(n) => Ok(Vec::from_slice(alloc, &buf[..n])?),
+        Err(fault) => Err(fault_in(role, fault)),
+    }
+}
+
+/// The contents of the password files, in their order, each up to one byte more than is taken.
+pub(crate) fn read_secret_files<F: FileSystem>(
+    files: &F,
+    alloc: Global,
+    request: &Request,
+) -> Result<Vec<Vec<u8>>, Fault>
+    requires { F.stage files.now ≡ Stage.Unbegun }
+    ensures count { IfOk result (λ contents. vec_len contents ≡ length (files_of request.now)) }
+    ensures read { IfOk result (λ contents. ContentsMet (F.meets files.now) (secret_paths request.now)
+        (Ok (map (λ file. file.items) contents.items))) }
+    ensures refused { IfErr result (λ fault. fault ≢ Fault.Memory →
+        ContentsMet (F.meets files.now) (secret_paths request.now) (Err fault)) }
+{
+    let mut contents = Vec::new(alloc);
+    let mut buf = [0; PASSWORD_FILE_LIMIT + 1];
+    for i in 0..request.files() {
+        match front_of(files, alloc, Role::Secret, request.path(i), &mut buf) {
+            Ok(bytes) => contents.push(bytes)?,
+            Err(fault) => return Err(fault),
+        }
+    }
+    Ok(contents)
+}
+
+/// The salt of a request: the first 32 bytes of its salt file, or none where it names no file.
+pub(crate) fn read_salt<F: FileSystem>(
+    files: &F,
+    alloc: Global,
+    request: &Request,
+) -> Result<Vec<u8>, Fault>
+    requires { F.stage files.now ≡ Stage.Unbegun }
+    ensures read { IfOk result (λ salt.
+        SaltMet (F.meets files.now) request.now.salt_path (Ok salt.items)) }
+    ensures refused { IfErr result (λ fault. fault ≢ Fault.Memory →
+        SaltMet (F.meets files.now) request.now.salt_path (Err fault)) }
+{
+    let mut buf = [0; SEALING_SALT_LENGTH];
+    match request.salt_path() {
+        Some(path) => front_of(files, alloc, Role::Salt, path, &mut buf),
+        None => Ok(Vec::new(alloc)),
+    }
+}
+
+/// The input file of a request, opened, where it names one.
+pub(crate) fn open_input<F: FileSystem>(
+    files: &F,
+    request: &Request,
+) -> Result<Option<F::Reader>, Fault>
+    requires { F.stage files.now ≡ Stage.Unbegun }
+    ensures opened { IfOk result (λ input. IsOpened (F.opened files.now) request.now.input input) }
+    ensures refused { IfErr result (λ fault. fault ≢ Fault.Memory →
+        (fault ≡ CannotOpen Input) × IsMissing (F.meets files.now) request.now.input) }
+{
+    let Some(path) = request.input() else {
+        return Ok(None);
+    };
+    match files.open(path) {
+        Ok(reader) => Ok(Some(reader)),
+        Err(fault) => Err(fault_in(Role::Input, fault)),
+    }
+}
