@@ -26,6 +26,8 @@ from offered import OFFERED
 from random_requests import Case, load, make, save
 
 KEPT = Path(__file__).resolve().parent / "fixtures" / "fuzz"
+# Larger runs are repeated from their seed alone.
+KEPT_SIZE = 1 << 20
 
 
 def report(case: Case, found: list[str], again: str) -> None:
@@ -67,7 +69,7 @@ class Fuzzer:
         case = make(f"{self.arguments.seed}-{number}", self.offered)
         found = differences(case, self.program)
         self.count(case, found, f"{self.command()} --first {number} --runs 1")
-        if found:
+        if found and case.size <= KEPT_SIZE:
             save(case, KEPT / f"{self.arguments.seed}-{number}.json")
 
     def random(self) -> None:

@@ -7,7 +7,7 @@ but `encrypt_string`) and `--help`, for all texts of the parser.
 COMMANDS = ["encrypt", "decrypt", "view", "rekey", "encrypt_string"]
 EVERYTHING = [*COMMANDS, "--require-id-match", "FILE", "--output", "--help"]
 
-OFFERED = ["decrypt", "view", "--help"]
+OFFERED = EVERYTHING
 
 # L, in bytes of plaintext.
-PLAINTEXT_LIMIT = 1_048_576
+PLAINTEXT_LIMIT = 16_777_216

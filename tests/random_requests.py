@@ -54,6 +54,10 @@ class Case:
     stdin: bytes
     needs: list[str]
 
+    @property
+    def size(self) -> int:
+        return sum(map(len, [self.stdin, *filter(None, self.files.values())]))
+
     def lay_out(self, folder: Path) -> None:
         for path, content in self.files.items():
             if content is None:
