@@ -1,8 +1,7 @@
 -- What the laws of the outcomes stand on: sound tasks, requests with no STRING, and outcomes that have an output.
-use Rattle.std.proofs.Common.{◌≡◌, ◌≢◌, ◌⊎◌, ℕ, ◌+◌, ◌<◌, ◌≤◌, nat_lt, if◌then◌else◌, Bool, true, false, List, [], ◌∷◌, ◌++◌, length, take, length-take, zero, suc, Option, Some, None, Result, Ok, Err, inl, inr, refl, sym, ap, ◌∙◌, arith, rules, tests}
-use Rattle.std.specs.Prelude.{IfSome, is_some, option_to_list, slice_index, slice_index_or, slice_get}
+use Rattle.std.proofs.Common.{◌≡◌, ◌≢◌, ℕ, ◌<◌, ◌≤◌, nat_lt, if◌then◌else◌, Bool, true, false, List, [], ◌∷◌, ◌++◌, length, take, length-take, zero, suc, Option, Some, None, Result, Ok, Err, refl, arith}
+use Rattle.std.specs.Prelude.{IfSome, option_to_list, slice_index_or}
 use Rattle.std.specs.List.{AllByRecursion}
-use Rattle.std.specs.Option.{ok_or}
 use Rattle.std.specs.Result.{result_map_both}
 use Rattle.vault_text.specs.Label.{is_label}
 use Rattle.vault_text.specs.Steps.{◌>>=◌}
@@ -13,14 +12,13 @@ use Rattle.vault_core.specs.Form.{Form, Envelope, Block}
 use Rattle.vault_core.specs.Laws.{IsBytes}
 use Rattle.vault_core.specs.Ready.{Ready}
 use Rattle.vault_core.specs.Secrets.{Secret, SecretList, secret_at}
-use Rattle.vault_core.specs.declared.choice.ChoiceFault.{ChoiceFault}
 use Rattle.vault_core.specs.declared.fault.Fault.{Fault}
-use Rattle.vault_core.specs.declared.fault.Fault.TheVariants.{NeedNewSecret, SaltShort}
+use Rattle.vault_core.specs.declared.fault.Fault.TheVariants.{SaltShort}
 use Rattle.vault_cli.specs.Laws.{IsRequest}
 use Rattle.vault_cli.specs.Outcome.{answered, text_of_request}
-use Rattle.vault_cli.specs.Request.{IsSaltText, IsSettled, Request, SecretFile, files_of}
+use Rattle.vault_cli.specs.Request.{IsSaltText, Request, SecretFile}
 use Rattle.vault_cli.specs.Task.{Task, Seal, Open, Reseal, new_secret_of, password_in, place_of, prepared, salt_of, seal_of, reseal_of, secrets_of, secret_list_of, task_of}
-use Rattle.vault_cli.specs.declared.limits.TheConstants.{SALT_TEXT_LIMIT, SEALING_SALT_LENGTH}
+use Rattle.vault_cli.specs.declared.limits.TheConstants.{SEALING_SALT_LENGTH}
 use Rattle.vault_cli.specs.declared.command_name.CommandName.{CommandName}
 use Rattle.vault_cli.specs.declared.command_name.CommandName.TheVariants as command
 use Rattle.vault_cli.proofs.TaskFacts.{choice-within}

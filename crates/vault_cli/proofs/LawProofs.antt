@@ -1,24 +1,21 @@
 -- The laws of the outcomes.
-use Rattle.std.proofs.Common.{◌≡◌, ◌≢◌, ℕ, ◌≤◌, nat_lt, if◌then◌else◌, Bool, true, false, List, [], ◌∷◌, length, Option, Some, None, Result, Ok, Err, inl, inr, refl, sym, ap, ◌∙◌, arith, rules, tests}
-use Rattle.vault_text.specs.Envelope.{read_within}
+use Rattle.std.proofs.Common.{◌≡◌, ◌≢◌, ℕ, ◌≤◌, nat_lt, false, List, [], ◌∷◌, length, Result, Ok, Err, inl, inr, refl, sym, ap, ◌∙◌, rules, tests}
 use Rattle.vault_text.specs.Laws.{ShortInputs}
-use Rattle.vault_text.specs.Limits.{envelope_limit}
 use Rattle.vault_text.specs.Steps.{◌>>=◌}
 use Rattle.vault_core.specs.Decryption.{decryption}
 use Rattle.vault_core.specs.Encryption.{encryption}
 use Rattle.vault_core.specs.Form.{Form, Envelope}
 use Rattle.vault_core.specs.Laws.{EncryptedDecrypts, RekeyedDecrypts}
 use Rattle.vault_core.specs.Rekeying.{rekeying}
-use Rattle.vault_core.specs.Secrets.{Secret, SecretList, secret_at}
+use Rattle.vault_core.specs.Secrets.{Secret, SecretList}
 use Rattle.vault_core.specs.declared.fault.Fault.{Fault}
 use Rattle.vault_cli.specs.Laws.{EncryptThenDecrypt, Opens, RekeyKeepsThePlaintext, ShortTexts}
 use Rattle.vault_cli.specs.Outcome.{Outcome, answered, outcome_within, performed, text_of_request}
 use Rattle.vault_cli.specs.Request.{Request}
 use Rattle.vault_cli.specs.Task.{Task, Seal, Open, Reseal, prepared}
-use Rattle.vault_cli.specs.declared.command_name.CommandName.{CommandName}
 use Rattle.vault_cli.specs.declared.command_name.CommandName.TheVariants as command
 use Rattle.vault_cli.proofs.LawFacts.{answered-some, sound-prepared, text-input}
-use Rattle.vault_cli.proofs.OutcomeFacts.{outcome-performed, outcome-refused}
+use Rattle.vault_cli.proofs.OutcomeFacts.{outcome-performed}
 
 -- what a request that opens answers
 opened : (limit : ℕ) (request : Request) (contents : List (List ℕ)) (salt input : List ℕ) (secrets : SecretList) → Opens request contents salt secrets

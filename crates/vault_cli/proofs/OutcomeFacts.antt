@@ -1,6 +1,6 @@
 -- The outcome of a request by what is prepared, and when its input is asked for.
-use Rattle.std.proofs.Common.{◌≡◌, ℕ, Bool, true, false, not, List, Result, Ok, Err, refl, ap}
-use Rattle.std.specs.Prelude.{IsTrue, Option, Some, None, is_ok, is_some}
+use Rattle.std.proofs.Common.{◌≡◌, ℕ, Bool, true, false, not, List, Ok, Err, refl}
+use Rattle.std.specs.Prelude.{IsTrue, is_some}
 use Rattle.vault_core.specs.declared.fault.Fault.{Fault}
 use Rattle.vault_cli.specs.Outcome.{answered, asks_for_input, outcome_within, performed, refused, text_of_request}
 use Rattle.vault_cli.specs.Request.{Request}

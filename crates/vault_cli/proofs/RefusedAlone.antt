@@ -1,5 +1,5 @@
 -- What is refused is refused with status 1 alone, never for a device or for memory.
-use Rattle.std.proofs.Common.{◌≡◌, ℕ, ◌==◌, ◌&&◌, nat_lt, if◌then◌else◌, Bool, true, false, List, [], ◌∷◌, length, take, Option, Some, None, Result, Ok, Err, refl}
+use Rattle.std.proofs.Common.{◌≡◌, ℕ, ◌==◌, ◌&&◌, nat_lt, if◌then◌else◌, Bool, true, false, List, [], ◌∷◌, length, Option, Some, None, Result, Ok, Err, refl}
 use Rattle.std.specs.Prelude.{find, slice_index_or}
 use Rattle.std.specs.Option.{ok_or}
 use Rattle.std.specs.Result.{result_map_both}
@@ -17,7 +17,7 @@ use Rattle.vault_text.specs.Steps.{◌>>=◌}
 use Rattle.vault_core.specs.Padding.{without_padding}
 use Rattle.vault_core.specs.Password.{password_of}
 use Rattle.vault_core.specs.Ready.{Ready}
-use Rattle.vault_core.specs.Rekeying.{rekeying, resealed}
+use Rattle.vault_core.specs.Rekeying.{rekeying}
 use Rattle.vault_core.specs.Secrets.{Secret, SecretList, tried_order}
 use Rattle.vault_core.specs.declared.choice.ChoiceFault.{ChoiceFault}
 use Rattle.vault_core.specs.declared.choice.ChoiceFault.TheVariants as choice
@@ -28,7 +28,7 @@ use Rattle.vault_core.specs.declared.password.SecretFault.TheVariants as secret
 use Rattle.vault_cli.specs.Outcome.{performed}
 use Rattle.vault_cli.specs.Request.{Request, SecretFile}
 use Rattle.vault_cli.specs.Status.{status_of}
-use Rattle.vault_cli.specs.Task.{Task, Seal, Open, Reseal, new_secret_of, password_in, place_of, prepared, reseal_of, salt_of, seal_of, secrets_of, secret_list_of, task_of}
+use Rattle.vault_cli.specs.Task.{Task, Seal, Open, Reseal, new_secret_of, password_in, place_of, prepared, salt_of, seal_of, secrets_of, secret_list_of, task_of}
 use Rattle.vault_cli.specs.declared.limits.TheConstants.{SEALING_SALT_LENGTH}
 use Rattle.vault_cli.specs.declared.command_name.CommandName.{CommandName}
 use Rattle.vault_cli.specs.declared.command_name.CommandName.TheVariants as command

@@ -1,5 +1,5 @@
 -- What is known of a request that was settled.
-use Rattle.std.proofs.Common.{◌≡◌, ◌≢◌, ℕ, Bool, true, false, List, [], ◌∷◌, ◌++◌, map, Option, Some, None, Result, Ok, Err, inl, inr, refl}
+use Rattle.std.proofs.Common.{◌≡◌, ◌≢◌, ℕ, true, List, [], ◌∷◌, ◌++◌, map, Option, Some, None, Ok, inl, inr, refl}
 use Rattle.std.proofs.lemmas.Bool.{cases_Bool}
 use Rattle.std.specs.List.{AllByRecursion}
 use Rattle.std.specs.Option.{option_map, option_or}
@@ -9,11 +9,11 @@ use Rattle.vault_text.specs.Label.{is_label}
 use Rattle.vault_core.specs.declared.fault.Fault.{Fault}
 use Rattle.vault_core.specs.declared.fault.Fault.TheVariants.{BadLabel}
 use Rattle.vault_cli.specs.CommandName.{rekeys}
-use Rattle.vault_cli.specs.Laws.{IsRequest, SettledRequests}
+use Rattle.vault_cli.specs.Laws.{SettledRequests}
 use Rattle.vault_cli.specs.Options.{Options, options_of}
 use Rattle.vault_cli.specs.Refusal.{new_secret_fault, refusal, rekey_fault}
 use Rattle.vault_cli.specs.Request.{Request, SecretFile}
-use Rattle.vault_cli.specs.Settled.{file_of_id, new_secret_of, plain_file, refused_or, request_of, settled_by}
+use Rattle.vault_cli.specs.Settled.{file_of_id, new_secret_of, plain_file, refused_or, request_of}
 use Rattle.vault_cli.specs.VaultId.{fault_of, first_fault, label_of}
 use Rattle.vault_cli.specs.declared.command_name.CommandName.{CommandName}
 use Rattle.vault_cli.specs.declared.command_name.CommandName.TheVariants as command

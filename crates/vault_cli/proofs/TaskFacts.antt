@@ -1,6 +1,6 @@
 -- Tasks: the place of their secret, how much input they take, and inputs of which the front is enough.
 use Rattle.std.proofs.Common.{◌≡◌, ℕ, ◌+◌, ◌<◌, ◌≤◌, nat_lt, Bool, true, List, [], ◌∷◌, ◌++◌, length, length-append, inl, inr, sym, ◌∙◌, Option, Some, None, Result, Ok, Err, refl, arith, rules, tests}
-use Rattle.std.specs.Prelude.{IsTrue, position, slice_index_or}
+use Rattle.std.specs.Prelude.{IsTrue, slice_index_or}
 use Rattle.std.specs.Option.{ok_or}
 use Rattle.std.proofs.lemmas.List.{append-nil}
 use Rattle.std.proofs.lemmas.List.Quantifiers.{position-Some}

@@ -10,7 +10,7 @@ module _ {E : Type 0} (takes : E → List ℕ → E → Type 0) (stage : E → S
     pub whole : (HasRisen (failures old) (failures new) → ⊥) → takes old line new × (stage new ≡ Finished)
     pub prefix : (n : ℕ) × takes old (take n line) new
 
-  -- the same, where a sink that has nothing to say is left alone
+  -- a line, or nothing to say, for which the sink is left alone
   abbrev pub Says : E → List ℕ → E → Type 0
   Says old [] new = new ≡ old
   Says old (byte ∷ line) new = Reports old (byte ∷ line) new

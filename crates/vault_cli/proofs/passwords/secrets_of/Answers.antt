@@ -1,9 +1,7 @@
-use Rattle.std.proofs.Common.{◌≡◌, ◌<◌, ◌++◌, ◌∷◌, [], Ok, Err, arith, map, length, refl, sym, ap, ◌∙◌}
+use Rattle.std.proofs.Common.{◌≡◌, ◌<◌, ◌++◌, ◌∷◌, [], arith, map, length, refl, ◌∙◌}
 use Rattle.std.proofs.lemmas.List.{length_push}
 use Rattle.std.specs.Prelude.{option_to_list}
-use Rattle.vault_text.specs.Steps.{◌>>=◌}
 use Rattle.vault_core.specs.Secrets.{Secret}
-use Rattle.vault_cli.specs.Task.{secrets_of, secret_list_of}
 use Rattle.vault_cli.proofs.SecretFacts.{label_at, secrets_of-added, secrets_of-all, secrets_of-refused, within_all}
 use Rattle.vault_cli.proofs.passwords.secrets_of.Goals as goal
 

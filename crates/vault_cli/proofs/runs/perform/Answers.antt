@@ -1,8 +1,6 @@
-use Rattle.std.proofs.Common.{◌≡◌, ℕ, ◌≤◌, [], List, Some, arith, true, false, length, refl, sym, ◌∙◌}
-use Rattle.std.specs.Prelude.{IsTrue, is_some, unwrap_or}
+use Rattle.std.proofs.Common.{◌≡◌, [], Some, arith, true, false, length, refl, sym, ◌∙◌}
+use Rattle.std.specs.Prelude.{IsTrue}
 use Rattle.vault_text.specs.Limits.{limit_of}
-use Rattle.vault_core.specs.Input.{IsWhole}
-use Rattle.vault_cli.specs.Outcome.{task_limit}
 use Rattle.vault_cli.specs.StoredTask.{task_in}
 use Rattle.vault_cli.proofs.TaskFacts.{performed-text}
 use Rattle.vault_cli.proofs.runs.perform.Goals as goal

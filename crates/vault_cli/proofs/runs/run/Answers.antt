@@ -1,10 +1,8 @@
-use Rattle.std.proofs.Common.{true, false, ◌≡◌, ◌≢◌, ℕ, List, [], length, map, Ok, Err, inl, inr, refl, sym, ap, ◌∙◌, arith}
-use Rattle.std.specs.Prelude.{IsTrue, is_some}
+use Rattle.std.proofs.Common.{◌≡◌, ◌≢◌, [], length, map, Ok, inl, inr, refl, sym, ap, ◌∙◌, arith}
 use Rattle.vault_text.specs.Limits.{limit_of}
-use Rattle.vault_cli.specs.Outcome.{answered, asks_for_input, input_limit, outcome_within, performed, refused, task_limit, text_of_request}
+use Rattle.vault_cli.specs.Outcome.{answered, outcome_within, refused, text_of_request}
 use Rattle.vault_cli.specs.Status.{status_of}
 use Rattle.vault_cli.specs.StoredTask.{task_in}
-use Rattle.vault_cli.specs.Task.{prepared}
 use Rattle.vault_cli.specs.declared.status.Status.TheVariants.{DeviceFailed, OutOfMemory, Refused, Success}
 use Rattle.vault_cli.proofs.OutcomeFacts.{asks-performed, asks-refused, not-true, outcome-performed, outcome-refused}
 use Rattle.vault_cli.proofs.RefusedAlone.{alone-performed, alone-prepared}

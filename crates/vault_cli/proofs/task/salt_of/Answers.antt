@@ -1,5 +1,4 @@
 use Rattle.std.proofs.Common.{arith, rules}
-use Rattle.std.specs.Prelude.{length}
 use Rattle.vault_cli.proofs.task.salt_of.Goals as goal
 use Rattle.vault_cli.proofs.task.salt_of.Goals.{in-Some, in-None-2}
 
