@@ -14,6 +14,7 @@ abbrev pub form_of : rust.Form → Form
 form_of variant.Envelope = Envelope
 form_of (variant.Block name) = Block (option_copied name)
 
+-- whether a block is written
 abbrev pub is_block : Form → Bool
 is_block Envelope = false
 is_block (Block name) = true

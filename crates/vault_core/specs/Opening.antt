@@ -14,7 +14,7 @@ use Rattle.vault_core.specs.Secrets.{SecretList, tried_order}
 use Rattle.vault_core.specs.declared.fault.Fault.{Fault}
 use Rattle.vault_core.specs.declared.fault.Fault.TheVariants.{NoSecretFits, BadPadding}
 
--- the ciphertext deciphered, which gives the plaintext with its padding
+-- the ciphertext deciphered (SP 800-38A, section 6.5), which gives the plaintext with its padding
 abbrev pub deciphered_by : Keys → List ℕ → List ℕ
 deciphered_by keys cipher = counter_mode (key_schedule keys.cipher) keys.iv cipher
 

@@ -1,4 +1,4 @@
--- Vaults that are made: a plaintext under a secret.
+-- Vaults that are made: a plaintext under a secret (Ansible Vault guide, payload formats 1.1 and 1.2).
 use Rattle.std.specs.Prelude.{ℕ, List, Result, Ok, Err}
 use Rattle.vault_aes.specs.CounterMode.{counter_mode}
 use Rattle.vault_aes.specs.KeyExpansion.{key_schedule}
@@ -13,7 +13,7 @@ use Rattle.vault_core.specs.Padding.{padded}
 use Rattle.vault_core.specs.Secrets.{Secret}
 use Rattle.vault_core.specs.declared.fault.Fault.{Fault}
 
--- the plaintext padded and enciphered
+-- the plaintext padded (RFC 5652, section 6.3) and enciphered (SP 800-38A, section 6.5)
 abbrev pub enciphered_by : Keys → List ℕ → List ℕ
 enciphered_by keys plain = counter_mode (key_schedule keys.cipher) keys.iv (padded plain)
 

@@ -18,6 +18,7 @@ pub record SecretList : Type 0 where
 abbrev pub secret_at : ℕ → List Secret → Secret
 secret_at place secrets = slice_index_or secrets place (record { label = []; password = [] })
 
+-- whether the secret has this label
 abbrev pub has_label : List ℕ → Secret → Bool
 has_label label secret = bytes_eq secret.label label
 
