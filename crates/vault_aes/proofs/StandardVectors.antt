@@ -5,7 +5,7 @@ use Rattle.vault_aes.specs.Field.{polynomial_product, remainder, mul, repeated_s
 use Rattle.vault_aes.specs.SubstitutionBox.{number_of_bits, s_box}
 use Rattle.vault_aes.specs.Cipher.{add_round_key, cipher, mix_columns, round, rounds, shift_rows, sub_bytes}
 use Rattle.vault_aes.specs.KeyExpansion.{first_words, key_schedule, next_word, power_of_x, rot_word, round_constant, schedule_step, sub_word}
-use Rattle.vault_aes.specs.CounterMode.{counter_block, with_stream}
+use Rattle.vault_aes.specs.CounterMode.{counter_block, stream_byte, with_stream}
 
 -- FIPS 197, appendix C.3: the key is 00 01 .. 1f
 pub cipher-counting_key : cipher (key_schedule (range_with_len 0 32))
@@ -67,6 +67,11 @@ with_example_block-3 : with_example_block 3 (0xf6 ∷ 0x9f ∷ 0x24 ∷ 0x45 ∷
     ≡ 0xdf ∷ 0xc9 ∷ 0xc5 ∷ 0x8d ∷ 0xb6 ∷ 0x7a ∷ 0xad ∷ 0xa6 ∷ 0x13 ∷ 0xc2 ∷ 0xdd ∷ 0x08 ∷ 0x45 ∷ 0x79 ∷ 0x41 ∷ 0xa6 ∷ []
 unfolding polynomial_product remainder mul repeated_square product_of_squares inverse number_of_bits s_box add_round_key cipher mix_columns round rounds shift_rows sub_bytes first_words key_schedule next_word power_of_x rot_word round_constant schedule_step sub_word counter_block
 with_example_block-3 = refl
+
+-- the last byte of output block 2 of SP 800-38A, F.5.5
+stream_byte-31 : stream_byte (key_schedule example_key) (range_with_len 0xf0 16) 31 ≡ 0x94
+unfolding polynomial_product remainder mul repeated_square product_of_squares inverse number_of_bits s_box add_round_key cipher mix_columns round rounds shift_rows sub_bytes first_words key_schedule next_word power_of_x rot_word round_constant schedule_step sub_word counter_block stream_byte
+stream_byte-31 = refl
 
 -- after the counter 2^128 - 1 come 0 and 1
 counter_block-wraps : counter_block (replicate 16 0xff) 1 ≡ replicate 16 0

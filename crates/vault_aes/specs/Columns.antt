@@ -28,6 +28,6 @@ abbrev pub round_column : ℕ → ℕ → ℕ → ℕ → ℕ → List ℕ
 round_column a b c d key =
     keyed_column (product_entry mixing_matrix (substituted_column a b c d)) key
 
--- the same for the last round, which does not mix
+-- the column a, b, c, d after the last round, which does not mix
 abbrev pub final_column : ℕ → ℕ → ℕ → ℕ → ℕ → List ℕ
 final_column a b c d key = keyed_column (λ r c'. slice_index (substituted_column a b c d) r) key

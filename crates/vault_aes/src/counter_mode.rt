@@ -5,8 +5,7 @@ ghost use Rattle.std.specs.Int.{w128, to_be_bytes};
 ghost use Rattle.vault_aes.specs.CounterMode.{counter_mode, with_stream};
 
 use crate::key::Key;
-
-const BLOCK_LEN: usize = 16;
+use crate::rounds::BLOCK_LEN;
 
 /// Adds the key stream to `bytes`, which enciphers and deciphers alike. `iv` is the initial counter
 /// block.

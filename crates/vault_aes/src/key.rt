@@ -3,7 +3,10 @@ ghost use Rattle.vault_aes.specs.Cipher.{cipher};
 ghost use Rattle.vault_aes.specs.KeyExpansion.{key_schedule};
 
 use crate::key_expansion::expanded;
-use crate::rounds::{Words, add_round_key, bytes_of, columns_of, final_round, four_rounds, round};
+use crate::rounds::{
+    BLOCK_LEN, ROUND_COUNT, Words, add_round_key, bytes_of, columns_of, final_round, four_rounds,
+    round,
+};
 use std::marker::Model;
 
 /// A key of 32 bytes, prepared for the cipher: clauses see it as the 60 words of its key schedule.
@@ -31,7 +34,7 @@ impl Key {
     }
 
     /// The cipher of one block (FIPS 197, 5.1).
-    pub fn block(&self, block: &[u8; 16]) -> [u8; 16]
+    pub fn block(&self, block: &[u8; BLOCK_LEN]) -> [u8; BLOCK_LEN]
         ensures { result ≡ cipher self.now block.now }
     {
         let words = &self.words;
@@ -39,7 +42,7 @@ impl Key {
         let state = four_rounds(words, 0, state);
         let state = four_rounds(words, 4, state);
         let state = four_rounds(words, 8, state);
-        let state = round(words, 13, state);
+        let state = round(words, ROUND_COUNT - 1, state);
         bytes_of(final_round(words, state))
     }
 }

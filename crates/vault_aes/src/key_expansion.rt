@@ -4,7 +4,7 @@ ghost use Rattle.std.specs.Prelude.{◌≡◌, ◌<◌, ◌≤◌, map};
 ghost use Rattle.std.specs.List.{range_with_len};
 ghost use Rattle.vault_aes.specs.KeyExpansion.{key_schedule, key_word, schedule_step, sub_word};
 
-use crate::rounds::Words;
+use crate::rounds::{WORD_COUNT, Words};
 use crate::tables::substituted;
 
 // The number of words in a key.
@@ -47,7 +47,7 @@ fn sub_word(word: u32) -> u32
 // What is added to word `i - 8` to make word `i`, from word `i - 1`.
 fn schedule_step(i: usize, previous: u32) -> u32
     requires low { KEY_WORDS ≤ i }
-    requires high { i < 60 }
+    requires high { i < WORD_COUNT }
     ensures { result ≡ schedule_step i previous }
 {
     match i % KEY_WORDS {
@@ -60,9 +60,9 @@ fn schedule_step(i: usize, previous: u32) -> u32
 pub(crate) fn expanded(key: &[u8; 32]) -> Words
     ensures { result ≡ key_schedule key.now }
 {
-    let mut words = [0; 60];
+    let mut words = [0; WORD_COUNT];
     words[..KEY_WORDS].copy_from_slice(&key_words(key));
-    for i in KEY_WORDS..60 {
+    for i in KEY_WORDS..WORD_COUNT {
         words[i] = words[i - KEY_WORDS] ^ schedule_step(i, words[i - 1]);
     }
     words

@@ -7,7 +7,9 @@ ghost use Rattle.vault_aes.specs.Field.{mul};
 ghost use Rattle.vault_aes.specs.Padding.{IsPadded};
 ghost use Rattle.vault_aes.specs.SubstitutionBox.{s_box};
 
-use crate::tables::{first_row_column, substituted};
+use crate::tables::{
+    first_row_column, fourth_row_column, second_row_column, substituted, third_row_column,
+};
 
 /// Each list has one padding, and each padded list is that of one list.
 pub fn one_padding()
@@ -26,11 +28,25 @@ pub fn counter_mode_undoes_itself()
         → length (counter_mode words iv input) ≡ length input }
 {}
 
-/// The entry at `x` of the table that `Key::block` reads.
+/// The entry at `x` of the first of the four tables that `Key::block` reads, which is for row 0.
 pub fn table_word(x: u8) -> [u8; 4]
     ensures { result ≡ mul 2 (s_box x) ∷ s_box x ∷ s_box x ∷ mul 3 (s_box x) ∷ [] }
 {
     first_row_column(x).to_be_bytes()
+}
+
+/// The entries at `x` of the tables for rows 1, 2 and 3, each that of the row before it rotated by a
+/// byte.
+pub fn rotated_table_words(x: u8) -> [[u8; 4]; 3]
+    ensures { let s = s_box x in let twice = mul 2 s in let thrice = mul 3 s in
+        result ≡ (thrice ∷ twice ∷ s ∷ s ∷ []) ∷ (s ∷ thrice ∷ twice ∷ s ∷ [])
+        ∷ (s ∷ s ∷ thrice ∷ twice ∷ []) ∷ [] }
+{
+    [
+        second_row_column(x).to_be_bytes(),
+        third_row_column(x).to_be_bytes(),
+        fourth_row_column(x).to_be_bytes(),
+    ]
 }
 
 /// The entry at `x` of the table of S that `Key::new` and the last round of `Key::block` read.

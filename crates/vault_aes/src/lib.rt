@@ -1,4 +1,16 @@
 //! AES-256 in counter mode, and the padding of RFC 5652.
+//!
+//! The cipher leaks through caches: it reads tables at places that depend on the key and on the
+//! bytes, and who shares the processor may learn them. Nothing is claimed of its running time.
+//!
+//! ```rust
+//! let key = Key::new(&[7; 32]);
+//! let mut bytes = *b"of any length";
+//! ctr_apply(&key, &[0; 16], &mut bytes);
+//! assert_ne!(rt; bytes, *b"of any length");
+//! ctr_apply(&key, &[0; 16], &mut bytes);
+//! assert_eq!(rt; bytes, *b"of any length");
+//! ```
 #![tactic(auto)]
 
 mod counter_mode;

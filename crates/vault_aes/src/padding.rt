@@ -3,7 +3,7 @@
 ghost use Rattle.std.specs.Prelude.{◌≡◌, ℕ, ◌+◌, ◌-◌, ◌%◌, ◌<◌, ◌≤◌, ◌↔◌, List, length, take, drop, IfSome, Some, IsTrue, All};
 ghost use Rattle.vault_aes.specs.Padding.{IsPadded};
 
-const BLOCK_LEN: usize = 16;
+use crate::rounds::BLOCK_LEN;
 
 /// Pads the first `n` bytes of `work` in place, and answers the padded length. The bytes past it
 /// stay.

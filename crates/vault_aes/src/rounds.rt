@@ -1,7 +1,7 @@
 // The steps of the cipher (FIPS 197, 5.1) on the state's four columns, each a word with its byte of
 // row 0 the highest.
 
-ghost use Rattle.std.specs.Prelude.{◌≡◌, ℕ, ◌+◌, ◌<◌, List};
+ghost use Rattle.std.specs.Prelude.{◌≡◌, ℕ, ◌+◌, ◌≤◌, List};
 ghost use Rattle.std.specs.Int.{w32, to_be_bytes};
 ghost use Rattle.vault_aes.specs.Cipher.{add_round_key, round, rounds, shift_rows, sub_bytes};
 ghost use Rattle.vault_aes.specs.Columns.{final_column, round_column, state_of};
@@ -10,12 +10,21 @@ use crate::tables::{
     first_row_column, fourth_row_column, second_row_column, substituted, third_row_column,
 };
 
-pub(crate) type Words = [u32; 60];
+// The length of a block in bytes, which are the entries of a state.
+pub(crate) const BLOCK_LEN: usize = 16;
+
+// The number of rounds under a key of 32 bytes.
+pub(crate) const ROUND_COUNT: usize = 14;
+
+// The number of words in a key schedule: four before the first round, and four for each.
+pub(crate) const WORD_COUNT: usize = 4 * (ROUND_COUNT + 1);
+
+pub(crate) type Words = [u32; WORD_COUNT];
 
 pub(crate) type State = [u32; 4];
 
 #[inline(always)]
-pub(crate) fn columns_of(block: &[u8; 16]) -> State
+pub(crate) fn columns_of(block: &[u8; BLOCK_LEN]) -> State
     ensures { state_of result ≡ block.now }
 {
     [
@@ -28,10 +37,10 @@ pub(crate) fn columns_of(block: &[u8; 16]) -> State
 
 // Each word is stored whole, where an array of 16 bytes would be stored byte by byte.
 #[inline(always)]
-pub(crate) fn bytes_of(state: State) -> [u8; 16]
+pub(crate) fn bytes_of(state: State) -> [u8; BLOCK_LEN]
     ensures { result ≡ state_of state }
 {
-    let mut bytes = [0; 16];
+    let mut bytes = [0; BLOCK_LEN];
     bytes[..4].copy_from_slice(&state[0].to_be_bytes());
     bytes[4..8].copy_from_slice(&state[1].to_be_bytes());
     bytes[8..12].copy_from_slice(&state[2].to_be_bytes());
@@ -41,7 +50,7 @@ pub(crate) fn bytes_of(state: State) -> [u8; 16]
 
 #[inline(always)]
 pub(crate) fn add_round_key(words: &Words, n: usize, state: State) -> State
-    requires { n < 15 }
+    requires { n ≤ ROUND_COUNT }
     ensures { state_of result ≡ add_round_key words.now n (state_of state) }
 {
     [
@@ -63,7 +72,7 @@ fn round_column(a: u8, b: u8, c: u8, d: u8, key: u32) -> u32
 
 #[inline(always)]
 pub(crate) fn round(words: &Words, n: usize, state: State) -> State
-    requires { n < 15 }
+    requires { n ≤ ROUND_COUNT }
     ensures { state_of result ≡ round words.now n (state_of state) }
 {
     let [a0, a1, a2, a3] = state[0].to_be_bytes();
@@ -81,7 +90,7 @@ pub(crate) fn round(words: &Words, n: usize, state: State) -> State
 // The four rounds after round n.
 #[inline(always)]
 pub(crate) fn four_rounds(words: &Words, n: usize, state: State) -> State
-    requires { n + 4 < 15 }
+    requires { n + 4 ≤ ROUND_COUNT }
     ensures { (block : List ℕ) → state_of state ≡ rounds words.now block n
         → state_of result ≡ rounds words.now block (n + 4) }
 {
@@ -108,16 +117,16 @@ fn final_column(a: u8, b: u8, c: u8, d: u8, key: u32) -> u32
 #[inline(always)]
 pub(crate) fn final_round(words: &Words, state: State) -> State
     ensures { state_of result
-        ≡ add_round_key words.now 14 (shift_rows (sub_bytes (state_of state))) }
+        ≡ add_round_key words.now ROUND_COUNT (shift_rows (sub_bytes (state_of state))) }
 {
     let [a0, a1, a2, a3] = state[0].to_be_bytes();
     let [b0, b1, b2, b3] = state[1].to_be_bytes();
     let [c0, c1, c2, c3] = state[2].to_be_bytes();
     let [d0, d1, d2, d3] = state[3].to_be_bytes();
     [
-        final_column(a0, b1, c2, d3, words[56]),
-        final_column(b0, c1, d2, a3, words[57]),
-        final_column(c0, d1, a2, b3, words[58]),
-        final_column(d0, a1, b2, c3, words[59]),
+        final_column(a0, b1, c2, d3, words[4 * ROUND_COUNT]),
+        final_column(b0, c1, d2, a3, words[4 * ROUND_COUNT + 1]),
+        final_column(c0, d1, a2, b3, words[4 * ROUND_COUNT + 2]),
+        final_column(d0, a1, b2, c3, words[4 * ROUND_COUNT + 3]),
     ]
 }

@@ -62,7 +62,7 @@ const FIRST_ROW_COLUMNS: [u32; 256] = [
     0x824141c3, 0x299999b0, 0x5a2d2d77, 0x1e0f0f11, 0x7bb0b0cb, 0xa85454fc, 0x6dbbbbd6, 0x2c16163a,
 ];
 
-// The same of a byte in row 1: those columns, rotated by a byte.
+// The columns of a byte in row 1: those of row 0, rotated by a byte.
 const SECOND_ROW_COLUMNS: [u32; 256] = [
     0xa5c66363, 0x84f87c7c, 0x99ee7777, 0x8df67b7b, 0x0dfff2f2, 0xbdd66b6b, 0xb1de6f6f, 0x5491c5c5,
     0x50603030, 0x03020101, 0xa9ce6767, 0x7d562b2b, 0x19e7fefe, 0x62b5d7d7, 0xe64dabab, 0x9aec7676,
@@ -98,7 +98,7 @@ const SECOND_ROW_COLUMNS: [u32; 256] = [
     0xc3824141, 0xb0299999, 0x775a2d2d, 0x111e0f0f, 0xcb7bb0b0, 0xfca85454, 0xd66dbbbb, 0x3a2c1616,
 ];
 
-// The same of a byte in row 2: those columns, rotated by two bytes.
+// The columns of a byte in row 2: those of row 0, rotated by two bytes.
 const THIRD_ROW_COLUMNS: [u32; 256] = [
     0x63a5c663, 0x7c84f87c, 0x7799ee77, 0x7b8df67b, 0xf20dfff2, 0x6bbdd66b, 0x6fb1de6f, 0xc55491c5,
     0x30506030, 0x01030201, 0x67a9ce67, 0x2b7d562b, 0xfe19e7fe, 0xd762b5d7, 0xabe64dab, 0x769aec76,
@@ -134,7 +134,7 @@ const THIRD_ROW_COLUMNS: [u32; 256] = [
     0x41c38241, 0x99b02999, 0x2d775a2d, 0x0f111e0f, 0xb0cb7bb0, 0x54fca854, 0xbbd66dbb, 0x163a2c16,
 ];
 
-// The same of a byte in row 3: those columns, rotated by three bytes.
+// The columns of a byte in row 3: those of row 0, rotated by three bytes.
 const FOURTH_ROW_COLUMNS: [u32; 256] = [
     0x6363a5c6, 0x7c7c84f8, 0x777799ee, 0x7b7b8df6, 0xf2f20dff, 0x6b6bbdd6, 0x6f6fb1de, 0xc5c55491,
     0x30305060, 0x01010302, 0x6767a9ce, 0x2b2b7d56, 0xfefe19e7, 0xd7d762b5, 0xababe64d, 0x76769aec,

@@ -142,6 +142,12 @@ fn unpads_right_padding_only(rt: HostRuntime) {
 fn reads_the_tables(rt: HostRuntime) {
     assert_eq!(rt; laws::table_s(0x53), 0xed);
     assert_eq!(rt; laws::table_word(0x53), [0xc1, 0xed, 0xed, 0x2c]);
+    let rotated = [
+        [0x2c, 0xc1, 0xed, 0xed],
+        [0xed, 0x2c, 0xc1, 0xed],
+        [0xed, 0xed, 0x2c, 0xc1],
+    ];
+    assert_eq!(rt; laws::rotated_table_words(0x53), rotated);
     laws::one_padding();
     laws::counter_mode_undoes_itself();
 }

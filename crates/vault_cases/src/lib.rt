@@ -2,15 +2,23 @@
 #![tactic(auto)]
 
 #[cfg(test)]
+mod asked_once;
+#[cfg(test)]
+mod commands;
+#[cfg(test)]
 mod damage;
 #[cfg(test)]
 mod devices;
+#[cfg(test)]
+mod encrypting;
 #[cfg(test)]
 mod failures;
 #[cfg(test)]
 mod password_files;
 #[cfg(test)]
 mod program;
+#[cfg(test)]
+mod rekeying;
 #[cfg(test)]
 mod requests;
 #[cfg(test)]

@@ -1,3 +1,5 @@
+pub mod LawFacts
+pub mod LawProofs
 pub mod OutcomeFacts
 pub mod ParsedFacts
 pub mod ParsedSamples
@@ -8,3 +10,4 @@ pub mod RequestFacts
 pub mod SecretFacts
 pub mod SettledSamples
 pub mod SettlingFacts
+pub mod TaskFacts

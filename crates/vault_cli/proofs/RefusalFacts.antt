@@ -6,7 +6,7 @@ use Rattle.std.specs.Option.{option_map, option_or}
 use Rattle.std.specs.Prelude.{IfSome, is_some}
 use Rattle.vault_core.specs.declared.fault.Fault.{Fault}
 use Rattle.vault_core.specs.declared.fault.Fault.TheVariants.{BadSalt, TooManySecrets}
-use Rattle.vault_core.specs.declared.limits.TheConstants.{SECRETS_LIMIT}
+use Rattle.vault_core.specs.declared.limits.TheConstants.{SECRET_COUNT_LIMIT}
 use Rattle.vault_cli.specs.CommandName.{rekeys}
 use Rattle.vault_cli.specs.Options.{Options}
 use Rattle.vault_cli.specs.Refusal.{choice_fault, count_fault, mismatch_fault, name_fault, new_secret_fault, output_fault, refusal, rekey_fault, salt_fault}
@@ -42,12 +42,12 @@ allowed given e =
 
 -- there are at most so many secrets
 pub few_files : (given : Options) → count_fault given ≡ None
-    → length (map file_of_id given.vault_ids ++ map plain_file given.password_files) ≤ SECRETS_LIMIT
+    → length (map file_of_id given.vault_ids ++ map plain_file given.password_files) ≤ SECRET_COUNT_LIMIT
 few_files given e =
-    elim (cases_Bool (nat_lt SECRETS_LIMIT (length given.vault_ids + length given.password_files))) [
+    elim (cases_Bool (nat_lt SECRET_COUNT_LIMIT (length given.vault_ids + length given.password_files))) [
       | inl many ↦ let wrong : Some TooManySecrets ≡ None = rw many at e in cc
       | inr few ↦
-          let limit : length given.vault_ids + length given.password_files ≤ SECRETS_LIMIT = search (rules, tests, few) in
+          let limit : length given.vault_ids + length given.password_files ≤ SECRET_COUNT_LIMIT = search (rules, tests, few) in
           omega (
             arith,
             limit,

@@ -5,7 +5,7 @@ use Rattle.clap.proofs.OnLiterals.{clap_on_literals}
 use Rattle.vault_text.specs.Label.{default_label}
 use Rattle.vault_core.specs.declared.fault.Fault.{Fault}
 use Rattle.vault_core.specs.declared.fault.Fault.TheVariants.{BadLabel, BadName, BadSalt, NameMismatch, NeedNewSecret, OutputNeeded, PromptSource, SaltChoice, TooManySecrets}
-use Rattle.vault_core.specs.declared.secrets.LabelRule.TheVariants.{Hint, Required}
+use Rattle.vault_core.specs.declared.label_rule.LabelRule.TheVariants.{Hint, Required}
 use Rattle.vault_cli.specs.CommandLine.{vault_app}
 use Rattle.vault_cli.specs.Refusal.{refusal}
 use Rattle.vault_cli.specs.Request.{Request}

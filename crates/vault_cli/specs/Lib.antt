@@ -8,4 +8,8 @@ pub mod Options
 pub mod Refusal
 pub mod Settled
 pub mod CommandLine
+pub mod Task
+pub mod StoredTask
 pub mod Outcome
+pub mod Run
+pub mod Laws

@@ -1,25 +1,22 @@
--- What a run of a request answers, as a function of the request, the password files, the salt and the input.
-use Rattle.std.specs.Prelude.{ℕ, nat_lt, if◌then◌else◌, List, [], ◌∷◌, length, Option, Some, None, Result, Ok, Err}
-use Rattle.vault_text.specs.declared.limits.TheConstants.{ENVELOPE_LIMIT}
-use Rattle.vault_core.specs.Fault.{of_secret}
-use Rattle.vault_core.specs.Opening.{Opened}
+-- What a run of a request answers, as a function of the request, the password files, the salt and the input: five
+-- steps, of which the first that refuses decides. Steps 1 to 3 stand with the tasks.
+use Rattle.std.specs.Prelude.{ℕ, ◌&&◌, not, Bool, List, [], Option, Some, None, is_ok, is_some, unwrap_or, Result, Ok, Err}
+use Rattle.vault_text.specs.Limits.{envelope_limit}
+use Rattle.vault_text.specs.declared.limits.TheConstants.{PLAINTEXT_LIMIT}
 use Rattle.vault_core.specs.Decryption.{decryption}
-use Rattle.vault_core.specs.Password.{password_of}
-use Rattle.vault_core.specs.Secrets.{Secret}
+use Rattle.vault_core.specs.Encryption.{encryption}
+use Rattle.vault_text.specs.Steps.{◌>>=◌}
+use Rattle.vault_core.specs.Ready.{Ready}
+use Rattle.vault_core.specs.Rekeying.{rekeying}
 use Rattle.vault_core.specs.declared.fault.Fault.{Fault}
-use Rattle.vault_core.specs.declared.fault.Fault.TheVariants.{TooLong}
-use Rattle.vault_core.specs.declared.password.SecretFault.{SecretFault}
 use Rattle.vault_cli.specs.Line.{line_of}
-use Rattle.vault_cli.specs.Request.{Request, SecretFile}
+use Rattle.vault_cli.specs.Request.{Request}
 use Rattle.vault_cli.specs.Status.{status_of}
+use Rattle.vault_cli.specs.Task.{Task, Seal, Open, Reseal, prepared}
 use Rattle.vault_cli.specs.declared.command_name.CommandName.{CommandName}
+use Rattle.vault_cli.specs.declared.command_name.CommandName.TheVariants.{Encrypt, Decrypt, View, Rekey, EncryptString}
 use Rattle.vault_cli.specs.declared.status.Status.{Status}
 use Rattle.vault_cli.specs.declared.status.Status.TheVariants.{Success}
-
-infixl 10 ◌>>=◌
-abbrev pub ◌>>=◌ : {A B : Type 0} → Result A Fault → (A → Result B Fault) → Result B Fault
-Ok x >>= f = f x
-Err e >>= f = Err e
 
 -- the bytes to be written, where there are any; the line on standard error; the status
 pub record Outcome : Type 0 where
@@ -30,38 +27,43 @@ pub record Outcome : Type 0 where
 abbrev pub refused : Fault → Outcome
 refused fault = record { output = None; line = line_of fault; status = status_of fault }
 
-abbrev pub answered : Result (List ℕ) Fault → Outcome
-answered (Ok bytes) = record { output = Some bytes; line = []; status = Success }
+abbrev pub answered : Result Ready Fault → Outcome
+answered (Ok ready) = record { output = Some ready.output; line = []; status = Success }
 answered (Err fault) = refused fault
 
--- the password of a file, with its fault named as a run names it
-abbrev pub named : Result (List ℕ) SecretFault → Result (List ℕ) Fault
-named (Ok password) = Ok password
-named (Err fault) = Err (of_secret fault)
+-- how much input a command takes, by how much plaintext is encrypted
+abbrev pub input_limit : ℕ → CommandName → ℕ
+input_limit limit Encrypt = limit
+input_limit limit EncryptString = limit
+input_limit limit Decrypt = envelope_limit limit
+input_limit limit View = envelope_limit limit
+input_limit limit Rekey = envelope_limit limit
 
--- the secrets of a request, of its password files in their order, or the first fault
-unfoldable pub secrets_of : List SecretFile → List (List ℕ) → Result (List Secret) Fault
-secrets_of [] contents = Ok []
-secrets_of (file ∷ files) [] = Ok []
-secrets_of (file ∷ files) (bytes ∷ contents) = do
-  password ← named (password_of bytes)
-  secrets ← secrets_of files contents
-  Ok (record { label = file.label; password = password } ∷ secrets)
+-- how much input a task takes
+abbrev pub task_limit : ℕ → Task → ℕ
+task_limit limit (Seal secrets place form salt) = limit
+task_limit limit (Open secrets) = envelope_limit limit
+task_limit limit (Reseal secrets new salt) = envelope_limit limit
 
--- how much input a command takes
-abbrev pub input_limit : CommandName → ℕ
-input_limit command = ENVELOPE_LIMIT
+-- the text that a request speaks of: its STRING, or the input
+abbrev pub text_of_request : Request → List ℕ → List ℕ
+text_of_request request input = unwrap_or request.string input
 
-abbrev pub plain_of : Result Opened Fault → Result (List ℕ) Fault
-plain_of (Ok opened) = Ok opened.plain
-plain_of (Err fault) = Err fault
+-- the input is asked for where steps 1 to 3 do not refuse, and there is no STRING
+abbrev pub asks_for_input : Request → List (List ℕ) → List ℕ → Bool
+asks_for_input request contents salt = is_ok (prepared request contents salt) && not (is_some request.string)
 
--- what the command makes of the input
-abbrev pub performed : CommandName → List Secret → List ℕ → Result (List ℕ) Fault
-performed command secrets input = plain_of (decryption secrets input)
+-- steps 4 and 5: the length of the text, and what becomes of it
+abbrev pub performed : ℕ → Task → List ℕ → Result Ready Fault
+performed limit (Seal secrets place form salt) text = encryption limit secrets place form salt text
+performed limit (Open secrets) text = decryption limit secrets text
+performed limit (Reseal secrets new salt) text = rekeying limit secrets new salt text
 
--- the output, or the fault of the first step that refuses: the passwords, the length of the input, the command
-unfoldable pub outcome : Request → List (List ℕ) → List ℕ → List ℕ → Outcome
-outcome request contents salt input = answered (secrets_of request.secret_files contents >>= (λ secrets.
-    if nat_lt (input_limit request.command) (length input) then Err TooLong
-    else performed request.command secrets input))
+-- all five steps, where so much plaintext is encrypted
+unfoldable pub outcome_within : ℕ → Request → List (List ℕ) → List ℕ → List ℕ → Outcome
+outcome_within limit request contents salt input = answered (do
+  task ← prepared request contents salt
+  performed limit task (text_of_request request input))
+
+abbrev pub outcome : Request → List (List ℕ) → List ℕ → List ℕ → Outcome
+outcome request contents salt input = outcome_within PLAINTEXT_LIMIT request contents salt input

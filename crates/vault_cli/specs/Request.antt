@@ -1,8 +1,8 @@
 -- What a request asks for.
 use Rattle.std.specs.Prelude.{◌≡◌, ◌≤◌, ℕ, List, ◌++◌, length, Option, option_to_list, is_some, IfSome}
 use Rattle.vault_cli.specs.CommandName.{rekeys}
-use Rattle.vault_core.specs.declared.limits.TheConstants.{SECRETS_LIMIT}
-use Rattle.vault_core.specs.declared.secrets.LabelRule.{LabelRule}
+use Rattle.vault_core.specs.declared.limits.TheConstants.{SECRET_COUNT_LIMIT}
+use Rattle.vault_core.specs.declared.label_rule.LabelRule.{LabelRule}
 use Rattle.vault_cli.specs.declared.limits.TheConstants.{SALT_TEXT_LIMIT}
 use Rattle.vault_cli.specs.declared.command_name.CommandName.{CommandName}
 
@@ -42,6 +42,6 @@ pub record IsSaltText (text : List ℕ) : Type 0 where
 
 -- what is known of each request
 pub record IsSettled (request : Request) : Type 0 where
-  pub count : length request.secret_files ≤ SECRETS_LIMIT
+  pub count : length request.secret_files ≤ SECRET_COUNT_LIMIT
   pub salt_text : IfSome request.salt_text IsSaltText
   pub new_secret : is_some request.new_secret ≡ rekeys request.command

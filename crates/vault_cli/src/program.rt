@@ -2,6 +2,7 @@
 ghost use Rattle.std.specs.Prelude.{◌≡◌, true, is_some, length, option_and_then, vec_len, IfOk, OnErr};
 ghost use Rattle.clap.specs.Words.{subcommand_name_of};
 ghost use Rattle.vault_cli.specs.CommandName.{command_of};
+ghost use Rattle.vault_cli.specs.Request.{files_of};
 ghost use Rattle.vault_text.specs.declared.limits.TheConstants.{CIPHERTEXT_LIMIT};
 
 use crate::file_system::{FileFault, FileSystem};
@@ -16,7 +17,7 @@ use clap::{ArgMatches, Error};
 use std::alloc::{AllocError, Global};
 use std::io;
 use std::io::{Read, Write};
-use vault_core::{Fault, Role, SECRET_LIMIT};
+use vault_core::{Fault, PASSWORD_FILE_LIMIT, Role};
 use vault_text::{CIPHERTEXT_LIMIT, ReadSource, Sink, SinkFailed, Stage, WriteSink, put_all};
 
 /// All that the program does: parses the words, of which the first is the program's name, settles
@@ -110,12 +111,12 @@ fn read_secret_files<F: FileSystem>(
     alloc: Global,
     request: &Request,
 ) -> Result<Vec<Vec<u8>>, Fault>
-    ensures { IfOk result (λ contents. vec_len contents ≡ length request.now.secret_files) }
+    ensures { IfOk result (λ contents. vec_len contents ≡ length (files_of request.now)) }
 {
     let mut contents = Vec::new(alloc);
-    for i in 0..request.secret_count() {
+    for i in 0..request.files() {
         let bytes = rt
-            .read_front(alloc, request.path(i), SECRET_LIMIT as u64 + 1)
+            .read_front(alloc, request.path(i), PASSWORD_FILE_LIMIT as u64 + 1)
             .map_err(secret_fault)?;
         contents.push(bytes)?;
     }

@@ -8,7 +8,7 @@ ghost use Rattle.vault_cli.specs.Refusal.{choice_fault, count_fault, is_control,
 use crate::limits::SALT_TEXT_LIMIT;
 use crate::options::Options;
 use crate::vault_id;
-use vault_core::{Fault, SECRETS_LIMIT};
+use vault_core::{Fault, SECRET_COUNT_LIMIT};
 use vault_text::Label;
 
 impl<'m, 'a> Options<'m, 'a> {
@@ -34,7 +34,7 @@ impl<'m, 'a> Options<'m, 'a> {
         ensures { result_err result ≡ count_fault self.now }
     {
         let (ids, paths) = (self.vault_ids.len(), self.password_files.len());
-        if ids > SECRETS_LIMIT || paths > SECRETS_LIMIT - ids {
+        if ids > SECRET_COUNT_LIMIT || paths > SECRET_COUNT_LIMIT - ids {
             return Err(Fault::TooManySecrets);
         }
         Ok(())

@@ -1,7 +1,7 @@
 //! What a command line asks for.
 ghost use Rattle.std.specs.Prelude.{◌≡◌, ◌+◌, ◌<◌, ◌≤◌, Some, IfSome, is_some, length, slice_get};
 ghost use Rattle.std.specs.Option.{option_map};
-ghost use Rattle.vault_core.specs.declared.limits.TheConstants.{SECRETS_LIMIT};
+ghost use Rattle.vault_core.specs.declared.limits.TheConstants.{SECRET_COUNT_LIMIT};
 ghost use Rattle.vault_cli.specs.CommandName.{rekeys, seals};
 ghost use Rattle.vault_cli.specs.Request.{IsSaltText, files_of};
 
@@ -90,7 +90,7 @@ impl Request {
     /// How many password files there are, the new one of `rekey` counted: at most 17.
     pub fn files(&self) -> usize
         ensures count { result ≡ length (files_of self.now) }
-        ensures limit { result ≤ SECRETS_LIMIT + 1 }
+        ensures limit { result ≤ SECRET_COUNT_LIMIT + 1 }
     {
         self.secret_files.len() + self.new_secret.iter().count()
     }
@@ -98,7 +98,7 @@ impl Request {
     /// How many password files there are without the new one of `rekey`: at most 16.
     pub fn secret_count(&self) -> usize
         ensures count { result ≡ length self.now.secret_files }
-        ensures limit { result ≤ SECRETS_LIMIT }
+        ensures limit { result ≤ SECRET_COUNT_LIMIT }
     {
         self.secret_files.len()
     }

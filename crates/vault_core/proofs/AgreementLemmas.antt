@@ -5,13 +5,15 @@ use Rattle.std.specs.Prelude.{if◌then◌else◌, find}
 use Rattle.std.specs.List.{position_or_len}
 use Rattle.std.specs.Option.{option_map, option_or}
 use Rattle.std.proofs.lemmas.Bool.{cases_Bool, cases_lt, le-ltb, lt-ltb}
-use Rattle.std.proofs.lemmas.List.{drop_more}
+use Rattle.std.proofs.lemmas.List.{append-nil, drop_more}
 use Rattle.std.proofs.lemmas.List.Folds.{find-append}
 use Rattle.std.proofs.lemmas.List.Sums.{count_by-le-length, length-filter}
 use Rattle.vault_kdf.specs.declared.keys.Keys.{Keys}
 use Rattle.vault_text.specs.Envelope.{Payload}
 use Rattle.vault_core.specs.Agreement.{agrees, keys_of, tries}
-use Rattle.vault_core.specs.Secrets.{Secret, has_label, tried_order}
+use Rattle.vault_core.specs.Secrets.{Secret, SecretList, has_label, tried_order}
+use Rattle.vault_core.specs.declared.label_rule.LabelRule.{LabelRule}
+use Rattle.vault_core.specs.declared.label_rule.LabelRule.TheVariants.{Hint, Required}
 use Rattle.vault_core.specs.TriedPart.{is_in_part, tried_part}
 
 tries-min : (payload : Payload) (order : List Secret)
@@ -121,12 +123,6 @@ pub tried_part-drop_no : (labelled : Bool) (label : List ℕ) (secrets : List Se
 tried_part-drop_no labelled label secrets i secret inside is fails =
     ap (tried_part labelled label) (drop_more secrets i secret inside) ∙ rw (← is, fails) refl
 
--- the tried order is its two parts
-pub tried_order-parts : (secrets : List Secret) (label : List ℕ)
-    → tried_order secrets label ≡ tried_part true label secrets ++ tried_part false label secrets
-unfolding tried_order
-tried_order-parts secrets label = refl
-
 pub option_map-Some : {A B : Type 0} (f : A → B) (o : Option A) (y : B) → Some y ≡ option_map f o → (x : A) × (o ≡ Some x) × (y ≡ f x)
 option_map-Some f None y h = absurd cc
 option_map-Some f (Some x) y h = (x, refl, cc)
@@ -135,35 +131,53 @@ pub option_map-None : {A B : Type 0} (f : A → B) (o : Option A) → None ≡ o
 option_map-None f None h = refl
 option_map-None f (Some x) h = absurd cc
 
-module _ (payload : Payload) (secrets : List Secret) (label : List ℕ) where
+-- the others are tried where the label is a hint, and none of them where it is required
+pub tried_order-hint : (list : SecretList) (label : List ℕ) → list.rule ≡ Hint
+    → tried_order list label ≡ tried_part true label list.secrets ++ tried_part false label list.secrets
+unfolding tried_order
+tried_order-hint list label hint = rw hint refl
+
+pub tried_order-required : (list : SecretList) (label : List ℕ) → list.rule ≡ Required
+    → tried_order list label ≡ tried_part true label list.secrets
+unfolding tried_order
+tried_order-required list label required = rw required (append-nil (tried_part true label list.secrets))
+
+-- under each rule the secrets with the label come first
+tried_order-front : (list : SecretList) (label : List ℕ) (rule : LabelRule) → list.rule ≡ rule
+    → (behind : List Secret) × (tried_order list label ≡ tried_part true label list.secrets ++ behind)
+tried_order-front list label Hint is = (tried_part false label list.secrets, tried_order-hint list label is)
+tried_order-front list label Required is =
+    ([], tried_order-required list label is ∙ sym (append-nil (tried_part true label list.secrets)))
+
+module _ (payload : Payload) (list : SecretList) (label : List ℕ) where
   abbrev labelled_part : List Secret
-  labelled_part = tried_part true label secrets
+  labelled_part = tried_part true label list.secrets
 
   abbrev other_part : List Secret
-  other_part = tried_part false label secrets
-
-  find-tried_order : find (agrees payload) (tried_order secrets label) ≡ option_or (find (agrees payload) labelled_part) (find (agrees payload) other_part)
-  find-tried_order =
-      ap (find (agrees payload)) (tried_order-parts secrets label) ∙ find-append (agrees payload) labelled_part other_part
+  other_part = tried_part false label list.secrets
 
   -- where a secret with the label agrees, no other is tried
   pub tried_order-found : (keys : Keys) → Some keys ≡ option_map (keys_of payload) (find (agrees payload) labelled_part)
-      → (find (agrees payload) (tried_order secrets label) ≡ find (agrees payload) labelled_part)
-      × (tries payload (tried_order secrets label) ≡ tries payload labelled_part)
+      → (find (agrees payload) (tried_order list label) ≡ find (agrees payload) labelled_part)
+      × (tries payload (tried_order list label) ≡ tries payload labelled_part)
   tried_order-found keys answer =
-      let found = option_map-Some (keys_of payload) _ _ answer in (
-        find-tried_order ∙ ap (λ (o : Option Secret). option_or o (find (agrees payload) other_part)) found.1 ∙ sym found.1,
-        ap (tries payload) (tried_order-parts secrets label) ∙ tries-append_found payload labelled_part other_part found.0 found.1,
+      let found = option_map-Some (keys_of payload) _ _ answer in
+      let order = tried_order-front list label list.rule refl in (
+        ap (find (agrees payload)) order.1 ∙ find-append (agrees payload) labelled_part order.0
+        ∙ ap (λ (o : Option Secret). option_or o (find (agrees payload) order.0)) found.1 ∙ sym found.1,
+        ap (tries payload) order.1 ∙ tries-append_found payload labelled_part order.0 found.0 found.1,
       )
 
-  -- and else the others are tried
-  pub tried_order-none : None ≡ option_map (keys_of payload) (find (agrees payload) labelled_part)
-      → (find (agrees payload) (tried_order secrets label) ≡ find (agrees payload) other_part)
-      × (tries payload (tried_order secrets label) ≡ tries payload labelled_part + tries payload other_part)
-  tried_order-none answer =
-      let none = option_map-None (keys_of payload) _ answer in (
-        find-tried_order ∙ ap (λ (o : Option Secret). option_or o (find (agrees payload) other_part)) none,
-        ap (tries payload) (tried_order-parts secrets label) ∙ tries-append_none payload labelled_part other_part none,
+  -- and else the others are tried, where the label is a hint
+  pub tried_order-none : list.rule ≡ Hint → None ≡ option_map (keys_of payload) (find (agrees payload) labelled_part)
+      → (find (agrees payload) (tried_order list label) ≡ find (agrees payload) other_part)
+      × (tries payload (tried_order list label) ≡ tries payload labelled_part + tries payload other_part)
+  tried_order-none hint answer =
+      let none = option_map-None (keys_of payload) _ answer in
+      let order = tried_order-hint list label hint in (
+        ap (find (agrees payload)) order ∙ find-append (agrees payload) labelled_part other_part
+        ∙ ap (λ (o : Option Secret). option_or o (find (agrees payload) other_part)) none,
+        ap (tries payload) order ∙ tries-append_none payload labelled_part other_part none,
       )
 
 -- no more are tried than there are

@@ -5,12 +5,13 @@ use Rattle.vault_text.specs.Envelope.{Payload}
 use Rattle.vault_text.specs.declared.fault.TextFault.{TextFault}
 use Rattle.vault_text.specs.declared.fault.TextFault.TheVariants as text
 use Rattle.vault_core.specs.Agreement.{agrees, keys_of, tries}
-use Rattle.vault_core.specs.Decryption.{decryption, decryption_tries, payload_of}
+use Rattle.vault_core.specs.Decryption.{decryption, decryption_derivations, payload_of}
 use Rattle.vault_core.specs.Fault.{of_text}
 use Rattle.vault_core.specs.Input.{UnlessUnreadable}
 use Rattle.vault_core.specs.Opening.{deciphered_by, opening}
-use Rattle.vault_core.specs.Secrets.{Secret, tried_order}
-use Rattle.vault_core.specs.Unpadding.{without_padding}
+use Rattle.vault_core.specs.Padding.{without_padding}
+use Rattle.vault_core.specs.Ready.{Ready}
+use Rattle.vault_core.specs.Secrets.{Secret, SecretList, tried_order}
 use Rattle.vault_core.specs.declared.fault.Fault.{Fault}
 use Rattle.vault_core.specs.declared.fault.Fault.TheVariants.{BadPadding, NoSecretFits, Read}
 use Rattle.vault_core.specs.declared.fault.Role.TheVariants.{Input}
@@ -27,7 +28,7 @@ of_text-is_no_read text.BadHex h = cc
 of_text-is_no_read text.BadPayload h = cc
 of_text-is_no_read text.CipherTooLong h = cc
 
-module _ (secrets : List Secret) (payload : Payload) (fault : Fault) (refused : opening secrets payload ≡ Err fault) where
+module _ (secrets : SecretList) (payload : Payload) (fault : Fault) (refused : opening secrets payload ≡ Err fault) where
   after_agreement : (secret : Secret) → find (agrees payload) (tried_order secrets payload.label) ≡ Some secret
       → (plain : Option (List ℕ)) → without_padding (deciphered_by (keys_of payload secret) payload.cipher) ≡ plain
       → fault ≡ BadPadding
@@ -53,29 +54,27 @@ module _ (secrets : List Secret) (payload : Payload) (fault : Fault) (refused : 
       ]
 
 -- a call that read its input whole, and whose faults are of another kind
-pub UnlessUnreadable-from : {T P : Type 0} (before after : ℕ) (result : Result T Fault)
-    → ((fault : Fault) → result ≡ Err fault → fault ≢ Read Input) → after ≡ before → P → UnlessUnreadable before after result P
-UnlessUnreadable-from before after (Ok x) other same p = (same, p)
-UnlessUnreadable-from before after (Err fault) other same p = inr (other fault refl, same, p)
+pub UnlessUnreadable-from : {T : Type 0} (F P : Type 0) (before after : ℕ) (result : Result T Fault)
+    → ((fault : Fault) → result ≡ Err fault → fault ≢ Read Input) → after ≡ before → P → UnlessUnreadable before after result F P
+UnlessUnreadable-from F P before after (Ok x) other same p = (same, p)
+UnlessUnreadable-from F P before after (Err fault) other same p = inr ((other fault refl, same), p)
 
--- the input is no envelope
-pub decryption-Err : (secrets : List Secret) (input : List ℕ) (fault : Fault) → Err fault ≡ payload_of input
-    → decryption secrets input ≡ Err fault
-unfolding decryption
-decryption-Err secrets input fault h = rw (← h) refl
+module _ (limit : ℕ) (secrets : SecretList) (input : List ℕ) where
+  -- the input is no envelope
+  pub decryption-Err : (fault : Fault) → Err fault ≡ payload_of limit input → decryption limit secrets input ≡ Err fault
+  unfolding decryption
+  decryption-Err fault h = rw (← h) refl
 
-pub decryption_tries-Err : (secrets : List Secret) (input : List ℕ) (fault : Fault) → Err fault ≡ payload_of input
-    → decryption_tries secrets input ≡ 0
-unfolding decryption_tries
-decryption_tries-Err secrets input fault h = rw (← h) refl
+  pub decryption_derivations-Err : (fault : Fault) → Err fault ≡ payload_of limit input → decryption_derivations limit secrets input ≡ 0
+  unfolding decryption_derivations
+  decryption_derivations-Err fault h = rw (← h) refl
 
--- the input is an envelope
-pub decryption-Ok : (secrets : List Secret) (input : List ℕ) (payload : Payload) → Ok payload ≡ payload_of input
-    → decryption secrets input ≡ opening secrets payload
-unfolding decryption
-decryption-Ok secrets input payload h = rw (← h) refl
+  -- the input is an envelope
+  pub decryption-Ok : (payload : Payload) → Ok payload ≡ payload_of limit input → decryption limit secrets input ≡ opening secrets payload
+  unfolding decryption
+  decryption-Ok payload h = rw (← h) refl
 
-pub decryption_tries-Ok : (secrets : List Secret) (input : List ℕ) (payload : Payload) → Ok payload ≡ payload_of input
-    → decryption_tries secrets input ≡ tries payload (tried_order secrets payload.label)
-unfolding decryption_tries
-decryption_tries-Ok secrets input payload h = rw (← h) refl
+  pub decryption_derivations-Ok : (payload : Payload) → Ok payload ≡ payload_of limit input
+      → decryption_derivations limit secrets input ≡ tries payload (tried_order secrets payload.label)
+  unfolding decryption_derivations
+  decryption_derivations-Ok payload h = rw (← h) refl

@@ -1,4 +1,13 @@
 pub mod AgreementLemmas
+pub mod ByteLemmas
+pub mod ChoiceLemmas
 pub mod DecryptionLemmas
+pub mod EncryptionLemmas
+pub mod MadeVaultsDecrypt
+pub mod OpenedPlaintext
 pub mod OpeningLemmas
-pub mod UnpaddingLemmas
+pub mod PaddingLemmas
+pub mod RekeyingLemmas
+pub mod SealedOpens
+pub mod SealedReadsBack
+pub mod SealingLemmas

@@ -4,12 +4,12 @@ use Rattle.std.specs.Prelude.{find}
 use Rattle.vault_text.specs.Envelope.{Payload}
 use Rattle.vault_core.specs.Agreement.{agrees, keys_of, tries}
 use Rattle.vault_core.specs.Opening.{deciphered_by, opening}
-use Rattle.vault_core.specs.Secrets.{Secret, tried_order}
-use Rattle.vault_core.specs.Unpadding.{without_padding}
+use Rattle.vault_core.specs.Secrets.{Secret, SecretList, tried_order}
+use Rattle.vault_core.specs.Padding.{without_padding}
 use Rattle.vault_core.specs.declared.fault.Fault.TheVariants.{NoSecretFits, BadPadding}
 use Rattle.vault_core.proofs.AgreementLemmas.{tries-found}
 
-module _ (secrets : List Secret) (payload : Payload) where
+module _ (secrets : SecretList) (payload : Payload) where
   pub opening-no_secret : find (agrees payload) (tried_order secrets payload.label) ≡ None → opening secrets payload ≡ Err NoSecretFits
   unfolding opening
   opening-no_secret none = rw none refl
@@ -21,7 +21,7 @@ module _ (secrets : List Secret) (payload : Payload) where
 
   pub opening-plain : (secret : Secret) (plain : List ℕ) → find (agrees payload) (tried_order secrets payload.label) ≡ Some secret
       → without_padding (deciphered_by (keys_of payload secret) payload.cipher) ≡ Some plain
-      → opening secrets payload ≡ Ok (record { plain = plain; place = tries payload (tried_order secrets payload.label) })
+      → opening secrets payload ≡ Ok (record { output = plain; tried = tries payload (tried_order secrets payload.label) })
   unfolding opening
   opening-plain secret plain found some =
       rw (found, some, tries-found payload (tried_order secrets payload.label) secret found) refl

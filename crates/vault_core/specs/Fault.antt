@@ -1,13 +1,16 @@
--- The table of faults: the number and the text of each.
+-- The table of faults: the number and the text of each, and the fault that a smaller type names.
 use Rattle.std.specs.Prelude.{ℕ, List, codes}
 use Rattle.vault_core.specs.declared.fault.Fault.{Fault}
 use Rattle.vault_core.specs.declared.fault.Fault.TheVariants.{TooLong, NotVault, HeaderTooLong, BadHeader, BadVersion, BadCipher, BadHex, BadPayload, CipherTooLong, SecretTooLong, SecretIsScript, SecretIsVault, SecretEmpty, TooManySecrets, NoEncryptSecret, ManyEncryptSecrets, UnknownEncryptId, EmptyString, AlreadyVault, NoSecretFits, BadPadding, BadLabel, BadName, NameMismatch, PromptSource, NeedNewSecret, OutputNeeded, Read, Write, SaltShort, CannotOpen, Memory, SaltChoice, BadSalt}
 use Rattle.vault_core.specs.declared.fault.Role.TheVariants.{Input, Secret, Salt}
+use Rattle.vault_core.specs.declared.choice.ChoiceFault.{ChoiceFault}
+use Rattle.vault_core.specs.declared.choice.ChoiceFault.TheVariants as choice
 use Rattle.vault_core.specs.declared.password.SecretFault.{SecretFault}
 use Rattle.vault_core.specs.declared.password.SecretFault.TheVariants as secret
 use Rattle.vault_text.specs.declared.fault.TextFault.{TextFault}
 use Rattle.vault_text.specs.declared.fault.TextFault.TheVariants as text
 
+-- the fault's place in the table
 abbrev pub number_of : Fault → ℕ
 number_of TooLong = 1
 number_of NotVault = 2
@@ -44,6 +47,7 @@ number_of Memory = 32
 number_of SaltChoice = 33
 number_of BadSalt = 34
 
+-- what the fault's line says behind `ERROR! `
 abbrev pub text_of : Fault → List ℕ
 text_of TooLong = codes "input is longer than the limit"
 text_of NotVault = codes "input is not vault encrypted data"
@@ -84,7 +88,7 @@ text_of Memory = codes "out of memory"
 text_of SaltChoice = codes "--salt and --salt-file exclude each other"
 text_of BadSalt = codes "a salt text must have 1 to 64 bytes"
 
--- the fault of its name
+-- the fault of the name that a text fault has
 abbrev pub of_text : TextFault → Fault
 of_text text.TooLong = TooLong
 of_text text.NotVault = NotVault
@@ -96,9 +100,15 @@ of_text text.BadHex = BadHex
 of_text text.BadPayload = BadPayload
 of_text text.CipherTooLong = CipherTooLong
 
--- the same
+-- the fault of the name that a secret fault has
 abbrev pub of_secret : SecretFault → Fault
 of_secret secret.SecretTooLong = SecretTooLong
 of_secret secret.SecretIsScript = SecretIsScript
 of_secret secret.SecretIsVault = SecretIsVault
 of_secret secret.SecretEmpty = SecretEmpty
+
+-- the fault of the name that a choice fault has
+abbrev pub of_choice : ChoiceFault → Fault
+of_choice choice.NoEncryptSecret = NoEncryptSecret
+of_choice choice.ManyEncryptSecrets = ManyEncryptSecrets
+of_choice choice.UnknownEncryptId = UnknownEncryptId

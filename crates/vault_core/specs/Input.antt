@@ -9,8 +9,16 @@ use Rattle.vault_core.specs.declared.fault.Role.TheVariants.{Input}
 abbrev pub IsWhole : ℕ → Bool → List ℕ → Type 0
 IsWhole limit ended input = IsTrue ended ⊎ (length input ≡ limit + 1)
 
--- the call answered that the input cannot be read exactly where the source failed, and else this holds
-abbrev pub UnlessUnreadable : {T : Type 0} → ℕ → ℕ → Result T Fault → Type 0 → Type 0
-UnlessUnreadable before after (Ok x) P = (after ≡ before) × P
-UnlessUnreadable before after (Err fault) P =
-    ((fault ≡ Read Input) × HasRisen before after) ⊎ ((fault ≢ Read Input) × (after ≡ before) × P)
+-- the source failed, and the call answered so
+abbrev pub IsUnreadable : ℕ → ℕ → Fault → Type 0
+IsUnreadable before after fault = (fault ≡ Read Input) × HasRisen before after
+
+-- the source did not fail, and the call did not answer that it did
+abbrev pub IsRefused : ℕ → ℕ → Fault → Type 0
+IsRefused before after fault = (fault ≢ Read Input) × (after ≡ before)
+
+-- where the source failed, which the call then answered, the one fact holds, and where it did not, the other
+abbrev pub UnlessUnreadable : {T : Type 0} → ℕ → ℕ → Result T Fault → Type 0 → Type 0 → Type 0
+UnlessUnreadable before after (Ok x) failed read = (after ≡ before) × read
+UnlessUnreadable before after (Err fault) failed read =
+    (IsUnreadable before after fault × failed) ⊎ (IsRefused before after fault × read)

@@ -3,18 +3,18 @@ use Rattle.std.specs.Prelude.{ℕ, ◌==◌, ◌≤◌, nat_eq, nat_lt, if◌the
 use Rattle.std.specs.List.{starts_with}
 use Rattle.vault_text.specs.Header.{marker}
 use Rattle.vault_text.specs.Whitespace.{strip}
-use Rattle.vault_core.specs.declared.limits.TheConstants.{SECRET_LIMIT}
+use Rattle.vault_core.specs.declared.limits.TheConstants.{PASSWORD_FILE_LIMIT}
 use Rattle.vault_core.specs.declared.password.SecretFault.{SecretFault}
 use Rattle.vault_core.specs.declared.password.SecretFault.TheVariants.{SecretTooLong, SecretIsScript, SecretIsVault, SecretEmpty}
 
 -- the length that a password may have
 abbrev pub IsPassword : List ℕ → Type 0
-IsPassword password = (1 ≤ length password) × (length password ≤ SECRET_LIMIT)
+IsPassword password = (1 ≤ length password) × (length password ≤ PASSWORD_FILE_LIMIT)
 
 -- the bytes of a password file without the whitespace at both ends, or the first fault
 unfoldable pub password_of : List ℕ → Result (List ℕ) SecretFault
 password_of file =
-    if nat_lt SECRET_LIMIT (length file) then Err SecretTooLong
+    if nat_lt PASSWORD_FILE_LIMIT (length file) then Err SecretTooLong
     else if starts_with nat_eq file (codes "#!") then Err SecretIsScript
     else if starts_with nat_eq file marker then Err SecretIsVault
     else if length (strip file) == 0 then Err SecretEmpty

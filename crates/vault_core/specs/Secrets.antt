@@ -1,16 +1,33 @@
 -- Secrets, and the order in which they are tried.
-use Rattle.std.specs.Prelude.{ℕ, not, Bool, List, ◌++◌, filter}
+use Rattle.std.specs.Prelude.{ℕ, not, Bool, List, [], ◌++◌, filter, slice_index_or}
 use Rattle.std.specs.Str.{bytes_eq}
+use Rattle.vault_core.specs.declared.label_rule.LabelRule.{LabelRule}
+use Rattle.vault_core.specs.declared.label_rule.LabelRule.TheVariants.{Hint, Required}
 
 -- a password under a label
 pub record Secret : Type 0 where
   pub label : List ℕ
   pub password : List ℕ
 
+-- secrets in the order in which they were given, and what an envelope's label means among them
+pub record SecretList : Type 0 where
+  pub secrets : List Secret
+  pub rule : LabelRule
+
+-- the secret at a place, from 0; past the end an empty one
+abbrev pub secret_at : ℕ → List Secret → Secret
+secret_at place secrets = slice_index_or secrets place (record { label = []; password = [] })
+
 abbrev pub has_label : List ℕ → Secret → Bool
 has_label label secret = bytes_eq secret.label label
 
--- the secrets with an envelope's label, in the order of the list, and then the others, in the same order: the
--- label is only a hint
-unfoldable pub tried_order : List Secret → List ℕ → List Secret
-tried_order secrets label = filter (has_label label) secrets ++ filter (λ secret. not (has_label label secret)) secrets
+-- the secrets that are tried behind those with the label: the others where the label is a hint, none where it is
+-- required
+abbrev pub tried_behind : LabelRule → List ℕ → List Secret → List Secret
+tried_behind Hint label secrets = filter (λ secret. not (has_label label secret)) secrets
+tried_behind Required label secrets = []
+
+-- the secrets with an envelope's label, in the order of the list, and then those that are tried behind them, in the
+-- order of the list too
+unfoldable pub tried_order : SecretList → List ℕ → List Secret
+tried_order list label = filter (has_label label) list.secrets ++ tried_behind list.rule label list.secrets

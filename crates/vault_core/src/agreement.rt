@@ -5,7 +5,9 @@ ghost use Rattle.vault_core.specs.Agreement.{agrees, keys_of, tries};
 ghost use Rattle.vault_core.specs.Secrets.{tried_order};
 ghost use Rattle.vault_core.specs.TriedPart.{tried_part};
 
-use crate::secrets::{Secret, Secrets};
+use crate::label_rule::LabelRule;
+use crate::secret::Secret;
+use crate::secrets::Secrets;
 use vault_kdf::{Keys, Meter, derive, hmac};
 use vault_text::Payload;
 
@@ -17,15 +19,20 @@ pub(crate) fn agreeing_keys(secrets: &Secrets, payload: &Payload, meter: &mut Me
         (find (agrees payload.now) (tried_order secrets.now payload.now.label)) }
     ensures counted { meter.new
         ≡ meter.old + tries payload.now (tried_order secrets.now payload.now.label) }
+    ensures countable { meter.new < 2 ^ 63 }
 {
-    let secrets = secrets.as_slice();
-    if let Some(keys) = first_agreeing(secrets, true, payload, meter) {
+    let list = secrets.as_slice();
+    if let Some(keys) = first_agreeing(list, true, payload, meter) {
         return Some(keys);
     }
-    first_agreeing(secrets, false, payload, meter)
+    match secrets.rule() {
+        LabelRule::Hint => first_agreeing(list, false, payload, meter),
+        LabelRule::Required => None,
+    }
 }
 
-/// The same among the secrets that have the payload's label, or among those that have not.
+/// The keys of the first secret that agrees among those that have the payload's label, or among
+/// those that have not.
 fn first_agreeing(
     secrets: &[Secret],
     labelled: bool,

@@ -1,38 +1,63 @@
 //! Decrypting a vault.
-ghost use Rattle.std.specs.Prelude.{◌≡◌, ℕ, ◌+◌, ◌<◌, ◌≤◌, ◌^◌, List, length, Err};
-ghost use Rattle.vault_text.specs.declared.limits.TheConstants.{CIPHERTEXT_LIMIT, ENVELOPE_LIMIT};
-ghost use Rattle.vault_core.specs.Decryption.{decryption, decryption_tries};
+ghost use Rattle.std.specs.Prelude.{◌≡◌, ℕ, ◌+◌, ◌<◌, ◌≤◌, ◌^◌, List, length};
+ghost use Rattle.vault_core.specs.Decryption.{decryption, decryption_derivations};
 ghost use Rattle.vault_core.specs.Input.{IsWhole, UnlessUnreadable};
-ghost use Rattle.vault_core.specs.Opening.{opened_by};
-ghost use Rattle.vault_core.specs.declared.fault.Fault.TheVariants.{Read};
-ghost use Rattle.vault_core.specs.declared.fault.Role.TheVariants.{Input};
+ghost use Rattle.vault_text.specs.Limits.{IsWorkLength, envelope_limit, limit_of};
 
 use crate::fault::Fault;
 use crate::input::read_payload;
-use crate::opening::open;
+use crate::opening::{Opened, open};
 use crate::ready::Ready;
 use crate::secrets::Secrets;
 use vault_kdf::Meter;
 use vault_text::Source;
 
 /// Reads an envelope and opens it with the first of the secrets, in the tried order, that agrees
-/// with its tag. All of it happens in `work`, whose content is not said after a refusal. The input
-/// is read to its end, or to one byte more than is taken, also where a fault was met before.
+/// with its tag.
+///
+/// All of it happens in `work`, of 16 bytes to `CIPHERTEXT_LIMIT`: an envelope is taken whose
+/// ciphertext fits there. The input is read to its end, or to one byte more than is taken, also
+/// where a fault was met before. Faults come in the order of their numbers, but for
+/// [`Fault::Read`], which comes first: those of the envelope, then [`Fault::NoSecretFits`], then
+/// [`Fault::BadPadding`]. After one `work` holds any bytes.
 pub fn prepare_decrypt<'a, S: Source>(
     src: &mut S,
     work: &'a mut [u8],
     secrets: &Secrets,
     meter: &mut Meter,
 ) -> Result<Ready<'a>, Fault>
-    requires room { length work.old ≡ CIPHERTEXT_LIMIT }
+    requires room { IsWorkLength (length work.old) }
     requires countable { meter.old < 2 ^ 62 }
-    ensures answer { (input : List ℕ) × S.gives src.old input src.new
-        × (length input ≤ ENVELOPE_LIMIT + 1)
+    ensures answer { let limit = limit_of (length work.old) in
+        (input : List ℕ) × S.gives src.old input src.new
+        × (length input ≤ envelope_limit limit + 1)
         × UnlessUnreadable (S.failures src.old) (S.failures src.new) result
-        (IsWhole ENVELOPE_LIMIT (S.ended src.new) input
-        × (decryption secrets.now input ≡ opened_by result)
-        × (meter.new ≡ meter.old + decryption_tries secrets.now input)) }
-    ensures none_tried { result ≡ Err (Read Input) → meter.new ≡ meter.old }
+        ((length input ≤ envelope_limit limit) × (meter.new ≡ meter.old))
+        (IsWhole (envelope_limit limit) (S.ended src.new) input
+        × (result ≡ decryption limit secrets.now input)
+        × (meter.new ≡ meter.old + decryption_derivations limit secrets.now input)) }
+{
+    Ok(Ready::plain(read_and_open(src, work, secrets, meter)?))
+}
+
+/// Reads an envelope and opens it, as `prepare_decrypt` says.
+pub(crate) fn read_and_open<'a, S: Source>(
+    src: &mut S,
+    work: &'a mut [u8],
+    secrets: &Secrets,
+    meter: &mut Meter,
+) -> Result<Opened<'a>, Fault>
+    requires room { IsWorkLength (length work.old) }
+    requires countable { meter.old < 2 ^ 62 }
+    ensures answer { let limit = limit_of (length work.old) in
+        (input : List ℕ) × S.gives src.old input src.new
+        × (length input ≤ envelope_limit limit + 1)
+        × UnlessUnreadable (S.failures src.old) (S.failures src.new) result
+        ((length input ≤ envelope_limit limit) × (meter.new ≡ meter.old))
+        (IsWhole (envelope_limit limit) (S.ended src.new) input
+        × (result ≡ decryption limit secrets.now input)
+        × (meter.new ≡ meter.old + decryption_derivations limit secrets.now input)) }
+    ensures countable { meter.new < 2 ^ 63 }
 {
     let payload = read_payload(src, work)?;
     open(payload, secrets, meter)

@@ -1,9 +1,10 @@
 //! The faults of a run, with their numbers and texts.
 ghost use Rattle.std.specs.Prelude.{◌≡◌};
-ghost use Rattle.vault_core.specs.Fault.{number_of, of_secret, of_text, text_of};
+ghost use Rattle.vault_core.specs.Fault.{number_of, of_choice, of_secret, of_text, text_of};
 ghost use Rattle.vault_core.specs.declared.fault.Fault.TheVariants.{BadLabel as LabelFault, Memory, Read, TooManySecrets, Write};
 ghost use Rattle.vault_core.specs.declared.fault.Role.TheVariants.{Input};
 
+use crate::choice::ChoiceFault;
 use crate::password::SecretFault;
 use crate::ready::WriteFault;
 use crate::secrets::ListFault;
@@ -186,6 +187,18 @@ impl From<ListFault> for Fault {
 
     fn from(_: ListFault) -> Self {
         Fault::TooManySecrets
+    }
+}
+
+impl From<ChoiceFault> for Fault {
+    ghost from_gives = { λ fault of. of ≡ of_choice fault };
+
+    fn from(fault: ChoiceFault) -> Self {
+        match fault {
+            ChoiceFault::NoEncryptSecret => Fault::NoEncryptSecret,
+            ChoiceFault::ManyEncryptSecrets => Fault::ManyEncryptSecrets,
+            ChoiceFault::UnknownEncryptId => Fault::UnknownEncryptId,
+        }
     }
 }
 

@@ -1,7 +1,13 @@
 //! Laws of the definitions, each the contract of a function that does nothing.
 ghost use Rattle.std.specs.Prelude.{◌≡◌, ℕ, List, Some};
 ghost use Rattle.vault_aes.specs.Padding.{IsPadded};
-ghost use Rattle.vault_core.specs.Unpadding.{without_padding};
+ghost use Rattle.vault_core.specs.Laws.{EncryptedDecrypts, RekeyedDecrypts, SealedOpens, SealedReadsBack};
+ghost use Rattle.vault_core.specs.Padding.{padded, without_padding};
+
+/// What is put on is padding.
+pub fn padding_goes_on()
+    ensures { (plain : List ℕ) → IsPadded plain (padded plain) }
+{}
 
 /// What is taken off is padding, and all padding is taken off.
 pub fn padding_comes_off()
@@ -9,4 +15,24 @@ pub fn padding_comes_off()
         → IsPadded plain padded }
     ensures every { (plain padded : List ℕ) → IsPadded plain padded
         → without_padding padded ≡ Some plain }
+{}
+
+/// Opening a sealed plaintext gives it back.
+pub fn sealed_opens()
+    ensures { SealedOpens }
+{}
+
+/// Reading the envelope of a sealed plaintext gives what was sealed.
+pub fn sealed_reads_back()
+    ensures { SealedReadsBack }
+{}
+
+/// Decrypting what was encrypted gives the input.
+pub fn encrypted_decrypts()
+    ensures { EncryptedDecrypts }
+{}
+
+/// Decrypting what was rekeyed gives what decrypting gave before.
+pub fn rekeyed_decrypts()
+    ensures { RekeyedDecrypts }
 {}

@@ -2,7 +2,7 @@
 ghost use Rattle.std.specs.Prelude.{◌≡◌, IfOk, MatchResult};
 ghost use Rattle.vault_core.specs.Password.{IsPassword, password_of};
 
-use crate::limits::SECRET_LIMIT;
+use crate::limits::PASSWORD_FILE_LIMIT;
 use thiserror::Error;
 use vault_text::{MARKER, strip};
 
@@ -29,7 +29,7 @@ pub fn password_of(file: &[u8]) -> Result<&[u8], SecretFault>
         (λ fault. password_of file.now ≡ Err fault) }
     ensures fits { IfOk result (λ password. IsPassword password.now) }
 {
-    if file.len() > SECRET_LIMIT {
+    if file.len() > PASSWORD_FILE_LIMIT {
         return Err(SecretFault::SecretTooLong);
     }
     if file.starts_with(SCRIPT_MARKER) {

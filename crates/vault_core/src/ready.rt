@@ -1,10 +1,16 @@
 //! Output that is ready to be written.
 ghost use Rattle.std.specs.Prelude.{◌≡◌, ◌≢◌, ℕ, take, OnOk, OnErr};
 ghost use Rattle.vault_text.specs.Failures.{CountsFailure};
+ghost use Rattle.vault_core.specs.Form.{form_of};
+ghost use Rattle.vault_core.specs.Sealing.{text_in};
 
+use crate::form::Form;
+use crate::opening::Opened;
+use crate::output::Output;
+use crate::sealing::Sealed;
 use std::marker::Model;
 use thiserror::Error;
-use vault_text::{Sink, SinkFailed, Stage, put_all};
+use vault_text::{Sink, SinkFailed, Stage};
 
 /// Why output was not written whole.
 #[derive(Clone, Copy, Debug, PartialEq, Eq, Error)]
@@ -19,10 +25,11 @@ impl From<SinkFailed> for WriteFault {
     }
 }
 
-/// Output that lies in the memory into which the input was read.
+/// Output whose text lies in the memory that a call was lent. A vault is spelled only as it is
+/// written.
 #[derive(Drop)]
 pub struct Ready<'a> {
-    plain: &'a [u8],
+    output: Output<'a>,
     tried: usize,
 }
 
@@ -31,15 +38,32 @@ impl<'a> Model for Ready<'a> {
 
     ghost Value = { Ready };
 
-    ghost view = { λ r. record { output = r.plain.now; tried = r.tried } };
+    ghost use Rattle.vault_core.specs.Output.{bytes_of};
+
+    ghost view = { λ r. record { output = bytes_of r.output; tried = r.tried } };
 }
 
 impl<'a> Ready<'a> {
     /// Plaintext that is written as it is.
-    pub(crate) fn plain(plain: &'a [u8], tried: usize) -> Self
-        ensures { result ≡ record { output = plain.now; tried = tried } }
+    pub(crate) fn plain(opened: Opened<'a>) -> Self
+        ensures { result ≡ opened.entry }
     {
-        Ready { plain, tried }
+        let Opened { body, len, tried } = opened;
+        Ready {
+            output: Output::Plain(&body[..len]),
+            tried,
+        }
+    }
+
+    /// A vault that is written in the form.
+    pub(crate) fn vault(vault: Sealed<'a>, form: Form<'a>, tried: usize) -> Self
+        ensures { result
+            ≡ record { output = text_in (form_of form.entry) vault.entry; tried = tried } }
+    {
+        Ready {
+            output: Output::Vault(vault, form),
+            tried,
+        }
     }
 
     /// The place in the tried order, counted from 1, of the secret that agreed; 0 where none was
@@ -61,7 +85,7 @@ impl<'a> Ready<'a> {
         ensures failed { CountsFailure (K.failures sink.old) (K.failures sink.new) result }
     {
         sink.begin()?;
-        put_all(sink, self.plain)?;
+        self.output.write(sink)?;
         sink.finish()?;
         Ok(())
     }

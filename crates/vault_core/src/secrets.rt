@@ -1,8 +1,14 @@
 //! The secrets that a vault is tried with.
-ghost use Rattle.std.specs.Prelude.{◌≡◌, ◌≤◌, ◌↔◌, [], ◌∷◌, ◌++◌, length, IsErr, OnOk, OnErr};
+ghost use Rattle.std.specs.Prelude.{◌≡◌, ◌<◌, ◌≤◌, ◌↔◌, [], ◌∷◌, ◌++◌, length, IsErr, OnOk, OnErr};
+ghost use Rattle.std.specs.Option.{option_copied};
+ghost use Rattle.vault_core.specs.Choice.{choice};
 ghost use Rattle.vault_core.specs.Password.{IsPassword};
+ghost use Rattle.vault_core.specs.declared.label_rule.LabelRule.TheVariants.{Hint};
 
-use crate::limits::SECRETS_LIMIT;
+use crate::choice::{ChoiceFault, choice};
+use crate::label_rule::LabelRule;
+use crate::limits::SECRET_COUNT_LIMIT;
+use crate::secret::Secret;
 use arrayvec::ArrayVec;
 use std::marker::Model;
 use thiserror::Error;
@@ -15,99 +21,88 @@ pub enum ListFault {
     TooManySecrets,
 }
 
-/// A password under a label.
-#[derive(Drop)]
-pub(crate) struct Secret<'p> {
-    pub label: Label,
-    pub password: &'p [u8],
-}
-
-impl<'p> Model for Secret<'p> {
-    ghost use Rattle.vault_core.specs.Secrets.{Secret};
-
-    ghost Value = { Secret };
-
-    ghost view = { λ s. record { label = s.label; password = s.password.now } };
-}
-
-impl<'p> Secret<'p> {
-    ghost use Rattle.vault_core.specs.Secrets.{has_label};
-
-    pub(crate) fn has_label(&self, label: &Label) -> bool
-        ensures { result ≡ has_label label.now self.now }
-    {
-        self.label == *label
-    }
-}
-
-/// An unused place of a list.
-impl<'p> Default for Secret<'p> {
-    fn default() -> Self {
-        Secret {
-            label: Label::default_label(),
-            password: b"",
-        }
-    }
-}
-
-/// What the label of an envelope says of the secrets that are tried.
-#[derive(Clone, Copy, Debug, PartialEq, Eq)]
-pub enum LabelRule {
-    /// Secrets with the label are tried first, then the others.
-    Hint,
-    /// Secrets with the label alone are tried.
-    Required,
-}
-
-/// A list of at most 16 secrets. The passwords are borrowed.
+/// A list of at most 16 secrets, whose passwords are borrowed, and the rule for an envelope's label.
 #[derive(Drop)]
 pub struct Secrets<'p> {
-    list: ArrayVec<Secret<'p>, SECRETS_LIMIT>,
+    list: ArrayVec<Secret<'p>, SECRET_COUNT_LIMIT>,
+    rule: LabelRule,
 }
 
 impl<'p> Model for Secrets<'p> {
-    ghost use Rattle.std.specs.Prelude.{List};
-    ghost use Rattle.vault_core.specs.Secrets.{Secret};
+    ghost use Rattle.vault_core.specs.Secrets.{SecretList};
 
-    ghost Value = { List Secret };
+    ghost Value = { SecretList };
 
-    ghost view = { λ s. s.list.items };
+    ghost view = { λ s. record { secrets = s.list.items; rule = s.rule } };
 }
 
 impl<'p> Secrets<'p> {
-    /// No secrets.
+    ghost use Rattle.vault_core.specs.Secrets.{secret_at};
+
+    /// No secrets, and labels that are hints.
     pub fn new() -> Self
-        ensures { result ≡ [] }
+        ensures { result ≡ record { secrets = []; rule = Hint } }
     {
         Secrets {
             list: ArrayVec::new(),
+            rule: LabelRule::Hint,
         }
     }
 
     pub fn len(&self) -> usize
-        ensures { result ≡ length self.now }
+        ensures { result ≡ length self.now.secrets }
     {
         self.list.len()
     }
 
     pub(crate) fn as_slice(&self) -> &[Secret<'p>]
-        ensures secrets { result.now ≡ self.now }
-        ensures fits { length result.now ≤ SECRETS_LIMIT }
+        ensures secrets { result.now ≡ self.now.secrets }
+        ensures fits { length result.now ≤ SECRET_COUNT_LIMIT }
     {
         self.list.as_slice()
     }
 
-    /// Adds a secret at the end.
+    /// The secret at a place, counted from 0.
+    pub(crate) fn get(&self, place: usize) -> &Secret<'p>
+        requires { place < length self.now.secrets }
+        ensures { result.now ≡ secret_at place self.now.secrets }
+    {
+        &self.list.as_slice()[place]
+    }
+
+    pub(crate) fn rule(&self) -> LabelRule
+        ensures { result ≡ self.now.rule }
+    {
+        self.rule
+    }
+
+    /// Sets what the label of an envelope means.
+    pub fn set_rule(&mut self, rule: LabelRule)
+        ensures { self.new ≡ record { secrets = self.old.secrets; rule = rule } }
+    {
+        self.rule = rule;
+    }
+
+    /// Adds a secret at the end. A full list is refused and stays as it was.
     pub fn push(&mut self, label: Label, password: &'p [u8]) -> Result<(), ListFault>
         requires { IsPassword password.now }
-        ensures added { OnOk result
-            (self.new ≡ self.old ++ record { label = label; password = password.now } ∷ []) }
-        ensures full { IsErr result ↔ (length self.old ≡ SECRETS_LIMIT) }
+        ensures added { OnOk result (self.new.secrets
+            ≡ self.old.secrets ++ record { label = label; password = password.now } ∷ []) }
+        ensures rule { OnOk result (self.new.rule ≡ self.old.rule) }
+        ensures full { IsErr result ↔ (length self.old.secrets ≡ SECRET_COUNT_LIMIT) }
         ensures unchanged { OnErr result (self.new ≡ self.old) }
     {
         match self.list.try_push(Secret { label, password }) {
             Ok(()) => Ok(()),
             Err(_) => Err(ListFault::TooManySecrets),
         }
+    }
+
+    /// The place, from 0, of the secret to encrypt with: the first of the label, or the only one
+    /// where no label is given.
+    pub fn encrypt_choice(&self, label: Option<&Label>) -> Result<usize, ChoiceFault>
+        ensures { result ≡ choice self.now.secrets (option_copied label.entry) }
+    {
+        choice(self.as_slice(), label)
     }
 }

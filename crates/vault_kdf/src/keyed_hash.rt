@@ -4,9 +4,10 @@ ghost use Rattle.vault_kdf.specs.Hmac.{hmac, padded_key};
 use crate::exclusive_or::exclusive_or;
 use sha2::{Digest, Sha256};
 
-// Of SHA-256, in bytes.
+// The length of a digest of SHA-256, in bytes.
 pub(crate) const DIGEST_LEN: usize = 32;
 
+// The length of a block of SHA-256, in bytes.
 const BLOCK_LEN: usize = 64;
 
 const INNER_PAD: [u8; BLOCK_LEN] = [0x36; BLOCK_LEN];
@@ -55,7 +56,7 @@ impl Hmac {
     }
 
     /// The tag of the message.
-    pub fn finish(self) -> [u8; 32]
+    pub fn finish(self) -> [u8; DIGEST_LEN]
         ensures { (key message : List ℕ) → StandsFor self key message → result ≡ hmac key message }
     {
         let Hmac { inner, outer } = self;

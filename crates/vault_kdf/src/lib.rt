@@ -1,5 +1,15 @@
 //! The keys of a vault: HMAC with SHA-256 (RFC 2104), PBKDF2 over it (RFC 8018), and the three keys
 //! that a vault's password and salt give.
+//!
+//! ```rust
+//! let mut meter = Meter::new();
+//! let keys = derive(b"password", b"salt", &mut meter);
+//! assert_eq!(rt; meter.count(), 1);
+//! let mut tag = Hmac::new(&keys.mac);
+//! tag.update(b"cipher");
+//! tag.update(b"text");
+//! assert_eq!(rt; tag.finish(), hmac(&keys.mac, b"ciphertext"));
+//! ```
 #![tactic(auto)]
 
 mod derivation;

@@ -15,12 +15,14 @@ impl Model for Meter {
 }
 
 impl Meter {
+    /// A count of 0.
     pub fn new() -> Meter
         ensures { result ≡ 0 }
     {
         Meter { derivations: 0 }
     }
 
+    /// How many derivations it has counted.
     pub fn count(&self) -> u64
         ensures { result ≡ self.now }
     {

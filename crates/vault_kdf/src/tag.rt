@@ -1,10 +1,10 @@
 ghost use Rattle.std.specs.Prelude.{◌≡◌};
 ghost use Rattle.vault_kdf.specs.Hmac.{hmac};
 
-use crate::keyed_hash::Hmac;
+use crate::keyed_hash::{DIGEST_LEN, Hmac};
 
 /// The HMAC-SHA-256 tag of a whole message (RFC 2104), under a key of any length.
-pub fn hmac(key: &[u8], message: &[u8]) -> [u8; 32]
+pub fn hmac(key: &[u8], message: &[u8]) -> [u8; DIGEST_LEN]
     ensures { result ≡ hmac key.now message.now }
 {
     let mut state = Hmac::new(key);

@@ -1,14 +1,13 @@
 -- Hexadecimal text, pair by pair.
 use Rattle.std.proofs.Common.{◌≡◌, ℕ, ◌+◌, ◌*◌, ◌/◌, ◌%◌, ◌≤◌, ◌==◌, Bool, true, false, List, [], ◌∷◌, ◌++◌, length, take, drop, Option, Some, None, Result, Ok, Err, eq-eqb, refl, sym, ap, ◌∙◌, arith, inl, inr, append_assoc}
-use Rattle.std.specs.Prelude.{if◌then◌else◌, slice_get, MatchResult, is_err, is_some, not}
+use Rattle.std.specs.Prelude.{if◌then◌else◌, slice_get, ◌||◌, MatchResult, is_ok, is_some, not}
 use Rattle.std.proofs.lemmas.List.{append-nil, length-drop, take-append-drop}
 use Rattle.std.specs.Option.{option_map, option_to_list}
 use Rattle.std.specs.Result.{result_ok}
 use Rattle.std.proofs.lemmas.Bool.{cases_Bool, eqb-true}
 use Rattle.hex.specs.Hex.{decode_of, decode_pairs, decode_sized, digit_or_error, hex_digit_value, pair_value, ◌>>=◌}
 use Rattle.hex.specs.declared.error.FromHexError.{FromHexError}
-use Rattle.vault_text.specs.Hexadecimal.{unhex, unhex_on, Decodes}
-use Rattle.vault_text.specs.declared.hexadecimal.HexDecoder.{HexDecoder}
+use Rattle.vault_text.specs.Hexadecimal.{DecoderState, unhex, unhex_on, Decodes}
 
 -- the byte of two digits
 abbrev pub byte_of : ℕ → ℕ → Option ℕ
@@ -113,57 +112,39 @@ decode_sized-fits pairs n fits =
     let half : (length pairs / 2 == n) ≡ true = eq-eqb (length pairs / 2) n (omega arith) in
     rw half refl
 
-answered-ok : (out : List ℕ) (decoded : Result (List ℕ) FromHexError) (r : Result (Unit {0}) FromHexError)
-    → Answered out decoded r → is_err r ≡ false → result_ok decoded ≡ Some out
-answered-ok out (Ok bytes) r answered good = ap Some (sym answered.1)
-answered-ok out (Err e) r answered good = let bad : is_err r ≡ true = rw answered refl in cc
-
-answered-err : (out : List ℕ) (decoded : Result (List ℕ) FromHexError) (r : Result (Unit {0}) FromHexError)
-    → Answered out decoded r → is_err r ≡ true → result_ok decoded ≡ None
-answered-err out (Ok bytes) r answered bad = let good : is_err r ≡ false = rw answered.0 refl in cc
-answered-err out (Err e) r answered bad = refl
+pub unhex-answered : (pairs out : List ℕ) (n : ℕ) (r : Result (Unit {0}) FromHexError) → length pairs ≡ 2 * n
+    → Answered out (decode_sized pairs n) r → unhex pairs ≡ (if is_ok r then Some out else None)
+unhex-answered pairs out n r fits answered = found (decode_of pairs) (rw (decode_sized-fits pairs n fits) at answered)
+  where
+    found : (decoded : Result (List ℕ) FromHexError) → Answered out decoded r → result_ok decoded ≡ (if is_ok r then Some out else None)
+    found (Ok bytes) answered = rw (answered.0, answered.1) refl
+    found (Err e) answered = rw answered refl
 
 -- where no digit waits, the text stands alone
-unhex_on-aligned : (decoder : HexDecoder) (text : List ℕ) → decoder.high ≡ None
+unhex_on-aligned : (decoder : DecoderState) (text : List ℕ) → decoder.high ≡ None
     → unhex_on decoder text ≡ (if decoder.is_bad then None else unhex text)
 unhex_on-aligned decoder text aligned = rw aligned refl
 
-unless_bad : (is_bad : Bool) (bytes : List ℕ) (whole pairs more : Option (List ℕ)) → whole ≡ both_found pairs more → pairs ≡ Some bytes
-    → (if is_bad then None else whole) ≡ option_map (λ rest. bytes ++ rest) (if is_bad then None else more)
-unless_bad true bytes whole pairs more e found = refl
-unless_bad false bytes whole pairs more e found = rw (e, found) refl
+unless_bad : (is_bad is_good : Bool) (bytes : List ℕ) (whole pairs more : Option (List ℕ)) → whole ≡ both_found pairs more
+    → pairs ≡ (if is_good then Some bytes else None)
+    → (if is_bad then None else whole) ≡ option_map (λ rest. bytes ++ rest) (if is_bad || not is_good then None else more)
+unless_bad true is_good bytes whole pairs more e found = refl
+unless_bad false true bytes whole pairs more e found = rw (e, found) refl
+unless_bad false false bytes whole pairs more e found = rw (e, found) refl
 
-none_where_bad : (is_bad : Bool) (whole : Option (List ℕ)) → whole ≡ None → (if is_bad then None else whole) ≡ None
-none_where_bad true whole e = refl
-none_where_bad false whole e = e
-
--- whole pairs that are digits
-pub Decodes-pairs : (decoder : HexDecoder) (pairs bytes : List ℕ) (n : ℕ) (r : Result (Unit {0}) FromHexError)
-    → decoder.high ≡ None → length pairs ≡ 2 * n → Answered bytes (decode_sized pairs n) r → is_err r ≡ false
-    → Decodes decoder pairs bytes decoder
-Decodes-pairs decoder pairs bytes n r aligned fits answered good =
-    let found : unhex pairs ≡ Some bytes = answered-ok bytes (decode_of pairs) r (rw (decode_sized-fits pairs n fits) at answered) good in
-    record {
-      spelled = λ more.
-          unhex_on-aligned decoder (pairs ++ more) aligned
-          ∙ unless_bad decoder.is_bad bytes _ (unhex pairs) (unhex more) (unhex-append pairs more (omega arith)) found
-          ∙ ap (option_map (λ rest. bytes ++ rest)) (sym (unhex_on-aligned decoder more aligned));
-    }
-
--- whole pairs of which one is not
-pub Decodes-bad : (decoder : HexDecoder) (pairs bytes : List ℕ) (n : ℕ) (r : Result (Unit {0}) FromHexError)
-    → decoder.high ≡ None → length pairs ≡ 2 * n → Answered bytes (decode_sized pairs n) r → is_err r ≡ true
-    → Decodes decoder pairs bytes (record { high = decoder.high; is_bad = true })
-Decodes-bad decoder pairs bytes n r aligned fits answered bad =
-    let none : unhex pairs ≡ None = answered-err bytes (decode_of pairs) r (rw (decode_sized-fits pairs n fits) at answered) bad in
-    record {
-      spelled = λ more.
-          unhex_on-aligned decoder (pairs ++ more) aligned
-          ∙ none_where_bad decoder.is_bad _ (unhex-append pairs more (omega arith) ∙ rw none refl);
-    }
+-- whole pairs, where no digit waits
+pub Decodes-pairs : (decoder : DecoderState) (pairs bytes : List ℕ) (is_good : Bool)
+    → decoder.high ≡ None → unhex pairs ≡ (if is_good then Some bytes else None) → length pairs % 2 ≡ 0
+    → Decodes decoder pairs bytes (record { high = decoder.high; is_bad = decoder.is_bad || not is_good })
+Decodes-pairs decoder pairs bytes is_good aligned found even = record {
+  spelled = λ more.
+      unhex_on-aligned decoder (pairs ++ more) aligned
+      ∙ unless_bad decoder.is_bad is_good bytes _ (unhex pairs) (unhex more) (unhex-append pairs more even) found
+      ∙ ap (option_map (λ rest. bytes ++ rest)) (sym (unhex_on-aligned (record { high = decoder.high; is_bad = decoder.is_bad || not is_good }) more aligned));
+}
 
 -- a digit that waits for its second
-pub Decodes-waits : (decoder : HexDecoder) (rest : List ℕ) → decoder.high ≡ None → length rest ≤ 1
+pub Decodes-waits : (decoder : DecoderState) (rest : List ℕ) → decoder.high ≡ None → length rest ≤ 1
     → Decodes decoder rest [] (record { high = slice_get rest 0; is_bad = decoder.is_bad })
 Decodes-waits decoder [] aligned one =
     record { spelled = λ more. unhex_on-aligned decoder more aligned ∙ sym (option_map-nil (if decoder.is_bad then None else unhex more)) }
@@ -177,7 +158,7 @@ option_map-append xs ys (Some zs) = ap Some (sym (append_assoc xs ys zs))
 option_map-append xs ys None = refl
 
 -- digits that were taken first, and digits that were taken then
-pub Decodes-more : (a b c : HexDecoder) (xs ys first second : List ℕ)
+pub Decodes-more : (a b c : DecoderState) (xs ys first second : List ℕ)
     → Decodes a xs first b → Decodes b ys second c → Decodes a (xs ++ ys) (first ++ second) c
 Decodes-more a b c xs ys first second p q = record {
   spelled = λ more.
@@ -187,7 +168,7 @@ Decodes-more a b c xs ys first second p q = record {
 }
 
 -- the digit that waits is the first of the text
-pub Decodes-waiting : (old between new : HexDecoder) (high : ℕ) (digits bytes : List ℕ)
+pub Decodes-waiting : (old between new : DecoderState) (high : ℕ) (digits bytes : List ℕ)
     → old.high ≡ Some high → between.high ≡ None → between.is_bad ≡ old.is_bad
     → Decodes between (high ∷ digits) bytes new → Decodes old digits bytes new
 Decodes-waiting old between new high digits bytes waits aligned same p = record {
@@ -197,7 +178,7 @@ Decodes-waiting old between new high digits bytes waits aligned same p = record 
 }
 
 -- whole pairs, and the digit that is left
-pub Decodes-aligned : (old between : HexDecoder) (digits bytes : List ℕ) (n : ℕ) → between.high ≡ None → length digits ≤ 2 * n + 1
+pub Decodes-aligned : (old between : DecoderState) (digits bytes : List ℕ) (n : ℕ) → between.high ≡ None → length digits ≤ 2 * n + 1
     → Decodes old (take (2 * n) digits) bytes between
     → Decodes old digits bytes (record { high = slice_get (drop (2 * n) digits) 0; is_bad = between.is_bad })
 Decodes-aligned old between digits bytes n aligned short p =
@@ -206,7 +187,7 @@ Decodes-aligned old between digits bytes n aligned short p =
     rw (take-append-drop, append-nil) at more
 
 -- nothing follows
-pub unhex_on-nil : (decoder : HexDecoder) (is_complete : Bool) → decoder.is_bad ≡ false → is_some decoder.high ≡ not is_complete
+pub unhex_on-nil : (decoder : DecoderState) (is_complete : Bool) → decoder.is_bad ≡ false → is_some decoder.high ≡ not is_complete
     → unhex_on decoder [] ≡ (if is_complete then Some [] else None)
 unhex_on-nil decoder is_complete good waits = rw good (ends decoder.high is_complete waits)
   where

@@ -5,13 +5,12 @@ use Rattle.std.specs.List.{before_first, after_first, position_or_len, count_by}
 use Rattle.std.specs.Option.{option_map, ok_or}
 use Rattle.std.proofs.lemmas.Bool.{cases_Bool, eqb-true}
 use Rattle.std.proofs.lemmas.Bool.Decides.{nat_tests}
-use Rattle.std.proofs.lemmas.List.Sums.{sum_by-cons, passes_at_first, split_at_first}
-use Rattle.vault_text.specs.Envelope.{◌>>=◌}
-use Rattle.vault_text.specs.Hexadecimal.{unhex_on, Decodes}
+use Rattle.std.proofs.lemmas.List.Sums.{sum_by-cons}
+use Rattle.vault_text.specs.Steps.{◌>>=◌}
+use Rattle.vault_text.specs.Hexadecimal.{DecoderState, unhex_on, Decodes}
 use Rattle.vault_text.specs.InnerText.{Parts, cut, is_line_feed}
 use Rattle.vault_text.specs.InnerReader.{PartState, InnerState, TakesDigits, part_on, payload_of, payload_on, rest_of_parts}
-use Rattle.vault_text.specs.declared.limits.TheConstants.{SALT_LIMIT, TAG_LENGTH, CIPHERTEXT_LIMIT}
-use Rattle.vault_text.specs.declared.hexadecimal.HexDecoder.{HexDecoder}
+use Rattle.vault_text.specs.declared.limits.TheConstants.{TAG_LENGTH}
 use Rattle.vault_text.specs.declared.fault.TextFault.{TextFault}
 use Rattle.vault_text.specs.declared.fault.TextFault.TheVariants.{BadPayload, CipherTooLong}
 use Rattle.vault_text.specs.declared.reader.inner_text.Part.{Part}
@@ -26,8 +25,8 @@ kept_bytes limit fault is_long bytes out None = refl
 kept_bytes limit fault is_long bytes out (Some rest) = rw (append_assoc bytes out rest) refl
 
 -- the bytes that the digits complete stand behind those of the part
-pub TakesDigits-kept : (limit : ℕ) (bytes digits out : List ℕ) (old new : HexDecoder) (is_long : Bool) → Decodes old digits out new
-    → TakesDigits limit (record { bytes = bytes; decoder = old; is_long = is_long }) digits (record { bytes = bytes ++ out; decoder = new; is_long = is_long })
+pub TakesDigits-kept : (limit : ℕ) (bytes digits out : List ℕ) (old new : DecoderState) (is_long : Bool) → Decodes old digits out new
+    → TakesDigits (record { bytes = bytes; decoder = old; limit = limit; is_long = is_long }) digits (record { bytes = bytes ++ out; decoder = new; limit = limit; is_long = is_long })
 TakesDigits-kept limit bytes digits out old new is_long decoded = record {
   same = λ fault more. rw (decoded.spelled more) (kept_bytes limit fault is_long bytes out (unhex_on new more));
 }
@@ -51,14 +50,6 @@ after_first-other : (b : ℕ) (text : List ℕ) → is_line_feed b ≡ false
 after_first-other b text other =
     let step : 1 + position_or_len is_line_feed text + 1 ≡ suc (position_or_len is_line_feed text + 1) = omega arith in
     rw (other, step) refl
-
--- a text is what stands before its first LF, the LF, and what stands behind it
-pub line_feed_found : (text : List ℕ) (end : ℕ) → end ≡ position_or_len is_line_feed text → end < length text
-    → text ≡ take end text ++ 10 ∷ drop (end + 1) text
-line_feed_found text end place inside =
-    let inside_text : position_or_len is_line_feed text < length text = omega arith in
-    let byte : get_or text (position_or_len is_line_feed text) 0 ≡ 10 = eqb-true _ 10 (passes_at_first is_line_feed text 0 inside_text) in
-    rw place (rw byte at (split_at_first is_line_feed text 0 inside_text))
 
 -- ---- what the parts still get
 
@@ -130,14 +121,14 @@ rest_of_parts-append part (b ∷ text) more =
 -- ---- the payload
 
 payload_of-salt : (inner : InnerState) (salt : PartState) (part : Part) (digits label : List ℕ) (found : Option Parts)
-    → TakesDigits SALT_LIMIT inner.salt digits salt
+    → TakesDigits inner.salt digits salt
     → (ok_or (option_map (with_digits Salt digits) found) BadPayload >>= payload_of inner label)
     ≡ (ok_or found BadPayload >>= payload_of (record { part = part; salt = salt; tag = inner.tag; cipher = inner.cipher }) label)
 payload_of-salt inner salt part digits label None taken = refl
 payload_of-salt inner salt part digits label (Some parts) taken = rw (taken.same BadPayload parts.salt) refl
 
 payload_of-tag : (inner : InnerState) (tag : PartState) (part : Part) (digits label : List ℕ) (found : Option Parts)
-    → TakesDigits TAG_LENGTH inner.tag digits tag
+    → TakesDigits inner.tag digits tag
     → (ok_or (option_map (with_digits Tag digits) found) BadPayload >>= payload_of inner label)
     ≡ (ok_or found BadPayload >>= payload_of (record { part = part; salt = inner.salt; tag = tag; cipher = inner.cipher }) label)
 payload_of-tag inner tag part digits label None taken = refl
@@ -145,7 +136,7 @@ payload_of-tag inner tag part digits label (Some parts) taken = rw (taken.same B
 
 -- a salt takes what stands before the first LF of a text, and the reader goes on at what `part` gets of the rest
 pub payload_on-salt : (inner : InnerState) (salt : PartState) (part : Part) (text digits front rest label : List ℕ)
-    → inner.part ≡ Salt → digits ≡ before_first is_line_feed text → TakesDigits SALT_LIMIT inner.salt digits salt
+    → inner.part ≡ Salt → digits ≡ before_first is_line_feed text → TakesDigits inner.salt digits salt
     → rest_of_parts Salt front ≡ rest_of_parts part rest
     → payload_on inner label (digits ++ front) ≡ payload_on (record { part = part; salt = salt; tag = inner.tag; cipher = inner.cipher }) label rest
 unfolding payload_on
@@ -155,7 +146,7 @@ payload_on-salt inner salt part text digits front rest label here cut_off taken 
     rw (here, got) (payload_of-salt inner salt part digits label (rest_of_parts part rest) taken)
 
 pub payload_on-tag : (inner : InnerState) (tag : PartState) (part : Part) (text digits front rest label : List ℕ)
-    → inner.part ≡ Tag → digits ≡ before_first is_line_feed text → TakesDigits TAG_LENGTH inner.tag digits tag
+    → inner.part ≡ Tag → digits ≡ before_first is_line_feed text → TakesDigits inner.tag digits tag
     → rest_of_parts Tag front ≡ rest_of_parts part rest
     → payload_on inner label (digits ++ front) ≡ payload_on (record { part = part; salt = inner.salt; tag = tag; cipher = inner.cipher }) label rest
 unfolding payload_on
@@ -166,7 +157,7 @@ payload_on-tag inner tag part text digits front rest label here cut_off taken sa
 
 -- the ciphertext takes all of a text
 pub payload_on-cipher : (inner : InnerState) (cipher : PartState) (text more label : List ℕ)
-    → inner.part ≡ Cipher → TakesDigits CIPHERTEXT_LIMIT inner.cipher text cipher
+    → inner.part ≡ Cipher → TakesDigits inner.cipher text cipher
     → payload_on inner label (text ++ more) ≡ payload_on (record { part = inner.part; salt = inner.salt; tag = inner.tag; cipher = cipher }) label more
 unfolding payload_on
 payload_on-cipher inner cipher text more label here taken = rw (here, taken.same CipherTooLong more) refl
@@ -191,31 +182,31 @@ payload_on-end inner label here = rw here refl
 
 -- the first part that is refused, or the payload
 pub payload_on-bad_salt : (inner : InnerState) (label : List ℕ) (fault : TextFault) → inner.part ≡ Cipher
-    → part_on SALT_LIMIT BadPayload inner.salt [] ≡ Err fault → Err fault ≡ payload_on inner label []
+    → part_on BadPayload inner.salt [] ≡ Err fault → Err fault ≡ payload_on inner label []
 payload_on-bad_salt inner label fault here salt = sym (payload_on-end inner label here ∙ rw salt refl)
 
 pub payload_on-bad_tag : (inner : InnerState) (label s : List ℕ) (fault : TextFault) → inner.part ≡ Cipher
-    → part_on SALT_LIMIT BadPayload inner.salt [] ≡ Ok s → part_on TAG_LENGTH BadPayload inner.tag [] ≡ Err fault
+    → part_on BadPayload inner.salt [] ≡ Ok s → part_on BadPayload inner.tag [] ≡ Err fault
     → Err fault ≡ payload_on inner label []
 payload_on-bad_tag inner label s fault here salt tag = sym (payload_on-end inner label here ∙ rw (salt, tag) refl)
 
 pub payload_on-odd_tag : (inner : InnerState) (label s t : List ℕ) → inner.part ≡ Cipher
-    → part_on SALT_LIMIT BadPayload inner.salt [] ≡ Ok s → part_on TAG_LENGTH BadPayload inner.tag [] ≡ Ok t → length t ≢ TAG_LENGTH
+    → part_on BadPayload inner.salt [] ≡ Ok s → part_on BadPayload inner.tag [] ≡ Ok t → length t ≢ TAG_LENGTH
     → Err BadPayload ≡ payload_on inner label []
 payload_on-odd_tag inner label s t here salt tag odd =
     let test : (length t == TAG_LENGTH) ≡ false = grind (arith, nat_tests) in
     sym (payload_on-end inner label here ∙ rw (salt, tag, test) refl)
 
 pub payload_on-bad_cipher : (inner : InnerState) (label s t : List ℕ) (fault : TextFault) → inner.part ≡ Cipher
-    → part_on SALT_LIMIT BadPayload inner.salt [] ≡ Ok s → part_on TAG_LENGTH BadPayload inner.tag [] ≡ Ok t → length t ≡ TAG_LENGTH
-    → part_on CIPHERTEXT_LIMIT CipherTooLong inner.cipher [] ≡ Err fault → Err fault ≡ payload_on inner label []
+    → part_on BadPayload inner.salt [] ≡ Ok s → part_on BadPayload inner.tag [] ≡ Ok t → length t ≡ TAG_LENGTH
+    → part_on CipherTooLong inner.cipher [] ≡ Err fault → Err fault ≡ payload_on inner label []
 payload_on-bad_cipher inner label s t fault here salt tag whole cipher =
     let test : (length t == TAG_LENGTH) ≡ true = eq-eqb (length t) TAG_LENGTH whole in
     sym (payload_on-end inner label here ∙ rw (salt, tag, test, cipher) refl)
 
 pub payload_on-whole : (inner : InnerState) (label s t c : List ℕ) → inner.part ≡ Cipher
-    → part_on SALT_LIMIT BadPayload inner.salt [] ≡ Ok s → part_on TAG_LENGTH BadPayload inner.tag [] ≡ Ok t → length t ≡ TAG_LENGTH
-    → part_on CIPHERTEXT_LIMIT CipherTooLong inner.cipher [] ≡ Ok c
+    → part_on BadPayload inner.salt [] ≡ Ok s → part_on BadPayload inner.tag [] ≡ Ok t → length t ≡ TAG_LENGTH
+    → part_on CipherTooLong inner.cipher [] ≡ Ok c
     → Ok (record { label = label; salt = s; tag = t; cipher = c }) ≡ payload_on inner label []
 payload_on-whole inner label s t c here salt tag whole cipher =
     let test : (length t == TAG_LENGTH) ≡ true = eq-eqb (length t) TAG_LENGTH whole in

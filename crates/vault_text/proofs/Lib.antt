@@ -2,12 +2,14 @@ pub mod EnvelopeFacts
 pub mod HexadecimalFacts
 pub mod InnerFacts
 pub mod LabelFacts
+pub mod LimitFacts
 pub mod LineEndFacts
 pub mod LineFacts
 pub mod Progress
 pub mod BlockFacts
 pub mod BodyFacts
 pub mod CleanText
+pub mod PayloadFacts
 pub mod Prefixes
 pub mod WrittenBodyFacts
 pub mod WrittenHeaderFacts

@@ -1,9 +1,9 @@
--- A header line, cut at its first semicolon.
-use Rattle.std.proofs.Common.{◌≡◌, ℕ, ◌+◌, ◌-◌, ◌<◌, ◌≤◌, Bool, true, false, not, List, [], ◌∷◌, length, take, drop, get_or, suc, cond, inl, inr, arith, refl}
+-- Text, cut at the first of some bytes.
+use Rattle.std.proofs.Common.{◌≡◌, ℕ, ◌+◌, ◌-◌, ◌<◌, ◌≤◌, ◌==◌, Bool, true, false, not, List, [], ◌∷◌, ◌++◌, length, take, drop, get_or, suc, cond, inl, inr, arith, refl}
 use Rattle.std.specs.List.{position_or_len, slice_split, after_first, count_by}
-use Rattle.std.proofs.lemmas.Bool.{cases_Bool}
+use Rattle.std.proofs.lemmas.Bool.{cases_Bool, eqb-true}
 use Rattle.std.proofs.lemmas.List.{take_rest}
-use Rattle.std.proofs.lemmas.List.Sums.{prefix_len_passes, sum_by-cons}
+use Rattle.std.proofs.lemmas.List.Sums.{passes_at_first, prefix_len_passes, split_at_first, sum_by-cons}
 use Rattle.std.proofs.lemmas.List.Splits.{slice_split_none, slice_split_first}
 
 not_true : (b : Bool) → not b ≡ true → b ≡ false
@@ -22,6 +22,14 @@ pub slice_split-whole : (p : ℕ → Bool) (line : List ℕ) (place : ℕ) → p
     → slice_split p line ≡ line ∷ []
 slice_split-whole p line place e past =
     slice_split_none p line (λ k d inside. not_true (p (get_or line k d)) (prefix_len_passes (λ x. not (p x)) line k d (omega arith)))
+
+-- a text is what stands before the first such byte, the byte, and what stands behind it
+pub byte_found : (byte : ℕ) (text : List ℕ) (place : ℕ) → place ≡ position_or_len (λ b. b == byte) text → place < length text
+    → text ≡ take place text ++ byte ∷ drop (place + 1) text
+byte_found byte text place e inside =
+    let inside_text : position_or_len (λ b. b == byte) text < length text = omega arith in
+    let found : get_or text (position_or_len (λ b. b == byte) text) 0 ≡ byte = eqb-true _ byte (passes_at_first (λ b. b == byte) text 0 inside_text) in
+    rw e (rw found at (split_at_first (λ b. b == byte) text 0 inside_text))
 
 -- what is counted is the first, and what is counted behind it
 pub count_by-found : (p : ℕ → Bool) (text : List ℕ) → position_or_len p text < length text

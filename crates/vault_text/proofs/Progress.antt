@@ -29,7 +29,7 @@ take-written filled n k old part inside fits =
     take-append-add (take filled old) (part ++ post_of filled k old) n in
     rw len at front ∙ ap (λ (rest : List ℕ). take filled old ++ rest) (take-append-le n part (post_of filled k old) fits)
 
--- the same, where nothing was read
+-- the front of such a buffer, where nothing more was read
 pub take-unwritten : (filled k : ℕ) (old part : List ℕ) → filled ≤ length old
     → take filled (put_mid filled k old part) ≡ take filled old
 take-unwritten filled k old part inside =

@@ -14,6 +14,8 @@ use Rattle.hex.proofs.HexLemmas.{decode_of-encode_lower}
 use Rattle.vault_text.specs.Envelope.{read_body}
 use Rattle.vault_text.specs.Hexadecimal.{unhex}
 use Rattle.vault_text.specs.InnerText.{Parts, cut, is_line_feed, parts_of}
+use Rattle.vault_text.specs.Limits.{ciphertext_limit}
+use Rattle.vault_text.specs.declared.limits.TheConstants.{SALT_LIMIT, TAG_LENGTH}
 use Rattle.vault_text.specs.Written.{body_lines, inner_text, text_of_lines}
 use Rattle.vault_text.proofs.BodyFacts.{body_text-nil, body_text-step}
 use Rattle.vault_text.proofs.CleanText.{after_first-clean, before_first-clean, encode_lower-clean, position_or_len-clean}
@@ -117,23 +119,24 @@ unhex-encode_lower xs bytes = ap result_ok (decode_of-encode_lower xs bytes)
 parts_of-known : (text salt tag cipher digits_salt digits_tag digits_cipher : List ℕ)
     → cut text ≡ Some (record { salt = digits_salt; tag = digits_tag; cipher = digits_cipher })
     → unhex digits_salt ≡ Some salt → unhex digits_tag ≡ Some tag → unhex digits_cipher ≡ Some cipher
-    → nat_le (length salt) 256 ≡ true → (length tag == 32) ≡ true
-    → parts_of text ≡ Some (record { salt = salt; tag = tag; cipher = cipher })
+    → nat_le (length salt) SALT_LIMIT ≡ true → (length tag == TAG_LENGTH) ≡ true
+    → parts_of text ≡ Ok (record { salt = salt; tag = tag; cipher = cipher })
 unfolding parts_of
 parts_of-known text salt tag cipher digits_salt digits_tag digits_cipher parts a b c short whole =
     rw (parts, a, b, c, short, whole) refl
 
-read_body-known : (label digits inner : List ℕ) (parts : Parts) → unhex digits ≡ Some inner → parts_of inner ≡ Some parts
-    → nat_lt 1048592 (length parts.cipher) ≡ false
-    → read_body label digits ≡ Ok (record { label = label; salt = parts.salt; tag = parts.tag; cipher = parts.cipher })
+read_body-known : (limit : ℕ) (label digits inner : List ℕ) (parts : Parts) → unhex digits ≡ Some inner → parts_of inner ≡ Ok parts
+    → nat_lt (ciphertext_limit limit) (length parts.cipher) ≡ false
+    → read_body limit label digits ≡ Ok (record { label = label; salt = parts.salt; tag = parts.tag; cipher = parts.cipher })
 unfolding read_body
-read_body-known label digits inner parts spells known short = rw (spells, known, short) refl
+read_body-known limit label digits inner parts spells known short = rw (spells, known, short) refl
 
-pub body-reads : (label salt tag cipher : List ℕ) → IsBytes salt → length salt ≤ 256 → IsBytes tag → length tag ≡ 32 → IsBytes cipher → length cipher ≤ 1048592
-    → read_body label (encode_lower (inner_text salt tag cipher)) ≡ Ok (record { label = label; salt = salt; tag = tag; cipher = cipher })
-body-reads label salt tag cipher salt_bytes salt_short tag_bytes tag_whole cipher_bytes cipher_short =
+pub body-reads : (limit : ℕ) (label salt tag cipher : List ℕ) → IsBytes salt → length salt ≤ SALT_LIMIT → IsBytes tag → length tag ≡ TAG_LENGTH
+    → IsBytes cipher → length cipher ≤ ciphertext_limit limit
+    → read_body limit label (encode_lower (inner_text salt tag cipher)) ≡ Ok (record { label = label; salt = salt; tag = tag; cipher = cipher })
+body-reads limit label salt tag cipher salt_bytes salt_short tag_bytes tag_whole cipher_bytes cipher_short =
     let inner = unhex-encode_lower (inner_text salt tag cipher) (inner_text-bytes salt tag cipher) in
     let parts = parts_of-known (inner_text salt tag cipher) salt tag cipher _ _ _ (cut-inner_text salt tag cipher)
     (unhex-encode_lower salt salt_bytes) (unhex-encode_lower tag tag_bytes) (unhex-encode_lower cipher cipher_bytes)
-    (le-leb _ _ salt_short) ((Decides-eqb (length tag) 32).1 tag_whole) in
-    read_body-known label _ _ _ inner parts (lt-leb _ _ (omega arith))
+    (le-leb _ _ salt_short) ((Decides-eqb (length tag) TAG_LENGTH).1 tag_whole) in
+    read_body-known limit label _ _ _ inner parts (lt-leb _ _ (omega arith))

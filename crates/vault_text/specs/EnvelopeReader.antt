@@ -2,12 +2,12 @@
 use Rattle.std.specs.Prelude.{◌≡◌, ℕ, ◌+◌, nat_lt, nat_eq, not, Bool, false, if◌then◌else◌, List, [], ◌++◌, length, filter, None, Result, Err}
 use Rattle.std.specs.List.{starts_with}
 use Rattle.std.specs.Option.{ok_or}
-use Rattle.vault_text.specs.Envelope.{Payload, body, read, ◌>>=◌}
+use Rattle.vault_text.specs.Envelope.{Payload, body, read_within}
 use Rattle.vault_text.specs.Header.{header_line, is_line_end, marker, read_header}
-use Rattle.vault_text.specs.Hexadecimal.{unhex_on}
+use Rattle.vault_text.specs.Hexadecimal.{DecoderState, new_decoder, unhex_on}
 use Rattle.vault_text.specs.InnerReader.{InnerState, new_inner, payload_on}
-use Rattle.vault_text.specs.declared.limits.TheConstants.{ENVELOPE_LIMIT}
-use Rattle.vault_text.specs.declared.hexadecimal.HexDecoder.{HexDecoder}
+use Rattle.vault_text.specs.Limits.{envelope_limit}
+use Rattle.vault_text.specs.Steps.{◌>>=◌}
 use Rattle.vault_text.specs.declared.fault.TextFault.{TextFault}
 use Rattle.vault_text.specs.declared.fault.TextFault.TheVariants.{TooLong, NotVault, BadHex}
 
@@ -38,7 +38,7 @@ head_of line = if not (starts_with nat_eq line marker) then Err NotVault else re
 
 -- the body so far: the decoder of its digits, and the inner text that they have spelled
 pub record BodyState : Type 0 where
-  pub decoder : HexDecoder
+  pub decoder : DecoderState
   pub inner : InnerState
 
 -- steps 7 to 9: the payload, where these digits are the rest of the body
@@ -47,16 +47,18 @@ body_on state label digits = do
   inner ← ok_or (unhex_on state.decoder digits) BadHex
   payload_on state.inner label inner
 
--- nothing of the body
-abbrev pub new_body : BodyState
-new_body = record { decoder = record { high = None; is_bad = false }; inner = new_inner }
+-- nothing of a body whose ciphertext may have so many bytes
+abbrev pub new_body : ℕ → BodyState
+new_body room = record { decoder = new_decoder; inner = new_inner room }
 
 -- a reader of the body that takes these digits reads on as before, whatever follows
 pub record TakesBody (old : BodyState) (digits : List ℕ) (new : BodyState) : Type 0 where
   pub same : (label more : List ℕ) → body_on old label (digits ++ more) ≡ body_on new label more
 
--- a reader: how many bytes it was given, where this fits 64 bits, the header line and the body
+-- a reader: the limit of the plaintext, how many bytes it was given, where this fits 64 bits, the header line and
+-- the body
 pub record ReaderState : Type 0 where
+  pub limit : ℕ
   pub fed : ℕ
   pub line : LineState
   pub body : BodyState
@@ -64,9 +66,9 @@ pub record ReaderState : Type 0 where
 -- what a reader answers, where this is the rest of the input
 abbrev pub read_on : ReaderState → List ℕ → Result Payload TextFault
 read_on reader rest =
-    if nat_lt ENVELOPE_LIMIT (reader.fed + length rest) then Err TooLong
+    if nat_lt (envelope_limit reader.limit) (reader.fed + length rest) then Err TooLong
     else head_of (line_on reader.line rest) >>= (λ label. body_on reader.body label (digits_on reader.line rest))
 
 -- the reader has been given this input: whatever follows, it answers for both together
 pub record StandsFor (reader : ReaderState) (input : List ℕ) : Type 0 where
-  pub answers : (rest : List ℕ) → read_on reader rest ≡ read (input ++ rest)
+  pub answers : (rest : List ℕ) → read_on reader rest ≡ read_within reader.limit (input ++ rest)

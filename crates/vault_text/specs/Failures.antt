@@ -1,11 +1,11 @@
 -- How a contract counts the failures of a source or a sink.
-use Rattle.std.specs.Prelude.{◌≡◌, ℕ, ◌+◌, ◌-◌, ◌^◌, ◌≤◌, min, Result, Ok, Err}
+use Rattle.std.specs.Prelude.{◌≡◌, ℕ, ◌+◌, ◌-◌, ◌^◌, min, Result, Ok, Err}
 
--- the count rose by one or more, or stands at the last number of 64 bits
+-- the count rose by one, or stands at the last number of 64 bits
 abbrev pub HasRisen : ℕ → ℕ → Type 0
-HasRisen before after = min (before + 1) (2 ^ 64 - 1) ≤ after
+HasRisen before after = after ≡ min (before + 1) (2 ^ 64 - 1)
 
--- a call answered an error exactly where the count rose
+-- a call that answers an error counts one failure, and no other call counts any
 abbrev pub CountsFailure : {T E : Type 0} → ℕ → ℕ → Result T E → Type 0
 CountsFailure before after (Ok x) = after ≡ before
 CountsFailure before after (Err e) = HasRisen before after

@@ -1,22 +1,31 @@
 -- Hexadecimal text: two digits a byte, the high four bits first.
-use Rattle.std.specs.Prelude.{◌≡◌, ℕ, ◌/◌, ◌++◌, if◌then◌else◌, List, length, Option, None}
+use Rattle.std.specs.Prelude.{◌≡◌, ℕ, ◌/◌, Bool, false, ◌++◌, if◌then◌else◌, List, length, Option, None}
 use Rattle.std.specs.Option.{option_map, option_to_list}
 use Rattle.std.specs.Result.{result_ok}
 use Rattle.hex.specs.Hex.{decode_of}
-use Rattle.vault_text.specs.declared.hexadecimal.HexDecoder.{HexDecoder}
 
 -- the bytes that an even number of digits of either case spells; none where the text is anything else
 abbrev pub unhex : List ℕ → Option (List ℕ)
 unhex text = result_ok (decode_of text)
 
--- the same for text that goes on behind what a decoder has taken
-abbrev pub unhex_on : HexDecoder → List ℕ → Option (List ℕ)
+-- a decoder of text in pieces: the first digit of a byte whose second has not come yet, and whether there was a
+-- byte that is no digit
+pub record DecoderState : Type 0 where
+  pub high : Option ℕ
+  pub is_bad : Bool
+
+-- nothing of a text
+abbrev pub new_decoder : DecoderState
+new_decoder = record { high = None; is_bad = false }
+
+-- the bytes that a text spells where it goes on behind what a decoder has taken
+abbrev pub unhex_on : DecoderState → List ℕ → Option (List ℕ)
 unhex_on decoder text = if decoder.is_bad then None else unhex (option_to_list decoder.high ++ text)
 
 -- how many bytes the digits complete
-abbrev pub byte_count : HexDecoder → List ℕ → ℕ
+abbrev pub byte_count : DecoderState → List ℕ → ℕ
 byte_count decoder digits = length (option_to_list decoder.high ++ digits) / 2
 
 -- a decoder that takes these digits gives these bytes, whatever follows
-pub record Decodes (old : HexDecoder) (digits bytes : List ℕ) (new : HexDecoder) : Type 0 where
+pub record Decodes (old : DecoderState) (digits bytes : List ℕ) (new : DecoderState) : Type 0 where
   pub spelled : (more : List ℕ) → unhex_on old (digits ++ more) ≡ option_map (λ rest. bytes ++ rest) (unhex_on new more)

@@ -1,13 +1,13 @@
 -- The inner text of an envelope, which its body spells in hexadecimal: the salt, the tag and the ciphertext,
 -- each in hexadecimal itself, with LF between them.
-use Rattle.std.specs.Prelude.{ℕ, ◌==◌, ◌&&◌, nat_lt, nat_le, Bool, if◌then◌else◌, List, length, count_by, Option, Some, None, option_and_then}
+use Rattle.std.specs.Prelude.{ℕ, ◌==◌, ◌&&◌, nat_lt, nat_le, Bool, if◌then◌else◌, List, length, count_by, Option, Some, None, Result, Ok, Err}
 use Rattle.std.specs.List.{before_first, after_first}
+use Rattle.std.specs.Option.{ok_or}
 use Rattle.vault_text.specs.Hexadecimal.{unhex}
+use Rattle.vault_text.specs.Steps.{◌>>=◌}
 use Rattle.vault_text.specs.declared.limits.TheConstants.{SALT_LIMIT, TAG_LENGTH}
-
-infixl 10 ◌>>=◌
-abbrev pub ◌>>=◌ : {A B : Type 0} → Option A → (A → Option B) → Option B
-o >>= f = option_and_then f o
+use Rattle.vault_text.specs.declared.fault.TextFault.{TextFault}
+use Rattle.vault_text.specs.declared.fault.TextFault.TheVariants.{BadPayload}
 
 -- salt, tag and ciphertext: as digits, or as the bytes that these spell
 pub record Parts : Type 0 where
@@ -29,15 +29,19 @@ cut text =
     })
 
 -- the parts, where the salt is short enough and the tag has 32 bytes
-abbrev pub fitting : Parts → Option Parts
+abbrev pub fitting : Parts → Result Parts TextFault
 fitting parts =
-    if nat_le (length parts.salt) SALT_LIMIT && length parts.tag == TAG_LENGTH then Some parts else None
+    if nat_le (length parts.salt) SALT_LIMIT && length parts.tag == TAG_LENGTH then Ok parts else Err BadPayload
 
--- the bytes of the three parts, where each is hexadecimal and the parts fit
-unfoldable pub parts_of : List ℕ → Option Parts
+-- the bytes of a part, where it is hexadecimal
+abbrev pub part_bytes : List ℕ → Result (List ℕ) TextFault
+part_bytes digits = ok_or (unhex digits) BadPayload
+
+-- step 8: the bytes of the three parts, where each is hexadecimal and the parts fit
+unfoldable pub parts_of : List ℕ → Result Parts TextFault
 parts_of text = do
-  digits ← cut text
-  salt ← unhex digits.salt
-  tag ← unhex digits.tag
-  cipher ← unhex digits.cipher
+  digits ← ok_or (cut text) BadPayload
+  salt ← part_bytes digits.salt
+  tag ← part_bytes digits.tag
+  cipher ← part_bytes digits.cipher
   fitting (record { salt = salt; tag = tag; cipher = cipher })

@@ -1,16 +1,31 @@
 -- Laws of the definitions, which hold of all bytes.
-use Rattle.std.specs.Prelude.{◌≡◌, ℕ, ◌≤◌, List, length, true, Ok}
+use Rattle.std.specs.Prelude.{◌≡◌, ◌≢◌, ℕ, ◌≤◌, List, length, true, Ok, Err}
 use Rattle.hex.specs.Hex.{IsBytes}
-use Rattle.vault_text.specs.Envelope.{read}
+use Rattle.vault_text.specs.Envelope.{read_within}
 use Rattle.vault_text.specs.Label.{is_label}
+use Rattle.vault_text.specs.Limits.{ciphertext_limit}
 use Rattle.vault_text.specs.Written.{written}
-use Rattle.vault_text.specs.declared.limits.TheConstants.{CIPHERTEXT_LIMIT, SALT_LIMIT, TAG_LENGTH}
+use Rattle.vault_text.specs.declared.limits.TheConstants.{SALT_LIMIT, TAG_LENGTH}
+use Rattle.vault_text.specs.declared.fault.TextFault.TheVariants.{TooLong, CipherTooLong}
 
 -- what was written is read: the payload of a written envelope is what it was written from
 abbrev pub WrittenReadsBack : Type 0
 WrittenReadsBack =
-    (label salt tag cipher : List ℕ) → is_label label ≡ true
+    (limit : ℕ) (label salt tag cipher : List ℕ) → is_label label ≡ true
     → IsBytes salt → length salt ≤ SALT_LIMIT
     → IsBytes tag → length tag ≡ TAG_LENGTH
-    → IsBytes cipher → length cipher ≤ CIPHERTEXT_LIMIT
-    → read (written label salt tag cipher) ≡ Ok (record { label = label; salt = salt; tag = tag; cipher = cipher })
+    → IsBytes cipher → length cipher ≤ ciphertext_limit limit
+    → read_within limit (written label salt tag cipher) ≡ Ok (record { label = label; salt = salt; tag = tag; cipher = cipher })
+
+-- a larger limit changes no answer but the two that speak of a limit
+abbrev pub LargerLimits : Type 0
+LargerLimits =
+    (smaller larger : ℕ) (input : List ℕ) → smaller ≤ larger
+    → read_within smaller input ≢ Err TooLong → read_within smaller input ≢ Err CipherTooLong
+    → read_within larger input ≡ read_within smaller input
+
+-- an input within the limit gets one answer under it and under every larger one
+abbrev pub ShortInputs : Type 0
+ShortInputs =
+    (smaller larger : ℕ) (input : List ℕ) → length input ≤ smaller → smaller ≤ larger
+    → read_within larger input ≡ read_within smaller input

@@ -1,7 +1,7 @@
 //! The header line of an envelope: `$ANSIBLE_VAULT;1.1;AES256`, or format 1.2 with a label behind
 //! one more semicolon.
-ghost use Rattle.std.specs.Prelude.{◌≡◌, ◌==◌, ◌≤◌, ℕ, [], ◌∷◌, length, nat_le, is_some, IfSome, IfNone};
-ghost use Rattle.std.specs.List.{list_all, position_or_len};
+ghost use Rattle.std.specs.Prelude.{◌≡◌, ◌==◌, ◌≤◌, ℕ, [], ◌∷◌, ◌++◌, length, nat_le, is_some, IfSome, IfNone};
+ghost use Rattle.std.specs.List.{before_first, list_all, position_or_len, slice_split};
 ghost use Rattle.vault_text.specs.Label.{is_label};
 ghost use Rattle.vault_text.specs.Header.{field, header_line, is_ascii, is_cipher, is_line_end, is_version, named_label, parts_of_line, read_header};
 
@@ -53,16 +53,22 @@ pub(crate) fn position_of(bytes: &[u8], byte: u8) -> usize
     place
 }
 
-/// The part before the first semicolon, and what follows it.
-fn split_first(line: &[u8]) -> (&[u8], Option<&[u8]>)
-    ensures cut { IfSome result.1 (λ rest. parts_of_line line.now ≡ result.0.now ∷ parts_of_line rest.now) }
-    ensures whole { IfNone result.1 (parts_of_line line.now ≡ result.0.now ∷ []) }
+/// What stands before the first such byte, and behind it where there is one.
+pub(crate) fn split_at_byte(bytes: &[u8], byte: u8) -> (&[u8], Option<&[u8]>)
+    ensures before { result.0.now ≡ before_first (λ b. b == byte) bytes.now }
+    ensures found { IfSome result.1 (λ rest. bytes.now ≡ result.0.now ++ byte ∷ rest.now) }
+    ensures whole { IfNone result.1 (bytes.now ≡ result.0.now) }
+    ensures parts { IfSome result.1 (λ rest.
+        slice_split (λ b. b == byte) bytes.now
+        ≡ result.0.now ∷ slice_split (λ b. b == byte) rest.now) }
+    ensures one_part { IfNone result.1 (slice_split (λ b. b == byte) bytes.now
+        ≡ result.0.now ∷ []) }
 {
-    let place = position_of(line, b';');
-    if place < line.len() {
-        (&line[..place], Some(&line[place + 1..]))
+    let place = position_of(bytes, byte);
+    if place < bytes.len() {
+        (&bytes[..place], Some(&bytes[place + 1..]))
     } else {
-        (line, None)
+        (bytes, None)
     }
 }
 
@@ -73,11 +79,11 @@ fn fields_of(line: &[u8]) -> Option<Fields<'_>>
     ensures cipher { IfSome result (λ fields. fields.cipher.now ≡ field 2 line.now) }
     ensures label { IfSome result (λ fields. fields.label.now ≡ field 3 line.now) }
 {
-    let (_, rest) = split_first(line);
-    let (version, rest) = split_first(rest?);
-    let (cipher, rest) = split_first(rest?);
+    let (_, rest) = split_at_byte(line, b';');
+    let (version, rest) = split_at_byte(rest?, b';');
+    let (cipher, rest) = split_at_byte(rest?, b';');
     let label = match rest {
-        Some(rest) => split_first(rest).0,
+        Some(rest) => split_at_byte(rest, b';').0,
         None => &[],
     };
     Some(Fields {
@@ -105,8 +111,8 @@ fn is_cipher(field: &[u8]) -> bool
     field == b"AES256".as_slice()
 }
 
-#[tactic(auto, unfolding(crate::specs::Header::read_header))]
 /// The label of a header line, given without its line end.
+#[tactic(auto, unfolding(crate::specs::Header::read_header))]
 pub(crate) fn read_header(line: &[u8]) -> Result<Label, TextFault>
     ensures { result ≡ read_header line.now }
 {

@@ -1,6 +1,17 @@
 //! Hexadecimal text that comes in pieces.
-ghost use Rattle.std.specs.Prelude.{◌≡◌, ◌*◌, ◌/◌, ◌≤◌, [], None, Some, Option, if◌then◌else◌, List, ℕ, false, length, take};
-ghost use Rattle.vault_text.specs.Hexadecimal.{Decodes, byte_count, unhex_on};
+ghost use Rattle.std.specs.Prelude.{◌≡◌, ◌*◌, ◌/◌, ◌≤◌, [], None, Some, Option, if◌then◌else◌, List, ℕ, length, take};
+ghost use Rattle.vault_text.specs.Hexadecimal.{Decodes, byte_count, new_decoder, unhex, unhex_on};
+
+use std::marker::Model;
+
+/// Decodes pairs of digits, each to a byte, and answers whether all were digits. Where one was not,
+/// the bytes mean nothing.
+fn decode_pairs(pairs: &[u8], bytes: &mut [u8]) -> bool
+    requires { length pairs.now ≡ 2 * length bytes.old }
+    ensures { unhex pairs.now ≡ (if result then Some bytes.new else None) }
+{
+    hex::decode_to_slice(pairs, bytes).is_ok()
+}
 
 /// Decodes hexadecimal text that may be cut anywhere, also between the two digits of a byte.
 #[derive(Drop)]
@@ -11,9 +22,17 @@ pub(crate) struct HexDecoder {
     is_bad: bool,
 }
 
+impl Model for HexDecoder {
+    ghost use Rattle.vault_text.specs.Hexadecimal.{DecoderState};
+
+    ghost Value = { DecoderState };
+
+    ghost view = { λ d. record { high = d.high; is_bad = d.is_bad } };
+}
+
 impl HexDecoder {
     pub(crate) fn new() -> Self
-        ensures { result ≡ record { high = None; is_bad = false } }
+        ensures { result ≡ new_decoder }
     {
         HexDecoder {
             high: None,
@@ -46,11 +65,11 @@ impl HexDecoder {
             return 0;
         };
         self.high = None;
-        self.decode_pairs([high, *low].as_slice(), &mut bytes[..1]);
+        self.is_bad |= !decode_pairs([high, *low].as_slice(), &mut bytes[..1]);
         1 + self.decode_aligned(rest, &mut bytes[1..])
     }
 
-    /// The same where no digit waits for its second.
+    /// Decodes where no digit waits for its second.
     fn decode_aligned(&mut self, digits: &[u8], bytes: &mut [u8]) -> usize
         requires aligned { self.old.high ≡ None }
         requires room { length digits.now / 2 ≤ length bytes.old }
@@ -59,21 +78,9 @@ impl HexDecoder {
     {
         let count = digits.len() / 2;
         let (pairs, rest) = digits.split_at(2 * count);
-        self.decode_pairs(pairs, &mut bytes[..count]);
+        self.is_bad |= !decode_pairs(pairs, &mut bytes[..count]);
         self.high = rest.first().copied();
         count
-    }
-
-    /// Decodes pairs of digits, each to a byte, where no digit waits for its second.
-    fn decode_pairs(&mut self, pairs: &[u8], bytes: &mut [u8])
-        requires aligned { self.old.high ≡ None }
-        requires fits { length pairs.now ≡ 2 * length bytes.old }
-        ensures aligned { self.new.high ≡ None }
-        ensures decoded { Decodes self.old pairs.now bytes.new self.new }
-    {
-        if hex::decode_to_slice(pairs, bytes).is_err() {
-            self.is_bad = true;
-        }
     }
 
     /// Whether all digits were good and none waits for its second.

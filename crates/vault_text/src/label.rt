@@ -1,5 +1,5 @@
 //! Labels of vault ids.
-ghost use Rattle.std.specs.Prelude.{◌≡◌, ◌↔◌, ℕ, ◌≤◌, List, true, length, is_ok, is_some, IsTrue, IfOk, IfSome};
+ghost use Rattle.std.specs.Prelude.{◌≡◌, ◌↔◌, ℕ, List, true, is_ok, is_some, IsTrue, IfOk, IfSome};
 ghost use Rattle.std.specs.Str.{bytes_eq};
 ghost use Rattle.std.specs.Cmp.{on_equiv, on_per, partial_equiv_from_equiv};
 ghost use Rattle.std.specs.Cmp.Lexicographic.{nat_list_eq_equiv};
@@ -91,7 +91,7 @@ impl Label {
         Label { text }
     }
 
-    /// The same label.
+    /// A second label of this text.
     pub fn copy(&self) -> Self
         ensures { result ≡ self.now }
     {
@@ -100,6 +100,7 @@ impl Label {
         Label { text }
     }
 
+    /// The text, 1 to 128 bytes of ASCII.
     pub fn as_str(&self) -> &str
         ensures text { result.now ≡ self.now }
         ensures allowed { is_label result.now ≡ true }

@@ -1,13 +1,26 @@
 //! How much of each thing is taken. All sizes are in bytes.
 
-/// Plaintext that is encrypted.
-pub const PLAINTEXT_LIMIT: usize = 1_048_576;
+ghost use Rattle.std.specs.Prelude.{◌≡◌, ◌≤◌};
+ghost use Rattle.vault_text.specs.Limits.{envelope_limit};
+ghost use Rattle.vault_text.specs.declared.limits.TheConstants.{ENVELOPE_LIMIT, PLAINTEXT_LIMIT};
 
-/// Ciphertext, read or written: plaintext and a whole block of padding.
-pub const CIPHERTEXT_LIMIT: usize = PLAINTEXT_LIMIT + 16;
+/// Plaintext that is encrypted.
+pub const PLAINTEXT_LIMIT: usize = 16_777_216;
+
+/// Padding, at most a whole block.
+pub const PADDING_LIMIT: usize = 16;
+
+/// Ciphertext, read or written.
+pub const CIPHERTEXT_LIMIT: usize = PLAINTEXT_LIMIT + PADDING_LIMIT;
+
+/// Four digits for each byte of plaintext, and room for line ends.
+const ENVELOPE_FACTOR: usize = 6;
+
+/// Room for the header line, the salt, the tag and the padding.
+const ENVELOPE_MARGIN: usize = 8_192;
 
 /// An envelope as it is read, line ends included.
-pub const ENVELOPE_LIMIT: usize = 6 * PLAINTEXT_LIMIT + 8_192;
+pub const ENVELOPE_LIMIT: usize = ENVELOPE_FACTOR * PLAINTEXT_LIMIT + ENVELOPE_MARGIN;
 
 /// The header line of an envelope without its end.
 pub const HEADER_LIMIT: usize = 256;
@@ -20,3 +33,12 @@ pub const LABEL_LIMIT: usize = 128;
 
 /// The tag of an envelope, a SHA-256 digest.
 pub const TAG_LENGTH: usize = 32;
+
+/// An envelope as it is read, where the plaintext has this limit.
+pub(crate) fn envelope_limit(limit: usize) -> usize
+    requires { limit ≤ PLAINTEXT_LIMIT }
+    ensures value { result ≡ envelope_limit limit }
+    ensures bound { result ≤ ENVELOPE_LIMIT }
+{
+    ENVELOPE_FACTOR * limit + ENVELOPE_MARGIN
+}

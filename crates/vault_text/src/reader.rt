@@ -1,9 +1,10 @@
 //! Reading an envelope that comes in pieces: the header line, then the digits of the body, then the
 //! parts of the inner text that these spell. Each layer takes what the one above hands it.
-ghost use Rattle.std.specs.Prelude.{◌≡◌, ℕ, List, [], ◌++◌, length};
-ghost use Rattle.vault_text.specs.Envelope.{read};
+ghost use Rattle.std.specs.Prelude.{◌≡◌, ◌≤◌, ℕ, List, [], ◌++◌, length};
+ghost use Rattle.vault_text.specs.Envelope.{read_within};
 ghost use Rattle.vault_text.specs.EnvelopeReader.{StandsFor};
-ghost use Rattle.vault_text.specs.declared.limits.TheConstants.{CIPHERTEXT_LIMIT};
+ghost use Rattle.vault_text.specs.Limits.{IsWorkLength, envelope_limit, limit_of};
+ghost use Rattle.vault_text.specs.declared.limits.TheConstants.{ENVELOPE_LIMIT};
 
 mod body;
 mod cipher_part;
@@ -14,7 +15,7 @@ mod short_part;
 mod tests;
 
 use crate::fault::TextFault;
-use crate::limits::{CIPHERTEXT_LIMIT, ENVELOPE_LIMIT};
+use crate::limits::{PADDING_LIMIT, envelope_limit};
 use crate::payload::Payload;
 use body::BodyReader;
 use header_line::HeaderLine;
@@ -28,6 +29,8 @@ const RUN_LIMIT: usize = 256;
 /// reader is lent; of the rest of the input it keeps no more than its type has room for.
 #[derive(Drop)]
 pub struct EnvelopeReader<'a> {
+    /// The limit of the plaintext.
+    limit: usize,
     /// How many bytes were given, or the last number of 64 bits.
     fed: usize,
     line: HeaderLine,
@@ -35,29 +38,44 @@ pub struct EnvelopeReader<'a> {
 }
 
 impl<'a> Model for EnvelopeReader<'a> {
+    ghost use Rattle.std.specs.Prelude.{◌≤◌};
     ghost use Rattle.vault_text.specs.EnvelopeReader.{ReaderState};
+    ghost use Rattle.vault_text.specs.declared.limits.TheConstants.{PLAINTEXT_LIMIT};
 
     ghost Value = { ReaderState };
 
-    ghost view = { λ r. record { fed = r.fed; line = r.line; body = r.body } };
+    ghost view = { λ r. record { limit = r.limit; fed = r.fed; line = r.line; body = r.body } };
+
+    ghost invariant = { λ r. r.limit ≤ PLAINTEXT_LIMIT };
 }
 
 impl<'a> EnvelopeReader<'a> {
-    /// A reader that writes the ciphertext to `work`.
+    /// A reader that writes the ciphertext to `work`, whose length limits what is read.
     pub fn new(work: &'a mut [u8]) -> Self
-        requires { length work.old ≡ CIPHERTEXT_LIMIT }
-        ensures { StandsFor result [] }
+        requires { IsWorkLength (length work.old) }
+        ensures limit { result.limit ≡ limit_of (length work.old) }
+        ensures nothing { StandsFor result [] }
     {
         EnvelopeReader {
+            limit: work.len() - PADDING_LIMIT,
             fed: 0,
             line: HeaderLine::new(),
             body: BodyReader::new(work),
         }
     }
 
+    /// How many bytes of input are read at most, line ends included.
+    pub fn input_limit(&self) -> usize
+        ensures value { result ≡ envelope_limit self.now.limit }
+        ensures bound { result ≤ ENVELOPE_LIMIT }
+    {
+        envelope_limit(self.limit)
+    }
+
     /// Takes the piece of the input that comes next.
     pub fn feed(&mut self, piece: &[u8])
-        ensures { (input : List ℕ) →
+        ensures limit { self.new.limit ≡ self.old.limit }
+        ensures taken { (input : List ℕ) →
             StandsFor self.old input → StandsFor self.new (input ++ piece.now) }
     {
         self.fed = self.fed.saturating_add(piece.len());
@@ -67,10 +85,16 @@ impl<'a> EnvelopeReader<'a> {
 
     /// The payload of the input, or its first fault in the order of the nine steps.
     pub fn finish(self) -> Result<Payload<'a>, TextFault>
-        ensures { (input : List ℕ) → StandsFor self.entry input → result ≡ read input }
+        ensures { (input : List ℕ) →
+            StandsFor self.entry input → result ≡ read_within self.entry.limit input }
     {
-        let EnvelopeReader { fed, line, body } = self;
-        if fed > ENVELOPE_LIMIT {
+        let EnvelopeReader {
+            limit,
+            fed,
+            line,
+            body,
+        } = self;
+        if fed > envelope_limit(limit) {
             return Err(TextFault::TooLong);
         }
         let label = line.finish()?;

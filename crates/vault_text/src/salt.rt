@@ -34,6 +34,7 @@ impl Salt {
         Some(Salt { bytes: copy })
     }
 
+    /// The bytes that it was made of, at most 256.
     pub fn as_bytes(&self) -> &[u8]
         ensures bytes { result.now ≡ self.now }
         ensures fits { length result.now ≤ SALT_LIMIT }

@@ -1,12 +1,14 @@
 //! Where input comes from.
-ghost use Rattle.std.specs.Prelude.{◌≡◌, ℕ, ◌-◌, ◌^◌, ◌<◌, ◌≤◌, ◌↔◌, ◌++◌, List, [], Bool, IsTrue, IsErr, IfOk, OnOk, length, take};
+ghost use Rattle.std.specs.Prelude.{◌≡◌, ℕ, ◌-◌, ◌^◌, ◌<◌, ◌≤◌, ◌↔◌, ◌++◌, List, [], Bool, IsTrue, IsErr, IfOk, OnErr, Ok, length, take};
 ghost use Rattle.vault_text.specs.Failures.{CountsFailure};
 ghost use Rattle.vault_text.specs.Source.{given};
 
+mod chained;
 mod failing;
 mod memory;
 mod read;
 
+pub use chained::ChainedSource;
 pub use failing::FailingSource;
 pub use memory::MemSource;
 pub use read::ReadSource;
@@ -47,14 +49,37 @@ pub trait Source {
     ghost failures_stay: { (s t : Self) (xs : List ℕ) → gives s xs t → failures s ≤ failures t };
 }
 
+impl<S: Source> Source for &mut S {
+    ghost gives = { λ s xs t. S.gives s.now xs t.now };
+
+    ghost ended = { λ s. S.ended s.now };
+
+    ghost failures = { λ s. S.failures s.now };
+
+    ghost gives_none = { λ s. S.gives_none s.now };
+
+    ghost gives_more = { λ s t u. S.gives_more s.now t.now u.now };
+
+    ghost nothing_after_end = { λ s t. S.nothing_after_end s.now t.now };
+
+    ghost failures_stay = { λ s t. S.failures_stay s.now t.now };
+
+    fn fill(&mut self, buf: &mut [u8]) -> Result<usize, SourceFailed> {
+        (**self).fill(buf)
+    }
+}
+
 /// Reads until the end or until `buf` is full, and answers how many bytes stand at its front. An
 /// empty `buf` asks nothing. After a failure `buf` holds any bytes.
 pub fn fill_up<S: Source>(source: &mut S, buf: &mut [u8]) -> Result<usize, SourceFailed>
+    ensures empty { length buf.old ≡ 0 → (result ≡ Ok 0) × (source.new ≡ source.old) }
     ensures gives { IfOk result (λ n. S.gives source.old (take n buf.new) source.new) }
-    ensures some { (xs : List ℕ) × (length xs ≤ length buf.new) × S.gives source.old xs source.new }
+    ensures some { (xs : List ℕ) × (length xs ≤ length buf.new)
+        × OnErr result (length xs < length buf.new) × S.gives source.old xs source.new }
     ensures bound { IfOk result (λ n. n ≤ length buf.new) }
     ensures short { IfOk result (λ n. n < length buf.new → IsTrue (S.ended source.new)) }
     ensures failed { CountsFailure (S.failures source.old) (S.failures source.new) result }
+    ensures full { 2 ^ 64 - 1 ≤ S.failures source.old → 0 < length buf.old → IsErr result }
 {
     let mut filled = 0;
     while filled < buf.len() {

@@ -22,9 +22,9 @@ use lines::INDENTATION_LIMIT;
 /// What stands before each line of an envelope in a block.
 const BLOCK_INDENTATION: &[u8; INDENTATION_LIMIT] = b"          ";
 
-#[tactic(auto, unfolding(crate::specs::Written::written))]
 /// Writes an envelope of format 1.1 for the label `default`, and of format 1.2 for any other. After
 /// a failure the sink has taken a prefix of it.
+#[tactic(auto, unfolding(crate::specs::Written::written))]
 pub fn write_envelope<K: Sink>(
     sink: &mut K,
     label: &Label,

@@ -1,7 +1,6 @@
 //! The body of an envelope, as it comes in pieces: the inner text in hexadecimal, in lines.
 ghost use Rattle.std.specs.Prelude.{◌≡◌, ◌<◌, ◌≤◌, ◌++◌, ℕ, List, [], length};
 ghost use Rattle.vault_text.specs.EnvelopeReader.{TakesBody, body_on, new_body, without_line_ends};
-ghost use Rattle.vault_text.specs.declared.limits.TheConstants.{CIPHERTEXT_LIMIT};
 
 use super::RUN_LIMIT;
 use super::inner_text::InnerReader;
@@ -9,7 +8,6 @@ use crate::fault::TextFault;
 use crate::header::before_line_end;
 use crate::hexadecimal::HexDecoder;
 use crate::label::Label;
-use crate::limits::CIPHERTEXT_LIMIT;
 use crate::payload::Payload;
 use std::marker::Model;
 
@@ -33,8 +31,7 @@ impl<'a> Model for BodyReader<'a> {
 
 impl<'a> BodyReader<'a> {
     pub(super) fn new(work: &'a mut [u8]) -> Self
-        requires { length work.old ≡ CIPHERTEXT_LIMIT }
-        ensures { result ≡ new_body }
+        ensures { result ≡ new_body (length work.old) }
     {
         BodyReader {
             decoder: HexDecoder::new(),

@@ -1,13 +1,11 @@
 //! The ciphertext of the inner text.
 ghost use Rattle.std.specs.Prelude.{◌≡◌, ◌≤◌, ℕ, [], MatchResult, Ok, Err, length};
 ghost use Rattle.vault_text.specs.InnerReader.{TakesDigits, new_part, part_on};
-ghost use Rattle.vault_text.specs.declared.limits.TheConstants.{CIPHERTEXT_LIMIT};
 ghost use Rattle.vault_text.specs.declared.fault.TextFault.TheVariants.{CipherTooLong};
 
 use super::RUN_LIMIT;
 use crate::fault::TextFault;
 use crate::hexadecimal::HexDecoder;
-use crate::limits::CIPHERTEXT_LIMIT;
 use std::marker::Model;
 
 /// The ciphertext so far, which lies in the memory that the reader was lent.
@@ -21,21 +19,24 @@ pub(super) struct CipherPart<'a> {
 }
 
 impl<'a> Model for CipherPart<'a> {
-    ghost use Rattle.std.specs.Prelude.{◌≡◌, ◌≤◌, take, length};
-    ghost use Rattle.vault_text.specs.declared.limits.TheConstants.{CIPHERTEXT_LIMIT};
+    ghost use Rattle.std.specs.Prelude.{◌≤◌, take, length};
     ghost use Rattle.vault_text.specs.InnerReader.{PartState};
 
     ghost Value = { PartState };
 
-    ghost view = { λ p. record { bytes = take p.filled p.work.now; decoder = p.decoder; is_long = p.is_long } };
+    ghost view = { λ p. record {
+        bytes = take p.filled p.work.now;
+        decoder = p.decoder;
+        limit = length p.work.now;
+        is_long = p.is_long
+    } };
 
-    ghost invariant = { λ p. (length p.work.now ≡ CIPHERTEXT_LIMIT) × (p.filled ≤ CIPHERTEXT_LIMIT) };
+    ghost invariant = { λ p. p.filled ≤ length p.work.now };
 }
 
 impl<'a> CipherPart<'a> {
     pub(super) fn new(work: &'a mut [u8]) -> Self
-        requires { length work.old ≡ CIPHERTEXT_LIMIT }
-        ensures { result ≡ new_part }
+        ensures { result ≡ new_part (length work.old) }
     {
         CipherPart {
             work,
@@ -48,7 +49,7 @@ impl<'a> CipherPart<'a> {
     /// Takes the digits that come next.
     pub(super) fn extend(&mut self, digits: &[u8])
         requires { length digits.now ≤ RUN_LIMIT }
-        ensures { TakesDigits CIPHERTEXT_LIMIT self.old digits.now self.new }
+        ensures { TakesDigits self.old digits.now self.new }
     {
         if self.decoder.byte_count(digits) <= self.work.len() - self.filled {
             self.filled += self.decoder.decode(digits, &mut self.work[self.filled..]);
@@ -61,8 +62,8 @@ impl<'a> CipherPart<'a> {
     /// The ciphertext, where no digit follows.
     pub(super) fn finish(self) -> Result<&'a mut [u8], TextFault>
         ensures { MatchResult result
-            (λ bytes. part_on CIPHERTEXT_LIMIT CipherTooLong self.entry [] ≡ Ok bytes.now)
-            (λ fault. part_on CIPHERTEXT_LIMIT CipherTooLong self.entry [] ≡ Err fault) }
+            (λ bytes. part_on CipherTooLong self.entry [] ≡ Ok bytes.now)
+            (λ fault. part_on CipherTooLong self.entry [] ≡ Err fault) }
     {
         let CipherPart {
             work,

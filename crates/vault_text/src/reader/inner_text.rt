@@ -1,18 +1,15 @@
 //! The inner text of an envelope, as it comes in pieces: salt, tag and ciphertext in hexadecimal,
 //! with LF between them.
-ghost use Rattle.std.specs.Prelude.{◌≡◌, ◌<◌, ◌≤◌, ◌∷◌, ◌++◌, ℕ, List, [], IfSome, IfNone, length};
-ghost use Rattle.std.specs.List.{before_first};
-ghost use Rattle.vault_text.specs.InnerText.{is_line_feed};
+ghost use Rattle.std.specs.Prelude.{◌≡◌, ◌<◌, ◌≤◌, ◌++◌, ℕ, List, [], length};
 ghost use Rattle.vault_text.specs.InnerReader.{TakesText, payload_on};
-ghost use Rattle.vault_text.specs.declared.limits.TheConstants.{CIPHERTEXT_LIMIT};
 
 use super::RUN_LIMIT;
 use super::cipher_part::CipherPart;
 use super::short_part::ShortPart;
 use crate::fault::TextFault;
-use crate::header::position_of;
+use crate::header::split_at_byte;
 use crate::label::Label;
-use crate::limits::{CIPHERTEXT_LIMIT, SALT_LIMIT, TAG_LENGTH};
+use crate::limits::{SALT_LIMIT, TAG_LENGTH};
 use crate::payload::Payload;
 use crate::salt::Salt;
 use std::marker::Model;
@@ -43,26 +40,11 @@ impl<'a> Model for InnerReader<'a> {
     ghost view = { λ r. record { part = r.part; salt = r.salt; tag = r.tag; cipher = r.cipher } };
 }
 
-/// What stands before the first LF, and behind it where there is one.
-fn split_at_line_feed(text: &[u8]) -> (&[u8], Option<&[u8]>)
-    ensures before { result.0.now ≡ before_first is_line_feed text.now }
-    ensures found { IfSome result.1 (λ rest. text.now ≡ result.0.now ++ 10 ∷ rest.now) }
-    ensures whole { IfNone result.1 (result.0.now ≡ text.now) }
-{
-    let end = position_of(text, b'\n');
-    if end < text.len() {
-        (&text[..end], Some(&text[end + 1..]))
-    } else {
-        (text, None)
-    }
-}
-
 impl<'a> InnerReader<'a> {
     ghost use Rattle.vault_text.specs.InnerReader.{new_inner};
 
     pub(super) fn new(work: &'a mut [u8]) -> Self
-        requires { length work.old ≡ CIPHERTEXT_LIMIT }
-        ensures { result ≡ new_inner }
+        ensures { result ≡ new_inner (length work.old) }
     {
         InnerReader {
             part: Part::Salt,
@@ -94,7 +76,7 @@ impl<'a> InnerReader<'a> {
     {
         match self.part {
             Part::Salt => {
-                let (digits, rest) = split_at_line_feed(text);
+                let (digits, rest) = split_at_byte(text, b'\n');
                 self.salt.extend(digits);
                 let Some(rest) = rest else {
                     return &[];
@@ -103,7 +85,7 @@ impl<'a> InnerReader<'a> {
                 rest
             }
             Part::Tag => {
-                let (digits, rest) = split_at_line_feed(text);
+                let (digits, rest) = split_at_byte(text, b'\n');
                 self.tag.extend(digits);
                 let Some(rest) = rest else {
                     return &[];

@@ -19,17 +19,21 @@ pub(super) struct ShortPart<const LIMIT: usize> {
 }
 
 impl<const LIMIT: usize> Model for ShortPart<LIMIT> {
-    ghost use Rattle.std.specs.Prelude.{◌≤◌, length};
     ghost use Rattle.vault_text.specs.InnerReader.{PartState};
 
     ghost Value = { PartState };
 
-    ghost view = { λ p. record { bytes = p.bytes.items; decoder = p.decoder; is_long = p.is_long } };
+    ghost view = { λ p. record {
+        bytes = p.bytes.items;
+        decoder = p.decoder;
+        limit = LIMIT;
+        is_long = p.is_long
+    } };
 }
 
 impl<const LIMIT: usize> ShortPart<LIMIT> {
     pub(super) fn new() -> Self
-        ensures { result ≡ new_part }
+        ensures { result ≡ new_part LIMIT }
     {
         ShortPart {
             bytes: ArrayVec::new(),
@@ -41,7 +45,7 @@ impl<const LIMIT: usize> ShortPart<LIMIT> {
     /// Takes the digits that come next.
     pub(super) fn extend(&mut self, digits: &[u8])
         requires { length digits.now ≤ RUN_LIMIT }
-        ensures { TakesDigits LIMIT self.old digits.now self.new }
+        ensures { TakesDigits self.old digits.now self.new }
     {
         let mut bytes = [0; RUN_LIMIT];
         let count = self.decoder.decode(digits, &mut bytes);
@@ -53,8 +57,8 @@ impl<const LIMIT: usize> ShortPart<LIMIT> {
     /// The bytes of the part, where no digit follows.
     pub(super) fn finish(&self) -> Result<&[u8], TextFault>
         ensures { MatchResult result
-            (λ bytes. part_on LIMIT BadPayload self.now [] ≡ Ok bytes.now)
-            (λ fault. part_on LIMIT BadPayload self.now [] ≡ Err fault) }
+            (λ bytes. part_on BadPayload self.now [] ≡ Ok bytes.now)
+            (λ fault. part_on BadPayload self.now [] ≡ Err fault) }
     {
         if self.is_long || !self.decoder.is_complete() {
             return Err(TextFault::BadPayload);

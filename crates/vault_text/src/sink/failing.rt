@@ -1,4 +1,4 @@
-ghost use Rattle.std.specs.Prelude.{◌≡◌, ℕ, ◌-◌, ◌^◌, ◌<◌, ◌≤◌, ◌⊎◌, ◌↔◌, [], IsErr, IfOk, OnOk, OnErr, length, take, min};
+ghost use Rattle.std.specs.Prelude.{◌≡◌, ◌-◌, ◌^◌, ◌<◌, ◌≤◌, ◌⊎◌, ◌↔◌, [], IsErr, IfOk, OnOk, OnErr, length, min};
 ghost use Rattle.vault_text.specs.Failures.{CountsFailure};
 ghost use Rattle.vault_text.specs.Sink.{Takes, failing_state_of, has_begun, taken};
 

@@ -1,4 +1,4 @@
-ghost use Rattle.std.specs.Prelude.{◌≡◌, ℕ, ◌+◌, ◌-◌, ◌^◌, ◌<◌, ◌≤◌, [], IsErr, IfOk, OnOk, OnErr, length, take, min};
+ghost use Rattle.std.specs.Prelude.{◌≡◌, ◌+◌, ◌-◌, ◌^◌, ◌<◌, ◌≤◌, [], IsErr, IfOk, OnOk, OnErr, length, min};
 ghost use Rattle.vault_text.specs.Failures.{CountsFailure};
 ghost use Rattle.vault_text.specs.Sink.{taken, has_begun};
 
@@ -99,7 +99,6 @@ impl Sink for MemSink {
         ensures bound { IfOk result (λ n. n ≤ length bytes.now) }
         ensures stage { self.new.stage ≡ self.old.stage }
         ensures failed { CountsFailure self.old.failures self.new.failures result }
-        ensures once { self.new.failures ≤ self.old.failures + 1 }
         ensures full { 2 ^ 64 - 1 ≤ self.old.failures → IsErr result }
     {
         if self.failures == u64::MAX {

@@ -1,6 +1,4 @@
-ghost use Rattle.std.specs.Prelude.{◌≡◌, ℕ, ◌-◌, ◌^◌, ◌<◌, ◌≤◌, IsErr, IfOk, OnOk, OnErr, length, take};
-ghost use Rattle.vault_text.specs.Failures.{CountsFailure};
-ghost use Rattle.vault_text.specs.Sink.{taken};
+ghost use Rattle.std.specs.Prelude.{◌≡◌};
 
 use super::{Sink, SinkFailed, Stage};
 use std::io::Write;
@@ -24,6 +22,7 @@ impl<W: Write> Model for WriteSink<W> {
 }
 
 impl<W: Write> WriteSink<W> {
+    /// Writes behind what `writer` holds. Opening the sink does not ask it.
     pub fn new(writer: W) -> Self
         ensures { result ≡ record { held = W.contents writer; stage = Stage.Unbegun; failures = 0 } }
     {

@@ -86,7 +86,7 @@ fn put_ciphertext<K: Sink>(
     put_batch(sink, indentation, &cipher[done..])
 }
 
-/// The same for at most a batch.
+/// Writes the lines of one batch of ciphertext.
 fn put_batch<K: Sink>(sink: &mut K, indentation: &[u8], cipher: &[u8]) -> Result<(), SinkFailed>
     requires begun { K.stage sink.old ≡ Stage.Begun }
     requires narrow { length indentation.now ≤ INDENTATION_LIMIT }

@@ -6,8 +6,8 @@ ghost use Rattle.vault_text.specs.Written.{text_of_lines, written_header};
 use super::lines::{INDENTATION_LIMIT, TEXT_LIMIT, Text, append};
 use crate::label::Label;
 
-#[tactic(auto, unfolding(crate::specs::Written::text_of_lines))]
 /// The header line behind an indentation, with its end.
+#[tactic(auto, unfolding(crate::specs::Written::text_of_lines))]
 pub(super) fn header_line_of(indentation: &[u8], label: &Label) -> Text
     requires { length indentation.now ≤ INDENTATION_LIMIT }
     ensures { result.items ≡ text_of_lines indentation.now (written_header label.now ∷ []) }
@@ -19,8 +19,8 @@ pub(super) fn header_line_of(indentation: &[u8], label: &Label) -> Text
     line
 }
 
-#[tactic(auto, unfolding(crate::specs::Written::written_header))]
 /// Appends the header line of a label, without its end.
+#[tactic(auto, unfolding(crate::specs::Written::written_header))]
 fn append_header(line: &mut Text, label: &str)
     requires { array_vec_len line.old + 26 + length label.now ≤ TEXT_LIMIT }
     ensures line { line.new.items ≡ line.old.items ++ written_header label.now }

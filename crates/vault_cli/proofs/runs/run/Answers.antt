@@ -1,111 +1,132 @@
-use Rattle.std.proofs.Common.{true, false, ◌≡◌, [], map, Err, inl, inr, refl, sym, ap, ◌∙◌}
-use Rattle.vault_cli.specs.Outcome.{outcome, refused, secrets_of}
+use Rattle.std.proofs.Common.{true, false, ◌≡◌, ◌≢◌, ℕ, List, [], length, map, Ok, Err, inl, inr, refl, sym, ap, ◌∙◌, arith}
+use Rattle.std.specs.Prelude.{IsTrue, is_some}
+use Rattle.vault_text.specs.Limits.{limit_of}
+use Rattle.vault_cli.specs.Outcome.{answered, asks_for_input, input_limit, outcome_within, performed, refused, task_limit, text_of_request}
 use Rattle.vault_cli.specs.Status.{status_of}
+use Rattle.vault_cli.specs.StoredTask.{task_in}
+use Rattle.vault_cli.specs.Task.{prepared}
 use Rattle.vault_cli.specs.declared.status.Status.TheVariants.{DeviceFailed, OutOfMemory, Refused, Success}
-use Rattle.vault_cli.proofs.OutcomeFacts.{outcome-decrypted, outcome-refused, refused_alone-secrets}
-use Rattle.vault_cli.proofs.RefusedAlone.{refused_alone-decryption}
+use Rattle.vault_cli.proofs.OutcomeFacts.{asks-performed, asks-refused, not-true, outcome-performed, outcome-refused}
+use Rattle.vault_cli.proofs.RefusedAlone.{alone-performed, alone-prepared}
+use Rattle.vault_cli.proofs.TaskFacts.{limit-prepared}
 use Rattle.vault_cli.proofs.runs.run.Goals as goal
 
-pub returns-in-Err-clause-run_is_outcome : goal.returns-in-Err-clause-run_is_outcome
-returns-in-Err-clause-run_is_outcome g c = λ device.
+pub returns-in-Err-clause-ends : goal.returns-in-Err-clause-ends
+returns-in-Err-clause-ends g c =
+    let request = c.args.request.now in
     let contents = map (λ file. file.items) c.args.secret_files.now in
-    let refusal : Err c.in-Err.fault ≡ secrets_of c.args.request.now.secret_files contents = c.in-Err.ensures in
-    let same : outcome c.args.request.now contents c.args.salt.now [] ≡ refused c.in-Err.fault =
-    outcome-refused c.args.request.now contents c.args.salt.now [] c.in-Err.fault refusal in (
+    let salt = c.args.salt.now in
+    let limit = limit_of (length c.args.work.now) in
+    let refusal = c.in-Err.ensures.prepared in
+    let same = outcome-refused request contents salt limit [] c.in-Err.fault refusal in
+    let alone = (alone-prepared request contents salt).status c.in-Err.fault refusal in
+    let asks = asks-refused request contents salt c.in-Err.fault refusal in (
       [],
       g.met.S.Source.gives_none c.args.src.now,
-      (λ fine. let unlike : false ≡ true = rw (← refusal) at fine in absurd cc),
-      rw same (c.report.ensures.status, refl, c.report.ensures.line),
+      omega arith,
+      rw (same, asks) (inl (record {
+        status = (c.report.ensures.status, λ device. let other : Refused ≡ DeviceFailed = sym alone ∙ sym c.report.ensures.status ∙ device in absurd cc);
+        read = record { failures = refl; whole = λ asked. absurd cc };
+        failures = refl;
+        output = refl;
+        line = c.report.ensures.line;
+      })),
     )
-
-pub returns-in-Err-clause-device_failed : goal.returns-in-Err-clause-device_failed
-returns-in-Err-clause-device_failed g c = λ device.
-    let contents = map (λ file. file.items) c.args.secret_files.now in
-    let status = (refused_alone-secrets c.args.request.now.secret_files contents).status c.in-Err.fault (sym c.in-Err.ensures) in
-    let other : Refused ≡ _ = sym status ∙ sym c.report.ensures.status ∙ device in
-    cc
 
 pub returns-in-Err-clause-memory_suffices : goal.returns-in-Err-clause-memory_suffices
 returns-in-Err-clause-memory_suffices g c = λ memory.
     let contents = map (λ file. file.items) c.args.secret_files.now in
-    let status = (refused_alone-secrets c.args.request.now.secret_files contents).status c.in-Err.fault (sym c.in-Err.ensures) in
-    let other : Refused ≡ _ = sym status ∙ sym c.report.ensures.status ∙ memory in
-    cc
+    let alone = (alone-prepared c.args.request.now contents c.args.salt.now).status c.in-Err.fault c.in-Err.ensures.prepared in
+    let other : Refused ≡ OutOfMemory = sym alone ∙ sym c.report.ensures.status ∙ memory in
+    absurd cc
 
-pub returns-in-Ok-prepare_decrypt-clause-run_is_outcome :
-    goal.returns-in-Ok-prepare_decrypt-clause-run_is_outcome
-returns-in-Ok-prepare_decrypt-clause-run_is_outcome g c = λ fine.
+pub returns-in-Ok-perform-clause-ends : goal.returns-in-Ok-perform-clause-ends
+returns-in-Ok-perform-clause-ends g c =
+    let request = c.args.request.now in
     let contents = map (λ file. file.items) c.args.secret_files.now in
-    let (input, gives, bound, (same, (whole, opened, counted))) = c.in-Ok-prepare_decrypt.ensures.answer in
-    let found = outcome-decrypted c.args.request.now contents c.args.salt.now input _ c.in-Ok.ensures in
-    let success : c.deliver.result ≡ Success =
-    elim c.deliver.ensures.status [
-      | inl done ↦ done
-      | inr device ↦ absurd (fine device)
-    ] in (
+    let salt = c.args.salt.now in
+    let limit = limit_of (length c.args.work.now) in
+    let task = task_in c.in-Ok.task in
+    let found = c.in-Ok.ensures.prepared in
+    let amount = limit-prepared limit request contents salt task found in
+    let asks = asks-performed request contents salt task found in
+    let (input, gave, bound, (unfailed, (whole, is))) = c.in-Ok-perform.ensures.answer in
+    let same : outcome_within limit request contents salt input ≡ answered (Ok c.in-Ok-perform.ready) =
+    outcome-performed request contents salt limit input task found ∙ ap answered (sym is) in (
       input,
-      gives,
-      (λ _. whole),
-      rw (found, opened) (success, c.deliver.ensures.written fine, c.deliver.ensures.silent fine),
+      gave,
+      rw (← amount) bound,
+      rw (same, asks, ← amount) (elim c.deliver.ensures.status [
+        | inl done ↦
+            let fine : c.deliver.result ≢ DeviceFailed = λ device. let other : Success ≡ DeviceFailed = sym done ∙ device in absurd cc in
+            inl (record {
+              status = (done, fine);
+              read = record { failures = unfailed; whole = λ asked. whole (not-true _ asked) };
+              failures = c.deliver.ensures.intact fine;
+              output = c.deliver.ensures.written fine;
+              line = c.deliver.ensures.silent fine;
+            })
+        | inr device ↦ inr (inr (record {
+          status = device;
+          read = record { failures = unfailed; whole = λ asked. whole (not-true _ asked) };
+          failed = (c.deliver.ensures.failed device).0;
+          output = (c.in-Ok-perform.ready.output, refl, c.deliver.ensures.prefix);
+          line = (c.deliver.ensures.failed device).1;
+        }))
+      ]),
     )
 
-pub returns-in-Ok-prepare_decrypt-clause-device_failed :
-    goal.returns-in-Ok-prepare_decrypt-clause-device_failed
-returns-in-Ok-prepare_decrypt-clause-device_failed g c = λ device.
+pub returns-in-Err-perform-clause-ends : goal.returns-in-Err-perform-clause-ends
+returns-in-Err-perform-clause-ends g c =
+    let request = c.args.request.now in
     let contents = map (λ file. file.items) c.args.secret_files.now in
-    let (input, gives, bound, (same, (whole, opened, counted))) = c.in-Ok-prepare_decrypt.ensures.answer in
-    let found = outcome-decrypted c.args.request.now contents c.args.salt.now input _ c.in-Ok.ensures in
-    let failed = c.deliver.ensures.failed device in
-    inr (
-      failed.0,
-      (input, c.in-Ok-prepare_decrypt.ready.output, gives, whole, rw (found, opened) refl, c.deliver.ensures.prefix),
-      failed.1,
+    let salt = c.args.salt.now in
+    let limit = limit_of (length c.args.work.now) in
+    let task = task_in c.in-Ok.task in
+    let found = c.in-Ok.ensures.prepared in
+    let amount = limit-prepared limit request contents salt task found in
+    let asks = asks-performed request contents salt task found in
+    let (input, gave, bound, cases) = c.in-Err-perform.ensures.answer in
+    let report = c.report-in-Err-perform.ensures in (
+      input,
+      gave,
+      rw (← amount) bound,
+      elim cases [
+        | inl ((unread, risen), (unnamed, front)) ↦
+            let status : c.report-in-Err-perform.result ≡ DeviceFailed = report.status ∙ ap status_of unread in
+            rw (asks, ← amount) (inr (inl (record {
+              status = status;
+              failed = (rw unnamed refl, risen);
+              bound = front;
+              output = refl;
+              line = rw unread at report.line;
+            })))
+        | inr ((other, unfailed), (whole, is)) ↦
+            let same : outcome_within limit request contents salt input ≡ refused c.in-Err-perform.fault =
+            outcome-performed request contents salt limit input task found ∙ ap answered (sym is) in
+            let alone = (alone-performed limit task (text_of_request request input)).status c.in-Err-perform.fault (sym is) in
+            rw (same, asks, ← amount) (inl (record {
+              status = (report.status, λ device. let wrong : Refused ≡ DeviceFailed = sym alone ∙ sym report.status ∙ device in absurd cc);
+              read = record { failures = unfailed; whole = λ asked. whole (not-true _ asked) };
+              failures = refl;
+              output = refl;
+              line = report.line;
+            }))
+      ],
     )
 
-pub returns-in-Err-prepare_decrypt-clause-run_is_outcome :
-    goal.returns-in-Err-prepare_decrypt-clause-run_is_outcome
-returns-in-Err-prepare_decrypt-clause-run_is_outcome g c = λ fine.
-    let contents = map (λ file. file.items) c.args.secret_files.now in
-    let status = c.report-in-Err-prepare_decrypt.ensures.status in
-    let (input, gives, bound, cases) = c.in-Err-prepare_decrypt.ensures.answer in
+pub returns-in-Err-perform-clause-memory_suffices : goal.returns-in-Err-perform-clause-memory_suffices
+returns-in-Err-perform-clause-memory_suffices g c = λ memory.
+    let limit = limit_of (length c.args.work.now) in
+    let task = task_in c.in-Ok.task in
+    let status = c.report-in-Err-perform.ensures.status in
+    let (input, gave, bound, cases) = c.in-Err-perform.ensures.answer in
     elim cases [
-      | inl read ↦ absurd (fine (status ∙ ap status_of read.0))
-      | inr other ↦
-          let (unlike, same, (whole, refused, counted)) = other in
-          let found = outcome-decrypted c.args.request.now contents c.args.salt.now input _ c.in-Ok.ensures in (
-            input,
-            gives,
-            (λ _. whole),
-            rw (found, refused) (status, refl, c.report-in-Err-prepare_decrypt.ensures.line),
-          )
-    ]
-
-pub returns-in-Err-prepare_decrypt-clause-device_failed :
-    goal.returns-in-Err-prepare_decrypt-clause-device_failed
-returns-in-Err-prepare_decrypt-clause-device_failed g c = λ device.
-    let status = c.report-in-Err-prepare_decrypt.ensures.status in
-    let (input, gives, bound, cases) = c.in-Err-prepare_decrypt.ensures.answer in
-    elim cases [
-      | inl read ↦ inl (read.1, refl, (rw read.0 at c.report-in-Err-prepare_decrypt.ensures.line))
-      | inr other ↦
-          let (unlike, same, (whole, refused, counted)) = other in
-          let alone = (refused_alone-decryption c.in-Ok.secrets input).status c.in-Err-prepare_decrypt.fault refused in
-          let wrong : Refused ≡ DeviceFailed = sym alone ∙ sym status ∙ device in
+      | inl ((unread, risen), rest) ↦
+          let wrong : DeviceFailed ≡ OutOfMemory = sym (ap status_of unread) ∙ sym status ∙ memory in
           absurd cc
-    ]
-
-pub returns-in-Err-prepare_decrypt-clause-memory_suffices :
-    goal.returns-in-Err-prepare_decrypt-clause-memory_suffices
-returns-in-Err-prepare_decrypt-clause-memory_suffices g c = λ memory.
-    let status = c.report-in-Err-prepare_decrypt.ensures.status in
-    let (input, gives, bound, cases) = c.in-Err-prepare_decrypt.ensures.answer in
-    elim cases [
-      | inl read ↦
-          let wrong : DeviceFailed ≡ OutOfMemory = sym (ap status_of read.0) ∙ sym status ∙ memory in
-          cc
-      | inr other ↦
-          let (unlike, same, (whole, refused, counted)) = other in
-          let alone = (refused_alone-decryption c.in-Ok.secrets input).status c.in-Err-prepare_decrypt.fault refused in
+      | inr (other, (whole, is)) ↦
+          let alone = (alone-performed limit task (text_of_request c.args.request.now input)).status c.in-Err-perform.fault (sym is) in
           let wrong : Refused ≡ OutOfMemory = sym alone ∙ sym status ∙ memory in
-          cc
+          absurd cc
     ]

@@ -1,5 +1,5 @@
 use Rattle.std.proofs.Common.{◌≡◌, ◌≤◌, ℕ, List, [], ◌∷◌, ◌++◌, append_assoc, arith, eqb-true, inl, length, length-append, length-take, refl, sym, ◌∙◌}
-use Rattle.std.proofs.lemmas.Result.{IfOk-from_err}
+use Rattle.std.proofs.lemmas.Result.{MatchResult-from_err}
 use Rattle.vault_text.proofs.Progress.{taken_none}
 use Rattle.vault_core.proofs.input.feed_input.Goals as goal
 
@@ -14,7 +14,7 @@ returns-in_err-piece-clause-fed g c =
       input,
       taken_none g.S.Source.gives g.met.S.Source.gives_more _ _ _ input kept.gives c.in_err-piece.ensures.nothing,
       omega (arith, kept.left),
-      IfOk-from_err _ _ c.from_residual.ensures.0,
+      MatchResult-from_err _ _ _ c.from_residual.ensures.0 (λ _. omega (arith, kept.left, c.loop-left-test.true)),
       kept.fed,
     )
 
@@ -28,7 +28,8 @@ loop-left-preserved g c =
       record {
         gives = g.met.S.Source.gives_more _ _ _ input piece kept.gives c.in_ok-piece.ensures.gives;
         left = omega (arith, kept.left, length-append input piece, short);
-        fed = λ before h. rw append_assoc at (c.feed.ensures (before ++ input) (kept.fed before h));
+        limit = c.feed.ensures.limit ∙ kept.limit;
+        fed = λ before h. rw append_assoc at (c.feed.ensures.taken (before ++ input) (kept.fed before h));
         failures = c.in_ok-piece.ensures.failed ∙ kept.failures;
       },
     )

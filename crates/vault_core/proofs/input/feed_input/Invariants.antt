@@ -1,13 +1,14 @@
 use Rattle.std.proofs.Common.{◌≡◌, ◌+◌, ℕ, List, ◌++◌, length}
 use Rattle.vault_text.specs.EnvelopeReader.{StandsFor}
-use Rattle.vault_text.specs.declared.limits.TheConstants.{ENVELOPE_LIMIT}
+use Rattle.vault_text.specs.Limits.{envelope_limit}
 use Rattle.vault_core.proofs.input.feed_input.Given as goal
 
 abbrev pub invariant-loop-left : goal.invariant-loop-left
 invariant-loop-left g l =
     (input : List ℕ) × record {
       gives : g.S.Source.gives l.fn.src input l.src;
-      left : length input + l.left ≡ ENVELOPE_LIMIT + 1;
+      left : length input + l.left ≡ envelope_limit l.fn.reader.limit + 1;
+      limit : l.reader.limit ≡ l.fn.reader.limit;
       fed : (before : List ℕ) → StandsFor l.fn.reader before → StandsFor l.reader (before ++ input);
       failures : g.S.Source.failures l.src ≡ g.S.Source.failures l.fn.src;
     }

@@ -1,4 +1,4 @@
-use Rattle.std.proofs.Common.{ap, inr, []}
+use Rattle.std.proofs.Common.{ap, inl, inr, [], ◌∙◌}
 use Rattle.std.specs.Result.{result_map_both}
 use Rattle.std.proofs.lemmas.Result.{err_from_is_err_and}
 use Rattle.vault_core.specs.Fault.{of_text}
@@ -9,20 +9,24 @@ pub returns-in_err-finish : goal.returns-in_err-finish
 returns-in_err-finish g c =
     let p = err_from_is_err_and c.from_residual-in_err-finish.result c.from_residual-in_err-finish.ensures.1 in
     let read = c.in_ok-feed_input.ensures.fed in
-    let answer = c.in_err-finish.ensures read.0 (read.4 [] c.new-reader.ensures) in
+    let new = c.new-reader.ensures.limit in
+    let fed = c.in_ok-feed_input.ensures.limit ∙ new in
+    let answer = rw fed at (c.in_err-finish.ensures read.0 (read.4 [] c.new-reader.ensures.nothing)) in
     rw (p.1, p.2) (
       read.0,
       read.1,
-      read.2,
-      inr (of_text-is_no_read _, c.in_ok-feed_input.ensures.failed, (read.3, ap (result_map_both (λ payload. payload) of_text) answer)),
+      rw new at read.2,
+      inr ((of_text-is_no_read _, c.in_ok-feed_input.ensures.failed), (rw new at read.3, ap (result_map_both (λ payload. payload) of_text) answer)),
     )
 
 pub returns : goal.returns
 returns g c =
     let read = c.in_ok-feed_input.ensures.fed in
-    let answer = c.in_ok-finish.ensures read.0 (read.4 [] c.new-reader.ensures) in (
+    let new = c.new-reader.ensures.limit in
+    let fed = c.in_ok-feed_input.ensures.limit ∙ new in
+    let answer = rw fed at (c.in_ok-finish.ensures read.0 (read.4 [] c.new-reader.ensures.nothing)) in (
       read.0,
       read.1,
-      read.2,
-      (c.in_ok-feed_input.ensures.failed, (read.3, ap (result_map_both (λ payload. payload) of_text) answer)),
+      rw new at read.2,
+      (c.in_ok-feed_input.ensures.failed, (rw new at read.3, ap (result_map_both (λ payload. payload) of_text) answer)),
     )

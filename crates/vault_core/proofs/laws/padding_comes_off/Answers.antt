@@ -1,4 +1,4 @@
-use Rattle.vault_core.proofs.UnpaddingLemmas.{IsPadded-without_padding, without_padding-IsPadded}
+use Rattle.vault_core.proofs.PaddingLemmas.{IsPadded-without_padding, without_padding-IsPadded}
 use Rattle.vault_core.proofs.laws.padding_comes_off.Goals as goal
 
 pub returns-clause-padding : goal.returns-clause-padding

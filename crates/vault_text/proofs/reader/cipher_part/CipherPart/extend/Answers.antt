@@ -1,5 +1,5 @@
 use Rattle.std.proofs.Common.{◌-◌, ◌≤◌, length, ℕ, arith, length-take, length-drop}
-use Rattle.vault_text.proofs.Progress.{take-written}
+use Rattle.vault_text.proofs.Progress.{length-written, take-written}
 use Rattle.vault_text.proofs.InnerFacts.{TakesDigits-kept}
 use Rattle.vault_text.proofs.reader.cipher_part.CipherPart.extend.Goals as goal
 
@@ -10,4 +10,5 @@ returns-then-byte_count-self c =
     omega (arith, c.decode.ensures.count, c.byte_count.ensures, c.if-byte_count-self.true, c.decode.auto.bytes, length-take {A = ℕ}, length-drop {A = ℕ}) in
     let inside : part.filled ≤ length part.work.now = omega (arith, c.self.invariant) in
     let front = take-written part.filled c.decode.result (length part.work.now - part.filled) part.work.now c.decode.new.bytes inside fits in
-    rw (front, ← c.self.view_is) (TakesDigits-kept _ _ _ _ _ _ _ c.decode.ensures.decoded)
+    let room = length-written part.filled part.work.now c.decode.new.bytes inside c.decode.auto.bytes in
+    rw (front, room, ← c.self.view_is) (TakesDigits-kept _ _ _ _ _ _ _ c.decode.ensures.decoded)

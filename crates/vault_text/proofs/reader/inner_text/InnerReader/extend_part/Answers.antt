@@ -5,21 +5,21 @@ use Rattle.vault_text.proofs.reader.inner_text.InnerReader.extend_part.Goals as 
 
 pub returns-in_default-clause-taken : goal.returns-in_default-clause-taken
 returns-in_default-clause-taken c label more =
-    let split = c.split_at_line_feed.ensures in
+    let split = c.split_at_byte.ensures in
     let whole = rw c.in_default.is at split.whole in
-    rw (← c.self.view_is, ← whole)
+    rw (← c.self.view_is, whole)
     (payload_on-salt _ _ _ c.args.text.now _ more more label c.in-Salt.is split.before c.extend.ensures (rw c.in-Salt.is refl))
 
 pub returns-in_default-rest-clause-taken : goal.returns-in_default-rest-clause-taken
 returns-in_default-rest-clause-taken c label more =
-    let split = c.split_at_line_feed-in-Tag.ensures in
+    let split = c.split_at_byte-in-Tag.ensures in
     let whole = rw c.in_default-rest.is at split.whole in
-    rw (← c.self.view_is, ← whole)
+    rw (← c.self.view_is, whole)
     (payload_on-tag _ _ _ c.args.text.now _ more more label c.in-Tag.is split.before c.extend-in-Tag.ensures (rw c.in-Tag.is refl))
 
 pub returns-in-Some-clause-taken : goal.returns-in-Some-clause-taken
 returns-in-Some-clause-taken c label more =
-    let split = c.split_at_line_feed.ensures in
+    let split = c.split_at_byte.ensures in
     let found = rw c.in-Some.is at split.found in
     let rest = c.in-Some.rest.now ++ more in
     rw (← c.self.view_is, found, append_assoc)
@@ -27,7 +27,7 @@ returns-in-Some-clause-taken c label more =
 
 pub returns-in-Some-rest-clause-taken : goal.returns-in-Some-rest-clause-taken
 returns-in-Some-rest-clause-taken c label more =
-    let split = c.split_at_line_feed-in-Tag.ensures in
+    let split = c.split_at_byte-in-Tag.ensures in
     let found = rw c.in-Some-rest.is at split.found in
     let rest = c.in-Some-rest.rest.now ++ more in
     rw (← c.self.view_is, found, append_assoc)

@@ -1,0 +1,179 @@
+//! Runs of `encrypt` and `encrypt_string`.
+use crate::commands::{Ran, run_words, run_words_from};
+use crate::support::EMPTY_ENVELOPE;
+use std::process::Abort;
+use std::test::Fail;
+use vault_cli::Status;
+use vault_text::FailingSource;
+
+const FIRST: &[&[u8]] = &[b"one\n"];
+
+const ZEROS: &[u8] = &[0; 32];
+
+const ENCRYPT: &[&str] = &["encrypt", "--vault-password-file", "f1"];
+
+const DECRYPT: &[&str] = &["decrypt", "--vault-password-file", "f1"];
+
+/// The run was refused with this text, and the output was not begun.
+fn assert_refused(rt: &impl Abort, ran: &Ran, text: &[u8]) {
+    assert_eq!(rt; ran.status, Status::Refused, "{text:?}");
+    assert!(rt; !ran.begun, "{text:?}");
+    assert!(rt; ran.message.as_slice().starts_with(b"ERROR! "), "{text:?}");
+    assert!(rt; ran.message.as_slice().ends_with(text), "{text:?}");
+}
+
+#[test]
+fn encrypts_nothing(rt: HostRuntime) -> Result<(), Fail> {
+    let alloc = rt.alloc();
+    let sealed = run_words(alloc, ENCRYPT, FIRST, ZEROS, b"")?;
+    assert_eq!(rt; sealed.status, Status::Success);
+    assert_eq!(rt; sealed.output.len(), 355);
+    let mut lines = sealed.output.split(|byte| *byte == b'\n');
+    assert_eq!(rt; lines.next(), Some(b"$ANSIBLE_VAULT;1.1;AES256".as_slice()));
+    assert_eq!(rt;
+        lines.next(),
+        Some(
+            b"30303030303030303030303030303030303030303030303030303030303030303030303030303030".as_slice()
+        )
+    );
+    let second = lines.next().unwrap_or(b"");
+    assert!(rt; second.starts_with(b"3030303030303030303030303030303030303030303030300a"));
+    let opened = run_words(alloc, DECRYPT, FIRST, b"", sealed.output.as_slice())?;
+    assert_eq!(rt; opened.status, Status::Success);
+    assert!(rt; opened.begun && opened.output.is_empty() && opened.message.is_empty());
+    Ok(())
+}
+
+#[test]
+fn pads_whole_blocks(rt: HostRuntime) -> Result<(), Fail> {
+    let alloc = rt.alloc();
+    for (length, written) in [(15, 355), (16, 419)] {
+        let plain = vec![in alloc; b'a'; length]?;
+        let sealed = run_words(alloc, ENCRYPT, FIRST, ZEROS, plain.as_slice())?;
+        assert_eq!(rt; sealed.output.len(), written, "{length}");
+        let opened = run_words(alloc, DECRYPT, FIRST, b"", sealed.output.as_slice())?;
+        assert_eq!(rt; opened.output.as_slice(), plain.as_slice(), "{length}");
+    }
+    let words = ["encrypt", "--vault-id", "dev@f1"];
+    let labelled = run_words(alloc, &words, FIRST, ZEROS, b"aaaaaaaaaaaaaaa")?;
+    assert_eq!(rt; labelled.output.len(), 359);
+    assert!(rt;
+        labelled
+            .output
+            .as_slice()
+            .starts_with(b"$ANSIBLE_VAULT;1.2;AES256;dev\n")
+    );
+    Ok(())
+}
+
+#[test]
+fn refuses_to_encrypt(rt: HostRuntime) -> Result<(), Fail> {
+    let alloc = rt.alloc();
+    let two: [&[u8]; 2] = [b"one\n", b"two\n"];
+    let refused = run_words(alloc, ENCRYPT, FIRST, ZEROS, EMPTY_ENVELOPE)?;
+    assert_refused(
+        &rt,
+        &refused,
+        b" the plaintext is already vault encrypted data\n",
+    );
+    let refused = run_words(alloc, ENCRYPT, FIRST, &[0; 31], b"")?;
+    assert_refused(&rt, &refused, b" the salt has fewer than 32 bytes\n");
+    let refused = run_words(alloc, &["encrypt"], &[], ZEROS, b"")?;
+    assert_refused(&rt, &refused, b" no secret was given to encrypt with\n");
+    let words = ["encrypt", "--vault-id", "a@f1", "--vault-id", "b@f2"];
+    let refused = run_words(alloc, &words, &two, ZEROS, b"")?;
+    assert_refused(&rt, &refused, b"choose one with --encrypt-vault-id\n");
+    let words = ["encrypt", "--vault-id", "a@f1", "--encrypt-vault-id", "x"];
+    let refused = run_words(alloc, &words, FIRST, ZEROS, b"")?;
+    assert_refused(
+        &rt,
+        &refused,
+        b" no secret has the label of --encrypt-vault-id\n",
+    );
+    let long = vec![in alloc; b'a'; 65_537]?;
+    let refused = run_words(alloc, ENCRYPT, FIRST, ZEROS, long.as_slice())?;
+    assert_refused(&rt, &refused, b" input is longer than the limit\n");
+    Ok(())
+}
+
+#[test]
+fn chooses_a_secret(rt: HostRuntime) -> Result<(), Fail> {
+    let alloc = rt.alloc();
+    let two: [&[u8]; 2] = [b"one\n", b"two\n"];
+    let words = [
+        "encrypt",
+        "--vault-id",
+        "a@f1",
+        "--vault-id",
+        "b@f2",
+        "--encrypt-vault-id",
+        "b",
+    ];
+    let sealed = run_words(alloc, &words, &two, ZEROS, b"text")?;
+    assert!(rt;
+        sealed
+            .output
+            .as_slice()
+            .starts_with(b"$ANSIBLE_VAULT;1.2;AES256;b\n")
+    );
+    let opened = run_words(alloc, DECRYPT, &[b"two\n"], b"", sealed.output.as_slice())?;
+    assert_eq!(rt; opened.output.as_slice(), b"text".as_slice());
+    Ok(())
+}
+
+// The salt is the text itself, of any length, and no salt is drawn.
+#[test]
+fn takes_a_salt_text(rt: HostRuntime) -> Result<(), Fail> {
+    let alloc = rt.alloc();
+    let words = ["encrypt", "--vault-password-file", "f1", "--salt", "abc"];
+    let plain = [b'a'; 48].as_slice();
+    let sealed = run_words(alloc, &words, FIRST, b"", plain)?;
+    assert_eq!(rt; sealed.output.len(), 431);
+    let body = b"$ANSIBLE_VAULT;1.1;AES256\n3631363236330a".as_slice();
+    assert!(rt; sealed.output.as_slice().starts_with(body));
+    let opened = run_words(alloc, DECRYPT, FIRST, b"", sealed.output.as_slice())?;
+    assert_eq!(rt; opened.output.as_slice(), plain);
+    let longest = "aaaaaaaaaaaaaaaaaaaaaaaaaaaaaaaaaaaaaaaaaaaaaaaaaaaaaaaaaaaaaaaa";
+    for (text, written) in [("a", 229), (longest, 484)] {
+        let words = ["encrypt", "--vault-password-file", "f1", "--salt", text];
+        let sealed = run_words(alloc, &words, FIRST, b"", b"")?;
+        assert_eq!(rt; sealed.output.len(), written, "{text}");
+    }
+    Ok(())
+}
+
+// A STRING is the text, and the source is not asked.
+#[test]
+fn writes_a_block(rt: HostRuntime) -> Result<(), Fail> {
+    let alloc = rt.alloc();
+    let cases: [(&[&str], usize, &[u8]); 2] = [
+        (
+            &[
+                "encrypt_string",
+                "--vault-id",
+                "f1",
+                "--name",
+                "k",
+                "secret",
+            ],
+            427,
+            b"k: !vault |\n          $",
+        ),
+        (
+            &["encrypt_string", "--vault-id", "f1", "secret"],
+            424,
+            b"!vault |\n          $",
+        ),
+    ];
+    for (words, length, front) in cases {
+        let mut unread = FailingSource::new(b"", 1, 0);
+        let sealed = run_words_from(alloc, words, FIRST, ZEROS, &mut unread)?;
+        assert_eq!(rt; sealed.status, Status::Success, "{words:?}");
+        assert_eq!(rt; sealed.output.len(), length, "{words:?}");
+        assert!(rt; sealed.output.as_slice().starts_with(front), "{words:?}");
+    }
+    let words = ["encrypt_string", "--vault-id", "f1", ""];
+    let refused = run_words(alloc, &words, FIRST, ZEROS, b"text")?;
+    assert_refused(&rt, &refused, b" the string to encrypt is empty\n");
+    Ok(())
+}

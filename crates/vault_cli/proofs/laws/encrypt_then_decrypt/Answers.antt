@@ -1,0 +1,5 @@
+use Rattle.vault_cli.proofs.LawProofs.{encrypt_then_decrypt}
+use Rattle.vault_cli.proofs.laws.encrypt_then_decrypt.Goals as goal
+
+pub returns : goal.returns
+returns c = encrypt_then_decrypt c.encrypted_decrypts.ensures

@@ -1,0 +1,167 @@
+//! What is prepared of a request before its input is read.
+ghost use Rattle.std.specs.Prelude.{◌≡◌, ℕ, ◌+◌, ◌<◌, ◌≤◌, List, length, map, IfOk, MatchResult};
+ghost use Rattle.vault_core.specs.Form.{form_of};
+ghost use Rattle.vault_core.specs.Input.{IsWhole, UnlessUnreadable};
+ghost use Rattle.vault_text.specs.Limits.{IsWorkLength, limit_of};
+ghost use Rattle.vault_cli.specs.Outcome.{performed, task_limit};
+ghost use Rattle.vault_cli.specs.Request.{files_of};
+ghost use Rattle.vault_cli.specs.StoredTask.{task_in};
+ghost use Rattle.vault_cli.specs.Task.{HasPlace, prepared, reseal_of, salt_of, seal_of};
+
+use crate::command_name::CommandName;
+use crate::limits::SEALING_SALT_LENGTH;
+use crate::passwords::{NewSecret, new_secret_of, secrets_of};
+use crate::request::Request;
+use vault_core::{Fault, Form, Ready, Secrets, prepare_decrypt, prepare_encrypt, prepare_rekey};
+use vault_kdf::Meter;
+use vault_text::{Salt, Source};
+
+/// What is to be done with the input, once passwords, secret and salt are found.
+#[derive(Drop)]
+pub(crate) enum Task<'p> {
+    /// To encrypt it with the secret at a place, counted from 0.
+    Seal {
+        secrets: Secrets<'p>,
+        place: usize,
+        form: Form<'p>,
+        salt: Salt,
+    },
+    /// To decrypt it.
+    Open {
+        secrets: Secrets<'p>,
+    },
+    /// To decrypt it, and to encrypt the plaintext with another secret.
+    Reseal {
+        secrets: Secrets<'p>,
+        new: NewSecret<'p>,
+        salt: Salt,
+    },
+}
+
+/// Finds the passwords of a request, the secret that seals and the salt; faults come in this order.
+#[tactic(auto, unfolding(crate::specs::Task::prepared))]
+pub(crate) fn prepare<'p>(
+    request: &'p Request,
+    secret_files: &'p [Vec<u8>],
+    salt: &[u8],
+) -> Result<Task<'p>, Fault>
+    requires { length secret_files.now ≡ length (files_of request.now) }
+    ensures prepared { let contents = map (λ file. file.items) secret_files.now in MatchResult result
+        (λ task. prepared request.now contents salt.now ≡ Ok (task_in task))
+        (λ fault. prepared request.now contents salt.now ≡ Err fault) }
+    ensures chosen { IfOk result (λ task. HasPlace (task_in task)) }
+{
+    let secrets = match secrets_of(request, secret_files) {
+        Ok(secrets) => secrets,
+        Err(fault) => return Err(fault),
+    };
+    let new = match new_secret_of(request, secret_files) {
+        Ok(new) => new,
+        Err(fault) => return Err(fault),
+    };
+    match request.command() {
+        CommandName::Encrypt => seal(request, secrets, Form::Envelope, salt),
+        CommandName::EncryptString => seal(request, secrets, Form::Block(request.name()), salt),
+        CommandName::Decrypt | CommandName::View => Ok(Task::Open { secrets }),
+        CommandName::Rekey => reseal(request, secrets, new, salt),
+    }
+}
+
+/// The task of a request that encrypts.
+fn seal<'p>(
+    request: &'p Request,
+    secrets: Secrets<'p>,
+    form: Form<'p>,
+    salt: &[u8],
+) -> Result<Task<'p>, Fault>
+    ensures chosen { IfOk result (λ task. HasPlace (task_in task)) }
+    ensures sealed { MatchResult result
+        (λ task. seal_of request.now secrets.entry.secrets (form_of form.entry) salt.now
+        ≡ Ok (task_in task))
+        (λ fault. seal_of request.now secrets.entry.secrets (form_of form.entry) salt.now
+        ≡ Err fault) }
+{
+    let place = match secrets.encrypt_choice(request.choice()) {
+        Ok(place) => place,
+        Err(fault) => return Err(Fault::from(fault)),
+    };
+    let salt = salt_of(request, salt)?;
+    Ok(Task::Seal {
+        secrets,
+        place,
+        form,
+        salt,
+    })
+}
+
+/// The task of `rekey`.
+fn reseal<'p>(
+    request: &'p Request,
+    secrets: Secrets<'p>,
+    new: Option<NewSecret<'p>>,
+    salt: &[u8],
+) -> Result<Task<'p>, Fault>
+    ensures chosen { IfOk result (λ task. HasPlace (task_in task)) }
+    ensures resealed { MatchResult result
+        (λ task. reseal_of request.now secrets.entry new.entry salt.now ≡ Ok (task_in task))
+        (λ fault. reseal_of request.now secrets.entry new.entry salt.now ≡ Err fault) }
+{
+    let Some(new) = new else {
+        return Err(Fault::NeedNewSecret);
+    };
+    let salt = salt_of(request, salt)?;
+    Ok(Task::Reseal { secrets, new, salt })
+}
+
+/// The salt of a request: its salt text, or the first 32 bytes of the salt.
+fn salt_of(request: &Request, salt: &[u8]) -> Result<Salt, Fault>
+    ensures { result ≡ salt_of request.now.salt_text salt.now }
+{
+    let bytes = match request.salt_text() {
+        Some(text) => text.as_bytes(),
+        None if salt.len() < SEALING_SALT_LENGTH => return Err(Fault::SaltShort),
+        None => &salt[..SEALING_SALT_LENGTH],
+    };
+    Ok(Salt::new(bytes).unwrap())
+}
+
+impl<'p> Task<'p> {
+    /// Reads the input, and does with it what is to be done.
+    pub(crate) fn perform<'a, S: Source>(
+        &'a self,
+        src: &mut S,
+        work: &'a mut [u8],
+    ) -> Result<Ready<'a>, Fault>
+        requires room { IsWorkLength (length work.old) }
+        requires chosen { HasPlace (task_in self.now) }
+        ensures answer { let limit = limit_of (length work.old) in
+            let bound = task_limit limit (task_in self.now) in
+            (input : List ℕ) × S.gives src.old input src.new × (length input ≤ bound + 1)
+            × UnlessUnreadable (S.failures src.old) (S.failures src.new) result
+            (length input ≤ bound)
+            (IsWhole bound (S.ended src.new) input
+            × (result ≡ performed limit (task_in self.now) input)) }
+    {
+        let mut meter = Meter::new();
+        match self {
+            Task::Seal {
+                secrets,
+                place,
+                form,
+                salt,
+            } => prepare_encrypt(src, work, secrets, *place, *form, salt, &mut meter),
+            Task::Open { secrets } => prepare_decrypt(src, work, secrets, &mut meter),
+            Task::Reseal { secrets, new, salt } => {
+                prepare_rekey(
+                    src,
+                    work,
+                    secrets,
+                    new.label,
+                    new.password,
+                    salt,
+                    &mut meter,
+                )
+            }
+        }
+    }
+}

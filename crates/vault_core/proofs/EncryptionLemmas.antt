@@ -1,0 +1,40 @@
+-- The answers of encrypting, by what the input is.
+use Rattle.std.proofs.Common.{◌≡◌, ◌≢◌, ℕ, ◌<◌, ◌≤◌, ◌⊎◌, Bool, true, false, List, length, length-take-le, take, ap, ◌∙◌, Ok, Err, refl, inl, inr}
+use Rattle.std.specs.Prelude.{◌&&◌, ◌==◌}
+use Rattle.std.proofs.lemmas.Bool.{cases_Bool, eq-eqb, le-ltb, lt-ltb, ne_eqb}
+use Rattle.vault_core.specs.Encryption.{encryption, is_vault}
+use Rattle.vault_core.specs.Form.{Form, is_block}
+use Rattle.vault_core.specs.Sealing.{sealed, text_in}
+use Rattle.vault_core.specs.Secrets.{Secret, secret_at}
+use Rattle.vault_core.specs.declared.fault.Fault.TheVariants.{TooLong, EmptyString, AlreadyVault}
+
+-- a plaintext of n bytes that is no empty string
+pub no_empty_string : (form : Form) (input : List ℕ) (n : ℕ) (has : Bool) → has ≡ is_block form → length input ≡ n
+    → ((has ≡ true) × (n ≢ 0)) ⊎ (has ≡ false) → (is_block form && length input == 0) ≡ false
+no_empty_string form input n has is long (inl some) = rw (← is, some.0, long, ne_eqb n 0 some.1) refl
+no_empty_string form input n has is long (inr envelope) = rw (← is, envelope) refl
+
+-- what was read to the front of the memory
+pub length-front : (input work : List ℕ) (n : ℕ) → n ≤ length work → input ≡ take n work → length input ≡ n
+length-front input work n within is = ap length is ∙ length-take-le n work within
+
+module _ (limit : ℕ) (secrets : List Secret) (place : ℕ) (form : Form) (salt input : List ℕ) where
+  pub encryption-too_long : limit < length input → encryption limit secrets place form salt input ≡ Err TooLong
+  unfolding encryption
+  encryption-too_long long = rw (lt-ltb _ _ long) refl
+
+  pub encryption-empty : length input ≤ limit → is_block form ≡ true → length input ≡ 0
+      → encryption limit secrets place form salt input ≡ Err EmptyString
+  unfolding encryption
+  encryption-empty short block empty = rw (le-ltb _ _ short, block, eq-eqb _ _ empty) refl
+
+  pub encryption-vault : length input ≤ limit → (is_block form && length input == 0) ≡ false → is_vault input ≡ true
+      → encryption limit secrets place form salt input ≡ Err AlreadyVault
+  unfolding encryption
+  encryption-vault short some vault = rw (le-ltb _ _ short, some, vault) refl
+
+  pub encryption-sealed : length input ≤ limit → (is_block form && length input == 0) ≡ false → is_vault input ≡ false
+      → encryption limit secrets place form salt input
+      ≡ Ok (record { output = text_in form (sealed (secret_at place secrets) salt input); tried = 0 })
+  unfolding encryption
+  encryption-sealed short some plain = rw (le-ltb _ _ short, some, plain) refl

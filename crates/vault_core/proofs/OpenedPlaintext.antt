@@ -1,0 +1,68 @@
+-- What an opened plaintext is: bytes, and with their padding as many as the ciphertext has.
+use Rattle.std.proofs.Common.{◌≡◌, ℕ, ◌≤◌, List, length, take, Option, Some, None, Result, Ok, Err, refl, ap, sym, ◌∙◌, arith}
+use Rattle.std.specs.Prelude.{find}
+use Rattle.std.specs.Result.{result_map_both}
+use Rattle.vault_aes.specs.KeyExpansion.{key_schedule}
+use Rattle.vault_aes.proofs.CounterModeLemmas.{length-counter_mode}
+use Rattle.vault_aes.proofs.PaddingLemmas.{take-IsPadded}
+use Rattle.vault_kdf.specs.declared.keys.Keys.{Keys}
+use Rattle.vault_text.specs.Envelope.{Payload, read_within}
+use Rattle.vault_text.specs.Limits.{ciphertext_limit}
+use Rattle.vault_text.specs.declared.fault.TextFault.{TextFault}
+use Rattle.vault_text.proofs.PayloadFacts.{HasFittingCipher, read_within-fits}
+use Rattle.vault_core.specs.Agreement.{agrees, keys_of}
+use Rattle.vault_core.specs.Decryption.{decryption, payload_of}
+use Rattle.vault_core.specs.Fault.{of_text}
+use Rattle.vault_core.specs.Laws.{IsBytes}
+use Rattle.vault_core.specs.Opening.{deciphered_by, opening}
+use Rattle.vault_core.specs.Padding.{padded_length, without_padding}
+use Rattle.vault_core.specs.Ready.{Ready}
+use Rattle.vault_core.specs.Secrets.{Secret, SecretList, tried_order}
+use Rattle.vault_core.specs.declared.fault.Fault.{Fault}
+use Rattle.vault_core.proofs.ByteLemmas.{counter_mode-bytes, take-bytes}
+use Rattle.vault_core.proofs.DecryptionLemmas.{decryption-Err, decryption-Ok}
+use Rattle.vault_core.proofs.OpeningLemmas.{opening-bad_padding, opening-no_secret, opening-plain}
+use Rattle.vault_core.proofs.PaddingLemmas.{IsPadded-without_padding, length-padded_by}
+
+-- the plaintext fits under its limit again
+pub record FitsAgain (limit : ℕ) (plain : List ℕ) : Type 0 where
+  pub bytes : IsBytes plain
+  pub fits : padded_length (length plain) ≤ ciphertext_limit limit
+
+-- what stands before the padding of deciphered bytes
+FitsAgain-plain : (limit : ℕ) (payload : Payload) (secret : Secret) (plain : List ℕ) → HasFittingCipher limit payload
+    → without_padding (deciphered_by (keys_of payload secret) payload.cipher) ≡ Some plain → FitsAgain limit plain
+FitsAgain-plain limit payload secret plain cipher found =
+    let keys : Keys = keys_of payload secret in
+    let text : List ℕ = deciphered_by keys payload.cipher in
+    let padding = IsPadded-without_padding plain text found in
+    record {
+      bytes = rw (take-IsPadded plain text padding) at (take-bytes (length plain) text (counter_mode-bytes (key_schedule keys.cipher) keys.iv payload.cipher cipher.bytes));
+      fits = omega (arith, length-padded_by plain text padding, length-counter_mode (key_schedule keys.cipher) keys.iv payload.cipher, cipher.fits);
+    }
+
+module _ (limit : ℕ) (secrets : SecretList) (opened : Ready) where
+  FitsAgain-opening : (payload : Payload) → HasFittingCipher limit payload → opening secrets payload ≡ Ok opened → FitsAgain limit opened.output
+  FitsAgain-opening payload cipher is = by_secret (find (agrees payload) (tried_order secrets payload.label)) refl
+    where
+      by_plain : (secret : Secret) → find (agrees payload) (tried_order secrets payload.label) ≡ Some secret → (plain : Option (List ℕ))
+          → without_padding (deciphered_by (keys_of payload secret) payload.cipher) ≡ plain → FitsAgain limit opened.output
+      by_plain secret found None known = let wrong = sym (opening-bad_padding secrets payload secret found known) ∙ is in absurd cc
+      by_plain secret found (Some plain) known =
+          let same = sym (opening-plain secrets payload secret plain found known) ∙ is in
+          let output : plain ≡ opened.output = cc in
+          rw output at (FitsAgain-plain limit payload secret plain cipher known)
+
+      by_secret : (found : Option Secret) → find (agrees payload) (tried_order secrets payload.label) ≡ found → FitsAgain limit opened.output
+      by_secret None none = let wrong = sym (opening-no_secret secrets payload none) ∙ is in absurd cc
+      by_secret (Some secret) found = by_plain secret found _ refl
+
+  pub FitsAgain-decryption : (input : List ℕ) → decryption limit secrets input ≡ Ok opened → FitsAgain limit opened.output
+  FitsAgain-decryption input is = by_payload (read_within limit input) refl
+    where
+      by_payload : (read : Result Payload TextFault) → read_within limit input ≡ read → FitsAgain limit opened.output
+      by_payload (Err fault) known =
+          let wrong = sym (decryption-Err limit secrets input (of_text fault) (sym (ap (result_map_both (λ payload. payload) of_text) known))) ∙ is in absurd cc
+      by_payload (Ok payload) known =
+          FitsAgain-opening payload (rw known at (read_within-fits limit input))
+          (sym (decryption-Ok limit secrets input payload (sym (ap (result_map_both (λ payload. payload) of_text) known))) ∙ is)

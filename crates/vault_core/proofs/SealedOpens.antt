@@ -1,0 +1,46 @@
+-- What was sealed opens to its plaintext.
+use Rattle.std.proofs.Common.{◌≡◌, ℕ, Bool, true, List, ◌∷◌, Some, Ok, refl, ap, sym, ◌∙◌}
+use Rattle.std.specs.Prelude.{find}
+use Rattle.std.specs.Str.{bytes_eq}
+use Rattle.std.proofs.lemmas.Slice.Eq.{bytes_eq-Decides}
+use Rattle.vault_aes.proofs.CounterModeLemmas.{counter_mode-counter_mode}
+use Rattle.vault_text.specs.Envelope.{Payload}
+use Rattle.vault_core.specs.Agreement.{agrees, keys_of, tries}
+use Rattle.vault_core.specs.Laws.{SealedOpens}
+use Rattle.vault_core.specs.Opening.{deciphered_by, opening}
+use Rattle.vault_core.specs.Padding.{padded, without_padding}
+use Rattle.vault_core.specs.Sealing.{sealed}
+use Rattle.vault_core.specs.Secrets.{Secret, SecretList, tried_order}
+use Rattle.vault_core.proofs.AgreementLemmas.{tries-cons_yes}
+use Rattle.vault_core.proofs.OpeningLemmas.{opening-plain}
+use Rattle.vault_core.proofs.PaddingLemmas.{without_padding-padded}
+use Rattle.vault_core.proofs.SealingLemmas.{label-sealed}
+
+-- bytes are equal to themselves
+pub bytes_eq-same : (xs : List ℕ) → bytes_eq xs xs ≡ true
+bytes_eq-same xs = (bytes_eq-Decides xs xs).1 refl
+
+module _ (sealing : Secret) (salt plain : List ℕ) where
+  abbrev vault : Payload
+  vault = sealed sealing salt plain
+
+  agrees-sealed : (secret : Secret) → secret.password ≡ sealing.password → agrees vault secret ≡ true
+  unfolding agrees sealed
+  agrees-sealed secret same = rw same (bytes_eq-same vault.tag)
+
+  plain-sealed : (secret : Secret) → secret.password ≡ sealing.password
+      → without_padding (deciphered_by (keys_of vault secret) vault.cipher) ≡ Some plain
+  unfolding sealed
+  plain-sealed secret same =
+      rw same (ap without_padding (counter_mode-counter_mode _ _ (padded plain)) ∙ without_padding-padded plain)
+
+pub sealed_opens : SealedOpens
+sealed_opens secrets sealing salt plain tried =
+    let payload : Payload = sealed sealing salt plain in
+    let first = tried.0 in
+    let agreed = agrees-sealed sealing salt plain first tried.3 in
+    let order : tried_order secrets payload.label ≡ first ∷ tried.1 = ap (tried_order secrets) (label-sealed sealing salt plain) ∙ tried.2 in
+    let found : find (agrees payload) (tried_order secrets payload.label) ≡ Some first = rw (order, agreed) refl in
+    let once : tries payload (tried_order secrets payload.label) ≡ 1 = ap (tries payload) order ∙ tries-cons_yes payload first tried.1 agreed in
+    opening-plain secrets payload first plain found (plain-sealed sealing salt plain first tried.3)
+    ∙ ap (λ (n : ℕ). Ok (record { output = plain; tried = n })) once

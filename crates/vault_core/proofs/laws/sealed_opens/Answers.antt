@@ -1,0 +1,5 @@
+use Rattle.vault_core.proofs.SealedOpens.{sealed_opens}
+use Rattle.vault_core.proofs.laws.sealed_opens.Goals as goal
+
+pub returns : goal.returns
+returns c = sealed_opens

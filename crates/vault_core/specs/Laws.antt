@@ -1,0 +1,59 @@
+-- Laws of the definitions, which hold of all secrets, salts and inputs.
+use Rattle.std.specs.Prelude.{◌≡◌, ℕ, ◌<◌, ◌≤◌, List, [], ◌∷◌, length, slice_index, true, Ok}
+use Rattle.vault_text.specs.Label.{is_label}
+use Rattle.vault_text.specs.declared.limits.TheConstants.{SALT_LIMIT}
+use Rattle.vault_core.specs.Decryption.{decryption, payload_of}
+use Rattle.vault_core.specs.Encryption.{encryption}
+use Rattle.vault_core.specs.Form.{Envelope}
+use Rattle.vault_core.specs.Opening.{opening}
+use Rattle.vault_core.specs.Padding.{padded_length}
+use Rattle.vault_core.specs.Ready.{Ready}
+use Rattle.vault_core.specs.Rekeying.{rekeying}
+use Rattle.vault_core.specs.Sealing.{sealed, text_in}
+use Rattle.vault_core.specs.Secrets.{Secret, SecretList, secret_at, tried_order}
+use Rattle.vault_text.specs.Limits.{ciphertext_limit}
+use Rattle.vault_core.specs.declared.label_rule.LabelRule.{LabelRule}
+
+-- numbers below 256; past the end a list reads as 0
+abbrev pub IsBytes : List ℕ → Type 0
+IsBytes bytes = (i : ℕ) → slice_index bytes i < 256
+
+-- the first secret that is tried for a label has the password
+abbrev pub IsTriedFirst : SecretList → Secret → Type 0
+IsTriedFirst secrets sealing =
+    (first : Secret) × (others : List Secret)
+    × (tried_order secrets sealing.label ≡ first ∷ others) × (first.password ≡ sealing.password)
+
+-- what was sealed opens to its plaintext, under each rule
+abbrev pub SealedOpens : Type 0
+SealedOpens =
+    (secrets : SecretList) (sealing : Secret) (salt plain : List ℕ) → IsTriedFirst secrets sealing
+    → opening secrets (sealed sealing salt plain) ≡ Ok (record { output = plain; tried = 1 })
+
+-- what was sealed and written as an envelope is read, where its ciphertext is not too long
+abbrev pub SealedReadsBack : Type 0
+SealedReadsBack =
+    (limit : ℕ) (sealing : Secret) (salt plain : List ℕ) → is_label sealing.label ≡ true
+    → IsBytes salt → length salt ≤ SALT_LIMIT
+    → IsBytes plain → padded_length (length plain) ≤ ciphertext_limit limit
+    → payload_of limit (text_in Envelope (sealed sealing salt plain)) ≡ Ok (sealed sealing salt plain)
+
+-- what was encrypted decrypts to the input, under each rule
+abbrev pub EncryptedDecrypts : Type 0
+EncryptedDecrypts =
+    (limit : ℕ) (list : List Secret) (place : ℕ) (salt input : List ℕ) (ready : Ready)
+    → is_label (secret_at place list).label ≡ true
+    → IsBytes salt → length salt ≤ SALT_LIMIT → IsBytes input
+    → encryption limit list place Envelope salt input ≡ Ok ready
+    → (secrets : SecretList) → IsTriedFirst secrets (secret_at place list)
+    → decryption limit secrets ready.output ≡ Ok (record { output = input; tried = 1 })
+
+-- what was rekeyed decrypts with the new secret alone, under each rule, to what it decrypted to before
+abbrev pub RekeyedDecrypts : Type 0
+RekeyedDecrypts =
+    (limit : ℕ) (secrets : SecretList) (new : Secret) (salt input : List ℕ) (ready : Ready)
+    → is_label new.label ≡ true → IsBytes salt → length salt ≤ SALT_LIMIT
+    → rekeying limit secrets new salt input ≡ Ok ready
+    → (plain : List ℕ) × (decryption limit secrets input ≡ Ok (record { output = plain; tried = ready.tried }))
+    × ((rule : LabelRule) → decryption limit (record { secrets = new ∷ []; rule = rule }) ready.output
+    ≡ Ok (record { output = plain; tried = 1 }))

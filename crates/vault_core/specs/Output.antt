@@ -1,0 +1,11 @@
+-- What a `Ready` writes.
+use Rattle.std.specs.Prelude.{ℕ, List}
+use Rattle.vault_core.specs.Form.{form_of}
+use Rattle.vault_core.specs.Sealing.{text_in}
+use Rattle.vault_core.specs.declared.output.Output.{Output}
+use Rattle.vault_core.specs.declared.output.Output.TheVariants.{Plain, Vault}
+
+-- plaintext as it is, or a vault in its form
+abbrev pub bytes_of : Output → List ℕ
+bytes_of (Plain plain) = plain.now
+bytes_of (Vault vault form) = text_in (form_of form) vault

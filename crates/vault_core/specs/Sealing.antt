@@ -1,0 +1,36 @@
+-- Vaults that are made: a plaintext under a secret.
+use Rattle.std.specs.Prelude.{ℕ, List, Result, Ok, Err}
+use Rattle.vault_aes.specs.CounterMode.{counter_mode}
+use Rattle.vault_aes.specs.KeyExpansion.{key_schedule}
+use Rattle.vault_kdf.specs.Hmac.{hmac}
+use Rattle.vault_kdf.specs.Keys.{vault_keys}
+use Rattle.vault_kdf.specs.declared.keys.Keys.{Keys}
+use Rattle.vault_text.specs.Block.{block}
+use Rattle.vault_text.specs.Envelope.{Payload}
+use Rattle.vault_text.specs.Written.{written}
+use Rattle.vault_core.specs.Form.{Form, Envelope, Block}
+use Rattle.vault_core.specs.Padding.{padded}
+use Rattle.vault_core.specs.Secrets.{Secret}
+use Rattle.vault_core.specs.declared.fault.Fault.{Fault}
+
+-- the plaintext padded and enciphered
+abbrev pub enciphered_by : Keys → List ℕ → List ℕ
+enciphered_by keys plain = counter_mode (key_schedule keys.cipher) keys.iv (padded plain)
+
+-- the plaintext's ciphertext under the keys that the secret's password and the salt give, with the tag of the
+-- ciphertext, the salt and the secret's label
+unfoldable pub sealed : Secret → List ℕ → List ℕ → Payload
+sealed secret salt plain =
+    let keys = vault_keys secret.password salt in
+    let cipher = enciphered_by keys plain in
+    record { label = secret.label; salt = salt; tag = hmac keys.mac cipher; cipher = cipher }
+
+-- the vault as it is written
+unfoldable pub text_in : Form → Payload → List ℕ
+text_in Envelope vault = written vault.label vault.salt vault.tag vault.cipher
+text_in (Block name) vault = block name vault.label vault.salt vault.tag vault.cipher
+
+-- how many keys are derived to seal: one, and none where the call refuses
+abbrev pub sealing_derivations : {T : Type 0} → Result T Fault → ℕ
+sealing_derivations (Ok x) = 1
+sealing_derivations (Err fault) = 0

@@ -1,0 +1,62 @@
+//! Encrypting a plaintext.
+ghost use Rattle.std.specs.Prelude.{◌≡◌, ℕ, ◌+◌, ◌<◌, ◌≤◌, ◌^◌, List, length};
+ghost use Rattle.vault_core.specs.Encryption.{encryption, is_vault};
+ghost use Rattle.vault_core.specs.Form.{form_of, is_block};
+ghost use Rattle.vault_core.specs.Input.{IsWhole, UnlessUnreadable};
+ghost use Rattle.vault_core.specs.Sealing.{sealing_derivations};
+ghost use Rattle.vault_text.specs.Limits.{IsWorkLength, limit_of};
+
+use crate::fault::Fault;
+use crate::form::Form;
+use crate::input::read_plaintext;
+use crate::ready::Ready;
+use crate::sealing::seal;
+use crate::secrets::Secrets;
+use vault_kdf::Meter;
+use vault_text::{MARKER, Salt, Source};
+
+/// Reads a plaintext and seals it with the secret at the place `choice`, counted from 0.
+///
+/// All of it happens in `work`, of 16 bytes to `CIPHERTEXT_LIMIT`: a plaintext is taken that fits
+/// there with a whole block of padding. The input is read to its end, or to one byte more than is
+/// taken. Faults come in this order: [`Fault::Read`], [`Fault::TooLong`], [`Fault::EmptyString`]
+/// for a block alone, [`Fault::AlreadyVault`]. After one `work` holds any bytes.
+pub fn prepare_encrypt<'a, S: Source>(
+    src: &mut S,
+    work: &'a mut [u8],
+    secrets: &'a Secrets,
+    choice: usize,
+    form: Form<'a>,
+    salt: &'a Salt,
+    meter: &mut Meter,
+) -> Result<Ready<'a>, Fault>
+    requires room { IsWorkLength (length work.old) }
+    requires chosen { choice < length secrets.now.secrets }
+    requires countable { meter.old < 2 ^ 62 }
+    ensures answer { let limit = limit_of (length work.old) in
+        (input : List ℕ) × S.gives src.old input src.new
+        × (length input ≤ limit + 1)
+        × UnlessUnreadable (S.failures src.old) (S.failures src.new) result
+        ((length input ≤ limit) × (meter.new ≡ meter.old))
+        (IsWhole limit (S.ended src.new) input
+        × (result ≡ encryption limit secrets.now.secrets choice (form_of form.entry) salt.now input)
+        × (meter.new ≡ meter.old + sealing_derivations result)) }
+{
+    let n = read_plaintext(src, work)?;
+    if form.is_block() && n == 0 {
+        return Err(Fault::EmptyString);
+    }
+    if is_vault(&work[..n]) {
+        return Err(Fault::AlreadyVault);
+    }
+    let secret = secrets.get(choice);
+    let vault = seal(work, n, &secret.label, secret.password, salt, meter);
+    Ok(Ready::vault(vault, form, 0))
+}
+
+/// Whether a plaintext begins as every vault does.
+pub(crate) fn is_vault(plain: &[u8]) -> bool
+    ensures { result ≡ is_vault plain.now }
+{
+    plain.starts_with(MARKER)
+}

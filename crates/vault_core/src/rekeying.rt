@@ -1,0 +1,54 @@
+//! Giving a vault a new secret.
+ghost use Rattle.std.specs.Prelude.{◌≡◌, ℕ, ◌+◌, ◌<◌, ◌≤◌, ◌^◌, List, length};
+ghost use Rattle.vault_core.specs.Decryption.{decryption_derivations};
+ghost use Rattle.vault_core.specs.Input.{IsWhole, UnlessUnreadable};
+ghost use Rattle.vault_core.specs.Rekeying.{rekeying};
+ghost use Rattle.vault_core.specs.Sealing.{sealing_derivations};
+ghost use Rattle.vault_text.specs.Limits.{IsWorkLength, envelope_limit, limit_of};
+
+use crate::decryption::read_and_open;
+use crate::encryption::is_vault;
+use crate::fault::Fault;
+use crate::form::Form;
+use crate::opening::Opened;
+use crate::ready::Ready;
+use crate::sealing::seal;
+use crate::secrets::Secrets;
+use vault_kdf::Meter;
+use vault_text::{Label, Salt, Source};
+
+/// Reads an envelope, opens it as `prepare_decrypt` does, and seals its plaintext with a new label,
+/// password and salt.
+///
+/// All of it happens in `work`, of 16 bytes to `CIPHERTEXT_LIMIT`, which holds one text at any
+/// moment. The faults are those of `prepare_decrypt`, in their order, and then
+/// [`Fault::AlreadyVault`]. After one `work` holds any bytes.
+pub fn prepare_rekey<'a, S: Source>(
+    src: &mut S,
+    work: &'a mut [u8],
+    secrets: &Secrets,
+    new: &'a Label,
+    password: &[u8],
+    salt: &'a Salt,
+    meter: &mut Meter,
+) -> Result<Ready<'a>, Fault>
+    requires room { IsWorkLength (length work.old) }
+    requires countable { meter.old < 2 ^ 62 }
+    ensures answer { let limit = limit_of (length work.old) in
+        (input : List ℕ) × S.gives src.old input src.new
+        × (length input ≤ envelope_limit limit + 1)
+        × UnlessUnreadable (S.failures src.old) (S.failures src.new) result
+        ((length input ≤ envelope_limit limit) × (meter.new ≡ meter.old))
+        (IsWhole (envelope_limit limit) (S.ended src.new) input
+        × (result ≡ rekeying limit secrets.now
+        (record { label = new.now; password = password.now }) salt.now input)
+        × (meter.new ≡ meter.old + decryption_derivations limit secrets.now input
+        + sealing_derivations result)) }
+{
+    let Opened { body, len, tried } = read_and_open(src, work, secrets, meter)?;
+    if is_vault(&body[..len]) {
+        return Err(Fault::AlreadyVault);
+    }
+    let vault = seal(body, len, new, password, salt, meter);
+    Ok(Ready::vault(vault, Form::Envelope, tried))
+}
