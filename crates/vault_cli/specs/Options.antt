@@ -1,5 +1,5 @@
 -- The values under the options of a command.
-use Rattle.std.specs.Prelude.{◌&&◌, ℕ, not, Bool, true, false, if◌then◌else◌, List, [], codes, unwrap_or, Option, Some, None}
+use Rattle.std.specs.Prelude.{◌&&◌, ℕ, not, Bool, false, if◌then◌else◌, List, [], codes, unwrap_or, Option, Some, None}
 use Rattle.std.specs.Str.{bytes_eq}
 use Rattle.clap.specs.Walk.{Row, all_of, first_of}
 use Rattle.vault_core.specs.declared.label_rule.LabelRule.{LabelRule}
