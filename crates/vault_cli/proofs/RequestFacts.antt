@@ -1,8 +1,7 @@
 -- The password files of a request, the new one behind the others.
-use Rattle.std.proofs.Common.{◌≡◌, ℕ, ◌+◌, ◌<◌, ◌≤◌, List, [], ◌∷◌, ◌++◌, length, get_or, Option, Some, None, option_to_list, arith, refl, sym, ap, ◌∙◌}
-use Rattle.std.proofs.lemmas.List.{append-nil, get_or_append_left, get_or-append-add, length-append}
+use Rattle.std.proofs.Common.{◌≡◌, ℕ, ◌<◌, List, [], ◌∷◌, ◌++◌, length, Some, arith, sym, ap, ◌∙◌}
+use Rattle.std.proofs.lemmas.List.{get_or_append_left, length-append}
 use Rattle.std.proofs.lemmas.Option.{slice_get-get_or}
-use Rattle.std.specs.Option.{option_map}
 use Rattle.std.specs.Prelude.{slice_get}
 
 -- what stands in the first list stands there in both

@@ -9,10 +9,11 @@ use Rattle.clap.specs.declared.builder.action.ArgAction.TheVariants.{Append, Set
 abbrev pub valued : ArgAction → Text → Rule
 valued action name = record (new_rule name) { long = Some name; action = Some action; value_names = 1 }
 
--- one that is given at most once, and one that may be repeated
+-- one that is given at most once
 abbrev pub option : Text → Rule
 option name = valued Set name
 
+-- one that may be repeated
 abbrev pub repeated : Text → Rule
 repeated name = valued Append name
 
@@ -24,13 +25,15 @@ flag name = record (new_rule name) { long = Some name; action = Some SetTrue }
 abbrev pub positional : Text → Rule
 positional name = record (new_rule name) { action = Some Set }
 
--- the options that name password files, and those of the salt
+-- the options that name password files
 abbrev pub secret_rules : List Rule
 secret_rules = repeated (codes "vault-id") ∷ repeated (codes "vault-password-file") ∷ []
 
+-- those of the salt
 abbrev pub salt_rules : List Rule
 salt_rules = option (codes "salt-file") ∷ option (codes "salt") ∷ []
 
+-- those that name the password file of a new secret
 abbrev pub new_secret_rules : List Rule
 new_secret_rules = option (codes "new-vault-id") ∷ option (codes "new-vault-password-file") ∷ []
 
@@ -38,32 +41,39 @@ new_secret_rules = option (codes "new-vault-id") ∷ option (codes "new-vault-pa
 abbrev pub name_rule : Rule
 name_rule = record (option (codes "name")) { short = Some 110 }
 
+-- the options that name the variable of a block
 abbrev pub name_rules : List Rule
 name_rules = name_rule ∷ option (codes "stdin-name") ∷ []
 
--- a command of this name that takes these
+-- a command with a name and what it takes
 abbrev pub shape_with : Text → List Rule → Shape
 shape_with name rules = record (new_shape name) { rules = rules }
 
+-- that command by itself
 abbrev pub app_with : Text → List Rule → App
 app_with name rules = record { top = shape_with name rules; subs = [] }
 
+-- plaintext to an envelope
 abbrev pub encrypt : App
 encrypt = app_with (codes "encrypt")
     (secret_rules ++ salt_rules ++ option (codes "encrypt-vault-id") ∷ option (codes "output") ∷ positional (codes "FILE") ∷ [])
 
+-- an envelope to plaintext
 abbrev pub decrypt : App
 decrypt = app_with (codes "decrypt")
     (secret_rules ++ flag (codes "require-id-match") ∷ option (codes "output") ∷ positional (codes "FILE") ∷ [])
 
+-- an envelope to plaintext on standard output
 abbrev pub view : App
 view = app_with (codes "view") (secret_rules ++ flag (codes "require-id-match") ∷ positional (codes "FILE") ∷ [])
 
+-- an envelope to an envelope under another secret
 abbrev pub rekey : App
 rekey = app_with (codes "rekey")
     (secret_rules ++ salt_rules ++ new_secret_rules
     ++ flag (codes "require-id-match") ∷ option (codes "output") ∷ positional (codes "FILE") ∷ [])
 
+-- a STRING or plaintext to a block of YAML
 abbrev pub encrypt_string : App
 encrypt_string = app_with (codes "encrypt_string")
     (secret_rules ++ salt_rules ++ name_rules

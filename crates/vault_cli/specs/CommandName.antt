@@ -4,6 +4,7 @@ use Rattle.std.specs.Str.{bytes_eq}
 use Rattle.vault_cli.specs.declared.command_name.CommandName.{CommandName}
 use Rattle.vault_cli.specs.declared.command_name.CommandName.TheVariants.{Encrypt, Decrypt, View, Rekey, EncryptString}
 
+-- the command of a name
 abbrev pub command_of : List ℕ → Option CommandName
 command_of name =
     if bytes_eq name (codes "encrypt") then Some Encrypt
@@ -19,6 +20,7 @@ encrypts Encrypt = true
 encrypts EncryptString = true
 encrypts _ = false
 
+-- the command that seals again, under a new secret
 abbrev pub rekeys : CommandName → Bool
 rekeys Rekey = true
 rekeys _ = false

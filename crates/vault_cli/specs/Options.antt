@@ -1,5 +1,5 @@
 -- The values under the options of a command.
-use Rattle.std.specs.Prelude.{◌&&◌, ℕ, not, Bool, true, false, if◌then◌else◌, List, [], codes, unwrap_or, Option, Some, None}
+use Rattle.std.specs.Prelude.{◌&&◌, ℕ, not, Bool, false, if◌then◌else◌, List, [], codes, unwrap_or, Option, Some, None}
 use Rattle.std.specs.Str.{bytes_eq}
 use Rattle.clap.specs.Walk.{Row, all_of, first_of}
 use Rattle.vault_core.specs.declared.label_rule.LabelRule.{LabelRule}
@@ -42,12 +42,15 @@ abbrev pub is_true : Option (List ℕ) → Bool
 is_true None = false
 is_true (Some value) = bytes_eq value (codes "true")
 
+-- a flag that was given
 abbrev pub is_given : List ℕ → List Row → Bool
 is_given flag rows = is_true (first_of flag rows)
 
+-- the flag makes the label of an envelope binding, for the commands that open one
 abbrev pub rule_of : CommandName → List Row → LabelRule
 rule_of command rows = if not (encrypts command) && is_given (codes "require-id-match") rows then Required else Hint
 
+-- what stands under each option
 abbrev pub options_of : CommandName → List Row → Options
 options_of command rows = record {
   command = command;

@@ -10,12 +10,15 @@ use Rattle.vault_cli.specs.Options.{Options}
 use Rattle.vault_cli.specs.VaultId.{fault_of, first_fault, or_later}
 use Rattle.vault_cli.specs.declared.limits.TheConstants.{SALT_TEXT_LIMIT}
 
+-- a fault under a condition
 abbrev pub refused_if : Bool → Fault → Option Fault
 refused_if bad fault = if bad then Some fault else None
 
+-- no more secrets than a list takes
 abbrev pub count_fault : Options → Option Fault
 count_fault given = refused_if (nat_lt SECRET_COUNT_LIMIT (length given.vault_ids + length given.password_files)) TooManySecrets
 
+-- the label of `--encrypt-vault-id` is one
 abbrev pub choice_fault : Option (List ℕ) → Option Fault
 choice_fault None = None
 choice_fault (Some label) = refused_if (not (is_label label)) BadLabel
@@ -27,6 +30,7 @@ new_secret_fault None (Some path) = None
 new_secret_fault (Some id) None = fault_of id
 new_secret_fault (Some id) (Some path) = Some NeedNewSecret
 
+-- which is asked of `rekey` alone
 abbrev pub rekey_fault : Options → Option Fault
 rekey_fault given = if rekeys given.command then new_secret_fault given.new_vault_id given.new_password_file else None
 
@@ -35,9 +39,11 @@ abbrev pub mismatch_fault : Options → Option Fault
 mismatch_fault given =
     refused_if (if is_some given.string then is_some given.stdin_name else is_some given.name) NameMismatch
 
+-- the bytes that no name holds: those below the space, and DEL
 abbrev pub is_control : ℕ → Bool
 is_control byte = nat_lt byte 32 || byte == 127
 
+-- a variable's name fits on one line of YAML
 abbrev pub name_fault : Option (List ℕ) → Option Fault
 name_fault None = None
 name_fault (Some name) = refused_if (list_any is_control name) BadName
@@ -47,19 +53,20 @@ abbrev pub output_fault : Options → Option Fault
 output_fault given =
     refused_if (has_output given.command && is_some given.file && not (is_some given.output)) OutputNeeded
 
+-- a salt comes from a text or from a file, and a text has its length
 abbrev pub salt_fault : Option (List ℕ) → Option (List ℕ) → Option Fault
 salt_fault None path = None
 salt_fault (Some text) None = refused_if (length text == 0 || nat_lt SALT_TEXT_LIMIT (length text)) BadSalt
 salt_fault (Some text) (Some path) = Some SaltChoice
 
 -- the first fault, where there is one
-abbrev pub first_of : List (Option Fault) → Option Fault
-first_of [] = None
-first_of (fault ∷ faults) = or_later fault (first_of faults)
+abbrev pub earliest : List (Option Fault) → Option Fault
+earliest [] = None
+earliest (fault ∷ faults) = or_later fault (earliest faults)
 
 -- the first fault of these options, in the order in which they are looked for
 unfoldable pub refusal : Options → Option Fault
-refusal given = first_of (
+refusal given = earliest (
     count_fault given
     ∷ first_fault given.vault_ids
     ∷ choice_fault given.encrypt_vault_id

@@ -20,6 +20,7 @@ file_of_id id = record { label = label_of id; path = source_of id }
 abbrev pub plain_file : List ℕ → SecretFile
 plain_file path = record { label = default_label; path = path }
 
+-- what `rekey` seals with
 abbrev pub new_secret_of : Options → Option SecretFile
 new_secret_of given =
     if rekeys given.command then option_or (option_map file_of_id given.new_vault_id) (option_map plain_file given.new_password_file)
@@ -48,14 +49,16 @@ request_of given = record {
   output = not_dash given.output;
 }
 
+-- a fault where there is one, else the request
 abbrev pub refused_or : Option Fault → Request → Result Request Fault
 refused_or (Some fault) request = Err fault
 refused_or None request = Ok request
 
--- the request of what was given, or the first fault
+-- the request of what was given, or its first fault
 abbrev pub settled_by : Options → Result Request Fault
 settled_by given = refused_or (refusal given) (request_of given)
 
+-- the request of a command and of the values under its options, or the first fault
 abbrev pub settled : CommandName → List Row → Result Request Fault
 settled command rows = settled_by (options_of command rows)
 

@@ -1,4 +1,4 @@
-use Rattle.std.proofs.Common.{◌≡◌, ◌∙◌, ap, ap₂}
+use Rattle.std.proofs.Common.{◌∙◌, ap, ap₂}
 use Rattle.clap.specs.Words.{App, with_subcommand}
 use Rattle.vault_cli.specs.CommandLine.{vault_app}
 use Rattle.vault_cli.proofs.command_line.command.Goals as goal
