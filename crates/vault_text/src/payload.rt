@@ -42,7 +42,7 @@ impl<'a> Payload<'a> {
         &self.label
     }
 
-    /// The salt, of at most `SALT_LIMIT` bytes. It may be empty.
+    /// The salt: at most `SALT_LIMIT` bytes, and perhaps none.
     pub fn salt(&self) -> &Salt
         ensures { result.now ≡ self.now.salt }
     {
