@@ -42,7 +42,7 @@ impl<'a> Payload<'a> {
         &self.label
     }
 
-    /// The salt. It may be empty, and has at most `SALT_LIMIT` bytes.
+    /// The salt: at most `SALT_LIMIT` bytes, and perhaps none.
     pub fn salt(&self) -> &Salt
         ensures { result.now ≡ self.now.salt }
     {
