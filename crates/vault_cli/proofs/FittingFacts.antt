@@ -25,7 +25,6 @@ use Rattle.vault_cli.specs.declared.status.Status.{Status}
 module _ {S K E : Type 0} (ended : S → Bool) (failures : S → ℕ) (takes : K → List ℕ → K → Type 0) (stage : K → Stage)
     (write_failures : K → ℕ) (says : E → List ℕ → E → Type 0) (asked : Bool) (limit : ℕ) (input : List ℕ) (answer : Outcome)
     (result : Status) (s t : S) (out new_out : K) (err new_err : E) where
-
   -- the source was read, or it failed
   pub ends-read : Ends ended failures takes stage write_failures says asked limit input answer result s t out new_out err new_err
       → (IsTrue asked → IsWhole limit (ended t) input) ⊎ HasRisen (failures s) (failures t)
@@ -36,9 +35,9 @@ module _ {S K E : Type 0} (ended : S → Bool) (failures : S → ℕ) (takes : K
   -- what a run ended as over one source, it ended as over another that was read as far
   pub ends-over : {M : Type 0} (other_ended : M → Bool) (other_failures : M → ℕ) (other_limit : ℕ) (m n : M)
       → (failures t ≡ failures s → (IsTrue asked → IsWhole limit (ended t) input)
-          → (other_failures n ≡ other_failures m) × (IsTrue asked → IsWhole other_limit (other_ended n) input))
+      → (other_failures n ≡ other_failures m) × (IsTrue asked → IsWhole other_limit (other_ended n) input))
       → (HasRisen (failures s) (failures t) → length input ≤ limit
-          → HasRisen (other_failures m) (other_failures n) × (length input ≤ other_limit))
+      → HasRisen (other_failures m) (other_failures n) × (length input ≤ other_limit))
       → Ends ended failures takes stage write_failures says asked limit input answer result s t out new_out err new_err
       → Ends other_ended other_failures takes stage write_failures says asked other_limit input answer result m n out new_out err new_err
   ends-over other_ended other_failures other_limit m n read unread (inl a) =
@@ -120,7 +119,6 @@ module _ {S K E C B : Type 0} (now : B → S) (kept : B → B → Type 0)
     (chain_ended : C → Bool) (chain_failures : C → ℕ)
     (asked : Bool) (bound : ℕ) (answer : List ℕ → Outcome)
     (result : Status) (c d : C) (out new_out : K) (err new_err : E) where
-
   abbrev ChainEnds : List ℕ → Type 0
   ChainEnds input = Ends chain_ended chain_failures takes stage write_failures says asked bound input (answer input) result c d out new_out err new_err
 
@@ -137,10 +135,13 @@ module _ {S K E C B : Type 0} (now : B → S) (kept : B → B → Type 0)
   rest-ends old new input g fresh same_end before after ends =
       ends-over chain_ended chain_failures takes stage write_failures says asked bound input (answer input) result c d out new_out err new_err
       ended failures bound (now old.rest) (now new.rest)
-      (λ stay whole. (sym after ∙ stay ∙ before, λ a. elim (whole a) [
-        | inl told ↦ inl (g.end_is_the_rests (λ e. absurd (false≢true (sym fresh ∙ e))) (sym same_end ∙ told))
-        | inr long ↦ inr long
-      ]))
+      (λ stay whole. (
+        sym after ∙ stay ∙ before,
+        λ a. elim (whole a) [
+          | inl told ↦ inl (g.end_is_the_rests (λ e. absurd (false≢true (sym fresh ∙ e))) (sym same_end ∙ told))
+          | inr long ↦ inr long
+        ],
+      ))
       (λ risen fits. (rw (before, after) at risen, fits))
       ends
 
@@ -167,9 +168,15 @@ module _ {S K E C B : Type 0} (now : B → S) (kept : B → B → Type 0)
                       | inl told ↦
                           let spent : new.front ≡ [] = nil_from_length new.front (over (sym same_end ∙ told)) in
                           let all : input ≡ old.front ++ [] =
-                          sym (front.0 ∙ ap (λ (r : List ℕ). input ++ r) spent ∙ append-nil input) ∙ sym (append-nil old.front) in
-                          ([], stays, (room, inr (subst (λ (i : List ℕ). RestEnds (now old.rest) (now new.rest) i) all
-                              (rest-ends old new input g fresh same_end before after run))))
+                          sym (front.0 ∙ ap (λ (r : List ℕ). input ++ r) spent ∙ append-nil input) ∙ sym (append-nil old.front) in (
+                            [],
+                            stays,
+                            (
+                              room,
+                              inr (subst (λ (i : List ℕ). RestEnds (now old.rest) (now new.rest) i) all
+                                  (rest-ends old new input g fresh same_end before after run)),
+                            ),
+                          )
                       | inr long ↦ absurd (omega (arith, long, short, ap length front.0, length-append input new.front))
                     ]
                     | inr risen ↦
@@ -182,12 +189,14 @@ module _ {S K E C B : Type 0} (now : B → S) (kept : B → B → Type 0)
             let joined : input ≡ old.front ++ later = past.1.1 in (
               later,
               past.1.2.0,
-              (subst (λ (i : List ℕ). length i ≤ bound + 1) joined fits,
-              elim ends [
-                | inl memory ↦ inl memory
-                | inr run ↦ inr (subst (λ (i : List ℕ). RestEnds (now old.rest) (now new.rest) i) joined
-                    (rest-ends old new input g fresh same_end before after run))
-              ]),
+              (
+                subst (λ (i : List ℕ). length i ≤ bound + 1) joined fits,
+                elim ends [
+                  | inl memory ↦ inl memory
+                  | inr run ↦ inr (subst (λ (i : List ℕ). RestEnds (now old.rest) (now new.rest) i) joined
+                      (rest-ends old new input g fresh same_end before after run))
+                ],
+              ),
             )
       ]
 
@@ -195,7 +204,6 @@ module _ {S K E : Type 0} (gives : S → List ℕ → S → Type 0) (ended : S �
     (takes : K → List ℕ → K → Type 0) (stage : K → Stage) (write_failures : K → ℕ) (says : E → List ℕ → E → Type 0)
     (request : Request) (contents : List (List ℕ)) (salt : List ℕ)
     (result : Status) (s t : S) (out new_out : K) (err new_err : E) where
-
   -- a run in memory of so many bytes
   pub runs-in-room : (work room : ℕ) → work ≡ room
       → (input : List ℕ) × gives s input t × (length input ≤ input_limit (limit_of work) request.command + 1)
@@ -230,12 +238,15 @@ module _ {S K E : Type 0} (gives : S → List ℕ → S → Type 0) (ended : S �
                   let answer : outcome_within FIRST_LENGTH request contents salt m.left ≡ outcome_within PLAINTEXT_LIMIT request contents salt m.left =
                   sym (law FIRST_LENGTH PLAINTEXT_LIMIT request contents salt m.left text (omega arith)) in
                   let over = ends-over (λ a. a.ended) (λ _. 0) takes stage write_failures says (asks_for_input request contents salt) bound input
-                      (outcome_within FIRST_LENGTH request contents salt input) result m n out new_out err new_err
-                      ended failures larger s t (λ _ _. (stay, λ _. inl told)) (λ risen _. absurd (omega (arith, risen))) run in (
+                  (outcome_within FIRST_LENGTH request contents salt input) result m n out new_out err new_err
+                  ended failures larger s t (λ _ _. (stay, λ _. inl told)) (λ risen _. absurd (omega (arith, risen))) run in (
                     m.left,
                     given,
-                    (room, inr (subst (λ (o : Outcome). Ends ended failures takes stage write_failures says (asks_for_input request contents salt) larger m.left o result s t out new_out err new_err) answer
-                        (subst (λ (i : List ℕ). Ends ended failures takes stage write_failures says (asks_for_input request contents salt) larger i (outcome_within FIRST_LENGTH request contents salt i) result s t out new_out err new_err) all over))),
+                    (
+                      room,
+                      inr (subst (λ (o : Outcome). Ends ended failures takes stage write_failures says (asks_for_input request contents salt) larger m.left o result s t out new_out err new_err) answer
+                          (subst (λ (i : List ℕ). Ends ended failures takes stage write_failures says (asks_for_input request contents salt) larger i (outcome_within FIRST_LENGTH request contents salt i) result s t out new_out err new_err) all over)),
+                    ),
                   )
               | inr risen ↦ absurd (omega (arith, risen))
             ]

@@ -87,7 +87,7 @@ module _ (meets : List ℕ → File → Type 0) where
         subst (λ (all : List (List ℕ)). Met meets all (files ++ file ∷ others.0)) (sym at)
             (Met-append (take i paths) (path ∷ drop (i + 1) paths) files (file ∷ others.0) met (found, others.1)),
         given (file ∷ others.0)
-        ∙ ap (with_contents contents) (contents_of-first file others.0 ∙ ap (λ r. r >>= λ bytes. contents_of others.0 >>= λ contents. Ok (bytes ∷ contents)) same),
+            ∙ ap (with_contents contents) (contents_of-first file others.0 ∙ ap (λ r. r >>= λ bytes. contents_of others.0 >>= λ contents. Ok (bytes ∷ contents)) same),
       )
 
   -- all files gave their bytes

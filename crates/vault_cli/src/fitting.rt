@@ -46,7 +46,15 @@ fn run_in<S: Source, K: Sink, E: Sink>(
         → src.new ≡ src.old }
 {
     match vec![in alloc; 0u8; room] {
-        Ok(mut work) => run(request, secret_files, salt, work.as_mut_slice(), src, out, err),
+        Ok(mut work) => run(
+            request,
+            secret_files,
+            salt,
+            work.as_mut_slice(),
+            src,
+            out,
+            err,
+        ),
         Err(_) => report(Fault::Memory, err),
     }
 }
@@ -75,7 +83,16 @@ fn run_chained<S: Source, K: Sink, E: Sink>(
         result src.old.rest.now src.new.rest.now out.old out.new err.old err.new }
     ensures same_reference { src.new.rest.ghost_name ≡ src.old.rest.ghost_name }
 {
-    run_in(alloc, CIPHERTEXT_LIMIT, request, secret_files, salt, src, out, err)
+    run_in(
+        alloc,
+        CIPHERTEXT_LIMIT,
+        request,
+        secret_files,
+        salt,
+        src,
+        out,
+        err,
+    )
 }
 
 /// The whole run of a request whose input begins with `front`, and goes on with what `src` gives.
@@ -127,7 +144,16 @@ pub(crate) fn run_fitting<S: Source, K: Sink, E: Sink>(
         → src.new ≡ src.old }
 {
     if !asks_for_input(request, secret_files, salt) {
-        return run_in(alloc, CIPHERTEXT_LIMIT, request, secret_files, salt, src, out, err);
+        return run_in(
+            alloc,
+            CIPHERTEXT_LIMIT,
+            request,
+            secret_files,
+            salt,
+            src,
+            out,
+            err,
+        );
     }
     let mut first = match vec![in alloc; 0u8; FIRST_LENGTH] {
         Ok(first) => first,

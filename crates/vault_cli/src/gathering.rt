@@ -8,7 +8,7 @@ ghost use Rattle.vault_cli.specs.Request.{files_of};
 use crate::limits::SEALING_SALT_LENGTH;
 use crate::request::Request;
 use std::alloc::Global;
-use vault_core::{Fault, Role, PASSWORD_FILE_LIMIT};
+use vault_core::{Fault, PASSWORD_FILE_LIMIT, Role};
 use vault_files::{FileFault, FileSystem, read_front};
 use vault_text::Stage;
 

@@ -112,7 +112,16 @@ fn answer<F: FileSystem, S: Source, K: Sink, E: Sink>(
     let secret_files = secret_files.as_slice();
     let salt = salt.as_slice();
     match input {
-        Some(mut reader) => send(files, alloc, request, secret_files, salt, &mut reader, out, err),
+        Some(mut reader) => send(
+            files,
+            alloc,
+            request,
+            secret_files,
+            salt,
+            &mut reader,
+            out,
+            err,
+        ),
         None => send(files, alloc, request, secret_files, salt, src, out, err),
     }
 }
