@@ -1,5 +1,5 @@
 -- Runs over a source in memory, or over one of two parts, told of the source that the bytes came from.
-use Rattle.std.proofs.Common.{◌≡◌, ℕ, ◌+◌, ◌-◌, ◌^◌, ◌<◌, ◌≤◌, ◌⊎◌, inl, inr, List, [], ◌++◌, length, take, Bool, true, false, ◌&&◌, not, Option, Some, None, IsTrue, unwrap_or, arith, refl, subst, sym, ap, ◌∙◌, length-append}
+use Rattle.std.proofs.Common.{◌≡◌, ℕ, ◌+◌, ◌-◌, ◌^◌, ◌<◌, ◌≤◌, ◌⊎◌, inl, inr, List, [], ◌++◌, length, take, Bool, true, false, ◌&&◌, not, Option, Some, None, Result, Ok, Err, IsTrue, unwrap_or, arith, refl, subst, sym, ap, ◌∙◌, length-append}
 use Rattle.std.proofs.lemmas.Bool.{cases_lt, false≢true}
 use Rattle.std.specs.Prelude.{is_ok, is_some}
 use Rattle.std.proofs.Math.Seq.{take-append_seam}
@@ -13,7 +13,9 @@ use Rattle.vault_text.specs.declared.limits.TheConstants.{PLAINTEXT_LIMIT}
 use Rattle.vault_text.specs.Limits.{limit_of}
 use Rattle.vault_cli.specs.Fitting.{EndsOn, NoMemory, RunsWithin}
 use Rattle.vault_cli.specs.Outcome.{Outcome, asks_for_input, input_limit, outcome_within, text_of_request}
-use Rattle.vault_cli.specs.Task.{prepared}
+use Rattle.vault_cli.specs.Task.{Task, prepared}
+use Rattle.vault_core.specs.declared.fault.Fault.{Fault}
+use Rattle.vault_cli.proofs.OutcomeFacts.{outcome-refused}
 use Rattle.vault_cli.specs.Laws.{ShortTexts}
 use Rattle.vault_cli.specs.Request.{Request}
 use Rattle.vault_cli.specs.Run.{Ends}
@@ -106,6 +108,37 @@ limit_fits limit Decrypt = omega arith
 limit_fits limit View = omega arith
 limit_fits limit Rekey = omega arith
 limit_fits limit EncryptString = omega arith
+
+-- how much input is taken grows with how much plaintext is
+pub limit_grows : (smaller larger : ℕ) (command : CommandName) → smaller ≤ larger → input_limit smaller command ≤ input_limit larger command
+limit_grows smaller larger Encrypt grows = omega (arith, grows)
+limit_grows smaller larger Decrypt grows = omega (arith, grows)
+limit_grows smaller larger View grows = omega (arith, grows)
+limit_grows smaller larger Rekey grows = omega (arith, grows)
+limit_grows smaller larger EncryptString grows = omega (arith, grows)
+
+-- where a run has a task and does not ask for its input there is a STRING
+unasked_text : (prepares : Bool) (string : Option (List ℕ)) (input : List ℕ) → prepares ≡ true
+    → prepares && not (is_some string) ≡ false → unwrap_or string input ≡ unwrap_or string []
+unasked_text true None input e f = absurd (false≢true (sym f))
+unasked_text true (Some text) input e f = refl
+unasked_text false string input e f = absurd (false≢true e)
+
+-- where a run does not ask for its input, it has one outcome under a limit that its STRING keeps and under every
+-- larger one
+module _ (law : ShortTexts) (request : Request) (contents : List (List ℕ)) (salt input : List ℕ) (smaller larger : ℕ)
+    (unasked : asks_for_input request contents salt ≡ false)
+    (fits : length (unwrap_or request.string []) ≤ smaller) (grows : smaller ≤ larger) where
+  unasked-cases : (found : Result Task Fault) → prepared request contents salt ≡ found
+      → outcome_within smaller request contents salt input ≡ outcome_within larger request contents salt input
+  unasked-cases (Err fault) e =
+      outcome-refused request contents salt smaller input fault e ∙ sym (outcome-refused request contents salt larger input fault e)
+  unasked-cases (Ok task) e =
+      let text = unasked_text (is_ok (prepared request contents salt)) request.string input (ap is_ok e) unasked in
+      sym (law smaller larger request contents salt input (rw text fits) grows)
+
+  unasked-outcome : outcome_within smaller request contents salt input ≡ outcome_within larger request contents salt input
+  unasked-outcome = unasked-cases (prepared request contents salt) refl
 
 -- where a run asks for its input there is no STRING
 asked_text : (prepares : Bool) (string : Option (List ℕ)) (input : List ℕ) → prepares && not (is_some string) ≡ true → unwrap_or string input ≡ input
@@ -213,6 +246,34 @@ module _ {S K E : Type 0} (gives : S → List ℕ → S → Type 0) (ended : S �
   runs-in-room work room e (input, given, fits, ends) =
       subst (λ (w : ℕ). RunsWithin gives ended failures takes stage write_failures says (limit_of w) request contents salt result s t out new_out err new_err) e
       (input, given, (fits, inr ends))
+
+  -- a run that does not ask for its input, in memory that its STRING fits
+  pub unasked-runs : ShortTexts → (limit : ℕ) → asks_for_input request contents salt ≡ false
+      → (length (unwrap_or request.string []) ≤ limit) ⊎ (limit ≡ PLAINTEXT_LIMIT) → limit ≤ PLAINTEXT_LIMIT
+      → RunsWithin gives ended failures takes stage write_failures says limit request contents salt result s t out new_out err new_err
+      → RunsWithin gives ended failures takes stage write_failures says PLAINTEXT_LIMIT request contents salt result s t out new_out err new_err
+  unasked-runs law limit unasked (inr whole) most runs =
+      subst (λ (l : ℕ). RunsWithin gives ended failures takes stage write_failures says l request contents salt result s t out new_out err new_err) whole runs
+  unasked-runs law limit unasked (inl short) most (input, given, (fits, ends)) =
+      let bound = input_limit limit request.command in
+      let larger = input_limit PLAINTEXT_LIMIT request.command in
+      let grows : bound ≤ larger = limit_grows limit PLAINTEXT_LIMIT request.command most in
+      let answer = unasked-outcome law request contents salt input limit PLAINTEXT_LIMIT unasked short most in (
+        input,
+        given,
+        (
+          omega (arith, fits, grows),
+          elim ends [
+            | inl memory ↦ inl memory
+            | inr run ↦ inr (subst (λ (o : Outcome). Ends ended failures takes stage write_failures says (asks_for_input request contents salt) larger input o result s t out new_out err new_err) answer
+                (ends-over ended failures takes stage write_failures says (asks_for_input request contents salt) bound input
+                (outcome_within limit request contents salt input) result s t out new_out err new_err
+                ended failures larger s t
+                (λ same whole. (same, λ asked. absurd (false≢true (sym unasked ∙ asked))))
+                (λ risen less. (risen, omega (arith, less, grows))) run))
+          ],
+        ),
+      )
 
   -- a run over an input in memory is one over the source that gave it
   pub short-runs : ShortTexts → (m n : MemoryState) → m.ended ≡ false → length m.left ≤ FIRST_LENGTH

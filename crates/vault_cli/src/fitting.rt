@@ -1,5 +1,5 @@
 //! Runs in memory that fits the input.
-ghost use Rattle.std.specs.Prelude.{◌≡◌, ◌-◌, ◌^◌, ◌<◌, ◌≤◌, ◌++◌, ℕ, List, true, false, length, map};
+ghost use Rattle.std.specs.Prelude.{◌≡◌, ◌-◌, ◌^◌, ◌<◌, ◌≤◌, ◌⊎◌, ◌++◌, ℕ, List, [], true, false, length, map, unwrap_or};
 ghost use Rattle.vault_text.specs.Limits.{IsWorkLength, limit_of};
 ghost use Rattle.vault_text.specs.declared.limits.TheConstants.{PLAINTEXT_LIMIT};
 ghost use Rattle.vault_cli.specs.Fitting.{EndsOn, RunsWithin};
@@ -15,8 +15,8 @@ use crate::status::Status;
 use std::alloc::Global;
 use vault_core::{Fault, Role};
 use vault_text::{
-    CIPHERTEXT_LIMIT, ChainedSource, MemSource, PADDING_LIMIT, Sink, Source, SourceFailed, Stage,
-    fill_up,
+    CIPHERTEXT_LIMIT, ChainedSource, MemSource, PADDING_LIMIT, PLAINTEXT_LIMIT, Sink, Source,
+    SourceFailed, Stage, fill_up,
 };
 
 /// How much of an input is read before the memory to work in is taken. A vault that ends in it is
@@ -122,6 +122,19 @@ fn run_behind<S: Source, K: Sink, E: Sink>(
     run_chained(alloc, request, secret_files, salt, &mut src, out, err)
 }
 
+/// How much memory a run needs that does not ask for its input: as much as its STRING fills, where
+/// that is not too long.
+fn room_for_string(request: &Request) -> usize
+    ensures work { IsWorkLength result }
+    ensures fits { (length (unwrap_or request.now.string []) ≤ limit_of result)
+        ⊎ (limit_of result ≡ PLAINTEXT_LIMIT) }
+{
+    match request.string() {
+        Some(string) => string.len().min(PLAINTEXT_LIMIT) + PADDING_LIMIT,
+        None => PADDING_LIMIT,
+    }
+}
+
 /// The whole run of a request. The memory that it works in is taken once it is known whether the
 /// input is short; where a run does not ask for its input, none of it is read.
 pub(crate) fn run_fitting<S: Source, K: Sink, E: Sink>(
@@ -144,16 +157,9 @@ pub(crate) fn run_fitting<S: Source, K: Sink, E: Sink>(
         → src.new ≡ src.old }
 {
     if !asks_for_input(request, secret_files, salt) {
-        return run_in(
-            alloc,
-            CIPHERTEXT_LIMIT,
-            request,
-            secret_files,
-            salt,
-            src,
-            out,
-            err,
-        );
+        short_texts();
+        let room = room_for_string(request);
+        return run_in(alloc, room, request, secret_files, salt, src, out, err);
     }
     let mut first = match vec![in alloc; 0u8; FIRST_LENGTH] {
         Ok(first) => first,

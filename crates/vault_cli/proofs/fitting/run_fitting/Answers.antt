@@ -1,8 +1,9 @@
 use Rattle.std.proofs.Common.{◌≡◌, ◌<◌, ◌≤◌, length, take, map, inl, inr, arith, length-take, ap, refl, sym, ◌∙◌}
 use Rattle.std.proofs.lemmas.Bool.{false≢true}
+use Rattle.vault_text.specs.Limits.{limit_of}
 use Rattle.vault_cli.specs.Reports.{Says}
 use Rattle.vault_cli.specs.declared.fitting.TheConstants.{FIRST_LENGTH}
-use Rattle.vault_cli.proofs.FittingFacts.{behind-runs, below_last, first_fits, short-runs, written_whole}
+use Rattle.vault_cli.proofs.FittingFacts.{behind-runs, below_last, first_fits, short-runs, unasked-runs, written_whole}
 use Rattle.vault_cli.proofs.fitting.run_fitting.Goals as goal
 
 pub run_behind-requires-clause-not_full : goal.run_behind-requires-clause-not_full
@@ -14,6 +15,14 @@ pub run_behind-requires-clause-short : goal.run_behind-requires-clause-short
 run_behind-requires-clause-short g c =
     let whole : length c.deref.result.now ≡ FIRST_LENGTH = omega (arith, c.deref.ensures.len, c.fill_up.auto.buf, c.as_mut_slice.ensures.len, c.in-Ok.ensures.len) in
     omega (arith, whole, length-take c.in-Ok-fill_up.n c.deref.result.now, first_fits c.args.request.now.command)
+
+pub returns-then-not-asks_for_input-clause-runs : goal.returns-then-not-asks_for_input-clause-runs
+returns-then-not-asks_for_input-clause-runs g c =
+    unasked-runs g.S.Source.gives g.S.Source.ended g.S.Source.failures g.K.Sink.takes g.K.Sink.stage g.K.Sink.failures
+    (Says g.E.Sink.takes g.E.Sink.stage g.E.Sink.failures) c.args.request.now (map (λ file. file.items) c.args.secret_files.now) c.args.salt.now
+    c.run_in.result c.args.src.now c.run_in.new.src c.args.out.now c.run_in.new.out c.args.err.now c.run_in.new.err
+    c.short_texts.ensures (limit_of c.room_for_string-room.result) (sym c.if-not-asks_for_input.ensures)
+    c.room_for_string-room.ensures.fits (omega (arith, c.room_for_string-room.ensures.work.1)) c.run_in.ensures.runs
 
 pub returns-in-Err-fill_up-clause-runs : goal.returns-in-Err-fill_up-clause-runs
 returns-in-Err-fill_up-clause-runs g c =
@@ -43,7 +52,7 @@ returns-then-n-lt-FIRST_LENGTH-clause-runs g c =
     short-runs g.S.Source.gives g.S.Source.ended g.S.Source.failures g.K.Sink.takes g.K.Sink.stage g.K.Sink.failures
     (Says g.E.Sink.takes g.E.Sink.stage g.E.Sink.failures) c.args.request.now (map (λ file. file.items) c.args.secret_files.now) c.args.salt.now
     c.run_in-then-n-lt-FIRST_LENGTH.result c.args.src.now c.fill_up.new.source c.args.out.now c.run_in-then-n-lt-FIRST_LENGTH.new.out
-    c.args.err.now c.run_in-then-n-lt-FIRST_LENGTH.new.err c.short_texts.ensures c.new-src.result c.run_in-then-n-lt-FIRST_LENGTH.new.src
+    c.args.err.now c.run_in-then-n-lt-FIRST_LENGTH.new.err c.short_texts-then-n-lt-FIRST_LENGTH.ensures c.new-src.result c.run_in-then-n-lt-FIRST_LENGTH.new.src
     (ap (λ m. m.ended) c.new-src.ensures)
     (omega (arith, ap length front, length-take c.in-Ok-fill_up.n c.fill_up.new.buf, size))
     (sym c.if-not-asks_for_input.ensures) (rw front c.in-Ok-fill_up.ensures.gives)
