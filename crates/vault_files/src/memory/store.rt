@@ -158,20 +158,25 @@ mod tests {
         );
     }
 
+    /// Whether a file of these bytes stands at the path.
+    fn has(files: &MemFiles, path: &str, bytes: &[u8]) -> bool {
+        files.content(path) == Some(bytes)
+    }
+
     #[test]
     fn keeps_what_is_written(rt: HostRuntime) -> Result<(), Fail> {
         let alloc = rt.alloc();
         let entries = [MemFile::whole("one", b"abc"), MemFile::whole("two", b"de")];
         let mut files = MemFiles::new(alloc, &entries);
         files.aim(alloc, "one")?;
-        assert_eq!(rt; files.content("one"), Some(b"abc".as_slice()));
+        assert!(rt; has(&files, "one", b"abc"));
         files.begin()?;
-        assert_eq!(rt; files.content("one"), Some(b"".as_slice()));
+        assert!(rt; has(&files, "one", b""));
         put_all(&mut files, b"new")?;
         files.finish()?;
-        assert_eq!(rt; files.content("one"), Some(b"new".as_slice()));
-        assert_eq!(rt; files.content("two"), Some(b"de".as_slice()));
-        assert_eq!(rt; files.content("none"), None);
+        assert!(rt; has(&files, "one", b"new"));
+        assert!(rt; has(&files, "two", b"de"));
+        assert!(rt; files.content("none").is_none());
         Ok(())
     }
 }
