@@ -1,7 +1,9 @@
 -- From what was sent, and from the files that were met, to how the program ends.
 use Rattle.std.proofs.Common.{◌≡◌, ◌≢◌, ℕ, ◌+◌, ◌<◌, ◌≤◌, ◌⊎◌, inl, inr, List, [], Bool, true, false, Option, Some, None, Result, Ok, Err, IsTrue, length, arith, rules, tests, refl, sym, ap, ◌∙◌, subst}
-use Rattle.std.specs.Prelude.{nat_lt}
+use Rattle.std.specs.Prelude.{IfSome, is_some, nat_lt, option_and_then}
+use Rattle.std.specs.Option.{option_map}
 use Rattle.std.specs.Result.{result_map_both}
+use Rattle.clap.specs.Walk.{Row}
 use Rattle.vault_text.specs.Failures.{HasRisen}
 use Rattle.vault_text.specs.declared.limits.TheConstants.{PLAINTEXT_LIMIT}
 use Rattle.vault_text.specs.declared.sink.Stage.{Stage}
@@ -12,6 +14,7 @@ use Rattle.vault_core.specs.Input.{IsWhole}
 use Rattle.vault_core.specs.declared.fault.Fault.{Fault}
 use Rattle.vault_core.specs.declared.fault.Fault.TheVariants.{CannotOpen, Memory, Read}
 use Rattle.vault_core.specs.declared.fault.Role.TheVariants.{Input}
+use Rattle.vault_cli.specs.CommandName.{command_of}
 use Rattle.vault_cli.specs.Drive.{Drives}
 use Rattle.vault_cli.specs.Ending.{IsAnswered, IsReadOf, LacksMemory, OutputFails, Sends, SourceFails}
 use Rattle.vault_cli.specs.Found.{ContentsMet, IsOpened, SaltMet, contents_of, fault_in, front_in, secret_paths}
@@ -19,10 +22,14 @@ use Rattle.vault_cli.specs.Line.{line_of}
 use Rattle.vault_cli.specs.Outcome.{Outcome, answered, asks_for_input, input_limit, outcome, refused}
 use Rattle.vault_cli.specs.Program.{AllMet, Answer, Files, OneMet, RefusedBy, answer_to, input_in, ready_of, salt_in}
 use Rattle.vault_cli.specs.Request.{Request}
+use Rattle.vault_cli.specs.Settled.{Settles, asked}
 use Rattle.vault_cli.specs.Status.{status_of}
 use Rattle.vault_cli.specs.declared.status.Status.{Status}
+use Rattle.vault_cli.specs.declared.status.Status.TheVariants.{OutOfMemory, ParseFault}
 use Rattle.vault_cli.proofs.FoundFacts.{Met-some}
 use Rattle.vault_cli.proofs.ProgramFacts.{answer-read, answer-unasked, answer-unread, one-some, salt-found}
+use Rattle.vault_cli.proofs.SettlingFacts.{pair_of}
+use Rattle.std.proofs.lemmas.Bool.{false≢true}
 
 true-or-false : (b : Bool) → (b ≡ true) ⊎ (b ≡ false)
 true-or-false true = inl refl
@@ -287,3 +294,97 @@ module _ {F S K E : Type 0} (meets : F → List ℕ → File → Type 0) (aimed 
               )),
             )
       ]
+
+is_some-map : {A B : Type 0} (f : A → B) (o : Option A) → is_some o ≡ is_some (option_map f o)
+is_some-map f None = refl
+is_some-map f (Some x) = refl
+
+-- a parse asks for something where it names a command
+pub command-asked : {B : Type 0} (name_of : B → List ℕ) (rows_of : B → List Row) (command : Option B)
+    → is_some (option_and_then command_of (option_map name_of command)) ≡ is_some (asked (option_map (pair_of name_of rows_of) command))
+command-asked name_of rows_of None = refl
+command-asked name_of rows_of (Some b) = is_some-map _ (command_of (name_of b))
+
+module _ {F S K E : Type 0} (meets : F → List ℕ → File → Type 0) (aimed : F → List ℕ → F → Type 0)
+    (file_takes : F → List ℕ → F → Type 0) (file_stage : F → Stage) (file_failures : F → ℕ)
+    (gives : S → List ℕ → S → Type 0) (ended : S → Bool) (read_failures : S → ℕ)
+    (takes : K → List ℕ → K → Type 0) (stage : K → Stage) (write_failures : K → ℕ)
+    (says : E → List ℕ → E → Type 0)
+    (result : Status) (files new_files : F) (src new_src : S) (out new_out : K) (err new_err : E) where
+  abbrev AskedDrives : Option (Result Request Fault) → Type 0
+  AskedDrives asks = Drives meets aimed file_takes file_stage file_failures gives ended read_failures takes stage write_failures says
+      asks (answer_to asks) result files new_files src new_src out new_out err new_err
+
+  -- a request that was settled
+  pub drives-settled : (asks : Option (Result Request Fault)) (request : Request) → is_some asks ≡ true
+      → IfSome asks (λ settled. Settles settled (Ok request)) → AskedDrives (Some (Ok request)) → AskedDrives asks
+  drives-settled None request some settles h = absurd (false≢true some)
+  drives-settled (Some (Err fault)) request some settles h = absurd cc
+  drives-settled (Some (Ok other)) request some (inl e) h =
+      let same : request ≡ other = cc in
+      subst (λ (r : Request). AskedDrives (Some (Ok r))) same h
+  drives-settled (Some (Ok other)) request some (inr e) h = absurd cc
+
+  module _ (same_files : new_files ≡ files) (same_out : new_out ≡ out) (stay : read_failures new_src ≡ read_failures src)
+      (unread : gives src [] new_src) where
+    -- nothing was asked
+    pub drives-nothing : (asks : Option (Result Request Fault)) → is_some asks ≡ false → result ≡ ParseFault → says err [] new_err → AskedDrives asks
+    drives-nothing (Some settled) none status line = absurd (false≢true (sym none))
+    drives-nothing None none status line = (
+      record { secrets = []; salt = None; input = None },
+      tt,
+      [],
+      unread,
+      inr (inr (
+        (stay, inr (λ other. refl)),
+        inl (record {
+          status = status;
+          failures = (ap write_failures same_out, ap file_failures same_files);
+          output = (same_out, inl same_files);
+          line = line;
+        }),
+      )),
+    )
+
+    -- there was no memory for the request
+    pub drives-no_memory : ((path : List ℕ) → (file : File) × meets files path file) → (asks : Option (Result Request Fault))
+        → result ≡ OutOfMemory → says err (line_of Memory) new_err → AskedDrives asks
+    drives-no_memory some asks status line =
+        let (found, met) = some-met (meets files) some asks in (
+          found,
+          met,
+          [],
+          unread,
+          inl (record {
+            status = status;
+            failures = (ap write_failures same_out, ap file_failures same_files);
+            output = (same_out, inl same_files);
+            line = line;
+          }),
+        )
+
+    -- the options are refused, or there was no memory for the request
+    pub drives-unsettled : ((path : List ℕ) → (file : File) × meets files path file)
+        → (asks : Option (Result Request Fault)) (fault : Fault) → is_some asks ≡ true → IfSome asks (λ settled. Settles settled (Err fault))
+        → result ≡ status_of fault → says err (line_of fault) new_err → AskedDrives asks
+    drives-unsettled some None fault is settles status line = absurd (false≢true is)
+    drives-unsettled some (Some (Ok request)) fault is (inl e) status line = absurd cc
+    drives-unsettled some (Some (Ok request)) fault is (inr e) status line =
+        let memory : fault ≡ Memory = cc in
+        drives-no_memory some (Some (Ok request)) (status ∙ ap status_of memory) (rw memory at line)
+    drives-unsettled some (Some (Err other)) fault is settles status line =
+        let same : fault ≡ other = cc in (
+          record { secrets = []; salt = None; input = None },
+          tt,
+          [],
+          unread,
+          inr (inr (
+            (stay, inr (λ stdin. refl)),
+            inl (record {
+              status = status ∙ ap status_of same;
+              failures = (ap write_failures same_out, ap file_failures same_files);
+              output = (same_out, inl same_files);
+              line = rw same at line;
+            }),
+          )),
+        )

@@ -17,4 +17,5 @@ pub mod Fitting
 pub mod Ending
 pub mod Program
 pub mod Drive
+pub mod Explained
 pub mod Laws

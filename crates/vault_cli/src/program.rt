@@ -1,11 +1,16 @@
 //! What the program does with its arguments, its files and its standard streams.
-ghost use Rattle.std.specs.Prelude.{◌≡◌, ◌≢◌, Ok, Some, IfErr, IfOk, length, map, vec_len};
+ghost use Rattle.std.specs.Prelude.{◌≡◌, ◌≢◌, [], Ok, Some, IfErr, IfOk, length, map, vec_len};
+ghost use Rattle.std.specs.String.{string_bytes};
+ghost use Rattle.clap.specs.Words.{fault_of, subcommand_rows_of};
+ghost use Rattle.vault_cli.specs.CommandLine.{vault_app};
 ghost use Rattle.vault_cli.specs.Drive.{Drives};
 ghost use Rattle.vault_cli.specs.Ending.{Sends};
+ghost use Rattle.vault_cli.specs.Explained.{ExplainsOneOf};
 ghost use Rattle.vault_cli.specs.Found.{ContentsMet, IsOpened, SaltMet, secret_paths};
-ghost use Rattle.vault_cli.specs.Program.{RefusedBy, answer_to};
+ghost use Rattle.vault_cli.specs.Program.{RefusedBy, answer_to, asked_by, program};
 ghost use Rattle.vault_cli.specs.Reports.{Says};
 ghost use Rattle.vault_cli.specs.Request.{files_of};
+ghost use Rattle.vault_cli.specs.Settled.{asked};
 
 use crate::explaining::explain;
 use crate::fitting::run_fitting;
@@ -36,6 +41,20 @@ pub fn drive<F: FileSystem, S: Source, K: Sink, E: Sink>(
     requires files_unbegun { F.stage files.old ≡ Stage.Unbegun }
     requires out_unbegun { K.stage out.old ≡ Stage.Unbegun }
     requires err_unbegun { E.stage err.old ≡ Stage.Unbegun }
+
+    // Words that parse are answered as the program says.
+    ensures answered { let texts = map string_bytes words.now in
+        fault_of vault_app texts ≡ []
+        → Drives F.meets F.aimed F.takes F.stage F.failures S.gives S.ended S.failures
+        K.takes K.stage K.failures (Says E.takes E.stage E.failures) (asked_by texts) (program texts)
+        result files.old files.new src.old src.new out.old out.new err.old err.new }
+
+    // Others are explained, and neither a file nor the input is asked for.
+    ensures explained { let kinds = fault_of vault_app (map string_bytes words.now) in
+        kinds ≢ [] → ExplainsOneOf K.takes K.stage K.failures E.takes E.stage E.failures
+        result out.old out.new err.old err.new kinds }
+    ensures unasked { fault_of vault_app (map string_bytes words.now) ≢ []
+        → (files.new ≡ files.old) × (src.new ≡ src.old) }
 {
     match parse(alloc, words) {
         Ok(matches) => carry_out(files, alloc, &matches, src, out, err),
@@ -55,6 +74,10 @@ fn carry_out<F: FileSystem, S: Source, K: Sink, E: Sink>(
     requires files_unbegun { F.stage files.old ≡ Stage.Unbegun }
     requires out_unbegun { K.stage out.old ≡ Stage.Unbegun }
     requires err_unbegun { E.stage err.old ≡ Stage.Unbegun }
+    ensures drives { let asked = asked (subcommand_rows_of matches.now) in
+        Drives F.meets F.aimed F.takes F.stage F.failures S.gives S.ended S.failures
+        K.takes K.stage K.failures (Says E.takes E.stage E.failures) asked (answer_to asked)
+        result files.old files.new src.old src.new out.old out.new err.old err.new }
 {
     if !has_command(matches) {
         return Status::ParseFault;
