@@ -1,5 +1,9 @@
 pub mod FoundFacts
 pub mod FittingFacts
+pub mod EndingFacts
+pub mod ProgramFacts
+pub mod DriveFacts
+pub mod ExplainedFacts
 pub mod LawFacts
 pub mod LawProofs
 pub mod OutcomeFacts

@@ -14,4 +14,8 @@ pub mod Outcome
 pub mod Run
 pub mod Found
 pub mod Fitting
+pub mod Ending
+pub mod Program
+pub mod Drive
+pub mod Explained
 pub mod Laws

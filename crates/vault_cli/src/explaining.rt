@@ -1,5 +1,8 @@
 //! What the program says where its words are no command line.
-ghost use Rattle.std.specs.Prelude.{◌≡◌};
+ghost use Rattle.std.specs.Prelude.{◌≡◌, ℕ, OnOk, take};
+ghost use Rattle.clap.specs.Values.{kind_of};
+ghost use Rattle.vault_text.specs.Failures.{CountsFailure};
+ghost use Rattle.vault_cli.specs.Explained.{Explains};
 
 use crate::report_line::report;
 use crate::status::Status;
@@ -30,6 +33,8 @@ pub(crate) fn explain<K: Sink, E: Sink>(
 ) -> Status
     requires out_unbegun { K.stage out.old ≡ Stage.Unbegun }
     requires err_unbegun { E.stage err.old ≡ Stage.Unbegun }
+    ensures explains { Explains K.takes K.stage K.failures E.takes E.stage E.failures
+        result out.old out.new err.old err.new (kind_of error.now) }
 {
     if matches!(error.kind(), ErrorKind::OutOfMemory) {
         return report(Fault::Memory, err);
@@ -50,6 +55,10 @@ pub(crate) fn explain<K: Sink, E: Sink>(
 /// Begins the sink, puts the text and finishes.
 fn write_text<K: Sink>(text: &[u8], sink: &mut K) -> Result<(), SinkFailed>
     requires { K.stage sink.old ≡ Stage.Unbegun }
+    ensures text { OnOk result (K.takes sink.old text.now sink.new) }
+    ensures finished { OnOk result (K.stage sink.new ≡ Stage.Finished) }
+    ensures prefix { (n : ℕ) × K.takes sink.old (take n text.now) sink.new }
+    ensures failed { CountsFailure (K.failures sink.old) (K.failures sink.new) result }
 {
     sink.begin()?;
     put_all(sink, text)?;

@@ -1,6 +1,16 @@
 //! What the program does with its arguments, its files and its standard streams.
-ghost use Rattle.std.specs.Prelude.{◌≡◌, length, vec_len, IfOk};
+ghost use Rattle.std.specs.Prelude.{◌≡◌, ◌≢◌, [], Ok, Some, IfErr, IfOk, length, map, vec_len};
+ghost use Rattle.std.specs.String.{string_bytes};
+ghost use Rattle.clap.specs.Words.{fault_of, subcommand_rows_of};
+ghost use Rattle.vault_cli.specs.CommandLine.{vault_app};
+ghost use Rattle.vault_cli.specs.Drive.{Drives};
+ghost use Rattle.vault_cli.specs.Ending.{Sends};
+ghost use Rattle.vault_cli.specs.Explained.{ExplainsOneOf};
+ghost use Rattle.vault_cli.specs.Found.{ContentsMet, IsOpened, SaltMet, secret_paths};
+ghost use Rattle.vault_cli.specs.Program.{RefusedBy, answer_to, asked_by, program};
+ghost use Rattle.vault_cli.specs.Reports.{Says};
 ghost use Rattle.vault_cli.specs.Request.{files_of};
+ghost use Rattle.vault_cli.specs.Settled.{asked};
 
 use crate::explaining::explain;
 use crate::fitting::run_fitting;
@@ -31,6 +41,20 @@ pub fn drive<F: FileSystem, S: Source, K: Sink, E: Sink>(
     requires files_unbegun { F.stage files.old ≡ Stage.Unbegun }
     requires out_unbegun { K.stage out.old ≡ Stage.Unbegun }
     requires err_unbegun { E.stage err.old ≡ Stage.Unbegun }
+
+    // Words that parse are answered as the program says.
+    ensures answered { let texts = map string_bytes words.now in
+        fault_of vault_app texts ≡ []
+        → Drives F.meets F.aimed F.takes F.stage F.failures S.gives S.ended S.failures
+        K.takes K.stage K.failures (Says E.takes E.stage E.failures) (asked_by texts) (program texts)
+        result files.old files.new src.old src.new out.old out.new err.old err.new }
+
+    // Others are explained, and neither a file nor the input is asked for.
+    ensures explained { let kinds = fault_of vault_app (map string_bytes words.now) in
+        kinds ≢ [] → ExplainsOneOf K.takes K.stage K.failures E.takes E.stage E.failures
+        result out.old out.new err.old err.new kinds }
+    ensures unasked { fault_of vault_app (map string_bytes words.now) ≢ []
+        → (files.new ≡ files.old) × (src.new ≡ src.old) }
 {
     match parse(alloc, words) {
         Ok(matches) => carry_out(files, alloc, &matches, src, out, err),
@@ -50,6 +74,10 @@ fn carry_out<F: FileSystem, S: Source, K: Sink, E: Sink>(
     requires files_unbegun { F.stage files.old ≡ Stage.Unbegun }
     requires out_unbegun { K.stage out.old ≡ Stage.Unbegun }
     requires err_unbegun { E.stage err.old ≡ Stage.Unbegun }
+    ensures drives { let asked = asked (subcommand_rows_of matches.now) in
+        Drives F.meets F.aimed F.takes F.stage F.failures S.gives S.ended S.failures
+        K.takes K.stage K.failures (Says E.takes E.stage E.failures) asked (answer_to asked)
+        result files.old files.new src.old src.new out.old out.new err.old err.new }
 {
     if !has_command(matches) {
         return Status::ParseFault;
@@ -75,7 +103,15 @@ fn gather<F: FileSystem>(
     request: &Request,
 ) -> Result<Gathered<F::Reader>, Fault>
     requires { F.stage files.now ≡ Stage.Unbegun }
-    ensures { IfOk result (λ found. vec_len found.secret_files ≡ length (files_of request.now)) }
+    ensures count { IfOk result (λ found. vec_len found.secret_files ≡ length (files_of request.now)) }
+    ensures secrets { IfOk result (λ found. ContentsMet (F.meets files.now) (secret_paths request.now)
+        (Ok (map (λ file. file.items) found.secret_files.items))) }
+    ensures salt { IfOk result (λ found.
+        SaltMet (F.meets files.now) request.now.salt_path (Ok found.salt.items)) }
+    ensures input { IfOk result (λ found.
+        IsOpened (F.opened files.now) request.now.input found.input) }
+    ensures refused { IfErr result (λ fault. fault ≢ Fault.Memory →
+        RefusedBy (F.meets files.now) request.now fault) }
 {
     let secret_files = read_secret_files(files, alloc, request)?;
     let salt = read_salt(files, alloc, request)?;
@@ -99,6 +135,10 @@ fn answer<F: FileSystem, S: Source, K: Sink, E: Sink>(
     requires files_unbegun { F.stage files.old ≡ Stage.Unbegun }
     requires out_unbegun { K.stage out.old ≡ Stage.Unbegun }
     requires err_unbegun { E.stage err.old ≡ Stage.Unbegun }
+    ensures drives { let asked = Some (Ok request.now) in
+        Drives F.meets F.aimed F.takes F.stage F.failures S.gives S.ended S.failures
+        K.takes K.stage K.failures (Says E.takes E.stage E.failures) asked (answer_to asked)
+        result files.old files.new src.old src.new out.old out.new err.old err.new }
 {
     let found = match gather(files, alloc, request) {
         Ok(found) => found,
@@ -141,6 +181,10 @@ fn send<F: FileSystem, S: Source, K: Sink, E: Sink>(
     requires files_unbegun { F.stage files.old ≡ Stage.Unbegun }
     requires out_unbegun { K.stage out.old ≡ Stage.Unbegun }
     requires err_unbegun { E.stage err.old ≡ Stage.Unbegun }
+    ensures sends { Sends F.aimed F.takes F.stage F.failures K.takes K.stage K.failures
+        request.now.output files.old files.new out.old out.new
+        (Says E.takes E.stage E.failures) result err.old err.new S.gives S.ended S.failures
+        request.now (map (λ file. file.items) secret_files.now) salt.now src.old src.new }
 {
     let Some(path) = request.output() else {
         return run_fitting(alloc, request, secret_files, salt, src, out, err);
