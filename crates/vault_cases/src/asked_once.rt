@@ -1,4 +1,6 @@
 //! How often a reader or a writer is asked within one call of a source or a sink.
+ghost use Rattle.std.specs.Prelude.{◌≤◌, IfOk};
+
 use std::io;
 use std::io::{Read, Write};
 use std::test::Fail;
@@ -32,7 +34,9 @@ impl FailsOnce {
         }
     }
 
-    fn answer(&mut self, count: usize) -> io::Result<usize> {
+    fn answer(&mut self, count: usize) -> io::Result<usize>
+        ensures { IfOk result (λ n. n ≤ count) }
+    {
         self.calls = self.calls.saturating_add(1);
         if self.calls != self.failing_call {
             return Ok(count);

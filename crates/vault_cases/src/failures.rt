@@ -76,6 +76,26 @@ fn reports_a_writer_that_fails(rt: HostRuntime) -> Result<(), Fail> {
     Ok(())
 }
 
+#[test]
+fn reports_help_that_cannot_be_written(rt: HostRuntime) -> Result<(), Fail> {
+    let alloc = rt.alloc();
+    for words in [&["--help"], &["--version"]] {
+        let line = line_of(alloc, words)?;
+        let mut err = MemSink::new(alloc, 100);
+        let status = drive(
+            &mut MemFiles::new(alloc, &[]),
+            alloc,
+            line.as_slice(),
+            &mut MemSource::new(b"", 1),
+            &mut WriteSink::new(NarrowWriter::new(alloc, 10)),
+            &mut err,
+        );
+        assert_eq!(rt; status, Status::DeviceFailed, "{words:?}");
+        assert_eq!(rt; err.bytes(), WRITE_FAILED, "{words:?}");
+    }
+    Ok(())
+}
+
 // The error sink fails at `begin`, at a byte and at `finish`, or, with many calls, not at all.
 #[test]
 fn keeps_the_status_where_the_message_fails(rt: HostRuntime) -> Result<(), Fail> {

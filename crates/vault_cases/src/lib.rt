@@ -14,6 +14,10 @@ mod encrypting;
 #[cfg(test)]
 mod failures;
 #[cfg(test)]
+mod logged_files;
+#[cfg(test)]
+mod opening;
+#[cfg(test)]
 mod password_files;
 #[cfg(test)]
 mod program;

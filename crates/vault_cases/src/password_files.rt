@@ -62,6 +62,24 @@ fn refuses_before_the_input_is_read(rt: HostRuntime) -> Result<(), Fail> {
     Ok(())
 }
 
+// Behind the bytes that are asked for the file cannot be read.
+#[test]
+fn asks_for_no_more_than_is_taken(rt: HostRuntime) -> Result<(), Fail> {
+    let files = [MemFile::broken("endless", &[b'a'; 4_097])];
+    let mut stdin = CountingReader::new(b"", 1);
+    let refused = run_program(
+        rt.alloc(),
+        &files,
+        &["view", "--vault-id", "endless"],
+        &mut stdin,
+    )?;
+    assert_eq!(rt;
+        refused.message.as_str(),
+        "ERROR! a password file is longer than 4096 bytes\n"
+    );
+    Ok(())
+}
+
 #[test]
 fn opens_all_before_one_is_refused(rt: HostRuntime) -> Result<(), Fail> {
     let words = ["view", "--vault-id", "empty", "--vault-id", "missing"];

@@ -1,9 +1,15 @@
 //! Requests, settled from words.
 use crate::support::{line_of, settled};
 use std::alloc::Global;
-use std::str;
 use std::test::Fail;
 use vault_cli::{CommandName, Fault, LabelRule, parse};
+
+const PROMPTED: &str = "--vault-id=dev@prompt";
+
+/// The longest salt text that is taken, and one of a byte more.
+const LONGEST: &str = "aaaaaaaaaaaaaaaaaaaaaaaaaaaaaaaaaaaaaaaaaaaaaaaaaaaaaaaaaaaaaaaa";
+
+const TOO_LONG: &str = "aaaaaaaaaaaaaaaaaaaaaaaaaaaaaaaaaaaaaaaaaaaaaaaaaaaaaaaaaaaaaaaaa";
 
 #[test]
 fn keeps_files_in_order(rt: HostRuntime) -> Result<(), Fail> {
@@ -49,14 +55,13 @@ fn fault_of(alloc: Global, words: &[&str]) -> Result<Option<Fault>, Fail> {
 
 #[test]
 fn names_the_first_fault_of_vault_ids(rt: HostRuntime) -> Result<(), Fail> {
-    let dev = "--vault-id=dev@prompt";
     let cases: [(&[&str], Fault); 6] = [
         (&["view", "--vault-id", "a;b@f"], Fault::BadLabel),
-        (&["view", dev], Fault::PromptSource),
+        (&["view", PROMPTED], Fault::PromptSource),
         (&["view", "--vault-id", "prompt"], Fault::PromptSource),
-        (&["view", dev, "--vault-id=a;b@f"], Fault::PromptSource),
+        (&["view", PROMPTED, "--vault-id=a;b@f"], Fault::PromptSource),
         (
-            &["encrypt", "--encrypt-vault-id=", dev],
+            &["encrypt", "--encrypt-vault-id=", PROMPTED],
             Fault::PromptSource,
         ),
         (&["encrypt", "--encrypt-vault-id=", "f"], Fault::BadLabel),
@@ -128,14 +133,11 @@ fn needs_an_output_for_a_file(rt: HostRuntime) -> Result<(), Fail> {
 
 #[test]
 fn takes_one_salt(rt: HostRuntime) -> Result<(), Fail> {
-    let bytes = [b'a'; 65];
-    let long = str::from_utf8(&bytes)?;
-    let most = str::from_utf8(&bytes[..64])?;
     let cases: [(&[&str], Fault); 4] = [
         (&["encrypt", "--salt="], Fault::BadSalt),
-        (&["encrypt", "--salt", long], Fault::BadSalt),
+        (&["encrypt", "--salt", TOO_LONG], Fault::BadSalt),
         (
-            &["encrypt", "--salt", long, "--salt-file=g"],
+            &["encrypt", "--salt", TOO_LONG, "--salt-file=g"],
             Fault::SaltChoice,
         ),
         (&["encrypt", "--salt=", "--salt-file=g"], Fault::SaltChoice),
@@ -143,8 +145,8 @@ fn takes_one_salt(rt: HostRuntime) -> Result<(), Fail> {
     for (words, fault) in cases {
         assert_eq!(rt; fault_of(rt.alloc(), words)?, Some(fault), "{words:?}");
     }
-    let request = settled(rt.alloc(), &["encrypt", "--salt", most])??;
-    assert_eq!(rt; request.salt_text(), Some(most));
+    let request = settled(rt.alloc(), &["encrypt", "--salt", LONGEST])??;
+    assert_eq!(rt; request.salt_text(), Some(LONGEST));
     Ok(())
 }
 

@@ -44,9 +44,9 @@ pub struct Outcome {
 }
 
 /// Runs the program on these words behind its name, over these files and this standard input.
-pub fn run_program<R: Read>(
+pub fn run_program<'a, R: Read>(
     alloc: Global,
-    files: &[MemFile<'_>],
+    files: &'a [MemFile<'a>],
     words: &[&str],
     stdin: &mut R,
 ) -> Result<Outcome, Fail> {
@@ -57,7 +57,7 @@ pub fn run_program<R: Read>(
         &mut MemFiles::new(alloc, files),
         alloc,
         line.as_slice(),
-        &mut ReadSource::new(stdin),
+        &mut ReadSource::new(&mut *stdin),
         &mut out,
         &mut err,
     );
@@ -73,9 +73,9 @@ pub fn run_program<R: Read>(
 }
 
 /// Runs the program on these words behind its name, where standard input holds these bytes.
-pub fn run_program_on(
+pub fn run_program_on<'a>(
     alloc: Global,
-    files: &[MemFile<'_>],
+    files: &'a [MemFile<'a>],
     words: &[&str],
     input: &[u8],
 ) -> Result<Outcome, Fail> {

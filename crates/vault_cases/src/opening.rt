@@ -1,0 +1,144 @@
+//! Which files a run opens, and in which order.
+use crate::logged_files::LoggedFiles;
+use crate::support::line_of;
+use std::alloc::Global;
+use std::test::Fail;
+use vault_cli::{MemFile, Status, drive};
+use vault_text::{MemSink, MemSource};
+
+fn entries() -> [MemFile<'static>; 4] {
+    [
+        MemFile::whole("f", b"first\n"),
+        MemFile::whole("g", b"second\n"),
+        MemFile::whole("salt", &[7; 32]),
+        MemFile::whole("input", b"text"),
+    ]
+}
+
+/// What a run left, and the paths that it opened.
+#[derive(Drop)]
+struct Opened {
+    status: Status,
+    message: Vec<u8>,
+    paths: String,
+}
+
+/// A run over these files, with no memory to open the one at the path `too_large`.
+fn run_over<'a>(
+    alloc: Global,
+    entries: &'a [MemFile<'a>],
+    words: &[&str],
+    too_large: &'a str,
+) -> Result<Opened, Fail> {
+    let line = line_of(alloc, words)?;
+    let mut files = LoggedFiles::new(alloc, entries, too_large);
+    let mut out = MemSink::new(alloc, 4_096);
+    let mut err = MemSink::new(alloc, 4_096);
+    let status = drive(
+        &mut files,
+        alloc,
+        line.as_slice(),
+        &mut MemSource::new(b"", 1),
+        &mut out,
+        &mut err,
+    );
+    Ok(Opened {
+        status,
+        message: Vec::from_slice(alloc, err.bytes())?,
+        paths: files.into_log(),
+    })
+}
+
+const ENCRYPT: &[&str] = &[
+    "encrypt",
+    "--vault-id=a@f",
+    "--vault-id=b@g",
+    "--encrypt-vault-id=b",
+    "--salt-file=salt",
+    "--output=-",
+    "input",
+];
+
+const REKEY: &[&str] = &[
+    "rekey",
+    "--new-vault-id=b@g",
+    "--vault-id=a@f",
+    "--salt-file=salt",
+    "--output=-",
+    "input",
+];
+
+// Password files in the order of the list, the new one last; then the salt file; then the input.
+#[test]
+fn opens_in_order(rt: HostRuntime) -> Result<(), Fail> {
+    let cases: [(&[&str], &str, Status); 6] = [
+        (ENCRYPT, "f g salt input ", Status::Success),
+        (REKEY, "f g salt input ", Status::Refused),
+        (
+            &["view", "--vault-id=g", "--vault-password-file=f", "input"],
+            "g f input ",
+            Status::Refused,
+        ),
+        (
+            &["encrypt", "--vault-id=f", "--salt=abc"],
+            "f ",
+            Status::Success,
+        ),
+        // Requests that are refused open nothing.
+        (&["encrypt", "--vault-id=f", "input"], "", Status::Refused),
+        (&["rekey", "--vault-id=f"], "", Status::Refused),
+    ];
+    for (words, paths, status) in cases {
+        let opened = run_over(rt.alloc(), &entries(), words, "")?;
+        assert_eq!(rt; opened.status, status, "{words:?}");
+        assert_eq!(rt; opened.paths.as_str(), paths, "{words:?}");
+    }
+    Ok(())
+}
+
+#[test]
+fn opens_nothing_after_a_missing_file(rt: HostRuntime) -> Result<(), Fail> {
+    let cases: [(&[&str], &str); 3] = [
+        (
+            &[
+                "encrypt",
+                "--vault-id=none",
+                "--vault-id=f",
+                "--salt-file=salt",
+            ],
+            "none ",
+        ),
+        (&["encrypt", "--vault-id=f", "--salt-file=none"], "f none "),
+        (&["view", "--vault-id=f", "none"], "f none "),
+    ];
+    for (words, paths) in cases {
+        let opened = run_over(rt.alloc(), &entries(), words, "")?;
+        assert_eq!(rt; opened.status, Status::DeviceFailed, "{words:?}");
+        assert_eq!(rt; opened.paths.as_str(), paths, "{words:?}");
+    }
+    Ok(())
+}
+
+// For each file of a run in turn there is no memory.
+#[test]
+fn ends_where_memory_lacks_for_a_file(rt: HostRuntime) -> Result<(), Fail> {
+    let cases = [
+        ("f", "f "),
+        ("g", "f g "),
+        ("salt", "f g salt "),
+        ("input", "f g salt input "),
+    ];
+    for (path, paths) in cases {
+        for words in [ENCRYPT, REKEY] {
+            let opened = run_over(rt.alloc(), &entries(), words, path)?;
+            assert_eq!(rt; opened.status, Status::OutOfMemory, "{path}");
+            assert_eq!(rt;
+                opened.message.as_slice(),
+                b"ERROR! out of memory\n".as_slice(),
+                "{path}"
+            );
+            assert_eq!(rt; opened.paths.as_str(), paths, "{path}");
+        }
+    }
+    Ok(())
+}
