@@ -1,5 +1,11 @@
 //! What the program says where its words are no command line.
-ghost use Rattle.std.specs.Prelude.{◌≡◌};
+ghost use Rattle.std.specs.Prelude.{◌≡◌, ◌≢◌, ℕ, take, OnOk};
+ghost use Rattle.std.specs.IoError.{error_kind};
+ghost use Rattle.std.specs.declared.io.ErrorKind.TheVariants.{OutOfMemory};
+ghost use Rattle.vault_core.specs.declared.fault.Fault.TheVariants.{Memory};
+ghost use Rattle.vault_text.specs.Failures.{CountsFailure};
+ghost use Rattle.vault_cli.specs.Line.{line_of, not_text_line};
+ghost use Rattle.vault_cli.specs.Reports.{Reports};
 
 use crate::report_line::report;
 use crate::status::Status;
@@ -10,9 +16,16 @@ use std::io;
 use vault_core::Fault;
 use vault_text::{Sink, SinkFailed, Stage, put_all};
 
-/// What the program says where its arguments are no text, or there is no memory for them.
+/// What the program says where its arguments are no text, or there is no memory for them. A failure
+/// of `err` changes nothing else.
 pub fn reject_words<E: Sink>(error: &io::Error, err: &mut E) -> Status
     requires { E.stage err.old ≡ Stage.Unbegun }
+    ensures memory { error_kind error.now ≡ OutOfMemory
+        → (result ≡ Status.OutOfMemory)
+        × Reports E.takes E.stage E.failures err.old (line_of Memory) err.new }
+    ensures no_text { error_kind error.now ≢ OutOfMemory
+        → (result ≡ Status.ParseFault)
+        × Reports E.takes E.stage E.failures err.old not_text_line err.new }
 {
     if matches!(error.kind(), io::ErrorKind::OutOfMemory) {
         return report(Fault::Memory, err);
@@ -50,6 +63,10 @@ pub(crate) fn explain<K: Sink, E: Sink>(
 /// Begins the sink, puts the text and finishes.
 fn write_text<K: Sink>(text: &[u8], sink: &mut K) -> Result<(), SinkFailed>
     requires { K.stage sink.old ≡ Stage.Unbegun }
+    ensures text { OnOk result (K.takes sink.old text.now sink.new) }
+    ensures finished { OnOk result (K.stage sink.new ≡ Stage.Finished) }
+    ensures prefix { (n : ℕ) × K.takes sink.old (take n text.now) sink.new }
+    ensures failed { CountsFailure (K.failures sink.old) (K.failures sink.new) result }
 {
     sink.begin()?;
     put_all(sink, text)?;
