@@ -7,7 +7,8 @@ use Rattle.clap.specs.declared.builder.action.ArgAction.TheVariants.{Append, Set
 
 -- an option with a value
 abbrev pub valued : ArgAction → Text → Rule
-valued action name = record (new_rule name) { long = Some name; action = Some action; value_names = 1 }
+valued action name =
+    record (new_rule name) { long = Some name; action = Some action; value_names = 1 }
 
 -- one that is given at most once
 abbrev pub option : Text → Rule
@@ -56,16 +57,20 @@ app_with name rules = record { top = shape_with name rules; subs = [] }
 -- plaintext to an envelope
 abbrev pub encrypt : App
 encrypt = app_with (codes "encrypt")
-    (secret_rules ++ salt_rules ++ option (codes "encrypt-vault-id") ∷ option (codes "output") ∷ positional (codes "FILE") ∷ [])
+    (secret_rules ++ salt_rules
+    ++ option (codes "encrypt-vault-id") ∷ option (codes "output") ∷ positional (codes "FILE")
+    ∷ [])
 
 -- an envelope to plaintext
 abbrev pub decrypt : App
 decrypt = app_with (codes "decrypt")
-    (secret_rules ++ flag (codes "require-id-match") ∷ option (codes "output") ∷ positional (codes "FILE") ∷ [])
+    (secret_rules
+    ++ flag (codes "require-id-match") ∷ option (codes "output") ∷ positional (codes "FILE") ∷ [])
 
 -- an envelope to plaintext on standard output
 abbrev pub view : App
-view = app_with (codes "view") (secret_rules ++ flag (codes "require-id-match") ∷ positional (codes "FILE") ∷ [])
+view = app_with (codes "view")
+    (secret_rules ++ flag (codes "require-id-match") ∷ positional (codes "FILE") ∷ [])
 
 -- an envelope to an envelope under another secret
 abbrev pub rekey : App
@@ -77,11 +82,16 @@ rekey = app_with (codes "rekey")
 abbrev pub encrypt_string : App
 encrypt_string = app_with (codes "encrypt_string")
     (secret_rules ++ salt_rules ++ name_rules
-    ++ option (codes "encrypt-vault-id") ∷ option (codes "output") ∷ positional (codes "STRING") ∷ [])
+    ++ option (codes "encrypt-vault-id") ∷ option (codes "output") ∷ positional (codes "STRING")
+    ∷ [])
 
 -- a command is required, and there is no command `help`
 abbrev pub top_shape : Shape
-top_shape = record (new_shape (codes "ansible-vault")) { has_version = true; subcommand_required = true; disable_help_subcommand = true }
+top_shape = record (new_shape (codes "ansible-vault")) {
+  has_version = true;
+  subcommand_required = true;
+  disable_help_subcommand = true;
+}
 
 -- the program's command line
 unfoldable pub vault_app : App

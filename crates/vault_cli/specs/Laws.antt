@@ -1,4 +1,5 @@
--- Laws of the outcomes, which hold under every limit, of all requests, password files, salts and inputs.
+-- Laws of the outcomes, which hold under every limit, of all requests, password files, salts and
+-- inputs.
 use Rattle.std.specs.Prelude.{◌≡◌, ◌≢◌, ◌⊎◌, ℕ, ◌≤◌, List, [], ◌∷◌, length, Some, None, IfSome, true, Ok}
 use Rattle.std.specs.List.{AllByRecursion}
 use Rattle.clap.specs.Walk.{Row}
@@ -23,43 +24,53 @@ pub record IsRequest (request : Request) : Type 0 where
 
 -- what settles a request makes one of these
 abbrev pub SettledRequests : Type 0
-SettledRequests = (command : CommandName) (rows : List Row) (request : Request) → settled command rows ≡ Ok request → IsRequest request
+SettledRequests =
+    (command : CommandName) (rows : List Row) (request : Request)
+    → settled command rows ≡ Ok request → IsRequest request
 
 -- a request of `decrypt` or `view` whose password files give these secrets
-pub record Opens (request : Request) (contents : List (List ℕ)) (salt : List ℕ) (secrets : SecretList) : Type 0 where
+pub record Opens (request : Request) (contents : List (List ℕ)) (salt : List ℕ)
+    (secrets : SecretList) : Type 0 where
   pub settled : IsRequest request
   pub command : (request.command ≡ Decrypt) ⊎ (request.command ≡ View)
   pub found : prepared request contents salt ≡ Ok (Open secrets)
 
--- what `encrypt` wrote with a secret, `decrypt` and `view` give back where the first secret that they try has its
--- password
+-- what `encrypt` wrote with a secret, `decrypt` and `view` give back where the first secret that
+-- they try has its password
 abbrev pub EncryptThenDecrypt : Type 0
 EncryptThenDecrypt =
-    (limit : ℕ) (encrypting opening : Request) (contents other_contents : List (List ℕ)) (salt other_salt input envelope : List ℕ)
+    (limit : ℕ) (encrypting opening : Request) (contents other_contents : List (List ℕ))
+    (salt other_salt input envelope : List ℕ)
     (list : List Secret) (place : ℕ) (used : List ℕ) (secrets : SecretList)
     → IsRequest encrypting → encrypting.command ≡ Encrypt
     → IfSome encrypting.salt_text IsBytes → IsBytes salt → IsBytes input
     → prepared encrypting contents salt ≡ Ok (Seal list place Envelope used)
     → (outcome_within limit encrypting contents salt input).output ≡ Some envelope
     → Opens opening other_contents other_salt secrets → IsTriedFirst secrets (secret_at place list)
-    → outcome_within limit opening other_contents other_salt envelope ≡ record { output = Some input; line = []; status = Success }
+    → outcome_within limit opening other_contents other_salt envelope
+    ≡ record { output = Some input; line = []; status = Success }
 
--- what `rekey` wrote, `decrypt` and `view` open with the new secret alone, under either rule, to what they gave before
--- with the old secrets under the rule of `rekey`
+-- what `rekey` wrote, `decrypt` and `view` open with the new secret alone, under either rule, to what
+-- they gave before with the old secrets under the rule of `rekey`
 abbrev pub RekeyKeepsThePlaintext : Type 0
 RekeyKeepsThePlaintext =
-    (limit : ℕ) (rekeying before after : Request) (contents old_contents new_contents : List (List ℕ)) (salt old_salt new_salt input envelope : List ℕ)
+    (limit : ℕ) (rekeying before after : Request)
+    (contents old_contents new_contents : List (List ℕ))
+    (salt old_salt new_salt input envelope : List ℕ)
     (secrets : SecretList) (new : Secret) (used : List ℕ) (rule : LabelRule)
     → IsRequest rekeying → rekeying.command ≡ Rekey
     → IfSome rekeying.salt_text IsBytes → IsBytes salt
     → prepared rekeying contents salt ≡ Ok (Reseal secrets new used)
     → (outcome_within limit rekeying contents salt input).output ≡ Some envelope
-    → Opens before old_contents old_salt secrets → Opens after new_contents new_salt (record { secrets = new ∷ []; rule = rule })
-    → outcome_within limit after new_contents new_salt envelope ≡ outcome_within limit before old_contents old_salt input
+    → Opens before old_contents old_salt secrets
+    → Opens after new_contents new_salt (record { secrets = new ∷ []; rule = rule })
+    → outcome_within limit after new_contents new_salt envelope
+    ≡ outcome_within limit before old_contents old_salt input
 
 -- a text within the limit gets one outcome under it and under every larger one
 abbrev pub ShortTexts : Type 0
 ShortTexts =
     (smaller larger : ℕ) (request : Request) (contents : List (List ℕ)) (salt input : List ℕ)
     → length (text_of_request request input) ≤ smaller → smaller ≤ larger
-    → outcome_within larger request contents salt input ≡ outcome_within smaller request contents salt input
+    → outcome_within larger request contents salt input
+    ≡ outcome_within smaller request contents salt input

@@ -1,4 +1,4 @@
--- The line on standard error that reports a fault.
+-- The lines on standard error: of a fault, and of arguments that are no text.
 use Rattle.std.specs.Prelude.{ℕ, List, [], ◌∷◌, ◌++◌, codes}
 use Rattle.vault_core.specs.Fault.{text_of}
 use Rattle.vault_core.specs.declared.fault.Fault.{Fault}
@@ -6,3 +6,7 @@ use Rattle.vault_core.specs.declared.fault.Fault.{Fault}
 -- `ERROR! `, the text, LF
 abbrev pub line_of : Fault → List ℕ
 line_of fault = codes "ERROR! " ++ text_of fault ++ 10 ∷ []
+
+-- the line on arguments that are no text
+abbrev pub not_text_line : List ℕ
+not_text_line = codes "error: an argument is not UTF-8" ++ 10 ∷ []

@@ -48,7 +48,8 @@ is_given flag rows = is_true (first_of flag rows)
 
 -- the flag makes the label of an envelope binding, for the commands that open one
 abbrev pub rule_of : CommandName → List Row → LabelRule
-rule_of command rows = if not (encrypts command) && is_given (codes "require-id-match") rows then Required else Hint
+rule_of command rows =
+    if not (encrypts command) && is_given (codes "require-id-match") rows then Required else Hint
 
 -- what stands under each option
 abbrev pub options_of : CommandName → List Row → Options

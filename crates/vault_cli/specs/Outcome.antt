@@ -1,5 +1,5 @@
--- What a run of a request answers, as a function of the request, the password files, the salt and the input: five
--- steps, of which the first that refuses decides. Steps 1 to 3 stand with the tasks.
+-- What a run of a request answers, as a function of the request, the password files, the salt and
+-- the input: five steps, of which the first that refuses decides. Steps 1 to 3 stand with the tasks.
 use Rattle.std.specs.Prelude.{ℕ, ◌&&◌, not, Bool, List, [], Option, Some, None, is_ok, is_some, unwrap_or, Result, Ok, Err}
 use Rattle.vault_text.specs.Limits.{envelope_limit}
 use Rattle.vault_text.specs.declared.limits.TheConstants.{PLAINTEXT_LIMIT}
@@ -51,7 +51,8 @@ text_of_request request input = unwrap_or request.string input
 
 -- the input is asked for where steps 1 to 3 do not refuse, and there is no STRING
 abbrev pub asks_for_input : Request → List (List ℕ) → List ℕ → Bool
-asks_for_input request contents salt = is_ok (prepared request contents salt) && not (is_some request.string)
+asks_for_input request contents salt =
+    is_ok (prepared request contents salt) && not (is_some request.string)
 
 -- steps 4 and 5: the length of the text, and what becomes of it
 abbrev pub performed : ℕ → Task → List ℕ → Result Ready Fault

@@ -16,7 +16,9 @@ refused_if bad fault = if bad then Some fault else None
 
 -- no more secrets than a list takes
 abbrev pub count_fault : Options → Option Fault
-count_fault given = refused_if (nat_lt SECRET_COUNT_LIMIT (length given.vault_ids + length given.password_files)) TooManySecrets
+count_fault given =
+    let count = length given.vault_ids + length given.password_files in
+    refused_if (nat_lt SECRET_COUNT_LIMIT count) TooManySecrets
 
 -- the label of `--encrypt-vault-id` is one
 abbrev pub choice_fault : Option (List ℕ) → Option Fault
@@ -32,12 +34,15 @@ new_secret_fault (Some id) (Some path) = Some NeedNewSecret
 
 -- which is asked of `rekey` alone
 abbrev pub rekey_fault : Options → Option Fault
-rekey_fault given = if rekeys given.command then new_secret_fault given.new_vault_id given.new_password_file else None
+rekey_fault given =
+    if rekeys given.command then new_secret_fault given.new_vault_id given.new_password_file
+    else None
 
 -- `--name` is for a STRING, `--stdin-name` for standard input
 abbrev pub mismatch_fault : Options → Option Fault
 mismatch_fault given =
-    refused_if (if is_some given.string then is_some given.stdin_name else is_some given.name) NameMismatch
+    let other = if is_some given.string then given.stdin_name else given.name in
+    refused_if (is_some other) NameMismatch
 
 -- the bytes that no name holds: those below the space, and DEL
 abbrev pub is_control : ℕ → Bool
@@ -51,12 +56,14 @@ name_fault (Some name) = refused_if (list_any is_control name) BadName
 -- a file is never rewritten in its place unasked
 abbrev pub output_fault : Options → Option Fault
 output_fault given =
-    refused_if (has_output given.command && is_some given.file && not (is_some given.output)) OutputNeeded
+    refused_if (has_output given.command && is_some given.file && not (is_some given.output))
+    OutputNeeded
 
 -- a salt comes from a text or from a file, and a text has its length
 abbrev pub salt_fault : Option (List ℕ) → Option (List ℕ) → Option Fault
 salt_fault None path = None
-salt_fault (Some text) None = refused_if (length text == 0 || nat_lt SALT_TEXT_LIMIT (length text)) BadSalt
+salt_fault (Some text) None =
+    refused_if (length text == 0 || nat_lt SALT_TEXT_LIMIT (length text)) BadSalt
 salt_fault (Some text) (Some path) = Some SaltChoice
 
 -- the first fault, where there is one

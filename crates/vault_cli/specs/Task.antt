@@ -15,8 +15,8 @@ use Rattle.vault_cli.specs.declared.limits.TheConstants.{SEALING_SALT_LENGTH}
 use Rattle.vault_cli.specs.declared.command_name.CommandName.{CommandName}
 use Rattle.vault_cli.specs.declared.command_name.CommandName.TheVariants.{Encrypt, Decrypt, View, Rekey, EncryptString}
 
--- what is to be done with the input: to seal it in a form, under the secret at a place; to open it; to open it and
--- to seal it again under a new secret
+-- what is to be done with the input: to seal it in a form, under the secret at a place; to open it;
+-- to open it and to seal it again under a new secret
 pub data Task : Type 0 where
   Seal : (secrets : List Secret) (place : ℕ) (form : Form) (salt : List ℕ) → Task
   Open : (secrets : SecretList) → Task
@@ -61,7 +61,9 @@ place_of secrets label = result_map_both (λ place. place) of_choice (choice sec
 -- step 3: the bytes of the salt text where there is one, else the first 32 of the salt
 abbrev pub salt_of : Option (List ℕ) → List ℕ → Result (List ℕ) Fault
 salt_of (Some text) salt = Ok text
-salt_of None salt = if nat_lt (length salt) SEALING_SALT_LENGTH then Err SaltShort else Ok (take SEALING_SALT_LENGTH salt)
+salt_of None salt =
+    if nat_lt (length salt) SEALING_SALT_LENGTH then Err SaltShort
+    else Ok (take SEALING_SALT_LENGTH salt)
 
 -- steps 2 and 3 of `encrypt` and `encrypt_string`
 abbrev pub seal_of : Request → List Secret → Form → List ℕ → Result Task Fault
@@ -85,8 +87,8 @@ task_of Decrypt request list new salt = Ok (Open list)
 task_of View request list new salt = Ok (Open list)
 task_of Rekey request list new salt = reseal_of request list new salt
 
--- steps 1 to 3: the task of a request, of the contents of its password files, of which that of the new secret is the
--- last, and of a salt, or the first fault
+-- steps 1 to 3: the task of a request, of the contents of its password files, of which that of the
+-- new secret is the last, and of a salt, or the first fault
 unfoldable pub prepared : Request → List (List ℕ) → List ℕ → Result Task Fault
 prepared request contents salt = do
   list ← secret_list_of request contents

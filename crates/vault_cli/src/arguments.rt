@@ -47,7 +47,7 @@ pub(crate) fn encrypt_vault_id<'a>(alloc: Global) -> Arg<'a>
     ensures rule { rule_of result ≡ option (codes "encrypt-vault-id") }
     ensures local { result.global ≡ false }
 {
-    let help = "The label of the secret to encrypt with, where several are given";
+    let help = "The label of the secret to encrypt with; by default that of the only one given";
     option(alloc, "encrypt-vault-id", "LABEL", help)
 }
 
@@ -58,7 +58,10 @@ pub(crate) fn require_id_match<'a>(alloc: Global) -> Arg<'a>
     Arg::new(alloc, "require-id-match")
         .long("require-id-match")
         .action(ArgAction::SetTrue)
-        .help("Try the secrets with the envelope's label alone, not the others behind them")
+        .help(
+            "Try the secrets with the envelope's label alone; by default the others are tried \
+             behind them",
+        )
 }
 
 pub(crate) fn name<'a>(alloc: Global) -> Arg<'a>

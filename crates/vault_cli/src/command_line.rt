@@ -55,7 +55,7 @@ fn encrypt<'a>(alloc: Global) -> Result<Command<'a>, AllocError>
     ensures shape { IfOk result (λ command. app_of command ≡ encrypt) }
     ensures local { IfOk result (λ command. (fields_of command).has_globals ≡ false) }
 {
-    let about = "Encrypts plaintext to an envelope";
+    let about = "Reads plaintext and writes an envelope";
     with_salt(alloc, "encrypt", about)?
         .arg(arguments::encrypt_vault_id(alloc))?
         .arg(arguments::output(alloc))?
@@ -66,7 +66,7 @@ fn decrypt<'a>(alloc: Global) -> Result<Command<'a>, AllocError>
     ensures shape { IfOk result (λ command. app_of command ≡ decrypt) }
     ensures local { IfOk result (λ command. (fields_of command).has_globals ≡ false) }
 {
-    let about = "Decrypts an envelope to its plaintext";
+    let about = "Reads an envelope and writes its plaintext";
     with_secrets(alloc, "decrypt", about)?
         .arg(arguments::require_id_match(alloc))?
         .arg(arguments::output(alloc))?
@@ -77,7 +77,7 @@ fn view<'a>(alloc: Global) -> Result<Command<'a>, AllocError>
     ensures shape { IfOk result (λ command. app_of command ≡ view) }
     ensures local { IfOk result (λ command. (fields_of command).has_globals ≡ false) }
 {
-    let about = "Shows the plaintext of an envelope on standard output";
+    let about = "Reads an envelope and writes its plaintext to standard output";
     with_secrets(alloc, "view", about)?
         .arg(arguments::require_id_match(alloc))?
         .arg(arguments::file(alloc))
@@ -108,7 +108,7 @@ fn with_secrets<'a>(alloc: Global, name: &'a str, about: &'a str) -> Result<Comm
     ensures shape { IfOk result (λ command. app_of command ≡ app_with name.now secret_rules) }
     ensures local { IfOk result (λ command. (fields_of command).has_globals ≡ false) }
 {
-    let id = "A password file, with the label of its secret; may be repeated";
+    let id = "A password file, with the label of its secret, by default `default`; may be repeated";
     let path = "A password file for the label `default`; may be repeated";
     Command::new(alloc, name)
         .about(about)
@@ -136,9 +136,11 @@ fn with_new_secret<'a>(alloc: Global) -> Result<Command<'a>, AllocError>
         ≡ app_with (codes "rekey") (secret_rules ++ salt_rules ++ new_secret_rules)) }
     ensures local { IfOk result (λ command. (fields_of command).has_globals ≡ false) }
 {
-    let about = "Encrypts an envelope's plaintext again, under a new secret";
-    let id = "The password file of the new secret, with its label";
-    let path = "The password file of a new secret for the label `default`";
+    let about = "Reads an envelope and writes one of the same plaintext under a new secret";
+    let id = "The password file of the new secret, with its label, by default `default`; exactly \
+              one of this option and --new-vault-password-file is needed";
+    let path = "The password file of a new secret for the label `default`; exactly one of this \
+                option and --new-vault-id is needed";
     with_salt(alloc, "rekey", about)?
         .arg(arguments::option(alloc, "new-vault-id", "[LABEL@]PATH", id))?
         .arg(arguments::option(alloc, "new-vault-password-file", "PATH", path))
@@ -150,7 +152,7 @@ fn with_name<'a>(alloc: Global) -> Result<Command<'a>, AllocError>
         ≡ app_with (codes "encrypt_string") (secret_rules ++ salt_rules ++ name_rules)) }
     ensures local { IfOk result (λ command. (fields_of command).has_globals ≡ false) }
 {
-    let about = "Encrypts a text to a block of YAML";
+    let about = "Reads a text and writes it, encrypted, as a block of YAML";
     let help = "The variable's name where standard input is read; none by default";
     with_salt(alloc, "encrypt_string", about)?
         .arg(arguments::name(alloc))?

@@ -1,8 +1,13 @@
 //! What the program says where its words are no command line.
-ghost use Rattle.std.specs.Prelude.{◌≡◌, ℕ, OnOk, take};
+ghost use Rattle.std.specs.Prelude.{◌≡◌, ◌≢◌, ℕ, take, OnOk};
+ghost use Rattle.std.specs.IoError.{error_kind};
+ghost use Rattle.std.specs.declared.io.ErrorKind.TheVariants.{OutOfMemory};
 ghost use Rattle.clap.specs.Values.{kind_of};
+ghost use Rattle.vault_core.specs.declared.fault.Fault.TheVariants.{Memory};
 ghost use Rattle.vault_text.specs.Failures.{CountsFailure};
 ghost use Rattle.vault_cli.specs.Explained.{Explains};
+ghost use Rattle.vault_cli.specs.Line.{line_of, not_text_line};
+ghost use Rattle.vault_cli.specs.Reports.{Reports};
 
 use crate::report_line::report;
 use crate::status::Status;
@@ -13,9 +18,16 @@ use std::io;
 use vault_core::Fault;
 use vault_text::{Sink, SinkFailed, Stage, put_all};
 
-/// What the program says where its arguments are no text, or there is no memory for them.
+/// What the program says where its arguments are no text, or there is no memory for them. A failure
+/// of `err` changes nothing else.
 pub fn reject_words<E: Sink>(error: &io::Error, err: &mut E) -> Status
     requires { E.stage err.old ≡ Stage.Unbegun }
+    ensures memory { error_kind error.now ≡ OutOfMemory
+        → (result ≡ Status.OutOfMemory)
+        × Reports E.takes E.stage E.failures err.old (line_of Memory) err.new }
+    ensures no_text { error_kind error.now ≢ OutOfMemory
+        → (result ≡ Status.ParseFault)
+        × Reports E.takes E.stage E.failures err.old not_text_line err.new }
 {
     if matches!(error.kind(), io::ErrorKind::OutOfMemory) {
         return report(Fault::Memory, err);

@@ -12,9 +12,9 @@ use vault_core::{Fault, SECRET_COUNT_LIMIT};
 use vault_text::Label;
 
 impl<'m, 'a> Options<'m, 'a> {
-    /// Refuses the options where they have a fault: more than 16 secrets; each vault id in turn, its
-    /// label first and then its source; the label to encrypt with; the new secret of `rekey`; the
-    /// names of `encrypt_string`; a FILE without an output; the salt.
+    /// Refuses the options where they have a fault: more than 16 secrets; each vault id in turn,
+    /// its label first and then its source; the label to encrypt with; the new secret of `rekey`;
+    /// the names of `encrypt_string`; a FILE without an output; the salt.
     #[tactic(auto, unfolding(crate::specs::Refusal::refusal))]
     pub(crate) fn check(&self) -> Result<(), Fault>
         ensures { result_err result ≡ refusal self.now }

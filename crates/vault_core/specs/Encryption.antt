@@ -19,4 +19,7 @@ encryption limit secrets place form salt input =
     if nat_lt limit (length input) then Err TooLong
     else if is_block form && length input == 0 then Err EmptyString
     else if is_vault input then Err AlreadyVault
-    else Ok (record { output = text_in form (sealed (secret_at place secrets) salt input); tried = 0 })
+    else Ok (record {
+      output = text_in form (sealed (secret_at place secrets) salt input);
+      tried = 0;
+    })

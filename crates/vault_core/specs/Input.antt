@@ -17,7 +17,8 @@ IsUnreadable before after fault = (fault ≡ Read Input) × HasRisen before afte
 abbrev pub IsRefused : ℕ → ℕ → Fault → Type 0
 IsRefused before after fault = (fault ≢ Read Input) × (after ≡ before)
 
--- where the source failed, which the call then answered, the one fact holds, and where it did not, the other
+-- where the source failed, which the call then answered, the one fact holds, and where it did not,
+-- the other
 abbrev pub UnlessUnreadable : {T : Type 0} → ℕ → ℕ → Result T Fault → Type 0 → Type 0 → Type 0
 UnlessUnreadable before after (Ok x) failed read = (after ≡ before) × read
 UnlessUnreadable before after (Err fault) failed read =

@@ -36,7 +36,8 @@ SealedReadsBack =
     (limit : ℕ) (sealing : Secret) (salt plain : List ℕ) → is_label sealing.label ≡ true
     → IsBytes salt → length salt ≤ SALT_LIMIT
     → IsBytes plain → padded_length (length plain) ≤ ciphertext_limit limit
-    → payload_of limit (text_in Envelope (sealed sealing salt plain)) ≡ Ok (sealed sealing salt plain)
+    → payload_of limit (text_in Envelope (sealed sealing salt plain))
+    ≡ Ok (sealed sealing salt plain)
 
 -- what was encrypted decrypts to the input, under each rule
 abbrev pub EncryptedDecrypts : Type 0
@@ -48,21 +49,25 @@ EncryptedDecrypts =
     → (secrets : SecretList) → IsTriedFirst secrets (secret_at place list)
     → decryption limit secrets ready.output ≡ Ok (record { output = input; tried = 1 })
 
--- what was rekeyed decrypts with the new secret alone, under each rule, to what it decrypted to before
+-- what was rekeyed decrypts with the new secret alone, under each rule, to what it decrypted to
+-- before
 abbrev pub RekeyedDecrypts : Type 0
 RekeyedDecrypts =
     (limit : ℕ) (secrets : SecretList) (new : Secret) (salt input : List ℕ) (ready : Ready)
     → is_label new.label ≡ true → IsBytes salt → length salt ≤ SALT_LIMIT
     → rekeying limit secrets new salt input ≡ Ok ready
-    → (plain : List ℕ) × (decryption limit secrets input ≡ Ok (record { output = plain; tried = ready.tried }))
-    × ((rule : LabelRule) → decryption limit (record { secrets = new ∷ []; rule = rule }) ready.output
+    → (plain : List ℕ)
+    × (decryption limit secrets input ≡ Ok (record { output = plain; tried = ready.tried }))
+    × ((rule : LabelRule)
+    → decryption limit (record { secrets = new ∷ []; rule = rule }) ready.output
     ≡ Ok (record { output = plain; tried = 1 }))
 
 -- an input within a limit gets one answer under it and under every larger one
 abbrev pub ShortInputs : Type 0
 ShortInputs =
     (smaller larger : ℕ) (input : List ℕ) → length input ≤ smaller → smaller ≤ larger
-    → (list : List Secret) (place : ℕ) (form : Form) (secrets : SecretList) (new : Secret) (salt : List ℕ)
+    → (list : List Secret) (place : ℕ) (form : Form)
+    (secrets : SecretList) (new : Secret) (salt : List ℕ)
     → (encryption larger list place form salt input ≡ encryption smaller list place form salt input)
     × (decryption larger secrets input ≡ decryption smaller secrets input)
     × (rekeying larger secrets new salt input ≡ rekeying smaller secrets new salt input)

@@ -18,11 +18,12 @@ use Rattle.vault_core.specs.declared.fault.Fault.TheVariants.{NoSecretFits, BadP
 abbrev pub deciphered_by : Keys → List ℕ → List ℕ
 deciphered_by keys cipher = counter_mode (key_schedule keys.cipher) keys.iv cipher
 
--- the plaintext under the first secret in the tried order that agrees; where its padding is wrong no other
--- secret is tried
+-- the plaintext under the first secret in the tried order that agrees; where its padding is wrong
+-- no other secret is tried
 unfoldable pub opening : SecretList → Payload → Result Ready Fault
 opening secrets payload =
     let order = tried_order secrets payload.label in do
       secret ← ok_or (find (agrees payload) order) NoSecretFits
-      plain ← ok_or (without_padding (deciphered_by (keys_of payload secret) payload.cipher)) BadPadding
+      plain ← ok_or (without_padding (deciphered_by (keys_of payload secret) payload.cipher))
+        BadPadding
       Ok (record { output = plain; tried = position_or_len (agrees payload) order + 1 })

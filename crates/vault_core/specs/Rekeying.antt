@@ -14,7 +14,10 @@ use Rattle.vault_core.specs.declared.fault.Fault.TheVariants.{AlreadyVault}
 abbrev pub resealed : Secret → List ℕ → Ready → Result Ready Fault
 resealed new salt opened =
     if is_vault opened.output then Err AlreadyVault
-    else Ok (record { output = text_in Envelope (sealed new salt opened.output); tried = opened.tried })
+    else Ok (record {
+      output = text_in Envelope (sealed new salt opened.output);
+      tried = opened.tried;
+    })
 
 -- the plaintext of the input under the new secret, or the first fault
 unfoldable pub rekeying : ℕ → SecretList → Secret → List ℕ → List ℕ → Result Ready Fault

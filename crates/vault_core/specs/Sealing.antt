@@ -1,4 +1,5 @@
--- Vaults that are made: a plaintext under a secret (Ansible Vault guide, payload formats 1.1 and 1.2).
+-- Vaults that are made: a plaintext under a secret (Ansible Vault guide, payload formats 1.1 and
+-- 1.2).
 use Rattle.std.specs.Prelude.{ℕ, List, Result, Ok, Err}
 use Rattle.vault_aes.specs.CounterMode.{counter_mode}
 use Rattle.vault_aes.specs.KeyExpansion.{key_schedule}
@@ -17,8 +18,8 @@ use Rattle.vault_core.specs.declared.fault.Fault.{Fault}
 abbrev pub enciphered_by : Keys → List ℕ → List ℕ
 enciphered_by keys plain = counter_mode (key_schedule keys.cipher) keys.iv (padded plain)
 
--- the plaintext's ciphertext under the keys that the secret's password and the salt give, with the tag of the
--- ciphertext, the salt and the secret's label
+-- the plaintext's ciphertext under the keys that the secret's password and the salt give, with the
+-- tag of the ciphertext, the salt and the secret's label
 unfoldable pub sealed : Secret → List ℕ → List ℕ → Payload
 sealed secret salt plain =
     let keys = vault_keys secret.password salt in

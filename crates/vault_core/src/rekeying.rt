@@ -17,8 +17,8 @@ use crate::secrets::Secrets;
 use vault_kdf::Meter;
 use vault_text::{Label, Salt, Source};
 
-/// Reads an envelope, opens it as `prepare_decrypt` does, and seals its plaintext with a new label, a
-/// new password and a new salt.
+/// Reads an envelope, opens it as `prepare_decrypt` does, and seals its plaintext with a new label,
+/// a new password and a new salt.
 ///
 /// All of it happens in `work`, of 16 bytes to `CIPHERTEXT_LIMIT`, which holds one text at any
 /// moment. The faults are those of `prepare_decrypt`, in their order, and then
