@@ -1,35 +1,15 @@
 -- Files of which one stands at each path.
-use Rattle.std.proofs.Common.{◌∷◌, ◌≡◌, ◌≢◌, ℕ, ◌+◌, ◌<◌, ◌≤◌, ◌⊎◌, inl, inr, List, [], Bool, true, false, Option, Some, None, Result, Ok, Err, IsTrue, length, map, arith, rules, tests, refl, sym, ap, ◌∙◌, subst}
-use Rattle.std.specs.Prelude.{IfSome, is_some, nat_lt, option_and_then}
+use Rattle.std.proofs.Common.{◌∷◌, ◌≡◌, ℕ, inl, inr, List, [], Bool, Option, Some, None, Result, Ok, Err, map, refl, sym, ap, ◌∙◌, subst}
 use Rattle.std.specs.Option.{option_map}
-use Rattle.std.specs.Result.{result_map_both}
-use Rattle.clap.specs.Walk.{Row}
-use Rattle.vault_text.specs.Failures.{HasRisen}
-use Rattle.vault_text.specs.declared.limits.TheConstants.{PLAINTEXT_LIMIT}
 use Rattle.vault_text.specs.declared.sink.Stage.{Stage}
 use Rattle.vault_files.specs.File.{File, Met}
-use Rattle.vault_files.specs.File.File.{Missing, Whole, Broken}
-use Rattle.vault_files.specs.declared.fault.FileFault.TheVariants.{CannotRead}
-use Rattle.vault_core.specs.Input.{IsWhole}
 use Rattle.vault_core.specs.declared.fault.Fault.{Fault}
-use Rattle.vault_core.specs.declared.fault.Fault.TheVariants.{CannotOpen, Memory, Read}
-use Rattle.vault_core.specs.declared.fault.Role.TheVariants.{Input}
-use Rattle.vault_cli.specs.CommandName.{command_of}
 use Rattle.vault_cli.specs.Drive.{Drives, DrivesOn}
-use Rattle.vault_cli.specs.Ending.{IsAnswered, IsReadOf, LacksMemory, OutputFails, Sends, SourceFails}
-use Rattle.vault_cli.specs.Found.{ContentsMet, IsOpened, SaltMet, contents_of, fault_in, front_in, secret_paths}
-use Rattle.vault_cli.specs.Line.{line_of}
-use Rattle.vault_cli.specs.Outcome.{Outcome, answered, asks_for_input, input_limit, outcome, refused}
-use Rattle.vault_cli.specs.Program.{AllMet, Answer, Files, OneMet, RefusedBy, answer_to, files_in}
+use Rattle.vault_cli.specs.Ending.{IsAnswered, LacksMemory, OutputFails, SourceFails}
+use Rattle.vault_cli.specs.Found.{secret_paths}
+use Rattle.vault_cli.specs.Program.{AllMet, Answer, Files, OneMet, answer_to, files_in}
 use Rattle.vault_cli.specs.Request.{Request}
-use Rattle.vault_cli.specs.Settled.{Settles, asked}
-use Rattle.vault_cli.specs.Status.{status_of}
 use Rattle.vault_cli.specs.declared.status.Status.{Status}
-use Rattle.vault_cli.specs.declared.status.Status.TheVariants.{OutOfMemory, ParseFault}
-use Rattle.vault_cli.proofs.FoundFacts.{Met-some}
-use Rattle.vault_cli.proofs.ProgramFacts.{answer-read, answer-unasked, answer-unread, one-some, salt-found}
-use Rattle.vault_cli.proofs.SettlingFacts.{pair_of}
-use Rattle.std.proofs.lemmas.Bool.{false≢true}
 
 -- files that are each the one at its path
 all-in : (at : List ℕ → File) (paths : List (List ℕ)) (files : List File) → Met (λ path file. file ≡ at path) paths files → files ≡ map at paths

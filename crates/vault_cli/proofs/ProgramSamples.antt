@@ -14,7 +14,7 @@ use Rattle.vault_files.specs.File.File.{Missing, Whole, Broken}
 use Rattle.vault_cli.specs.CommandLine.{vault_app}
 use Rattle.vault_cli.specs.Found.{contents_of}
 use Rattle.vault_cli.specs.Outcome.{refused}
-use Rattle.vault_cli.specs.Program.{Answer, Files, program, ready_of}
+use Rattle.vault_cli.specs.Program.{Answer, program, ready_of}
 use Rattle.vault_cli.specs.Refusal.{refusal}
 use Rattle.vault_cli.specs.Task.{prepared, secrets_of}
 
