@@ -7,7 +7,7 @@ use Rattle.clap.specs.Walk.{Row}
 use Rattle.vault_text.specs.Failures.{HasRisen}
 use Rattle.vault_text.specs.declared.limits.TheConstants.{PLAINTEXT_LIMIT}
 use Rattle.vault_text.specs.declared.sink.Stage.{Stage}
-use Rattle.vault_files.specs.File.{Answers, File, front}
+use Rattle.vault_files.specs.File.{Answers, File}
 use Rattle.vault_files.specs.File.File.{Missing, Whole, Broken}
 use Rattle.vault_files.specs.declared.fault.FileFault.TheVariants.{CannotRead}
 use Rattle.vault_core.specs.Input.{IsWhole}
@@ -16,11 +16,11 @@ use Rattle.vault_core.specs.declared.fault.Fault.TheVariants.{CannotOpen, Memory
 use Rattle.vault_core.specs.declared.fault.Role.TheVariants.{Input}
 use Rattle.vault_cli.specs.CommandName.{command_of}
 use Rattle.vault_cli.specs.Drive.{Drives}
-use Rattle.vault_cli.specs.Ending.{IsAnswered, IsReadOf, LacksMemory, OutputFails, Sends, SourceFails}
-use Rattle.vault_cli.specs.Found.{ContentsMet, IsOpened, SaltMet, contents_of, fault_in, front_in, secret_paths}
+use Rattle.vault_cli.specs.Ending.{IsAnswered, OutputFails, Sends}
+use Rattle.vault_cli.specs.Found.{ContentsMet, IsOpened, SaltMet, fault_in, secret_paths}
 use Rattle.vault_cli.specs.Line.{line_of}
 use Rattle.vault_cli.specs.Outcome.{Outcome, answered, asks_for_input, input_limit, outcome, refused}
-use Rattle.vault_cli.specs.Program.{AllMet, Answer, Files, OneMet, RefusedBy, answer_to, input_in, ready_of, salt_in}
+use Rattle.vault_cli.specs.Program.{AllMet, Answer, Files, OneMet, RefusedBy, answer_to, input_in, ready_of}
 use Rattle.vault_cli.specs.Request.{Request}
 use Rattle.vault_cli.specs.Settled.{Settles, asked}
 use Rattle.vault_cli.specs.Status.{status_of}

@@ -1,8 +1,6 @@
 -- An error of the parser, by its kind.
 use Rattle.std.proofs.Common.{◌≡◌, ◌⊎◌, inl, inr, ℕ, List, [], refl, sym, ◌∙◌}
-use Rattle.clap.specs.Words.{HasKind, IsAmong, Kinds}
-use Rattle.clap.specs.Values.{kind_of}
-use Rattle.clap.specs.declared.error.Error.{Error}
+use Rattle.clap.specs.Words.{IsAmong, Kinds}
 use Rattle.clap.specs.declared.error.kind.ErrorKind.{ErrorKind}
 use Rattle.clap.specs.declared.error.kind.ErrorKind.TheVariants.{DisplayHelp, DisplayVersion, OutOfMemory}
 use Rattle.vault_text.specs.declared.sink.Stage.{Stage}
@@ -15,7 +13,7 @@ use Rattle.vault_cli.specs.declared.status.Status.{Status}
 pub help-or-not : (kind : ErrorKind) → IsHelp kind ⊎ (IsHelp kind → ⊥)
 help-or-not DisplayHelp = inl (inl refl)
 help-or-not DisplayVersion = inl (inr refl)
-help-or-not kind = inr (λ help. elim help [ | inl e ↦ absurd cc | inr e ↦ absurd cc ])
+help-or-not kind = inr (λ help. elim help [ inl e ↦ absurd cc | inr e ↦ absurd cc ])
 
 -- memory is no help
 no-help : (kind : ErrorKind) → kind ≡ OutOfMemory → IsHelp kind → ⊥

@@ -3,6 +3,8 @@ pub mod FittingFacts
 pub mod EndingFacts
 pub mod ProgramFacts
 pub mod DriveFacts
+pub mod MemoryFacts
+pub mod ProgramSamples
 pub mod ExplainedFacts
 pub mod LawFacts
 pub mod LawProofs

@@ -1,22 +1,20 @@
 -- The steps of the program, by what each answers.
-use Rattle.std.proofs.Common.{◌≡◌, ◌≢◌, ℕ, ◌+◌, List, [], Bool, true, false, Option, Some, None, Result, Ok, Err, refl, sym, ap, ◌∙◌, subst}
+use Rattle.std.proofs.Common.{◌≡◌, ℕ, ◌+◌, List, true, false, Option, Some, None, Result, Ok, Err, refl, sym, ap, ◌∙◌}
 use Rattle.std.proofs.lemmas.Bool.{false≢true}
-use Rattle.std.specs.Prelude.{◌&&◌, is_ok, is_some, length, nat_lt, not, take, unwrap_or}
-use Rattle.std.specs.Result.{result_map_both}
+use Rattle.std.specs.Prelude.{◌&&◌, is_ok, is_some, not, unwrap_or}
 use Rattle.vault_text.specs.Steps.{◌>>=◌}
 use Rattle.vault_text.specs.declared.limits.TheConstants.{PLAINTEXT_LIMIT}
-use Rattle.vault_files.specs.File.{File, Met, front}
-use Rattle.vault_files.specs.File.File.{Missing, Whole, Broken}
+use Rattle.vault_files.specs.File.{File}
+use Rattle.vault_files.specs.File.File.{Missing}
 use Rattle.vault_core.specs.Ready.{Ready}
 use Rattle.vault_core.specs.declared.fault.Fault.{Fault}
 use Rattle.vault_core.specs.declared.fault.Fault.TheVariants.{CannotOpen}
 use Rattle.vault_core.specs.declared.fault.Role.TheVariants.{Input}
-use Rattle.vault_cli.specs.Found.{ContentsMet, IsMissing, SaltMet, contents_of, front_in, secret_paths}
+use Rattle.vault_cli.specs.Found.{ContentsMet, IsMissing, SaltMet, contents_of, secret_paths}
 use Rattle.vault_cli.specs.Outcome.{answered, asks_for_input, input_limit, outcome, outcome_within, performed, refused}
-use Rattle.vault_cli.specs.Program.{AllMet, Files, OneMet, RefusedBy, input_in, ready_of, salt_in, text_or}
+use Rattle.vault_cli.specs.Program.{Files, OneMet, RefusedBy, input_in, ready_of, salt_in, text_or}
 use Rattle.vault_cli.specs.Request.{Request}
 use Rattle.vault_cli.specs.Task.{Task, prepared}
-use Rattle.vault_cli.proofs.FoundFacts.{Met-some}
 
 -- steps 4 and 5 behind steps 1 to 3, over a text that is read
 module _ (prepares : Result Task Fault) (string : Option (List ℕ)) where
@@ -66,7 +64,7 @@ module _ (request : Request) (files : Files) (stdin : List ℕ) where
     unfolding ready_of outcome_within
     answer-unasked opened input e unasked =
         rw (read, salted, e) (ap answered (text-unasked (prepared request contents salt) request.string
-            (input_in (input_limit PLAINTEXT_LIMIT request.command + 1) files.input stdin) input unasked))
+        (input_in (input_limit PLAINTEXT_LIMIT request.command + 1) files.input stdin) input unasked))
 
     -- it is read
     pub answer-read : (opened input : List ℕ) → input_in 0 files.input stdin ≡ Ok opened

@@ -37,6 +37,10 @@ module _ {F S K E : Type 0} (meets : F → List ℕ → File → Type 0) (aimed 
       ⊎ OutputFails aimed file_takes file_stage file_failures takes stage write_failures answer.path files new_files out new_out
       says result err new_err answer.outcome)))
 
+  -- there is an input that was given, on which and on these files it ended so
+  abbrev pub DrivesOn : Files → Type 0
+  DrivesOn found = (input : List ℕ) × gives src input new_src × EndsWith found input (answers found input)
+
   -- there are files at the paths that are asked for, and an input that was given, on which it ended so
   abbrev pub Drives : Type 0
   Drives = (found : Files) × AllMet (meets files) asks found × (input : List ℕ) × gives src input new_src

@@ -1,6 +1,6 @@
 -- How a run ends whose output goes to a path or to standard output: it answers, its source fails, its output does, or
 -- there is no memory.
-use Rattle.std.specs.Prelude.{◌≡◌, ◌⊎◌, ℕ, ◌+◌, ◌≤◌, Bool, IsTrue, List, length, take, Option, Some, None, IfSome, MatchOption}
+use Rattle.std.specs.Prelude.{◌≡◌, ◌⊎◌, ℕ, ◌+◌, ◌≤◌, Bool, IsTrue, List, length, take, Option, Some, IfSome, MatchOption}
 use Rattle.vault_text.specs.Failures.{HasRisen}
 use Rattle.vault_text.specs.declared.limits.TheConstants.{PLAINTEXT_LIMIT}
 use Rattle.vault_text.specs.declared.sink.Stage.{Stage}

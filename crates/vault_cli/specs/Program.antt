@@ -1,5 +1,6 @@
 -- What the program answers, as a function of its words, the files that it meets, and its standard input.
-use Rattle.std.specs.Prelude.{◌≡◌, ℕ, ◌+◌, List, [], Option, Some, None, Result, Ok, Err}
+use Rattle.std.specs.Prelude.{◌≡◌, ℕ, ◌+◌, List, [], map, Option, Some, None, Result, Ok, Err}
+use Rattle.std.specs.Option.{option_map}
 use Rattle.clap.specs.Words.{Text, subcommand_of}
 use Rattle.vault_files.specs.File.{File, Met}
 use Rattle.vault_text.specs.Steps.{◌>>=◌}
@@ -91,3 +92,13 @@ AllMet meets (Some (Ok request)) files =
 abbrev pub RefusedBy : (List ℕ → File → Type 0) → Request → Fault → Type 0
 RefusedBy meets request fault = (files : Files) × AllMet meets (Some (Ok request)) files
     × ((stdin : List ℕ) → ready_of request files stdin ≡ Err fault)
+
+-- the files that stand at the paths of what was asked
+abbrev pub files_in : (List ℕ → File) → Option (Result Request Fault) → Files
+files_in at None = record { secrets = []; salt = None; input = None }
+files_in at (Some (Err fault)) = record { secrets = []; salt = None; input = None }
+files_in at (Some (Ok request)) = record {
+  secrets = map at (secret_paths request);
+  salt = option_map at request.salt_path;
+  input = option_map at request.input;
+}

@@ -4,6 +4,7 @@
 mod arguments;
 mod command_line;
 mod command_name;
+mod embedding;
 mod explaining;
 mod fitting;
 mod gathering;
@@ -24,6 +25,7 @@ mod vault_id;
 
 pub use command_line::command;
 pub use command_name::CommandName;
+pub use embedding::drive_in_memory;
 pub use explaining::reject_words;
 pub use limits::{SALT_TEXT_LIMIT, SEALING_SALT_LENGTH};
 pub use parsing::parse;

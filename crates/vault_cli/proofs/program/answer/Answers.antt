@@ -1,6 +1,4 @@
-use Rattle.std.proofs.Common.{map, refl, sym, ap, ◌∙◌}
-use Rattle.vault_cli.specs.Found.{ContentsMet, SaltMet, secret_paths}
-use Rattle.vault_cli.specs.Line.{line_of}
+use Rattle.std.proofs.Common.{map, refl}
 use Rattle.vault_cli.specs.Reports.{Says}
 use Rattle.vault_cli.proofs.DriveFacts.{drives-file, drives-refused, drives-stdin}
 use Rattle.vault_cli.proofs.program.answer.Goals as goal

@@ -1,10 +1,8 @@
-use Rattle.std.proofs.Common.{◌≡◌, refl, sym, ap, ◌∙◌}
-use Rattle.std.specs.Prelude.{is_some, option_and_then}
+use Rattle.std.proofs.Common.{refl, sym, ◌∙◌}
 use Rattle.std.specs.Box.{box_value}
-use Rattle.clap.specs.Words.{found_of, rows_of, subcommand_name_of, subcommand_rows_of}
+use Rattle.clap.specs.Words.{found_of, rows_of, subcommand_rows_of}
 use Rattle.clap.specs.declared.parser.matches.ArgMatches.{out-ArgMatches}
 use Rattle.clap.specs.declared.parser.matches.SubCommand.{out-SubCommand}
-use Rattle.vault_cli.specs.CommandName.{command_of}
 use Rattle.vault_cli.specs.Reports.{Says}
 use Rattle.vault_cli.specs.Settled.{asked}
 use Rattle.vault_cli.proofs.DriveFacts.{command-asked, drives-nothing, drives-settled, drives-unsettled}

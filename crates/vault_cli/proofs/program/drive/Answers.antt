@@ -1,4 +1,4 @@
-use Rattle.std.proofs.Common.{[], map, refl}
+use Rattle.std.proofs.Common.{map, refl}
 use Rattle.std.specs.String.{string_bytes}
 use Rattle.clap.specs.Words.{fault_of}
 use Rattle.clap.specs.Values.{kind_of}
@@ -15,8 +15,8 @@ returns-in-Err-clause-answered g c = λ parses.
     let memory = explains-memory g.K.Sink.takes g.K.Sink.stage g.K.Sink.failures g.E.Sink.takes g.E.Sink.stage g.E.Sink.failures
     c.explain.result c.args.out.now c.explain.new.out c.args.err.now c.explain.new.err (fault_of vault_app texts) parses
     (explains-one g.K.Sink.takes g.K.Sink.stage g.K.Sink.failures g.E.Sink.takes g.E.Sink.stage g.E.Sink.failures
-        c.explain.result c.args.out.now c.explain.new.out c.args.err.now c.explain.new.err (fault_of vault_app texts) (kind_of c.in-Err.error)
-        c.in-Err.ensures.kinds c.explain.ensures.explains) in
+    c.explain.result c.args.out.now c.explain.new.out c.args.err.now c.explain.new.err (fault_of vault_app texts) (kind_of c.in-Err.error)
+    c.in-Err.ensures.kinds c.explain.ensures.explains) in
     drives-no_memory g.F.FileSystem.meets g.F.FileSystem.aimed g.F.Sink.takes g.F.Sink.stage g.F.Sink.failures
     g.S.Source.gives g.S.Source.ended g.S.Source.failures g.K.Sink.takes g.K.Sink.stage g.K.Sink.failures
     (Says g.E.Sink.takes g.E.Sink.stage g.E.Sink.failures) c.explain.result c.args.files.now c.args.files.now
