@@ -1,10 +1,10 @@
 -- What the files of a request hold, as far as they are read.
-use Rattle.std.specs.Prelude.{◌≡◌, ℕ, ◌+◌, List, [], ◌∷◌, map, Option, Some, None, Result, Ok, Err}
+use Rattle.std.specs.Prelude.{◌≡◌, ℕ, ◌+◌, List, [], ◌∷◌, map, Option, Some, None, Result, Ok}
 use Rattle.std.specs.Result.{result_map_both}
 use Rattle.vault_core.specs.declared.fault.Fault.{Fault}
 use Rattle.vault_core.specs.declared.fault.Fault.TheVariants.{CannotOpen, Memory, Read}
 use Rattle.vault_core.specs.declared.fault.Role.{Role}
-use Rattle.vault_core.specs.declared.fault.Role.TheVariants.{Secret, Salt, Input}
+use Rattle.vault_core.specs.declared.fault.Role.TheVariants.{Secret, Salt}
 use Rattle.vault_core.specs.declared.limits.TheConstants.{PASSWORD_FILE_LIMIT}
 use Rattle.vault_files.specs.File.{File, Met, front}
 use Rattle.vault_files.specs.File.File.{Missing}

@@ -1,4 +1,4 @@
-use Rattle.std.proofs.Common.{◌≡◌, ◌<◌, ◌≤◌, length, take, map, inl, inr, arith, length-take, ap, refl, sym, ◌∙◌}
+use Rattle.std.proofs.Common.{◌≡◌, length, take, map, inl, inr, arith, length-take, ap, refl, sym, ◌∙◌}
 use Rattle.std.proofs.lemmas.Bool.{false≢true}
 use Rattle.vault_cli.specs.Reports.{Says}
 use Rattle.vault_cli.specs.declared.fitting.TheConstants.{FIRST_LENGTH}

@@ -1,4 +1,4 @@
-use Rattle.std.proofs.Common.{rules, arith, inl, refl, map, [], ◌∙◌}
+use Rattle.std.proofs.Common.{rules, arith, inl, refl, map, []}
 use Rattle.vault_cli.specs.Reports.{Says}
 use Rattle.vault_cli.proofs.FittingFacts.{runs-in-room}
 use Rattle.vault_cli.proofs.fitting.run_in.Goals as goal

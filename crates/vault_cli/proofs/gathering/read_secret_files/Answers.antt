@@ -1,4 +1,4 @@
-use Rattle.std.proofs.Common.{rules, arith, ◌≡◌, ◌+◌, ◌<◌, ◌≤◌, ◌++◌, ◌∷◌, [], length, map, ap, sym, ◌∙◌, vec_len}
+use Rattle.std.proofs.Common.{rules, arith, ◌+◌, ◌<◌, ◌∷◌, [], length}
 use Rattle.std.proofs.lemmas.List.{map-append}
 use Rattle.vault_core.specs.declared.fault.Role.TheVariants.{Secret}
 use Rattle.vault_core.specs.declared.limits.TheConstants.{PASSWORD_FILE_LIMIT}
