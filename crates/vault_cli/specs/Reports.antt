@@ -8,7 +8,7 @@ module _ {E : Type 0} (takes : E → List ℕ → E → Type 0) (stage : E → S
   -- the line, after which the sink was finished, or a prefix of it where the sink failed
   pub record Reports (old : E) (line : List ℕ) (new : E) : Type 0 where
     pub whole : (HasRisen (failures old) (failures new) → ⊥)
-      → takes old line new × (stage new ≡ Finished)
+        → takes old line new × (stage new ≡ Finished)
     pub prefix : (n : ℕ) × takes old (take n line) new
 
   -- a line, or nothing to say, for which the sink is left alone

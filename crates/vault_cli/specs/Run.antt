@@ -31,7 +31,7 @@ module _ {S K E : Type 0} (ended : S → Bool) (read_failures : S → ℕ)
     pub read : IsRead src new_src
     pub failures : write_failures new_out ≡ write_failures out
     pub output : MatchOption answer.output (new_out ≡ out)
-      (λ bytes. takes out bytes new_out × (stage new_out ≡ Finished))
+        (λ bytes. takes out bytes new_out × (stage new_out ≡ Finished))
     pub line : says err answer.line new_err
 
   -- the source failed: the output is left alone
@@ -50,7 +50,7 @@ module _ {S K E : Type 0} (ended : S → Bool) (read_failures : S → ℕ)
     pub read : IsRead src new_src
     pub failed : HasRisen (write_failures out) (write_failures new_out)
     pub output : (bytes : List ℕ) × (answer.output ≡ Some bytes)
-      × ((n : ℕ) × takes out (take n bytes) new_out)
+        × ((n : ℕ) × takes out (take n bytes) new_out)
     pub line : says err (line_of Write) new_err
 
   -- one of the three

@@ -25,7 +25,7 @@ abbrev pub new_secret_of : Options → Option SecretFile
 new_secret_of given =
     if rekeys given.command
     then option_or (option_map file_of_id given.new_vault_id)
-      (option_map plain_file given.new_password_file)
+    (option_map plain_file given.new_password_file)
     else None
 
 -- a salt text stands in the place of the salt file
@@ -68,7 +68,7 @@ settled command rows = settled_by (options_of command rows)
 abbrev pub asked : Option (Text × List Row) → Option (Result Request Fault)
 asked parse =
     option_and_then
-      (λ given. option_map (λ command. settled command given.1) (command_of given.0)) parse
+    (λ given. option_map (λ command. settled command given.1) (command_of given.0)) parse
 
 -- what `settle` answers: what is settled, or Memory where that is a request
 abbrev pub Settles : Result Request Fault → Result Request Fault → Type 0

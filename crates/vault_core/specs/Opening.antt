@@ -25,5 +25,5 @@ opening secrets payload =
     let order = tried_order secrets payload.label in do
       secret ← ok_or (find (agrees payload) order) NoSecretFits
       plain ← ok_or (without_padding (deciphered_by (keys_of payload secret) payload.cipher))
-        BadPadding
+          BadPadding
       Ok (record { output = plain; tried = position_or_len (agrees payload) order + 1 })
