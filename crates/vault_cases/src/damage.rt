@@ -72,17 +72,25 @@ fn refuses_wrong_padding(rt: HostRuntime) -> Result<(), Fail> {
     assert_refused(&rt, alloc, unpadded.as_slice(), text)
 }
 
+// A fault of the digits, or of the inner text, comes before that of the length.
 #[test]
 fn refuses_ciphertext_over_the_limit(rt: HostRuntime) -> Result<(), Fail> {
     let alloc = rt.alloc();
     let cipher = vec![in alloc; 0u8; CIPHERTEXT_LIMIT + 1]?;
     let vault = spelled(alloc, "default", SALT, &[0; 32], cipher.as_slice())?;
-    assert_refused(
-        &rt,
-        alloc,
-        vault.as_slice(),
-        "vault ciphertext is longer than the limit",
-    )
+    assert!(rt; vault.as_slice().ends_with(b"30\n"));
+    let ends: [(&[u8], &str); 3] = [
+        (b"3g\n", "vault body is not hexadecimal"),
+        (b"67\n", "vault payload is malformed"),
+        (b"30\n", "vault ciphertext is longer than the limit"),
+    ];
+    for (end, text) in ends {
+        let mut damaged = vault.clone()?;
+        damaged.truncate(vault.len() - 3);
+        damaged.extend_from_slice(end)?;
+        assert_refused(&rt, alloc, damaged.as_slice(), text)?;
+    }
+    Ok(())
 }
 
 // The longest ciphertext is taken: a byte less than its length is plaintext.
@@ -107,8 +115,9 @@ fn decrypts_up_to_the_limit(rt: HostRuntime) -> Result<(), Fail> {
 fn refuses_input_over_the_limit(rt: HostRuntime) -> Result<(), Fail> {
     let damaged = b"$ANSIBLE_VAULT;1.1;AES256\nzz".as_slice();
     let long = "ERROR! input is longer than the limit\n";
-    let cases: [(&[u8], usize, usize, &str); 4] = [
+    let cases: [(&[u8], usize, usize, &str); 5] = [
         (b"", usize::MAX, ENVELOPE_LIMIT + 1, long),
+        (&damaged[..26], usize::MAX, ENVELOPE_LIMIT + 1, long),
         (damaged, usize::MAX, ENVELOPE_LIMIT + 1, long),
         (damaged, ENVELOPE_LIMIT + 1, ENVELOPE_LIMIT + 1, long),
         (

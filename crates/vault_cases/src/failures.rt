@@ -101,7 +101,7 @@ fn reports_help_that_cannot_be_written(rt: HostRuntime) -> Result<(), Fail> {
 fn keeps_the_status_where_the_message_fails(rt: HostRuntime) -> Result<(), Fail> {
     let alloc = rt.alloc();
     let message = b"ERROR! input is not vault encrypted data\n";
-    for (calls, length) in [(0, 0), (1, 0), (8, 7), (42, 41), (100, 41)] {
+    for (calls, length) in [(0, 0), (1, 0), (8, 7), (20, 19), (42, 41), (100, 41)] {
         let mut src = MemSource::new(b"", 1);
         let mut out = MemSink::new(alloc, 100);
         let mut err = FailingSink::new(alloc, 1, calls);

@@ -10,6 +10,10 @@ mod damage;
 #[cfg(test)]
 mod devices;
 #[cfg(test)]
+mod each_byte;
+#[cfg(test)]
+mod each_call;
+#[cfg(test)]
 mod encrypting;
 #[cfg(test)]
 mod failures;
@@ -29,3 +33,5 @@ mod requests;
 mod runs;
 #[cfg(test)]
 mod support;
+#[cfg(test)]
+mod watched;
