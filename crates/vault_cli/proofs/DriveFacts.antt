@@ -7,6 +7,7 @@ use Rattle.clap.specs.Walk.{Row}
 use Rattle.vault_text.specs.Failures.{HasRisen}
 use Rattle.vault_text.specs.declared.limits.TheConstants.{PLAINTEXT_LIMIT}
 use Rattle.vault_text.specs.declared.sink.Stage.{Stage}
+use Rattle.vault_text.specs.declared.sink.Stage.TheVariants.{Unbegun}
 use Rattle.vault_files.specs.File.{Answers, File}
 use Rattle.vault_files.specs.File.File.{Missing, Whole, Broken}
 use Rattle.vault_files.specs.declared.fault.FileFault.TheVariants.{CannotRead}
@@ -260,9 +261,9 @@ module _ {F S K E : Type 0} (meets : F → List ℕ → File → Type 0) (aimed 
   -- the files refuse
   pub drives-refused : ((path : List ℕ) → (file : File) × meets files path file)
       → (fault : Fault) → (fault ≢ Memory → RefusedBy (meets files) request fault)
-      → new_files ≡ files → new_out ≡ out → read_failures new_src ≡ read_failures src → gives src [] new_src
+      → file_stage files ≡ Unbegun → new_files ≡ files → new_out ≡ out → read_failures new_src ≡ read_failures src → gives src [] new_src
       → result ≡ status_of fault → says err (line_of fault) new_err → RequestDrives
-  drives-refused some fault refuses same_files same_out stay unread status line =
+  drives-refused some fault refuses fresh same_files same_out stay unread status line =
       elim (memory-or fault) [
         | inl memory ↦
             let (found, met) = some-met (meets files) some (Some (Ok request)) in (
@@ -273,7 +274,7 @@ module _ {F S K E : Type 0} (meets : F → List ℕ → File → Type 0) (aimed 
               inl (record {
                 status = status ∙ ap status_of memory;
                 failures = (ap write_failures same_out, ap file_failures same_files);
-                output = (same_out, inl same_files);
+                output = (same_out, ap file_stage same_files ∙ fresh, inl same_files);
                 line = rw memory at line;
               }),
             )
@@ -288,7 +289,7 @@ module _ {F S K E : Type 0} (meets : F → List ℕ → File → Type 0) (aimed 
                 inl (subst AnsweredAs (ap answered (sym (refused_so []))) (record {
                   status = status;
                   failures = (ap write_failures same_out, ap file_failures same_files);
-                  output = (same_out, inl same_files);
+                  output = (same_out, ap file_stage same_files ∙ fresh, inl same_files);
                   line = line;
                 })),
               )),
@@ -325,7 +326,7 @@ module _ {F S K E : Type 0} (meets : F → List ℕ → File → Type 0) (aimed 
       subst (λ (r : Request). AskedDrives (Some (Ok r))) same h
   drives-settled (Some (Ok other)) request some (inr e) h = absurd cc
 
-  module _ (same_files : new_files ≡ files) (same_out : new_out ≡ out) (stay : read_failures new_src ≡ read_failures src)
+  module _ (fresh : file_stage files ≡ Unbegun) (same_files : new_files ≡ files) (same_out : new_out ≡ out) (stay : read_failures new_src ≡ read_failures src)
       (unread : gives src [] new_src) where
     -- nothing was asked
     pub drives-nothing : (asks : Option (Result Request Fault)) → is_some asks ≡ false → result ≡ ParseFault → says err [] new_err → AskedDrives asks
@@ -340,7 +341,7 @@ module _ {F S K E : Type 0} (meets : F → List ℕ → File → Type 0) (aimed 
         inl (record {
           status = status;
           failures = (ap write_failures same_out, ap file_failures same_files);
-          output = (same_out, inl same_files);
+          output = (same_out, ap file_stage same_files ∙ fresh, inl same_files);
           line = line;
         }),
       )),
@@ -358,7 +359,7 @@ module _ {F S K E : Type 0} (meets : F → List ℕ → File → Type 0) (aimed 
           inl (record {
             status = status;
             failures = (ap write_failures same_out, ap file_failures same_files);
-            output = (same_out, inl same_files);
+            output = (same_out, ap file_stage same_files ∙ fresh, inl same_files);
             line = line;
           }),
         )
@@ -383,7 +384,7 @@ module _ {F S K E : Type 0} (meets : F → List ℕ → File → Type 0) (aimed 
             inl (record {
               status = status ∙ ap status_of same;
               failures = (ap write_failures same_out, ap file_failures same_files);
-              output = (same_out, inl same_files);
+              output = (same_out, ap file_stage same_files ∙ fresh, inl same_files);
               line = rw same at line;
             }),
           )),

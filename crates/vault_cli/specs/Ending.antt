@@ -4,7 +4,7 @@ use Rattle.std.specs.Prelude.{◌≡◌, ◌⊎◌, ℕ, ◌+◌, ◌≤◌, Boo
 use Rattle.vault_text.specs.Failures.{HasRisen}
 use Rattle.vault_text.specs.declared.limits.TheConstants.{PLAINTEXT_LIMIT}
 use Rattle.vault_text.specs.declared.sink.Stage.{Stage}
-use Rattle.vault_text.specs.declared.sink.Stage.TheVariants.{Finished}
+use Rattle.vault_text.specs.declared.sink.Stage.TheVariants.{Finished, Unbegun}
 use Rattle.vault_core.specs.Input.{IsWhole}
 use Rattle.vault_core.specs.declared.fault.Fault.TheVariants.{Memory, Read, Write}
 use Rattle.vault_core.specs.declared.fault.Role.TheVariants.{Input}
@@ -27,7 +27,8 @@ module _ {F K : Type 0} (aimed : F → List ℕ → F → Type 0)
     (path : Option (List ℕ)) (files new_files : F) (out new_out : K) where
   -- nothing was written and no file created: at most the path was chosen
   abbrev pub IsUntouched : Type 0
-  IsUntouched = (new_out ≡ out) × ((new_files ≡ files) ⊎ IfSome path (λ p. aimed files p new_files))
+  IsUntouched = (new_out ≡ out) × (file_stage new_files ≡ Unbegun)
+      × ((new_files ≡ files) ⊎ IfSome path (λ p. aimed files p new_files))
 
   -- the output took these bytes, and no other did
   abbrev pub Wrote : List ℕ → Type 0

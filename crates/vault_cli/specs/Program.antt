@@ -86,7 +86,8 @@ abbrev pub AllMet : (List ℕ → File → Type 0) → Option (Result Request Fa
 AllMet meets None files = Unit {0}
 AllMet meets (Some (Err fault)) files = Unit {0}
 AllMet meets (Some (Ok request)) files =
-    Met meets (secret_paths request) files.secrets × OneMet meets request.salt_path files.salt × OneMet meets request.input files.input
+    Met meets (secret_paths request) files.secrets × OneMet meets request.salt_path files.salt
+    × OneMet meets request.input files.input
 
 -- files that may be met at the paths of a request refuse it
 abbrev pub RefusedBy : (List ℕ → File → Type 0) → Request → Fault → Type 0

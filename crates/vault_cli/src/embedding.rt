@@ -32,7 +32,8 @@ pub fn drive_in_memory<'a, S: Source, K: Sink, E: Sink>(
         → DrivesOn (λ s path file. file ≡ file_at s.entries path)
         (λ s path t. t ≡ record s { aim = Some path }) StoreTakes
         (λ s. s.output.stage) (λ s. s.output.failures) S.gives S.ended S.failures
-        K.takes K.stage K.failures (Says E.takes E.stage E.failures) (asked_by texts) (program texts)
+        K.takes K.stage K.failures (Says E.takes E.stage E.failures)
+        (asked_by texts) (program texts)
         result files.old files.new src.old src.new out.old out.new err.old err.new
         (files_in (file_at files.old.entries) (asked_by texts)) }
 {

@@ -46,7 +46,8 @@ pub fn drive<F: FileSystem, S: Source, K: Sink, E: Sink>(
     ensures answered { let texts = map string_bytes words.now in
         fault_of vault_app texts ≡ []
         → Drives F.meets F.aimed F.takes F.stage F.failures S.gives S.ended S.failures
-        K.takes K.stage K.failures (Says E.takes E.stage E.failures) (asked_by texts) (program texts)
+        K.takes K.stage K.failures (Says E.takes E.stage E.failures)
+        (asked_by texts) (program texts)
         result files.old files.new src.old src.new out.old out.new err.old err.new }
 
     // Others are explained, and neither a file nor the input is asked for.
@@ -103,8 +104,10 @@ fn gather<F: FileSystem>(
     request: &Request,
 ) -> Result<Gathered<F::Reader>, Fault>
     requires { F.stage files.now ≡ Stage.Unbegun }
-    ensures count { IfOk result (λ found. vec_len found.secret_files ≡ length (files_of request.now)) }
-    ensures secrets { IfOk result (λ found. ContentsMet (F.meets files.now) (secret_paths request.now)
+    ensures count { IfOk result (λ found.
+        vec_len found.secret_files ≡ length (files_of request.now)) }
+    ensures secrets { IfOk result (λ found.
+        ContentsMet (F.meets files.now) (secret_paths request.now)
         (Ok (map (λ file. file.items) found.secret_files.items))) }
     ensures salt { IfOk result (λ found.
         SaltMet (F.meets files.now) request.now.salt_path (Ok found.salt.items)) }

@@ -10,7 +10,7 @@ returns-in-Err g c = record {
       (Says g.E.Sink.takes g.E.Sink.stage g.E.Sink.failures) c.report.result c.args.files.now c.args.files.now c.args.src.now c.args.src.now
       c.args.out.now c.args.out.now c.args.err.now c.report.new.err c.args.request.now
       (g.met.F.FileSystem.meets_some c.args.files.now) c.in-Err.fault c.in-Err.ensures.refused
-      refl refl refl (g.met.S.Source.gives_none c.args.src.now) c.report.ensures.status c.report.ensures.line;
+      c.requires.files_unbegun refl refl refl (g.met.S.Source.gives_none c.args.src.now) c.report.ensures.status c.report.ensures.line;
 }
 
 pub returns-in-Some : goal.returns-in-Some

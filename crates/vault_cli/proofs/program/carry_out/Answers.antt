@@ -14,7 +14,7 @@ returns-then-not-has_command g c = record {
       g.S.Source.gives g.S.Source.ended g.S.Source.failures g.K.Sink.takes g.K.Sink.stage g.K.Sink.failures
       (Says g.E.Sink.takes g.E.Sink.stage g.E.Sink.failures) _ c.args.files.now c.args.files.now
       c.args.src.now c.args.src.now c.args.out.now c.args.out.now c.args.err.now c.args.err.now
-      refl refl refl (g.met.S.Source.gives_none c.args.src.now) (asked (subcommand_rows_of c.args.matches.now))
+      c.requires.files_unbegun refl refl refl (g.met.S.Source.gives_none c.args.src.now) (asked (subcommand_rows_of c.args.matches.now))
       (sym (command-asked (λ b. (out-SubCommand (box_value b)).name.now) (λ b. rows_of (found_of (out-SubCommand (box_value b)).matches))
       (out-ArgMatches c.args.matches.now).subcommand) ∙ sym c.if-not-has_command.ensures) refl refl;
 }
@@ -37,7 +37,7 @@ returns-in-Err g c = record {
       g.S.Source.gives g.S.Source.ended g.S.Source.failures g.K.Sink.takes g.K.Sink.stage g.K.Sink.failures
       (Says g.E.Sink.takes g.E.Sink.stage g.E.Sink.failures) c.report.result c.args.files.now c.args.files.now
       c.args.src.now c.args.src.now c.args.out.now c.args.out.now c.args.err.now c.report.new.err
-      refl refl refl (g.met.S.Source.gives_none c.args.src.now) (g.met.F.FileSystem.meets_some c.args.files.now)
+      c.requires.files_unbegun refl refl refl (g.met.S.Source.gives_none c.args.src.now) (g.met.F.FileSystem.meets_some c.args.files.now)
       (asked (subcommand_rows_of c.args.matches.now)) c.in-Err.fault
       (sym (command-asked (λ b. (out-SubCommand (box_value b)).name.now) (λ b. rows_of (found_of (out-SubCommand (box_value b)).matches))
       (out-ArgMatches c.args.matches.now).subcommand) ∙ sym c.if-not-has_command.ensures)

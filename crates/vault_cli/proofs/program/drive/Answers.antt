@@ -21,5 +21,5 @@ returns-in-Err-clause-answered g c = λ parses.
     g.S.Source.gives g.S.Source.ended g.S.Source.failures g.K.Sink.takes g.K.Sink.stage g.K.Sink.failures
     (Says g.E.Sink.takes g.E.Sink.stage g.E.Sink.failures) c.explain.result c.args.files.now c.args.files.now
     c.args.src.now c.args.src.now c.args.out.now c.explain.new.out c.args.err.now c.explain.new.err
-    refl memory.output refl (g.met.S.Source.gives_none c.args.src.now) (g.met.F.FileSystem.meets_some c.args.files.now)
+    c.requires.files_unbegun refl memory.output refl (g.met.S.Source.gives_none c.args.src.now) (g.met.F.FileSystem.meets_some c.args.files.now)
     (asked_by texts) memory.status memory.line

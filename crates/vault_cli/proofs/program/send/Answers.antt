@@ -12,7 +12,7 @@ returns-in_default g c = record {
       c.run_fitting.result c.args.err.now c.run_fitting.new.err g.S.Source.gives g.S.Source.ended g.S.Source.failures
       c.args.request.now (map (λ file. file.items) c.args.secret_files.now) c.args.salt.now c.args.src.now c.run_fitting.new.src
       c.args.request.now.output c.args.files.now c.args.out.now c.run_fitting.new.out
-      (sym (ap (option_map (λ path. path.now)) c.in_default.is) ∙ c.output.ensures) c.run_fitting.ensures.runs;
+      c.requires.files_unbegun (sym (ap (option_map (λ path. path.now)) c.in_default.is) ∙ c.output.ensures) c.run_fitting.ensures.runs;
 }
 
 pub returns-in-Ok : goal.returns-in-Ok
@@ -22,7 +22,7 @@ returns-in-Ok g c = record {
       c.run_fitting-in-Ok.result c.args.err.now c.run_fitting-in-Ok.new.err g.S.Source.gives g.S.Source.ended g.S.Source.failures
       c.args.request.now (map (λ file. file.items) c.args.secret_files.now) c.args.salt.now c.args.src.now c.run_fitting-in-Ok.new.src
       c.args.request.now.output c.in-Some.path.now c.args.files.now c.aim.new.self c.run_fitting-in-Ok.new.out c.args.out.now
-      (sym (ap (option_map (λ path. path.now)) c.in-Some.is) ∙ c.output.ensures)
+      c.in-Ok.ensures.unbegun (sym (ap (option_map (λ path. path.now)) c.in-Some.is) ∙ c.output.ensures)
       c.in-Ok.ensures.aimed c.in-Ok.ensures.failures c.run_fitting-in-Ok.ensures.runs;
 }
 
@@ -35,7 +35,7 @@ returns-in-Err g c = record {
     inl (record {
       status = c.report.ensures.status ∙ ap status_of c.from.ensures;
       failures = (refl, c.in-Err.ensures.failures);
-      output = (refl, inl c.in-Err.ensures.refused);
+      output = (refl, c.in-Err.ensures.unbegun, inl c.in-Err.ensures.refused);
       line = rw c.from.ensures at c.report.ensures.line;
     }),
   );
