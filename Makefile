@@ -50,6 +50,7 @@ test: all
 	tests/workflows bin/ansible-vault
 	tests/with_ansible bin/ansible-vault
 	tests/hostile.py bin/ansible-vault
+	tests/growths.py bin/ansible-vault
 	tests/with_valgrind bin/ansible-vault
 	tests/fuzz.py bin/ansible-vault --seed 1 --runs 6000 --seconds 60
 
