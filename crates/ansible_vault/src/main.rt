@@ -2,12 +2,21 @@
 #![tactic(auto)]
 
 use std::env::Env;
+use std::fs::Files;
 use std::process::ExitCode;
-use std::{env, io};
+use std::{env, fs, io};
 use vault_cli::{HostFiles, ReadSource, WriteSink, drive, reject_words};
 
 fn words(rt: &(impl Env + AllocGlobal)) -> io::Result<Vec<String>> {
     Ok(env::args(rt)?.collect(rt.alloc())?)
+}
+
+/// About how many bytes standard input has, where it is a file.
+fn length_of_input(rt: &impl Files) -> usize {
+    match fs::metadata(rt, "/dev/stdin") {
+        Ok(metadata) => metadata.len() as usize,
+        Err(_) => 0,
+    }
 }
 
 fn main(rt: HostRuntime) -> ExitCode {
@@ -17,7 +26,7 @@ fn main(rt: HostRuntime) -> ExitCode {
             &mut HostFiles::new(&rt),
             rt.alloc(),
             words.as_slice(),
-            &mut ReadSource::new(rt.stdin()),
+            &mut ReadSource::with_length_hint(rt.stdin(), length_of_input(&rt)),
             &mut WriteSink::new(rt.stdout()),
             &mut err,
         ),

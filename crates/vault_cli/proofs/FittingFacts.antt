@@ -12,7 +12,7 @@ use Rattle.vault_text.specs.ChainedSource.{ChainedState, GivesChained}
 use Rattle.vault_text.specs.declared.limits.TheConstants.{PLAINTEXT_LIMIT}
 use Rattle.vault_text.specs.Limits.{limit_of}
 use Rattle.vault_cli.specs.Fitting.{EndsOn, NoMemory, RunsWithin}
-use Rattle.vault_cli.specs.Outcome.{Outcome, asks_for_input, input_limit, outcome_within, text_of_request}
+use Rattle.vault_cli.specs.Outcome.{Outcome, asks_for_input, input_limit, outcome_within, room_limit, text_of_request}
 use Rattle.vault_cli.specs.Task.{Task, prepared}
 use Rattle.vault_core.specs.declared.fault.Fault.{Fault}
 use Rattle.vault_cli.proofs.OutcomeFacts.{outcome-refused}
@@ -21,7 +21,6 @@ use Rattle.vault_cli.specs.Request.{Request}
 use Rattle.vault_cli.specs.Run.{Ends}
 use Rattle.vault_cli.specs.declared.command_name.CommandName.{CommandName}
 use Rattle.vault_cli.specs.declared.command_name.CommandName.TheVariants.{Encrypt, Decrypt, View, Rekey, EncryptString}
-use Rattle.vault_cli.specs.declared.fitting.TheConstants.{FIRST_LENGTH}
 use Rattle.vault_cli.specs.declared.status.Status.{Status}
 
 module _ {S K E : Type 0} (ended : S → Bool) (failures : S → ℕ) (takes : K → List ℕ → K → Type 0) (stage : K → Stage)
@@ -93,14 +92,6 @@ below_last before after room same full some =
 pub written_whole : (n : ℕ) (buffer rest : List ℕ) → n ≡ length buffer → take n (buffer ++ rest) ≡ buffer
 written_whole n buffer rest e = rw e (take-append_seam buffer rest)
 
--- every command takes more than is read at first
-pub first_fits : (command : CommandName) → FIRST_LENGTH ≤ input_limit PLAINTEXT_LIMIT command
-first_fits Encrypt = omega arith
-first_fits Decrypt = omega arith
-first_fits View = omega arith
-first_fits Rekey = omega arith
-first_fits EncryptString = omega arith
-
 -- every command takes as much input as it takes of plaintext, or more
 pub limit_fits : (limit : ℕ) (command : CommandName) → limit ≤ input_limit limit command
 limit_fits limit Encrypt = omega arith
@@ -116,6 +107,26 @@ limit_grows smaller larger Decrypt grows = omega (arith, grows)
 limit_grows smaller larger View grows = omega (arith, grows)
 limit_grows smaller larger Rekey grows = omega (arith, grows)
 limit_grows smaller larger EncryptString grows = omega (arith, grows)
+
+-- every command takes what is read at first
+pub first_fits : (length : ℕ) (command : CommandName) → length ≤ PLAINTEXT_LIMIT → length ≤ input_limit PLAINTEXT_LIMIT command
+first_fits length command most = omega (arith, limit_fits PLAINTEXT_LIMIT command)
+
+-- a text has room that is no longer than the limit
+room_least : (limit : ℕ) (command : CommandName) → limit ≤ room_limit limit command
+room_least limit Encrypt = omega arith
+room_least limit Decrypt = omega arith
+room_least limit View = omega arith
+room_least limit Rekey = omega arith
+room_least limit EncryptString = omega arith
+
+-- what has room is taken
+room_fits : (limit : ℕ) (command : CommandName) → room_limit limit command ≤ input_limit limit command
+room_fits limit Encrypt = omega arith
+room_fits limit Decrypt = omega arith
+room_fits limit View = omega arith
+room_fits limit Rekey = omega arith
+room_fits limit EncryptString = omega arith
 
 -- where a run has a task and does not ask for its input there is a STRING
 unasked_text : (prepares : Bool) (string : Option (List ℕ)) (input : List ℕ) → prepares ≡ true
@@ -135,7 +146,8 @@ module _ (law : ShortTexts) (request : Request) (contents : List (List ℕ)) (sa
       outcome-refused request contents salt smaller input fault e ∙ sym (outcome-refused request contents salt larger input fault e)
   unasked-cases (Ok task) e =
       let text = unasked_text (is_ok (prepared request contents salt)) request.string input (ap is_ok e) unasked in
-      sym (law smaller larger request contents salt input (rw text fits) grows)
+      let few : length (text_of_request request input) ≤ smaller = rw text fits in
+      sym (law smaller larger request contents salt input (omega (arith, few, room_least smaller request.command)) grows)
 
   unasked-outcome : outcome_within smaller request contents salt input ≡ outcome_within larger request contents salt input
   unasked-outcome = unasked-cases (prepared request contents salt) refl
@@ -276,37 +288,39 @@ module _ {S K E : Type 0} (gives : S → List ℕ → S → Type 0) (ended : S �
       )
 
   -- a run over an input in memory is one over the source that gave it
-  pub short-runs : ShortTexts → (m n : MemoryState) → m.ended ≡ false → length m.left ≤ FIRST_LENGTH
+  pub short-runs : ShortTexts → (limit : ℕ) → limit ≤ PLAINTEXT_LIMIT → (m n : MemoryState) → m.ended ≡ false
+      → length m.left ≤ room_limit limit request.command
       → IsTrue (asks_for_input request contents salt)
       → gives s m.left t → IsTrue (ended t) → failures t ≡ failures s
       → RunsWithin (λ a xs b. Gives (state_of a) xs (state_of b) × (b.step ≡ a.step)) (λ a. a.ended) (λ _. 0) takes stage write_failures says
-      FIRST_LENGTH request contents salt result m n out new_out err new_err
+      limit request contents salt result m n out new_out err new_err
       → RunsWithin gives ended failures takes stage write_failures says PLAINTEXT_LIMIT request contents salt result s t out new_out err new_err
-  short-runs law m n fresh short asks given told stay (input, from_memory, (fits, ends)) =
-      let bound = input_limit FIRST_LENGTH request.command in
+  short-runs law limit most m n fresh short asks given told stay (input, from_memory, (fits, ends)) =
+      let bound = input_limit limit request.command in
       let larger = input_limit PLAINTEXT_LIMIT request.command in
-      let room : length m.left ≤ larger + 1 = omega (arith, short, first_fits request.command) in
+      let within : length m.left ≤ bound = omega (arith, short, room_fits limit request.command) in
+      let room : length m.left ≤ larger + 1 = omega (arith, within, limit_grows limit PLAINTEXT_LIMIT request.command most) in
       elim ends [
         | inl memory ↦ (m.left, given, (room, inl memory))
         | inr run ↦
             elim (ends-read (λ a. a.ended) (λ _. 0) takes stage write_failures says (asks_for_input request contents salt) bound input
-            (outcome_within FIRST_LENGTH request contents salt input) result m n out new_out err new_err run) [
+            (outcome_within limit request contents salt input) result m n out new_out err new_err run) [
               | inl whole ↦
                   let all : input ≡ m.left =
-                  whole_memory m n input bound fresh from_memory.0 (omega (arith, short, limit_fits FIRST_LENGTH request.command)) (whole asks) in
-                  let text : length (text_of_request request m.left) ≤ FIRST_LENGTH =
+                  whole_memory m n input bound fresh from_memory.0 within (whole asks) in
+                  let text : length (text_of_request request m.left) ≤ room_limit limit request.command =
                   rw (asked_text (is_ok (prepared request contents salt)) request.string m.left asks) short in
-                  let answer : outcome_within FIRST_LENGTH request contents salt m.left ≡ outcome_within PLAINTEXT_LIMIT request contents salt m.left =
-                  sym (law FIRST_LENGTH PLAINTEXT_LIMIT request contents salt m.left text (omega arith)) in
+                  let answer : outcome_within limit request contents salt m.left ≡ outcome_within PLAINTEXT_LIMIT request contents salt m.left =
+                  sym (law limit PLAINTEXT_LIMIT request contents salt m.left text most) in
                   let over = ends-over (λ a. a.ended) (λ _. 0) takes stage write_failures says (asks_for_input request contents salt) bound input
-                  (outcome_within FIRST_LENGTH request contents salt input) result m n out new_out err new_err
+                  (outcome_within limit request contents salt input) result m n out new_out err new_err
                   ended failures larger s t (λ _ _. (stay, λ _. inl told)) (λ risen _. absurd (omega (arith, risen))) run in (
                     m.left,
                     given,
                     (
                       room,
                       inr (subst (λ (o : Outcome). Ends ended failures takes stage write_failures says (asks_for_input request contents salt) larger m.left o result s t out new_out err new_err) answer
-                          (subst (λ (i : List ℕ). Ends ended failures takes stage write_failures says (asks_for_input request contents salt) larger i (outcome_within FIRST_LENGTH request contents salt i) result s t out new_out err new_err) all over)),
+                          (subst (λ (i : List ℕ). Ends ended failures takes stage write_failures says (asks_for_input request contents salt) larger i (outcome_within limit request contents salt i) result s t out new_out err new_err) all over)),
                     ),
                   )
               | inr risen ↦ absurd (omega (arith, risen))

@@ -1,21 +1,23 @@
 -- The laws of the outcomes.
-use Rattle.std.proofs.Common.{◌≡◌, ◌≢◌, ℕ, ◌≤◌, nat_lt, false, List, [], ◌∷◌, length, Result, Ok, Err, inl, inr, refl, sym, ap, ◌∙◌, rules, tests}
-use Rattle.vault_text.specs.Laws.{ShortInputs}
+use Rattle.std.proofs.Common.{◌≡◌, ◌≢◌, ℕ, ◌+◌, ◌*◌, ◌≤◌, List, [], ◌∷◌, length, Result, Ok, Err, inl, inr, refl, sym, ap, ◌∙◌, arith}
 use Rattle.vault_text.specs.Steps.{◌>>=◌}
 use Rattle.vault_core.specs.Decryption.{decryption}
 use Rattle.vault_core.specs.Encryption.{encryption}
 use Rattle.vault_core.specs.Form.{Form, Envelope}
-use Rattle.vault_core.specs.Laws.{EncryptedDecrypts, RekeyedDecrypts}
+use Rattle.vault_core.specs.Laws.{EncryptedDecrypts, RekeyedDecrypts, ShortInputs}
 use Rattle.vault_core.specs.Rekeying.{rekeying}
 use Rattle.vault_core.specs.Secrets.{Secret, SecretList}
 use Rattle.vault_core.specs.declared.fault.Fault.{Fault}
 use Rattle.vault_cli.specs.Laws.{EncryptThenDecrypt, Opens, RekeyKeepsThePlaintext, ShortTexts}
-use Rattle.vault_cli.specs.Outcome.{Outcome, answered, outcome_within, performed, text_of_request}
+use Rattle.vault_cli.specs.Outcome.{Outcome, answered, input_limit, outcome_within, performed, room_limit, task_limit, text_of_request}
 use Rattle.vault_cli.specs.Request.{Request}
 use Rattle.vault_cli.specs.Task.{Task, Seal, Open, Reseal, prepared}
+use Rattle.vault_core.specs.declared.label_rule.LabelRule.TheVariants.{Hint}
+use Rattle.vault_cli.specs.declared.command_name.CommandName.{CommandName}
 use Rattle.vault_cli.specs.declared.command_name.CommandName.TheVariants as command
 use Rattle.vault_cli.proofs.LawFacts.{answered-some, sound-prepared, text-input}
 use Rattle.vault_cli.proofs.OutcomeFacts.{outcome-performed}
+use Rattle.vault_cli.proofs.TaskFacts.{limit-prepared}
 
 -- what a request that opens answers
 opened : (limit : ℕ) (request : Request) (contents : List (List ℕ)) (salt input : List ℕ) (secrets : SecretList) → Opens request contents salt secrets
@@ -50,34 +52,49 @@ rekey_keeps_the_plaintext law limit rekeying before after contents old_contents 
     ∙ ap answered (rw same at (opens_to rule))
     ∙ sym (opened limit before old_contents old_salt input secrets old ∙ ap answered was)
 
--- a text within both limits
-module _ (short_inputs : ShortInputs) (smaller larger : ℕ) (text : List ℕ) (short : length text ≤ smaller) (more : smaller ≤ larger) where
-  short-encryption : (secrets : List Secret) (place : ℕ) (form : Form) (salt : List ℕ) → encryption larger secrets place form salt text ≡ encryption smaller secrets place form salt text
-  unfolding encryption
-  short-encryption secrets place form salt =
-      let small : nat_lt smaller (length text) ≡ false = search (rules, tests) in
-      let large : nat_lt larger (length text) ≡ false = search (rules, tests) in
-      rw (small, large) refl
+-- any secret and any list, where a law speaks of more than is asked
+no_secret : Secret
+no_secret = record { label = []; password = [] }
 
-  short-decryption : (secrets : SecretList) → decryption larger secrets text ≡ decryption smaller secrets text
-  unfolding decryption
-  short-decryption secrets = rw (short_inputs smaller larger text short more) refl
+no_secrets : SecretList
+no_secrets = record { secrets = []; rule = Hint }
 
-  short-rekeying : (secrets : SecretList) (new : Secret) (salt : List ℕ) → rekeying larger secrets new salt text ≡ rekeying smaller secrets new salt text
-  unfolding rekeying
-  short-rekeying secrets new salt = rw (short-decryption secrets) refl
+-- a text that has room is at most four times the limit
+room-fits : (limit : ℕ) (text : List ℕ) (command : CommandName) → length text ≤ room_limit limit command → length text ≤ 4 * limit
+room-fits limit text command.Encrypt short = omega (arith, short)
+room-fits limit text command.EncryptString short = omega (arith, short)
+room-fits limit text command.Decrypt short = short
+room-fits limit text command.View short = short
+room-fits limit text command.Rekey short = short
 
-  short-performed : (task : Task) → performed larger task text ≡ performed smaller task text
-  short-performed (Seal secrets place form salt) = short-encryption secrets place form salt
-  short-performed (Open secrets) = short-decryption secrets
-  short-performed (Reseal secrets new salt) = short-rekeying secrets new salt
+-- a text that has room under both limits
+module _ (law : ShortInputs) (smaller larger : ℕ) (text : List ℕ) (more : smaller ≤ larger) where
+  short-performed : (task : Task) (command : CommandName) → task_limit smaller task ≡ input_limit smaller command
+      → length text ≤ room_limit smaller command → performed larger task text ≡ performed smaller task text
+  short-performed (Seal secrets place form salt) command same short =
+      (law smaller larger text more secrets place form no_secrets no_secret salt).0 (sealed-short command same short)
+    where
+      sealed-short : (command : CommandName) → smaller ≡ input_limit smaller command → length text ≤ room_limit smaller command
+          → length text ≤ smaller
+      sealed-short command.Encrypt same short = short
+      sealed-short command.EncryptString same short = short
+      sealed-short command.Decrypt same short = absurd (omega (arith, same))
+      sealed-short command.View same short = absurd (omega (arith, same))
+      sealed-short command.Rekey same short = absurd (omega (arith, same))
+  short-performed (Open secrets) command same short =
+      ((law smaller larger text more [] 0 Envelope secrets no_secret []).1 (room-fits smaller text command short)).0
+  short-performed (Reseal secrets new salt) command same short =
+      ((law smaller larger text more [] 0 Envelope secrets new salt).1 (room-fits smaller text command short)).1
 
-short-tasks : (request : Request) (input : List ℕ) (smaller larger : ℕ) (found : Result Task Fault) → ((task : Task) → performed larger task (text_of_request request input) ≡ performed smaller task (text_of_request request input))
-    → (found >>= (λ task. performed larger task (text_of_request request input))) ≡ (found >>= (λ task. performed smaller task (text_of_request request input)))
-short-tasks request input smaller larger (Ok task) h = h task
-short-tasks request input smaller larger (Err fault) h = refl
+short-tasks : (larger smaller : ℕ) (text : List ℕ) (found : Result Task Fault)
+    → ((task : Task) → found ≡ Ok task → performed larger task text ≡ performed smaller task text)
+    → (found >>= (λ task. performed larger task text)) ≡ (found >>= (λ task. performed smaller task text))
+short-tasks larger smaller text (Ok task) h = h task refl
+short-tasks larger smaller text (Err fault) h = refl
 
 pub short_texts : ShortInputs → ShortTexts
 unfolding outcome_within
 short_texts law smaller larger request contents salt input short more =
-    ap answered (short-tasks request input smaller larger (prepared request contents salt) (short-performed law smaller larger (text_of_request request input) short more))
+    let text = text_of_request request input in
+    ap answered (short-tasks larger smaller text (prepared request contents salt) (λ task found.
+    short-performed law smaller larger text more task request.command (limit-prepared smaller request contents salt task found) short))

@@ -8,7 +8,7 @@ use Rattle.vault_core.specs.Form.{Envelope}
 use Rattle.vault_core.specs.Laws.{IsBytes, IsTriedFirst}
 use Rattle.vault_core.specs.Secrets.{Secret, SecretList, secret_at}
 use Rattle.vault_core.specs.declared.label_rule.LabelRule.{LabelRule}
-use Rattle.vault_cli.specs.Outcome.{outcome_within, text_of_request}
+use Rattle.vault_cli.specs.Outcome.{outcome_within, room_limit, text_of_request}
 use Rattle.vault_cli.specs.Request.{IsSettled, Request, files_of}
 use Rattle.vault_cli.specs.Settled.{settled}
 use Rattle.vault_cli.specs.Task.{Seal, Open, Reseal, prepared}
@@ -67,10 +67,10 @@ RekeyKeepsThePlaintext =
     → outcome_within limit after new_contents new_salt envelope
     ≡ outcome_within limit before old_contents old_salt input
 
--- a text within the limit gets one outcome under it and under every larger one
+-- a text that has room wherever so much plaintext does gets one outcome under that limit and under every larger one
 abbrev pub ShortTexts : Type 0
 ShortTexts =
     (smaller larger : ℕ) (request : Request) (contents : List (List ℕ)) (salt input : List ℕ)
-    → length (text_of_request request input) ≤ smaller → smaller ≤ larger
+    → length (text_of_request request input) ≤ room_limit smaller request.command → smaller ≤ larger
     → outcome_within larger request contents salt input
     ≡ outcome_within smaller request contents salt input

@@ -1,6 +1,6 @@
 -- What a run of a request answers, as a function of the request, the password files, the salt and
 -- the input: five steps, of which the first that refuses decides. Steps 1 to 3 stand with the tasks.
-use Rattle.std.specs.Prelude.{ℕ, ◌&&◌, not, Bool, List, [], Option, Some, None, is_ok, is_some, unwrap_or, Result, Ok, Err}
+use Rattle.std.specs.Prelude.{ℕ, ◌*◌, ◌&&◌, not, Bool, List, [], Option, Some, None, is_ok, is_some, unwrap_or, Result, Ok, Err}
 use Rattle.vault_text.specs.Limits.{envelope_limit}
 use Rattle.vault_text.specs.declared.limits.TheConstants.{PLAINTEXT_LIMIT}
 use Rattle.vault_core.specs.Decryption.{decryption}
@@ -38,6 +38,14 @@ input_limit limit EncryptString = limit
 input_limit limit Decrypt = envelope_limit limit
 input_limit limit View = envelope_limit limit
 input_limit limit Rekey = envelope_limit limit
+
+-- how long a text may be that has room wherever so much plaintext does: an envelope spells each byte with four digits
+abbrev pub room_limit : ℕ → CommandName → ℕ
+room_limit limit Encrypt = limit
+room_limit limit EncryptString = limit
+room_limit limit Decrypt = 4 * limit
+room_limit limit View = 4 * limit
+room_limit limit Rekey = 4 * limit
 
 -- how much input a task takes
 abbrev pub task_limit : ℕ → Task → ℕ

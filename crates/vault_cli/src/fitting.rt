@@ -3,10 +3,11 @@ ghost use Rattle.std.specs.Prelude.{◌≡◌, ◌-◌, ◌^◌, ◌<◌, ◌≤
 ghost use Rattle.vault_text.specs.Limits.{IsWorkLength, limit_of};
 ghost use Rattle.vault_text.specs.declared.limits.TheConstants.{PLAINTEXT_LIMIT};
 ghost use Rattle.vault_cli.specs.Fitting.{EndsOn, RunsWithin};
-ghost use Rattle.vault_cli.specs.Outcome.{asks_for_input, input_limit};
+ghost use Rattle.vault_cli.specs.Outcome.{asks_for_input, input_limit, room_limit};
 ghost use Rattle.vault_cli.specs.Reports.{Says};
 ghost use Rattle.vault_cli.specs.Request.{files_of};
 
+use crate::command_name::CommandName;
 use crate::laws::short_texts;
 use crate::report_line::report;
 use crate::request::Request;
@@ -19,9 +20,15 @@ use vault_text::{
     SourceFailed, Stage, fill_up,
 };
 
-/// How much of an input is read before the memory to work in is taken. A vault that ends in it is
-/// worked on in memory of this length and of a block of padding.
+/// How much of an input is read before the memory to work in is taken, where its length is not
+/// known.
 const FIRST_LENGTH: usize = 65_536;
+
+/// How much of an input is read at most before the memory to work in is taken.
+const LONGEST_FIRST: usize = 8 << 20;
+
+/// How many digits an envelope spells a byte of its ciphertext with.
+const DIGITS_PER_BYTE: usize = 4;
 
 /// The whole run of a request, in memory of `room` bytes.
 fn run_in<S: Source, K: Sink, E: Sink>(
@@ -122,6 +129,34 @@ fn run_behind<S: Source, K: Sink, E: Sink>(
     run_chained(alloc, request, secret_files, salt, &mut src, out, err)
 }
 
+/// How much of an input is read first that has about so many bytes left: one byte more, so that its
+/// end is seen.
+fn first_length(hint: usize) -> usize
+    ensures least { FIRST_LENGTH ≤ result }
+    ensures most { result ≤ LONGEST_FIRST }
+{
+    if hint < LONGEST_FIRST {
+        FIRST_LENGTH.max(hint + 1)
+    } else {
+        FIRST_LENGTH
+    }
+}
+
+/// How much memory a run needs for a text of this length.
+fn room_for(command: CommandName, length: usize) -> usize
+    requires { length ≤ PLAINTEXT_LIMIT }
+    ensures work { IsWorkLength result }
+    ensures fits { length ≤ room_limit (limit_of result) command }
+{
+    let plaintext = match command {
+        CommandName::Encrypt | CommandName::EncryptString => length,
+        CommandName::Decrypt | CommandName::View | CommandName::Rekey => {
+            length.div_ceil(DIGITS_PER_BYTE)
+        }
+    };
+    plaintext + PADDING_LIMIT
+}
+
 /// How much memory a run needs that does not ask for its input: as much as its STRING fills, where
 /// that is not too long.
 fn room_for_string(request: &Request) -> usize
@@ -161,7 +196,8 @@ pub(crate) fn run_fitting<S: Source, K: Sink, E: Sink>(
         let room = room_for_string(request);
         return run_in(alloc, room, request, secret_files, salt, src, out, err);
     }
-    let mut first = match vec![in alloc; 0u8; FIRST_LENGTH] {
+    let length = first_length(src.length_hint());
+    let mut first = match vec![in alloc; 0u8; length] {
         Ok(first) => first,
         Err(_) => return report(Fault::Memory, err),
     };
@@ -170,10 +206,10 @@ pub(crate) fn run_fitting<S: Source, K: Sink, E: Sink>(
         Err(SourceFailed) => return report(Fault::Read(Role::Input), err),
     };
     let front = &first[..n];
-    if n < FIRST_LENGTH {
+    if n < length {
         short_texts();
         let mut src = MemSource::new(front, usize::MAX);
-        let room = FIRST_LENGTH + PADDING_LIMIT;
+        let room = room_for(request.command(), n);
         return run_in(alloc, room, request, secret_files, salt, &mut src, out, err);
     }
     run_behind(alloc, request, secret_files, salt, front, src, out, err)

@@ -21,9 +21,10 @@ pub fn rekey_keeps_the_plaintext()
     vault_core::laws::rekeyed_decrypts();
 }
 
-/// A text within the limit is answered alike under it and under each larger one.
+/// A text that has room wherever so much plaintext does, is answered alike under that limit and
+/// under each larger one.
 pub fn short_texts()
     ensures { ShortTexts }
 {
-    vault_text::laws::short_inputs();
+    vault_core::laws::short_inputs();
 }

@@ -1,5 +1,5 @@
--- An input within a limit gets one answer under it and under every larger one.
-use Rattle.std.proofs.Common.{◌≡◌, ℕ, ◌≤◌, List, length, arith, ap, refl}
+-- A short input gets one answer under a limit and under every larger one.
+use Rattle.std.proofs.Common.{◌≡◌, ℕ, ◌*◌, ◌≤◌, List, length, arith, ap, refl}
 use Rattle.std.specs.Prelude.{nat_lt, false}
 use Rattle.std.specs.Result.{result_map_both}
 use Rattle.std.proofs.lemmas.Bool.{le-ltb}
@@ -11,15 +11,16 @@ use Rattle.vault_core.specs.Form.{Form}
 use Rattle.vault_core.specs.Rekeying.{rekeying}
 use Rattle.vault_core.specs.Secrets.{Secret, SecretList}
 
-module _ (smaller larger : ℕ) (input : List ℕ) (short : length input ≤ smaller) (more : smaller ≤ larger) where
-  pub encryption-short : (secrets : List Secret) (place : ℕ) (form : Form) (salt : List ℕ)
+module _ (smaller larger : ℕ) (input : List ℕ) (more : smaller ≤ larger) where
+  pub encryption-short : length input ≤ smaller → (secrets : List Secret) (place : ℕ) (form : Form) (salt : List ℕ)
       → encryption larger secrets place form salt input ≡ encryption smaller secrets place form salt input
   unfolding encryption
-  encryption-short secrets place form salt =
+  encryption-short short secrets place form salt =
       let fits : nat_lt smaller (length input) ≡ false = le-ltb _ _ short in
       let fits_more : nat_lt larger (length input) ≡ false = le-ltb _ _ (omega arith) in
       rw (fits, fits_more) refl
 
+module _ (smaller larger : ℕ) (input : List ℕ) (more : smaller ≤ larger) (short : length input ≤ 4 * smaller) where
   payload_of-short : payload_of larger input ≡ payload_of smaller input
   payload_of-short = ap (result_map_both (λ payload. payload) of_text) (short_inputs smaller larger input short more)
 

@@ -1,5 +1,5 @@
 -- Laws of the definitions, which hold of all secrets, salts and inputs.
-use Rattle.std.specs.Prelude.{◌≡◌, ℕ, ◌<◌, ◌≤◌, List, [], ◌∷◌, length, slice_index, true, Ok}
+use Rattle.std.specs.Prelude.{◌≡◌, ℕ, ◌*◌, ◌<◌, ◌≤◌, List, [], ◌∷◌, length, slice_index, true, Ok}
 use Rattle.vault_text.specs.Label.{is_label}
 use Rattle.vault_text.specs.declared.limits.TheConstants.{SALT_LIMIT}
 use Rattle.vault_core.specs.Decryption.{decryption, payload_of}
@@ -62,12 +62,15 @@ RekeyedDecrypts =
     → decryption limit (record { secrets = new ∷ []; rule = rule }) ready.output
     ≡ Ok (record { output = plain; tried = 1 }))
 
--- an input within a limit gets one answer under it and under every larger one
+-- an input that has room wherever so much plaintext does gets one answer under that limit and under every larger one:
+-- a plaintext within the limit, and an envelope of four times as many bytes, since it spells each byte with four digits
 abbrev pub ShortInputs : Type 0
 ShortInputs =
-    (smaller larger : ℕ) (input : List ℕ) → length input ≤ smaller → smaller ≤ larger
+    (smaller larger : ℕ) (input : List ℕ) → smaller ≤ larger
     → (list : List Secret) (place : ℕ) (form : Form)
     (secrets : SecretList) (new : Secret) (salt : List ℕ)
-    → (encryption larger list place form salt input ≡ encryption smaller list place form salt input)
-    × (decryption larger secrets input ≡ decryption smaller secrets input)
-    × (rekeying larger secrets new salt input ≡ rekeying smaller secrets new salt input)
+    → (length input ≤ smaller
+    → encryption larger list place form salt input ≡ encryption smaller list place form salt input)
+    × (length input ≤ 4 * smaller
+    → (decryption larger secrets input ≡ decryption smaller secrets input)
+    × (rekeying larger secrets new salt input ≡ rekeying smaller secrets new salt input))

@@ -37,7 +37,8 @@ pub fn rekeyed_decrypts()
     ensures { RekeyedDecrypts }
 {}
 
-/// An input within a limit gets one answer of each call under that limit and every larger one.
+/// A plaintext within a limit, and an envelope of at most four times as many bytes, gets one answer
+/// of each call under that limit and every larger one.
 pub fn short_inputs()
     ensures { ShortInputs }
 {}

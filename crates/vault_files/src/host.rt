@@ -4,7 +4,7 @@ ghost use Rattle.vault_files.specs.Host.{HostState};
 use crate::fault::FileFault;
 use crate::file_system::FileSystem;
 use std::alloc::{AllocError, Global};
-use std::fs::{Files, OpenOptions};
+use std::fs::{Files, OpenFile, OpenOptions};
 use std::io::{ErrorKind, Write};
 use std::marker::Model;
 use std::os::unix::fs::OpenOptionsExt;
@@ -55,6 +55,14 @@ fn create<R: Files>(rt: &R, path: &str) -> io::Result<R::File> {
     options.write(true).create(true).truncate(true);
     options.mode(OWNER_ONLY);
     options.open(rt, path)
+}
+
+/// How long an open file is, as the system tells; 0 where it does not, and for what is no file.
+fn length_of<F: OpenFile>(file: &F) -> usize {
+    match file.metadata() {
+        Ok(metadata) => metadata.len() as usize,
+        Err(_) => 0,
+    }
 }
 
 impl<'a, R: Files> Sink for HostFiles<'a, R> {
@@ -150,7 +158,10 @@ impl<'a, R: Files> FileSystem for HostFiles<'a, R> {
 
     fn open(&self, path: &str) -> Result<ReadSource<R::File>, FileFault> {
         match fs::open(self.rt, path) {
-            Ok(file) => Ok(ReadSource::new(file)),
+            Ok(file) => {
+                let length = length_of(&file);
+                Ok(ReadSource::with_length_hint(file, length))
+            }
             Err(error) if matches!(error.kind(), ErrorKind::OutOfMemory) => Err(FileFault::Memory),
             Err(_) => Err(FileFault::CannotOpen),
         }

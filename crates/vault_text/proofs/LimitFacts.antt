@@ -1,5 +1,5 @@
 -- What reading answers under two limits.
-use Rattle.std.proofs.Common.{◌≡◌, ◌≢◌, ℕ, ◌+◌, ◌≤◌, Bool, true, false, not, List, [], ◌∷◌, length, drop, suc, Option, Some, None, Result, Ok, Err, refl, ◌∙◌, arith, inl, inr, length-drop}
+use Rattle.std.proofs.Common.{◌≡◌, ◌≢◌, ℕ, ◌+◌, ◌*◌, ◌≤◌, Bool, true, false, not, List, [], ◌∷◌, length, drop, suc, Option, Some, None, Result, Ok, Err, refl, ◌∙◌, arith, inl, inr, length-drop}
 use Rattle.std.specs.Prelude.{if◌then◌else◌, nat_eq, nat_lt, IfOk, IfSome}
 use Rattle.std.specs.List.{after_first, count_by, filter, position_or_len, starts_with}
 use Rattle.std.specs.Option.{ok_or}
@@ -115,19 +115,19 @@ larger_limits smaller larger input more not_long fits =
 
 -- ---- a short input
 
--- no text spells more bytes than it has digits
-spelled_bytes-short : (text : List ℕ) → IfSome (spelled_bytes text) (λ found. length found ≤ length text)
+-- a text has two digits for each byte that it spells
+spelled_bytes-short : (text : List ℕ) → IfSome (spelled_bytes text) (λ found. 2 * length found ≤ length text)
 spelled_bytes-short [] = omega arith
 spelled_bytes-short (digit ∷ []) = tt
 spelled_bytes-short (high ∷ low ∷ rest) = longer (byte_of high low) (spelled_bytes rest) (length rest) (spelled_bytes-short rest)
   where
-    longer : (byte : Option ℕ) (bytes : Option (List ℕ)) (n : ℕ) → IfSome bytes (λ found. length found ≤ n)
-        → IfSome (cons_found byte bytes) (λ found. length found ≤ suc (suc n))
+    longer : (byte : Option ℕ) (bytes : Option (List ℕ)) (n : ℕ) → IfSome bytes (λ found. 2 * length found ≤ n)
+        → IfSome (cons_found byte bytes) (λ found. 2 * length found ≤ suc (suc n))
     longer None bytes n short = tt
     longer (Some byte) None n short = tt
     longer (Some byte) (Some bytes) n short = omega arith
 
-unhex-short : (text : List ℕ) → IfSome (unhex text) (λ found. length found ≤ length text)
+unhex-short : (text : List ℕ) → IfSome (unhex text) (λ found. 2 * length found ≤ length text)
 unhex-short text = rw (unhex-spelled_bytes text) (spelled_bytes-short text)
 
 after_first-short : (p : ℕ → Bool) (text : List ℕ) → length (after_first p text) ≤ length text
@@ -145,24 +145,24 @@ cut-short text =
     unless_lacking true parts short = tt
     unless_lacking false parts short = short
 
-parts_of-short : (text : List ℕ) → IfOk (parts_of text) (λ parts. length parts.cipher ≤ length text)
+parts_of-short : (text : List ℕ) → IfOk (parts_of text) (λ parts. 2 * length parts.cipher ≤ length text)
 unfolding parts_of
 parts_of-short text = by_cut (cut text) (cut-short text)
   where
-    by_fit : (fits : Bool) (parts : Parts) → length parts.cipher ≤ length text
-        → IfOk (if fits then Ok parts else Err BadPayload) (λ found. length found.cipher ≤ length text)
+    by_fit : (fits : Bool) (parts : Parts) → 2 * length parts.cipher ≤ length text
+        → IfOk (if fits then Ok parts else Err BadPayload) (λ found. 2 * length found.cipher ≤ length text)
     by_fit true parts short = short
     by_fit false parts short = tt
 
-    by_bytes : (salt tag cipher : Option (List ℕ)) → IfSome cipher (λ found. length found ≤ length text)
-        → IfOk (ok_or salt BadPayload >>= (λ s. ok_or tag BadPayload >>= (λ t. ok_or cipher BadPayload >>= (λ c. fitting (record { salt = s; tag = t; cipher = c }))))) (λ found. length found.cipher ≤ length text)
+    by_bytes : (salt tag cipher : Option (List ℕ)) → IfSome cipher (λ found. 2 * length found ≤ length text)
+        → IfOk (ok_or salt BadPayload >>= (λ s. ok_or tag BadPayload >>= (λ t. ok_or cipher BadPayload >>= (λ c. fitting (record { salt = s; tag = t; cipher = c }))))) (λ found. 2 * length found.cipher ≤ length text)
     by_bytes None tag cipher short = tt
     by_bytes (Some s) None cipher short = tt
     by_bytes (Some s) (Some t) None short = tt
     by_bytes (Some s) (Some t) (Some c) short = by_fit _ (record { salt = s; tag = t; cipher = c }) short
 
     by_cut : (digits : Option Parts) → IfSome digits (λ parts. length parts.cipher ≤ length text)
-        → IfOk (ok_or digits BadPayload >>= (λ d. ok_or (unhex d.salt) BadPayload >>= (λ s. ok_or (unhex d.tag) BadPayload >>= (λ t. ok_or (unhex d.cipher) BadPayload >>= (λ c. fitting (record { salt = s; tag = t; cipher = c })))))) (λ found. length found.cipher ≤ length text)
+        → IfOk (ok_or digits BadPayload >>= (λ d. ok_or (unhex d.salt) BadPayload >>= (λ s. ok_or (unhex d.tag) BadPayload >>= (λ t. ok_or (unhex d.cipher) BadPayload >>= (λ c. fitting (record { salt = s; tag = t; cipher = c })))))) (λ found. 2 * length found.cipher ≤ length text)
     by_cut None short = tt
     by_cut (Some digits) short =
         by_bytes (unhex digits.salt) (unhex digits.tag) (unhex digits.cipher)
@@ -181,12 +181,12 @@ body-short input =
     let left = length-drop (length (header_line input)) input in
     omega arith
 
-read_body-short : (smaller larger : ℕ) (label digits : List ℕ) → length digits ≤ smaller → smaller ≤ larger
+read_body-short : (smaller larger : ℕ) (label digits : List ℕ) → length digits ≤ 4 * smaller → smaller ≤ larger
     → read_body larger label digits ≡ read_body smaller label digits
 read_body-short smaller larger label digits few more =
     read_body-same smaller larger label digits (λ inner parts spelled known.
-    let inner_short : length inner ≤ length digits = rw spelled at (unhex-short digits) in
-    let parts_short : length parts.cipher ≤ length inner = rw known at (parts_of-short inner) in
+    let inner_short : 2 * length inner ≤ length digits = rw spelled at (unhex-short digits) in
+    let parts_short : 2 * length parts.cipher ≤ length inner = rw known at (parts_of-short inner) in
     let short : nat_lt (ciphertext_limit smaller) (length parts.cipher) ≡ false = grind (arith, nat_tests) in
     payload_within-fits smaller larger label parts more short)
 

@@ -1,5 +1,5 @@
 -- Laws of the definitions, which hold of all bytes.
-use Rattle.std.specs.Prelude.{◌≡◌, ◌≢◌, ℕ, ◌≤◌, List, length, true, Ok, Err}
+use Rattle.std.specs.Prelude.{◌≡◌, ◌≢◌, ℕ, ◌*◌, ◌≤◌, List, length, true, Ok, Err}
 use Rattle.hex.specs.Hex.{IsBytes}
 use Rattle.vault_text.specs.Envelope.{read_within}
 use Rattle.vault_text.specs.Label.{is_label}
@@ -24,8 +24,9 @@ LargerLimits =
     → read_within smaller input ≢ Err TooLong → read_within smaller input ≢ Err CipherTooLong
     → read_within larger input ≡ read_within smaller input
 
--- an input within the limit gets one answer under it and under every larger one
+-- a byte of the ciphertext takes four digits of an envelope: an input of at most four times the limit gets one answer
+-- under it and under every larger one
 abbrev pub ShortInputs : Type 0
 ShortInputs =
-    (smaller larger : ℕ) (input : List ℕ) → length input ≤ smaller → smaller ≤ larger
+    (smaller larger : ℕ) (input : List ℕ) → length input ≤ 4 * smaller → smaller ≤ larger
     → read_within larger input ≡ read_within smaller input

@@ -40,6 +40,12 @@ pub trait Source {
         ensures failed { CountsFailure (failures self.old) (failures self.new) result }
         ensures full { 2 ^ 64 - 1 ≤ failures self.old → IsErr result };
 
+    /// About how many bytes are left, 0 where nothing is known: a hint for who takes memory for
+    /// them, on which no answer may depend.
+    fn length_hint(&self) -> usize {
+        0
+    }
+
     ghost gives_none: { (s : Self) → gives s [] s };
 
     ghost gives_more: { (s t u : Self) (xs ys : List ℕ) → gives s xs t → gives t ys u → gives s (xs ++ ys) u };
@@ -70,6 +76,10 @@ impl<S: Source> Source for &mut S {
 
     fn fill(&mut self, buf: &mut [u8]) -> Result<usize, SourceFailed> {
         (**self).fill(buf)
+    }
+
+    fn length_hint(&self) -> usize {
+        (**self).length_hint()
     }
 }
 

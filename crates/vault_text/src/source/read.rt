@@ -11,6 +11,7 @@ pub struct ReadSource<R: Read> {
     reader: R,
     ended: bool,
     failures: u64,
+    length_hint: usize,
 }
 
 impl<R: Read> Model for ReadSource<R> {
@@ -26,10 +27,18 @@ impl<R: Read> ReadSource<R> {
     pub fn new(reader: R) -> Self
         ensures { result ≡ record { left = R.remaining reader; ended = false; failures = 0 } }
     {
+        ReadSource::with_length_hint(reader, 0)
+    }
+
+    /// As `new`, of a reader that has about so many bytes left.
+    pub fn with_length_hint(reader: R, length_hint: usize) -> Self
+        ensures { result ≡ record { left = R.remaining reader; ended = false; failures = 0 } }
+    {
         ReadSource {
             reader,
             ended: false,
             failures: 0,
+            length_hint,
         }
     }
 }
@@ -69,5 +78,10 @@ impl<R: Read> Source for ReadSource<R> {
                 Err(SourceFailed)
             }
         }
+    }
+
+    /// As many as were left at first.
+    fn length_hint(&self) -> usize {
+        self.length_hint
     }
 }
