@@ -60,7 +60,7 @@ no_secrets : SecretList
 no_secrets = record { secrets = []; rule = Hint }
 
 -- a text that has room is at most four times the limit
-room-fits : (limit : ℕ) (text : List ℕ) (command : CommandName) → length text ≤ room_limit limit command → length text ≤ 4 * limit
+room-fits : (limit : ℕ) (text : List ℕ) (name : CommandName) → length text ≤ room_limit limit name → length text ≤ 4 * limit
 room-fits limit text command.Encrypt short = omega (arith, short)
 room-fits limit text command.EncryptString short = omega (arith, short)
 room-fits limit text command.Decrypt short = short
@@ -69,22 +69,22 @@ room-fits limit text command.Rekey short = short
 
 -- a text that has room under both limits
 module _ (law : ShortInputs) (smaller larger : ℕ) (text : List ℕ) (more : smaller ≤ larger) where
-  short-performed : (task : Task) (command : CommandName) → task_limit smaller task ≡ input_limit smaller command
-      → length text ≤ room_limit smaller command → performed larger task text ≡ performed smaller task text
-  short-performed (Seal secrets place form salt) command same short =
-      (law smaller larger text more secrets place form no_secrets no_secret salt).0 (sealed-short command same short)
+  short-performed : (task : Task) (name : CommandName) → task_limit smaller task ≡ input_limit smaller name
+      → length text ≤ room_limit smaller name → performed larger task text ≡ performed smaller task text
+  short-performed (Seal secrets place form salt) name same short =
+      (law smaller larger text more secrets place form no_secrets no_secret salt).0 (sealed-short name same short)
     where
-      sealed-short : (command : CommandName) → smaller ≡ input_limit smaller command → length text ≤ room_limit smaller command
+      sealed-short : (name : CommandName) → smaller ≡ input_limit smaller name → length text ≤ room_limit smaller name
           → length text ≤ smaller
       sealed-short command.Encrypt same short = short
       sealed-short command.EncryptString same short = short
       sealed-short command.Decrypt same short = absurd (omega (arith, same))
       sealed-short command.View same short = absurd (omega (arith, same))
       sealed-short command.Rekey same short = absurd (omega (arith, same))
-  short-performed (Open secrets) command same short =
-      ((law smaller larger text more [] 0 Envelope secrets no_secret []).1 (room-fits smaller text command short)).0
-  short-performed (Reseal secrets new salt) command same short =
-      ((law smaller larger text more [] 0 Envelope secrets new salt).1 (room-fits smaller text command short)).1
+  short-performed (Open secrets) name same short =
+      ((law smaller larger text more [] 0 Envelope secrets no_secret []).1 (room-fits smaller text name short)).0
+  short-performed (Reseal secrets new salt) name same short =
+      ((law smaller larger text more [] 0 Envelope secrets new salt).1 (room-fits smaller text name short)).1
 
 short-tasks : (larger smaller : ℕ) (text : List ℕ) (found : Result Task Fault)
     → ((task : Task) → found ≡ Ok task → performed larger task text ≡ performed smaller task text)
