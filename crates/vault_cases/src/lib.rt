@@ -18,6 +18,8 @@ mod encrypting;
 #[cfg(test)]
 mod failures;
 #[cfg(test)]
+mod hints;
+#[cfg(test)]
 mod logged_files;
 #[cfg(test)]
 mod opening;

@@ -1,5 +1,5 @@
 //! The body of an envelope, as it comes in pieces: the inner text in hexadecimal, in lines.
-ghost use Rattle.std.specs.Prelude.{◌≡◌, ◌<◌, ◌≤◌, ◌++◌, ℕ, List, [], IfNone, IfSome, length};
+ghost use Rattle.std.specs.Prelude.{◌≡◌, ◌*◌, ◌<◌, ◌≤◌, ◌++◌, ℕ, List, [], IfNone, IfSome, length};
 ghost use Rattle.vault_text.specs.EnvelopeReader.{TakesBody, body_on, new_body, without_line_ends};
 
 use super::RUN_LIMIT;
@@ -11,6 +11,9 @@ use crate::label::Label;
 use crate::payload::Payload;
 use crate::writing::{LINE_BYTES, LINE_DIGITS};
 use std::marker::Model;
+
+/// Room for the bytes of a short line, which costs less to lay out than room for the longest run.
+const SHORT_RUN_LIMIT: usize = 16;
 
 /// How many digits are decoded at once.
 const DIGITS_LIMIT: usize = 2 * RUN_LIMIT - 1;
@@ -99,7 +102,19 @@ impl<'a> BodyReader<'a> {
         requires { length digits.now ≤ DIGITS_LIMIT }
         ensures { TakesBody self.old digits.now self.new }
     {
-        let mut text = [0; RUN_LIMIT];
+        if digits.len() < SHORT_RUN_LIMIT {
+            return self.extend_within::<SHORT_RUN_LIMIT>(digits);
+        }
+        self.extend_within::<RUN_LIMIT>(digits)
+    }
+
+    /// Takes the digits that come next, which complete at most `N` bytes.
+    fn extend_within<const N: usize>(&mut self, digits: &[u8])
+        requires room { length digits.now < 2 * N }
+        requires short { N ≤ RUN_LIMIT }
+        ensures { TakesBody self.old digits.now self.new }
+    {
+        let mut text = [0; N];
         let count = self.decoder.decode(digits, &mut text);
         self.inner.extend(&text[..count]);
     }
