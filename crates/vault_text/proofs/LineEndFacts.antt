@@ -1,9 +1,10 @@
 -- Text with line ends: the header line, and the text without line ends.
-use Rattle.std.proofs.Common.{◌≡◌, ℕ, zero, suc, ◌+◌, ◌<◌, ◌≤◌, true, false, not, List, [], ◌∷◌, ◌++◌, length, take, drop, refl, ap, arith, inl, inr}
+use Rattle.std.proofs.Common.{◌≡◌, ℕ, zero, suc, ◌+◌, ◌<◌, ◌≤◌, true, false, not, List, [], ◌∷◌, ◌++◌, length, take, drop, set, get_or, refl, ap, ◌∙◌, arith, inl, inr}
 use Rattle.std.specs.Prelude.{nat_eq, ◌&&◌}
 use Rattle.std.specs.List.{list_all, position_or_len, starts_with}
 use Rattle.std.proofs.lemmas.Bool.{cases_Bool, and_parts, eqb-true, false_from_ne_true}
-use Rattle.std.proofs.lemmas.List.{append-nil}
+use Rattle.std.proofs.Math.Seq.{take-suc}
+use Rattle.std.proofs.lemmas.List.{append-nil, take-set, take_more_set}
 use Rattle.vault_text.specs.Header.{header_line, is_line_end}
 use Rattle.vault_text.specs.EnvelopeReader.{without_line_ends}
 
@@ -99,3 +100,24 @@ starts_with-header_line (m ∷ needle) (b ∷ text) none =
         false_from_ne_true (nat_eq m b) (λ same.
         let ends : is_line_end m ≡ true = rw (eqb-true m b same) end in
         let clash : not true ≡ true = rw ends at other in cc)
+
+-- ---- digits that are copied one by one
+
+-- one byte more behind the digits that were copied: a digit stays, and a line end is written over
+pub copied_next : (text copied : List ℕ) (place count step : ℕ) → place < length text → count < length copied
+    → (is_line_end (get_or text place 0) ≡ true → step ≡ 0) → (is_line_end (get_or text place 0) ≡ false → step ≡ 1)
+    → take count copied ≡ without_line_ends (take place text)
+    → take (count + step) (set copied count (get_or text place 0)) ≡ without_line_ends (take (place + 1) text)
+copied_next text copied place count step inside room over kept same =
+    let b = get_or text place 0 in
+    let on : place + 1 ≡ suc place = omega arith in
+    let more : without_line_ends (take (place + 1) text) ≡ without_line_ends (take place text) ++ without_line_ends (b ∷ []) =
+    rw (on, take-suc text place 0 inside) (without_line_ends-append (take place text) (b ∷ [])) in
+    elim (cases_Bool (is_line_end b)) [
+      | inl end ↦
+          let stays : count + step ≡ count = omega (arith, over end) in
+          rw (stays, more, without_line_ends-end b [] end, append-nil) (take-set copied count b ∙ same)
+      | inr other ↦
+          let grows : count + step ≡ count + 1 = omega (arith, kept other) in
+          rw (grows, more, without_line_ends-other b [] other) (take_more_set copied count b room ∙ ap (λ (front : List ℕ). front ++ b ∷ []) same)
+    ]

@@ -1,6 +1,6 @@
 -- What holds of each payload that is read, also for the proofs of callers.
-use Rattle.std.proofs.Common.{◌≡◌, ℕ, ◌≤◌, Bool, true, false, not, List, length, Option, Some, None, Result, Ok, Err, refl, arith, inl, inr}
-use Rattle.std.specs.Prelude.{if◌then◌else◌, ◌==◌, ◌&&◌, nat_eq, nat_le, nat_lt, IfOk, IfSome}
+use Rattle.std.proofs.Common.{◌≡◌, ℕ, ◌≤◌, Bool, true, false, not, List, length, Result, Ok, Err, refl, arith, inl, inr}
+use Rattle.std.specs.Prelude.{if◌then◌else◌, nat_eq, nat_lt, IfOk}
 use Rattle.std.specs.List.{starts_with}
 use Rattle.std.specs.Option.{ok_or}
 use Rattle.std.specs.Result.{result_ok}
@@ -12,7 +12,7 @@ use Rattle.hex.proofs.HexLemmas.{decode_of-ok}
 use Rattle.vault_text.specs.Envelope.{Payload, body, read_body, read_within}
 use Rattle.vault_text.specs.Header.{header_line, marker, read_header}
 use Rattle.vault_text.specs.Hexadecimal.{unhex}
-use Rattle.vault_text.specs.InnerText.{Parts, cut, fitting, part_bytes, parts_of}
+use Rattle.vault_text.specs.InnerText.{Parts, cut, part_bytes, parts_of}
 use Rattle.vault_text.specs.Limits.{ciphertext_limit, envelope_limit}
 use Rattle.vault_text.specs.Steps.{◌>>=◌}
 use Rattle.vault_text.specs.declared.fault.TextFault.{TextFault}

@@ -1,4 +1,4 @@
-use Rattle.std.proofs.Common.{append_assoc}
+use Rattle.std.proofs.Common.{append_assoc, ◌∙◌}
 use Rattle.std.proofs.lemmas.List.{take_rest}
 use Rattle.vault_text.proofs.LineEndFacts.{without_line_ends-run}
 use Rattle.vault_text.proofs.reader.body.BodyReader.extend_run.Goals as goal
@@ -6,5 +6,6 @@ use Rattle.vault_text.proofs.reader.body.BodyReader.extend_run.Goals as goal
 pub returns-clause-taken : goal.returns-clause-taken
 returns-clause-taken c label more =
     let run = rw (← c.before_line_end-digits.ensures.line) at (without_line_ends-run c.args.text.now c.min.result) in
-    let untouched = rw c.in_default.is at c.extend_line.ensures.untouched in
-    rw (take_rest, run, append_assoc, ← untouched, ← c.self.view_is) (c.extend_digits.ensures.same label _)
+    let untouched = rw c.in_default-extend_line.is at c.extend_line.ensures.untouched in
+    let same = c.self-2.view_is ∙ untouched in
+    rw (take_rest, run, append_assoc, ← same) (c.extend_digits.ensures.same label _)
