@@ -9,30 +9,21 @@ from vaults import ENVELOPE_LIMIT, HEADER, seal
 
 
 def passwords(cases: Cases) -> None:
-    stripped = [
-        ("LF at the end", b"pw\n", b"pw"),
-        ("spaces, CR and LF around", b" pw \r\n", b"pw"),
-        ("every whitespace around", b"\t\n\x0b\x0c\r p w \r\x0c\x0b\n\t", b"p w"),
-        ("lines inside", b"\nfirst\n\nlast\n\n", b"first\n\nlast"),
-        ("byte 00 in front", b" \x00pw\n", b"\x00pw"),
-        ("byte 00 that guards a space", b"pw \x00", b"pw \x00"),
-        ("byte 00 alone", b"\x00", b"\x00"),
-        ("bytes 1c and 1f around", b"\x1cpw\x1f", b"\x1cpw\x1f"),
-        ("a no-break space in front", b"\xc2\xa0pw\x85", b"\xc2\xa0pw\x85"),
-        ("bytes that are not UTF-8", b"\xff\xfe\n", b"\xff\xfe"),
-        ("a space before #!", b" #!/bin/sh\n", b"#!/bin/sh"),
-        ("a number sign", b"#pw\n", b"#pw"),
-        ("a space before a header", b" " + HEADER, HEADER),
-        ("the start of a header", b"$ANSIBLE_VAUL\n", b"$ANSIBLE_VAUL"),
-        ("64 bytes", b"k" * 64, b"k" * 64),
-        ("65 bytes", b"k" * 65, b"k" * 65),
-        ("4096 bytes", b"k" * 4096, b"k" * 4096),
-        ("4096 bytes, most of them LF", b"pw".ljust(4096, b"\n"), b"pw"),
+    """Whitespace around a password is no part of it, and all else is."""
+    kept = [
+        b"pw", b"p w", b"first\n\nlast", b"#pw", b"$ANSIBLE_VAUL", b"k" * 64, b"k" * 65,
+        # No whitespace either: the bytes 00, 1c, 1f and 85, and a no-break space.
+        b"\x00", b"\x00pw", b"pw \x00", b"\x1cpw\x1f", b"\xc2\xa0pw\x85", b"\xff\xfe",
     ]
-    for name, content, password in stripped:
-        path = cases.file(content)
+    around = [(b"", b""), (b"", b"\n"), (b" ", b" \r\n"), (b"\t\n\x0b\x0c\r ", b" \r\x0c\x0b\n\t")]
+    files = [(front + password + end, password) for password in kept for front, end in around]
+    # Refused but for the space in front.
+    files += [(b" " + password + b"\n", password) for password in (b"#!/bin/sh", HEADER)]
+    files += [(password.ljust(4096, b"\n"), password) for password in (b"pw", b"k" * 4096)]
+    for content, password in files:
+        path, vault = cases.file(content), seal(password, TEXT)
         for options in (by_file(path), by_id(path)):
-            cases.opens(f"password file with {name}", options, seal(password, TEXT), TEXT)
+            cases.opens(f"password file {content!r:.60}", options, vault, TEXT)
 
 
 def refused_passwords(cases: Cases) -> None:

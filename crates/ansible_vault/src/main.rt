@@ -7,8 +7,14 @@ use std::process::ExitCode;
 use std::{env, fs, io};
 use vault_cli::{HostFiles, ReadSource, WriteSink, drive, reject_words};
 
+/// The arguments. They are pushed one by one, since `collect` goes on where the room for all of them
+/// is refused.
 fn words(rt: &(impl Env + AllocGlobal)) -> io::Result<Vec<String>> {
-    Ok(env::args(rt)?.collect(rt.alloc())?)
+    let mut words = Vec::new(rt.alloc());
+    for word in env::args(rt)? {
+        words.push(word)?;
+    }
+    Ok(words)
 }
 
 /// About how many bytes standard input has, where it is a file.

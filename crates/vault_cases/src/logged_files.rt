@@ -88,9 +88,17 @@ impl<'a> FileSystem for LoggedFiles<'a> {
 
     ghost meets_some = { λ s path. (file_at s.files.entries path, refl) };
 
-    ghost front_met = { λ s path r t xs n opened gives fits end. record { file = file_at s.files.entries path; met = refl; same = front-given (file_at s.files.entries path) r t xs n opened gives fits end } };
+    ghost front_met = { λ s path r t xs n opened gives fits end. record {
+      file = file_at s.files.entries path;
+      met = refl;
+      same = front-given (file_at s.files.entries path) r t xs n opened gives fits end;
+    } };
 
-    ghost break_met = { λ s path r t xs n opened gives short risen. record { file = file_at s.files.entries path; met = refl; same = break-given (file_at s.files.entries path) r t xs n opened gives short risen } };
+    ghost break_met = { λ s path r t xs n opened gives short risen. record {
+      file = file_at s.files.entries path;
+      met = refl;
+      same = break-given (file_at s.files.entries path) r t xs n opened gives short risen;
+    } };
 
     fn open(&self, path: &str) -> Result<MemFileReader<'a>, FileFault> {
         if self.note(path).is_err() || path == self.too_large {

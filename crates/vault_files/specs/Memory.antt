@@ -1,5 +1,6 @@
 -- Files in memory.
-use Rattle.std.specs.Prelude.{◌≡◌, ℕ, ◌-◌, ◌^◌, ◌<◌, ◌≤◌, ◌&&◌, if◌then◌else◌, List, [], ◌∷◌, ◌++◌, Bool, true, false, IsTrue, Option, Some, None}
+use Rattle.std.specs.Prelude.{◌≡◌, ℕ, ◌-◌, ◌^◌, ◌<◌, ◌≤◌, Bool, ◌&&◌, if◌then◌else◌, true, false, IsTrue}
+use Rattle.std.specs.Prelude.{List, [], ◌∷◌, ◌++◌, Option, Some, None}
 use Rattle.std.specs.Str.{bytes_eq}
 use Rattle.vault_text.specs.Sink.{MemoryState, Takes, has_begun, state_of}
 use Rattle.vault_text.specs.declared.sink.Stage.TheVariants.{Unbegun}
@@ -59,7 +60,11 @@ pub record StoreTakes (old : StoreState) (taken : List ℕ) (new : StoreState) :
 
 -- files whose output was not chosen yet
 abbrev pub new_store : List Entry → StoreState
-new_store entries = record { entries = entries; aim = None; output = record { held = []; stage = Unbegun; failures = 0; step = 2 ^ 64 - 1 } }
+new_store entries = record {
+  entries = entries;
+  aim = None;
+  output = record { held = []; stage = Unbegun; failures = 0; step = 2 ^ 64 - 1 };
+}
 
 abbrev pub is_aimed_at : Option (List ℕ) → List ℕ → Bool
 is_aimed_at None path = false

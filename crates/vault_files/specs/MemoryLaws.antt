@@ -59,7 +59,8 @@ StoreTakes-more s t u xs ys p q = record {
 }
 
 -- the first bytes of a file that begins with those that were given
-take-given : (bytes xs rest : List ℕ) (n : ℕ) → bytes ≡ xs ++ rest → length xs ≤ n → (rest ≡ []) ⊎ (length xs ≡ n) → take n bytes ≡ xs
+take-given : (bytes xs rest : List ℕ) (n : ℕ) → bytes ≡ xs ++ rest → length xs ≤ n
+    → (rest ≡ []) ⊎ (length xs ≡ n) → take n bytes ≡ xs
 take-given bytes xs rest n e fits (inl none) =
     rw (e, none, append-nil xs) (take_all n xs fits)
 take-given bytes xs rest n e fits (inr exact) =

@@ -1,5 +1,6 @@
 //! What a program asks of its files.
-ghost use Rattle.std.specs.Prelude.{◌≡◌, ◌≢◌, ℕ, ◌<◌, ◌≤◌, ◌⊎◌, List, Bool, IsTrue, Ok, Err, IfOk, IfErr, OnOk, OnErr, length, take};
+ghost use Rattle.std.specs.Prelude.{◌≡◌, ◌≢◌, ℕ, ◌<◌, ◌≤◌, ◌⊎◌, List, Bool, IsTrue, length, take};
+ghost use Rattle.std.specs.Prelude.{Ok, Err, IfOk, IfErr, OnOk, OnErr};
 ghost use Rattle.vault_text.specs.Failures.{HasRisen};
 ghost use Rattle.vault_files.specs.File.{Answers, File};
 ghost use Rattle.vault_files.specs.File.File.{Missing};

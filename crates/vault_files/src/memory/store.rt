@@ -111,9 +111,17 @@ impl<'a> FileSystem for MemFiles<'a> {
 
     ghost meets_some = { λ s path. (file_at s.entries path, refl) };
 
-    ghost front_met = { λ s path r t xs n opened gives fits end. record { file = file_at s.entries path; met = refl; same = front-given (file_at s.entries path) r t xs n opened gives fits end } };
+    ghost front_met = { λ s path r t xs n opened gives fits end. record {
+      file = file_at s.entries path;
+      met = refl;
+      same = front-given (file_at s.entries path) r t xs n opened gives fits end;
+    } };
 
-    ghost break_met = { λ s path r t xs n opened gives short risen. record { file = file_at s.entries path; met = refl; same = break-given (file_at s.entries path) r t xs n opened gives short risen } };
+    ghost break_met = { λ s path r t xs n opened gives short risen. record {
+      file = file_at s.entries path;
+      met = refl;
+      same = break-given (file_at s.entries path) r t xs n opened gives short risen;
+    } };
 
     fn open(&self, path: &str) -> Result<MemFileReader<'a>, FileFault> {
         match find(self.entries, path) {
