@@ -14,6 +14,8 @@ mod each_byte;
 #[cfg(test)]
 mod each_call;
 #[cfg(test)]
+mod embedding;
+#[cfg(test)]
 mod encrypting;
 #[cfg(test)]
 mod failures;

@@ -1,15 +1,17 @@
 //! What the tests share: whole runs of the program and of one request.
-ghost use Rattle.std.specs.Prelude.{◌≡◌, IfOk, vec_len};
+ghost use Rattle.std.specs.Prelude.{◌≡◌, [], IfOk, vec_len};
 ghost use Rattle.vault_text.specs.declared.limits.TheConstants.{CIPHERTEXT_LIMIT};
 
-use crate::devices::CountingReader;
 use std::alloc::{AllocError, Global};
 use std::io::Read;
 use std::test::Fail;
 use vault_cli::{
-    Fault, MemFile, MemFiles, Request, Status, drive, has_command, parse, run, settle,
+    Fault, MemFile, MemFiles, Request, Status, drive, drive_in_memory, has_command, parse, run,
+    settle,
 };
-use vault_text::{CIPHERTEXT_LIMIT, ReadSource, Sink, Source, Stage, WriteSink};
+use vault_text::{
+    CIPHERTEXT_LIMIT, MemSink, MemSource, ReadSource, Sink, Source, Stage, WriteSink,
+};
 
 /// An envelope with no salt, a tag of 32 zero bytes and no ciphertext.
 pub const EMPTY_ENVELOPE: &[u8; 160] =
@@ -61,8 +63,11 @@ pub fn run_program<'a, R: Read>(
         &mut out,
         &mut err,
     );
-    let output = out.into_inner();
-    let Ok(message) = String::from_utf8(err.into_inner()) else {
+    left_with(status, out.into_inner(), err.into_inner())
+}
+
+fn left_with(status: Status, output: Vec<u8>, message: Vec<u8>) -> Result<Outcome, Fail> {
+    let Ok(message) = String::from_utf8(message) else {
         return Err(Fail::from("the message is no text"));
     };
     Ok(Outcome {
@@ -72,14 +77,33 @@ pub fn run_program<'a, R: Read>(
     })
 }
 
-/// Runs the program on these words behind its name, where standard input holds these bytes.
+/// As `run_program`, where standard input holds these bytes.
 pub fn run_program_on<'a>(
     alloc: Global,
     files: &'a [MemFile<'a>],
     words: &[&str],
     input: &[u8],
 ) -> Result<Outcome, Fail> {
-    run_program(alloc, files, words, &mut CountingReader::new(input, 4_096))
+    run_in_memory(alloc, &mut MemFiles::new(alloc, files), words, input)
+}
+
+/// As `run_program_on`, over files that are looked at afterwards.
+pub fn run_in_memory(
+    alloc: Global,
+    files: &mut MemFiles<'_>,
+    words: &[&str],
+    input: &[u8],
+) -> Result<Outcome, Fail>
+    requires unbegun { files.old.output.stage ≡ Stage.Unbegun }
+    requires empty { files.old.output.held ≡ [] }
+{
+    let line = line_of(alloc, words)?;
+    let mut src = MemSource::new(input, 4_096);
+    let mut out = MemSink::new(alloc, 4_096);
+    let mut err = MemSink::new(alloc, 4_096);
+    let status = drive_in_memory(files, alloc, line.as_slice(), &mut src, &mut out, &mut err);
+    let output = Vec::from_slice(alloc, out.bytes())?;
+    left_with(status, output, Vec::from_slice(alloc, err.bytes())?)
 }
 
 /// Runs `decrypt` with one password file of these contents.

@@ -209,7 +209,7 @@ module _ {F S K E : Type 0} (meets : F → List ℕ → File → Type 0) (aimed 
           found,
           (secrets_met, salt_met, unopened (meets files) opened request.input at),
           input,
-          given,
+          (given, fits),
           elim cases [
             | inl memory ↦ inl memory
             | inr (inl (a, all)) ↦ inr (inr ((all.0, whole_or all.1), inl (subst AnsweredAs (sym (same input)) a)))
@@ -229,7 +229,7 @@ module _ {F S K E : Type 0} (meets : F → List ℕ → File → Type 0) (aimed 
         found,
         met,
         [],
-        given,
+        (given, omega arith),
         inr (inr (
           (stay, inr (λ other. ap (answer_at request) (same other ∙ sym (same [])))),
           elim ends [
@@ -246,7 +246,7 @@ module _ {F S K E : Type 0} (meets : F → List ℕ → File → Type 0) (aimed 
           elim cases [
             | inl memory ↦
                 let (found, met) = file-opened (meets files) opened r_gives r_ended r_failures request contents salt read salted r t at none front_law in
-                (found, met, [], unread, inl memory)
+                (found, met, [], (unread, omega arith), inl memory)
             | inr (inl (a, all)) ↦ answered-file (outcome request contents salt input)
                 (file-answer (meets files) opened r_gives r_ended r_failures request contents salt read salted r t at none front_law input given fits all.1)
                 stay unread (inl a)
@@ -270,7 +270,7 @@ module _ {F S K E : Type 0} (meets : F → List ℕ → File → Type 0) (aimed 
               found,
               met,
               [],
-              unread,
+              (unread, omega arith),
               inl (record {
                 status = status ∙ ap status_of memory;
                 failures = (ap write_failures same_out, ap file_failures same_files);
@@ -283,7 +283,7 @@ module _ {F S K E : Type 0} (meets : F → List ℕ → File → Type 0) (aimed 
               found,
               met,
               [],
-              unread,
+              (unread, omega arith),
               inr (inr (
                 (stay, inr (λ stdin. ap (λ r. answer_at request (answered r)) (refused_so stdin ∙ sym (refused_so [])))),
                 inl (subst AnsweredAs (ap answered (sym (refused_so []))) (record {
@@ -335,7 +335,7 @@ module _ {F S K E : Type 0} (meets : F → List ℕ → File → Type 0) (aimed 
       record { secrets = []; salt = None; input = None },
       tt,
       [],
-      unread,
+      (unread, omega arith),
       inr (inr (
         (stay, inr (λ other. refl)),
         inl (record {
@@ -355,7 +355,7 @@ module _ {F S K E : Type 0} (meets : F → List ℕ → File → Type 0) (aimed 
           found,
           met,
           [],
-          unread,
+          (unread, omega arith),
           inl (record {
             status = status;
             failures = (ap write_failures same_out, ap file_failures same_files);
@@ -378,7 +378,7 @@ module _ {F S K E : Type 0} (meets : F → List ℕ → File → Type 0) (aimed 
           record { secrets = []; salt = None; input = None },
           tt,
           [],
-          unread,
+          (unread, omega arith),
           inr (inr (
             (stay, inr (λ stdin. refl)),
             inl (record {

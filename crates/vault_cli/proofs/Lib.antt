@@ -4,6 +4,8 @@ pub mod EndingFacts
 pub mod ProgramFacts
 pub mod DriveFacts
 pub mod MemoryFacts
+mod FrontFacts
+mod EmbeddingFacts
 pub mod ProgramSamples
 pub mod ExplainedFacts
 pub mod LawFacts

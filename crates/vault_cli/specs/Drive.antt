@@ -1,5 +1,5 @@
 -- How the program ends: it answers, its standard input fails, its output does, or there is no memory.
-use Rattle.std.specs.Prelude.{◌≡◌, ◌⊎◌, ℕ, Bool, List, Option, Result}
+use Rattle.std.specs.Prelude.{◌≡◌, ◌⊎◌, ℕ, ◌+◌, ◌≤◌, Bool, List, length, Option, Result}
 use Rattle.vault_files.specs.File.{File}
 use Rattle.vault_text.specs.declared.sink.Stage.{Stage}
 use Rattle.vault_core.specs.Input.{IsWhole}
@@ -24,6 +24,10 @@ module _ {F S K E : Type 0} (meets : F → List ℕ → File → Type 0) (aimed 
   IsGiven found input = (read_failures new_src ≡ read_failures src)
       × (IsWhole (stdin_limit asks) (ended new_src) input ⊎ ((other : List ℕ) → answers found other ≡ answers found input))
 
+  -- this was given, at most one byte more than is taken
+  abbrev pub IsTaken : List ℕ → Type 0
+  IsTaken input = gives src input new_src × (length input ≤ stdin_limit asks + 1)
+
   -- on these files and this input it ended with this answer, or it told which device failed
   abbrev pub EndsWith : Files → List ℕ → Answer → Type 0
   EndsWith found input answer =
@@ -39,9 +43,9 @@ module _ {F S K E : Type 0} (meets : F → List ℕ → File → Type 0) (aimed 
 
   -- there is an input that was given, on which and on these files it ended so
   abbrev pub DrivesOn : Files → Type 0
-  DrivesOn found = (input : List ℕ) × gives src input new_src × EndsWith found input (answers found input)
+  DrivesOn found = (input : List ℕ) × IsTaken input × EndsWith found input (answers found input)
 
   -- there are files at the paths that are asked for, and an input that was given, on which it ended so
   abbrev pub Drives : Type 0
-  Drives = (found : Files) × AllMet (meets files) asks found × (input : List ℕ) × gives src input new_src
+  Drives = (found : Files) × AllMet (meets files) asks found × (input : List ℕ) × IsTaken input
       × EndsWith found input (answers found input)

@@ -1,6 +1,6 @@
 -- How a run ends whose output goes to a path or to standard output: it answers, its source fails, its output does, or
 -- there is no memory.
-use Rattle.std.specs.Prelude.{◌≡◌, ◌⊎◌, ℕ, ◌+◌, ◌≤◌, Bool, IsTrue, List, length, take, Option, Some, IfSome, MatchOption}
+use Rattle.std.specs.Prelude.{◌≡◌, ◌⊎◌, ℕ, ◌+◌, ◌≤◌, Bool, IsTrue, List, length, take, Option, Some, MatchOption}
 use Rattle.vault_text.specs.Failures.{HasRisen}
 use Rattle.vault_text.specs.declared.limits.TheConstants.{PLAINTEXT_LIMIT}
 use Rattle.vault_text.specs.declared.sink.Stage.{Stage}
@@ -28,7 +28,7 @@ module _ {F K : Type 0} (aimed : F → List ℕ → F → Type 0)
   -- nothing was written and no file created: at most the path was chosen
   abbrev pub IsUntouched : Type 0
   IsUntouched = (new_out ≡ out) × (file_stage new_files ≡ Unbegun)
-      × ((new_files ≡ files) ⊎ IfSome path (λ p. aimed files p new_files))
+      × ((new_files ≡ files) ⊎ MatchOption path ⊥ (λ p. aimed files p new_files))
 
   -- the output took these bytes, and no other did
   abbrev pub Wrote : List ℕ → Type 0

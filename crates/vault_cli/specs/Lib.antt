@@ -18,4 +18,5 @@ pub mod Ending
 pub mod Program
 pub mod Drive
 pub mod Explained
+pub mod Embedding
 pub mod Laws

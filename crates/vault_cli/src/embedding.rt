@@ -1,41 +1,54 @@
 //! The program over files in memory.
-ghost use Rattle.std.specs.Prelude.{◌≡◌, [], Some, map};
+ghost use Rattle.std.specs.Prelude.{◌≡◌, ◌≢◌, ◌+◌, ◌≤◌, ℕ, [], drop, false, map};
 ghost use Rattle.std.specs.String.{string_bytes};
 ghost use Rattle.clap.specs.Words.{fault_of};
-ghost use Rattle.vault_files.specs.Memory.{StoreTakes, file_at};
+ghost use Rattle.vault_files.specs.Memory.{file_at};
 ghost use Rattle.vault_cli.specs.CommandLine.{vault_app};
-ghost use Rattle.vault_cli.specs.Drive.{DrivesOn};
-ghost use Rattle.vault_cli.specs.Program.{asked_by, files_in, program};
-ghost use Rattle.vault_cli.specs.Reports.{Says};
+ghost use Rattle.vault_cli.specs.Embedding.{Embeds, SinkTakes};
+ghost use Rattle.vault_cli.specs.Explained.{ExplainsOneOf};
+ghost use Rattle.vault_cli.specs.Program.{asked_by, files_in, program, stdin_limit};
 
 use crate::program::drive;
 use crate::status::Status;
 use std::alloc::Global;
 use vault_files::MemFiles;
-use vault_text::{Sink, Source, Stage};
+use vault_text::{MemSink, MemSource, Stage};
 
-/// All that the program does, as `drive`, over files in memory: those that it meets are those that
-/// stand at the paths of its words.
-pub fn drive_in_memory<'a, S: Source, K: Sink, E: Sink>(
-    files: &mut MemFiles<'a>,
+/// All that the program does, as `drive`, over files, an input and sinks in memory. The files that
+/// it meets are those that stand at the paths of its words, so that the words, the files and the
+/// input determine its answer. `MemFiles::content` and `MemSink::bytes` tell what is held
+/// afterwards.
+pub fn drive_in_memory(
+    files: &mut MemFiles<'_>,
     alloc: Global,
     words: &[String],
-    src: &mut S,
-    out: &mut K,
-    err: &mut E,
+    src: &mut MemSource<'_>,
+    out: &mut MemSink,
+    err: &mut MemSink,
 ) -> Status
     requires files_unbegun { files.old.output.stage ≡ Stage.Unbegun }
-    requires out_unbegun { K.stage out.old ≡ Stage.Unbegun }
-    requires err_unbegun { E.stage err.old ≡ Stage.Unbegun }
+    requires files_empty { files.old.output.held ≡ [] }
+    requires src_not_ended { src.old.ended ≡ false }
+    requires out_unbegun { out.old.stage ≡ Stage.Unbegun }
+    requires err_unbegun { err.old.stage ≡ Stage.Unbegun }
+
+    // Words that parse are answered as the program says, unless a growth is refused.
     ensures answered { let texts = map string_bytes words.now in
+        let found = files_in (file_at files.old.entries) (asked_by texts) in
         fault_of vault_app texts ≡ []
-        → DrivesOn (λ s path file. file ≡ file_at s.entries path)
-        (λ s path t. t ≡ record s { aim = Some path }) StoreTakes
-        (λ s. s.output.stage) (λ s. s.output.failures) S.gives S.ended S.failures
-        K.takes K.stage K.failures (Says E.takes E.stage E.failures)
-        (asked_by texts) (program texts)
-        result files.old files.new src.old src.new out.old out.new err.old err.new
-        (files_in (file_at files.old.entries) (asked_by texts)) }
+        → Embeds result files.old files.new out.old out.new err.old err.new
+        (program texts found src.old.left) }
+    ensures taken { let texts = map string_bytes words.now in
+        fault_of vault_app texts ≡ []
+        → (n : ℕ) × (n ≤ stdin_limit (asked_by texts) + 1) × (src.new.left ≡ drop n src.old.left) }
+
+    // Others are explained, and neither a file nor the input is asked for.
+    ensures explained { let kinds = fault_of vault_app (map string_bytes words.now) in
+        kinds ≢ [] → ExplainsOneOf SinkTakes (λ s. s.stage) (λ s. s.failures)
+        SinkTakes (λ s. s.stage) (λ s. s.failures)
+        result out.old out.new err.old err.new kinds }
+    ensures unasked { fault_of vault_app (map string_bytes words.now) ≢ []
+        → (files.new ≡ files.old) × (src.new ≡ src.old) }
 {
     drive(files, alloc, words, src, out, err)
 }
