@@ -7,8 +7,8 @@ use std::process::ExitCode;
 use std::{env, fs, io};
 use vault_cli::{HostFiles, ReadSource, WriteSink, drive, reject_words};
 
-/// The arguments. They are pushed one by one, since `collect` goes on where the room for all of them
-/// is refused.
+/// The arguments. They are pushed one by one, since `collect` goes on where the room for all of
+/// them is refused.
 fn words(rt: &(impl Env + AllocGlobal)) -> io::Result<Vec<String>> {
     let mut words = Vec::new(rt.alloc());
     for word in env::args(rt)? {

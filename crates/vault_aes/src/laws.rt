@@ -35,8 +35,8 @@ pub fn table_word(x: u8) -> [u8; 4]
     first_row_column(x).to_be_bytes()
 }
 
-/// The entries at `x` of the tables for rows 1, 2 and 3, each that of the row before it rotated by a
-/// byte.
+/// The entries at `x` of the tables for rows 1, 2 and 3, each that of the row before it rotated by
+/// a byte.
 pub fn rotated_table_words(x: u8) -> [[u8; 4]; 3]
     ensures { let s = s_box x in let twice = mul 2 s in let thrice = mul 3 s in
         result ≡ (thrice ∷ twice ∷ s ∷ s ∷ []) ∷ (s ∷ thrice ∷ twice ∷ s ∷ [])

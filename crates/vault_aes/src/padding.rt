@@ -1,6 +1,7 @@
 // The padding of RFC 5652, section 6.3, for blocks of 16 bytes.
 
-ghost use Rattle.std.specs.Prelude.{◌≡◌, ℕ, ◌+◌, ◌-◌, ◌%◌, ◌<◌, ◌≤◌, ◌↔◌, List, length, take, drop, IfSome, Some, IsTrue, All};
+ghost use Rattle.std.specs.Prelude.{◌≡◌, ℕ, ◌+◌, ◌-◌, ◌%◌, ◌<◌, ◌≤◌, ◌↔◌, List, length, take};
+ghost use Rattle.std.specs.Prelude.{drop, IfSome, Some, IsTrue, All};
 ghost use Rattle.vault_aes.specs.Padding.{IsPadded};
 
 use crate::rounds::BLOCK_LEN;

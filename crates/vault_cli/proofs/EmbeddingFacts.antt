@@ -4,7 +4,7 @@ use Rattle.std.specs.Prelude.{MatchOption, min}
 use Rattle.std.proofs.lemmas.Bool.{false≢true}
 use Rattle.std.proofs.lemmas.Bool.Decides.{eqb_tells}
 use Rattle.std.proofs.Math.Seq.{drop-append_seam}
-use Rattle.vault_text.specs.Sink.{MemoryState, has_begun}
+use Rattle.vault_text.specs.Sink.{MemoryState, MemoryTakes, has_begun}
 use Rattle.vault_text.specs.Source as source
 use Rattle.vault_text.specs.declared.sink.Stage.{Stage}
 use Rattle.vault_text.specs.declared.sink.Stage.TheVariants.{Unbegun, Begun, Finished}
@@ -12,7 +12,7 @@ use Rattle.vault_files.specs.Memory.{StoreState, StoreTakes, file_at, stands_at}
 use Rattle.vault_core.specs.declared.fault.Fault.{Fault}
 use Rattle.vault_core.specs.declared.fault.Fault.TheVariants.{Memory, Write}
 use Rattle.vault_cli.specs.Drive.{DrivesOn, IsGiven}
-use Rattle.vault_cli.specs.Embedding.{Embeds, EndsShort, HoldsFront, Holds, IsCut, IsKept, Received, SinkTakes, Stands, Told, stands_after}
+use Rattle.vault_cli.specs.Embedding.{Embeds, EndsShort, HoldsFront, Holds, IsCut, IsKept, Received, Stands, Told, stands_after}
 use Rattle.vault_cli.specs.Ending.{HasFailed, IsFinished, IsUntouched, OutputFails, Wrote}
 use Rattle.vault_cli.specs.Line.{line_of}
 use Rattle.vault_cli.specs.Program.{Answer, Files, answer_to, stdin_limit}
@@ -31,9 +31,6 @@ StoreStage files = files.output.stage
 abbrev pub StoreFailures : StoreState → ℕ
 StoreFailures files = files.output.failures
 
-abbrev pub SourceGives : source.MemoryState → List ℕ → source.MemoryState → Type 0
-SourceGives src given new_src = source.Gives (source.state_of src) given (source.state_of new_src) × (new_src.step ≡ src.step)
-
 abbrev pub SinkStage : MemoryState → Stage
 SinkStage sink = sink.stage
 
@@ -41,10 +38,10 @@ abbrev pub SinkFailures : MemoryState → ℕ
 SinkFailures sink = sink.failures
 
 abbrev pub SinkSays : MemoryState → List ℕ → MemoryState → Type 0
-SinkSays = Says SinkTakes SinkStage SinkFailures
+SinkSays = Says MemoryTakes SinkStage SinkFailures
 
 -- a line is held, or its front where the sink failed
-reported : (err new_err : MemoryState) (line : List ℕ) → Reports SinkTakes SinkStage SinkFailures err line new_err
+reported : (err new_err : MemoryState) (line : List ℕ) → Reports MemoryTakes SinkStage SinkFailures err line new_err
     → Holds err line new_err ⊎ HoldsFront err line new_err
 reported err new_err line r =
     elim (eqb_tells new_err.failures (min (err.failures + 1) (2 ^ 64 - 1))) [
@@ -76,7 +73,7 @@ module _ (result : Status) (files new_files : StoreState) (out new_out err new_e
   same-entries None (inr chosen) = absurd chosen
   same-entries (Some p) (inr chosen) = ap (λ s. s.entries) chosen
 
-  kept : (path : Option (List ℕ)) → IsUntouched AimedAt StoreTakes StoreStage StoreFailures SinkTakes SinkStage SinkFailures path files new_files out new_out
+  kept : (path : Option (List ℕ)) → IsUntouched AimedAt StoreTakes StoreStage StoreFailures MemoryTakes SinkStage SinkFailures path files new_files out new_out
       → IsKept result files new_files out new_out err new_err
   kept path (same_out, fresh, chosen) p = unbegun-stands new_files p fresh ∙ ap (λ entries. file_at entries p) (same-entries path chosen)
 
@@ -86,8 +83,8 @@ module _ (result : Status) (files new_files : StoreState) (out new_out err new_e
 
   -- what was written stands at its path, or is held
   wrote : (path : Option (List ℕ)) (bytes : List ℕ)
-      → Wrote AimedAt StoreTakes StoreStage StoreFailures SinkTakes SinkStage SinkFailures path files new_files out new_out bytes
-      → IsFinished AimedAt StoreTakes StoreStage StoreFailures SinkTakes SinkStage SinkFailures path files new_files out new_out
+      → Wrote AimedAt StoreTakes StoreStage StoreFailures MemoryTakes SinkStage SinkFailures path files new_files out new_out bytes
+      → IsFinished AimedAt StoreTakes StoreStage StoreFailures MemoryTakes SinkStage SinkFailures path files new_files out new_out
       → Stands result files new_files out new_out err new_err (stands_after (file_at files.entries) path (Some bytes))
       × Received path (Some bytes) out new_out
   wrote None bytes (took, same) finished =
@@ -97,9 +94,9 @@ module _ (result : Status) (files new_files : StoreState) (out new_out err new_e
       (λ p. written-stands files new_files aim bytes p empty (subst (λ (s : StoreState). StoreTakes s bytes new_files) at took) begun, same_out)
 
   written : (path output : Option (List ℕ))
-      → MatchOption output (IsUntouched AimedAt StoreTakes StoreStage StoreFailures SinkTakes SinkStage SinkFailures path files new_files out new_out)
-      (λ bytes. Wrote AimedAt StoreTakes StoreStage StoreFailures SinkTakes SinkStage SinkFailures path files new_files out new_out bytes
-      × IsFinished AimedAt StoreTakes StoreStage StoreFailures SinkTakes SinkStage SinkFailures path files new_files out new_out)
+      → MatchOption output (IsUntouched AimedAt StoreTakes StoreStage StoreFailures MemoryTakes SinkStage SinkFailures path files new_files out new_out)
+      (λ bytes. Wrote AimedAt StoreTakes StoreStage StoreFailures MemoryTakes SinkStage SinkFailures path files new_files out new_out bytes
+      × IsFinished AimedAt StoreTakes StoreStage StoreFailures MemoryTakes SinkStage SinkFailures path files new_files out new_out)
       → Stands result files new_files out new_out err new_err (stands_after (file_at files.entries) path output)
       × Received path output out new_out
   written path None untouched = (kept path untouched, received-none path untouched.0)
@@ -118,8 +115,8 @@ module _ (result : Status) (files new_files : StoreState) (out new_out err new_e
       inr (n, λ p. written-stands files new_files aim (take n bytes) p empty took begun)
 
   cut-to : (path : Option (List ℕ)) (bytes : List ℕ) (n : ℕ)
-      → HasFailed AimedAt StoreTakes StoreStage StoreFailures SinkTakes SinkStage SinkFailures path files new_files out new_out
-      → Wrote AimedAt StoreTakes StoreStage StoreFailures SinkTakes SinkStage SinkFailures path files new_files out new_out (take n bytes)
+      → HasFailed AimedAt StoreTakes StoreStage StoreFailures MemoryTakes SinkStage SinkFailures path files new_files out new_out
+      → Wrote AimedAt StoreTakes StoreStage StoreFailures MemoryTakes SinkStage SinkFailures path files new_files out new_out (take n bytes)
       → IsCut result files new_files out new_out err new_err path bytes
   cut-to None bytes n failed (took, same) =
       ((failed, (n, took.0.appended)), λ p. ap (λ s. stands_at s p) same ∙ unbegun-stands files p unbegun)
@@ -127,7 +124,7 @@ module _ (result : Status) (files new_files : StoreState) (out new_out err new_e
       (failed, same_out, cut-at aim bytes n new_files.output.stage refl (subst (λ (s : StoreState). StoreTakes s (take n bytes) new_files) at took))
 
   cut : (answer : Answer)
-      → OutputFails AimedAt StoreTakes StoreStage StoreFailures SinkTakes SinkStage SinkFailures answer.path files new_files out new_out
+      → OutputFails AimedAt StoreTakes StoreStage StoreFailures MemoryTakes SinkStage SinkFailures answer.path files new_files out new_out
       SinkSays result err new_err answer.outcome
       → EndsShort result files new_files out new_out err new_err answer
   cut answer fails = record {
@@ -138,9 +135,9 @@ module _ (result : Status) (files new_files : StoreState) (out new_out err new_e
 
   module _ (asks : Option (Result Request Fault)) (found : Files) (src new_src : source.MemoryState) (not_ended : src.ended ≡ false) where
     -- the answer to what was given is the answer to all that was there
-    same-answer : (input : List ℕ) → SourceGives src input new_src
+    same-answer : (input : List ℕ) → source.MemoryGives src input new_src
         → IsGiven (λ (s : StoreState) path file. file ≡ file_at s.entries path) AimedAt StoreTakes StoreStage StoreFailures
-        SourceGives (λ s. s.ended) (λ _. 0) SinkTakes SinkStage SinkFailures SinkSays asks (answer_to asks)
+        source.MemoryGives (λ s. s.ended) (λ _. 0) MemoryTakes SinkStage SinkFailures SinkSays asks (answer_to asks)
         result files new_files src new_src out new_out err new_err found input
         → answer_to asks found input ≡ answer_to asks found src.left
     same-answer input given (_, inr any) = sym (any src.left)
@@ -149,7 +146,7 @@ module _ (result : Status) (files new_files : StoreState) (out new_out err new_e
         (given.0.end_is_real (λ ended. let never : IsTrue false = rw not_ended at ended in absurd (false≢true never))) asks found whole
 
     pub embeds : DrivesOn (λ (s : StoreState) path file. file ≡ file_at s.entries path) AimedAt StoreTakes StoreStage StoreFailures
-        SourceGives (λ s. s.ended) (λ _. 0) SinkTakes SinkStage SinkFailures SinkSays asks (answer_to asks)
+        source.MemoryGives (λ s. s.ended) (λ _. 0) MemoryTakes SinkStage SinkFailures SinkSays asks (answer_to asks)
         result files new_files src new_src out new_out err new_err found
         → Embeds result files new_files out new_out err new_err (answer_to asks found src.left)
     embeds (input, given, inl memory) = inr (inl (record {
@@ -172,7 +169,7 @@ module _ (result : Status) (files new_files : StoreState) (out new_out err new_e
 
     -- so much of the input was taken
     pub taken : DrivesOn (λ (s : StoreState) path file. file ≡ file_at s.entries path) AimedAt StoreTakes StoreStage StoreFailures
-        SourceGives (λ s. s.ended) (λ _. 0) SinkTakes SinkStage SinkFailures SinkSays asks (answer_to asks)
+        source.MemoryGives (λ s. s.ended) (λ _. 0) MemoryTakes SinkStage SinkFailures SinkSays asks (answer_to asks)
         result files new_files src new_src out new_out err new_err found
         → (n : ℕ) × (n ≤ stdin_limit asks + 1) × (new_src.left ≡ drop n src.left)
     taken (input, (given, fits), ends) = (length input, fits, rw given.0.consumed (sym (drop-append_seam input new_src.left)))

@@ -5,7 +5,7 @@ use Rattle.std.specs.Prelude.{is_ok, is_some}
 use Rattle.std.proofs.Math.Seq.{take-append_seam}
 use Rattle.std.proofs.lemmas.List.{append-nil, nil_from_length}
 use Rattle.vault_text.specs.Failures.{HasRisen}
-use Rattle.vault_text.specs.Source.{Gives, MemoryState, state_of}
+use Rattle.vault_text.specs.Source.{Gives, MemoryGives, MemoryState, state_of}
 use Rattle.vault_text.specs.declared.sink.Stage.{Stage}
 use Rattle.vault_core.specs.Input.{IsWhole}
 use Rattle.vault_text.specs.ChainedSource.{ChainedState, GivesChained}
@@ -292,7 +292,7 @@ module _ {S K E : Type 0} (gives : S → List ℕ → S → Type 0) (ended : S �
       → length m.left ≤ room_limit limit request.command
       → IsTrue (asks_for_input request contents salt)
       → gives s m.left t → IsTrue (ended t) → failures t ≡ failures s
-      → RunsWithin (λ a xs b. Gives (state_of a) xs (state_of b) × (b.step ≡ a.step)) (λ a. a.ended) (λ _. 0) takes stage write_failures says
+      → RunsWithin MemoryGives (λ a. a.ended) (λ _. 0) takes stage write_failures says
       limit request contents salt result m n out new_out err new_err
       → RunsWithin gives ended failures takes stage write_failures says PLAINTEXT_LIMIT request contents salt result s t out new_out err new_err
   short-runs law limit most m n fresh short asks given told stay (input, from_memory, (fits, ends)) =

@@ -60,12 +60,12 @@ no_secrets : SecretList
 no_secrets = record { secrets = []; rule = Hint }
 
 -- a text that has room is at most four times the limit
-room-fits : (limit : ℕ) (text : List ℕ) (name : CommandName) → length text ≤ room_limit limit name → length text ≤ 4 * limit
-room-fits limit text command.Encrypt short = omega (arith, short)
-room-fits limit text command.EncryptString short = omega (arith, short)
-room-fits limit text command.Decrypt short = short
-room-fits limit text command.View short = short
-room-fits limit text command.Rekey short = short
+envelope-room : (limit : ℕ) (text : List ℕ) (name : CommandName) → length text ≤ room_limit limit name → length text ≤ 4 * limit
+envelope-room limit text command.Encrypt short = omega (arith, short)
+envelope-room limit text command.EncryptString short = omega (arith, short)
+envelope-room limit text command.Decrypt short = short
+envelope-room limit text command.View short = short
+envelope-room limit text command.Rekey short = short
 
 -- a text that has room under both limits
 module _ (law : ShortInputs) (smaller larger : ℕ) (text : List ℕ) (more : smaller ≤ larger) where
@@ -82,9 +82,9 @@ module _ (law : ShortInputs) (smaller larger : ℕ) (text : List ℕ) (more : sm
       sealed-short command.View same short = absurd (omega (arith, same))
       sealed-short command.Rekey same short = absurd (omega (arith, same))
   short-performed (Open secrets) name same short =
-      ((law smaller larger text more [] 0 Envelope secrets no_secret []).1 (room-fits smaller text name short)).0
+      ((law smaller larger text more [] 0 Envelope secrets no_secret []).1 (envelope-room smaller text name short)).0
   short-performed (Reseal secrets new salt) name same short =
-      ((law smaller larger text more [] 0 Envelope secrets new salt).1 (room-fits smaller text name short)).1
+      ((law smaller larger text more [] 0 Envelope secrets new salt).1 (envelope-room smaller text name short)).1
 
 short-tasks : (larger smaller : ℕ) (text : List ℕ) (found : Result Task Fault)
     → ((task : Task) → found ≡ Ok task → performed larger task text ≡ performed smaller task text)

@@ -1,7 +1,7 @@
 -- How the program ends over files, an input and sinks in memory: what each holds afterwards.
 use Rattle.std.specs.Prelude.{◌≡◌, ◌⊎◌, ℕ, if◌then◌else◌, List, [], ◌∷◌, ◌++◌, take, Option, Some, None}
 use Rattle.vault_text.specs.Failures.{HasRisen}
-use Rattle.vault_text.specs.Sink.{MemoryState, Takes, state_of}
+use Rattle.vault_text.specs.Sink.{MemoryState}
 use Rattle.vault_text.specs.declared.sink.Stage.TheVariants.{Finished}
 use Rattle.vault_files.specs.File.{File}
 use Rattle.vault_files.specs.File.File.{Whole}
@@ -11,10 +11,6 @@ use Rattle.vault_cli.specs.Line.{line_of}
 use Rattle.vault_cli.specs.Program.{Answer}
 use Rattle.vault_cli.specs.declared.status.Status.{Status}
 use Rattle.vault_cli.specs.declared.status.Status.TheVariants.{DeviceFailed, OutOfMemory}
-
--- between two states a sink took these bytes
-abbrev pub SinkTakes : MemoryState → List ℕ → MemoryState → Type 0
-SinkTakes sink bytes new_sink = Takes (state_of sink) bytes (state_of new_sink) × (new_sink.step ≡ sink.step)
 
 -- a sink holds these bytes behind what it held, and was finished
 abbrev pub Holds : MemoryState → List ℕ → MemoryState → Type 0

@@ -2,7 +2,9 @@
 ghost use Rattle.std.specs.Prelude.{◌≡◌, ◌∷◌, ◌++◌, [], false, IfErr, IfOk, codes};
 ghost use Rattle.clap.specs.Words.{app_of};
 ghost use Rattle.clap.specs.declared.builder.command.Command.TheViews.{out-Command as fields_of};
-ghost use Rattle.vault_cli.specs.CommandLine.{app_with, decrypt, encrypt, encrypt_string, name_rules, new_secret_rules, rekey, salt_rules, secret_rules, top_shape, vault_app, view};
+ghost use Rattle.vault_cli.specs.CommandLine.{app_with, decrypt, encrypt, encrypt_string};
+ghost use Rattle.vault_cli.specs.CommandLine.{name_rules, new_secret_rules, rekey, salt_rules};
+ghost use Rattle.vault_cli.specs.CommandLine.{secret_rules, top_shape, vault_app, view};
 ghost use Rattle.vault_core.specs.declared.fault.Fault.TheVariants.{Memory};
 
 use crate::arguments;
@@ -39,7 +41,8 @@ fn with_opening<'a>(alloc: Global) -> Result<Command<'a>, AllocError>
 }
 
 fn top<'a>(alloc: Global) -> Result<Command<'a>, AllocError>
-    ensures shape { IfOk result (λ command. app_of command ≡ record { top = top_shape; subs = [] }) }
+    ensures shape { IfOk result (λ command.
+        app_of command ≡ record { top = top_shape; subs = [] }) }
     ensures local { IfOk result (λ command. (fields_of command).has_globals ≡ false) }
 {
     let about = "Keeps text files of playbooks under passwords";

@@ -1,6 +1,7 @@
 //! The commands.
 ghost use Rattle.std.specs.Prelude.{◌≡◌};
-ghost use Rattle.vault_cli.specs.CommandName.{encrypts, has_output, command_of, rekeys, seals, takes_string};
+ghost use Rattle.vault_cli.specs.CommandName.{encrypts, has_output, command_of, rekeys, seals};
+ghost use Rattle.vault_cli.specs.CommandName.{takes_string};
 
 /// What is to be done.
 #[derive(Clone, Copy, Debug, PartialEq, Eq)]

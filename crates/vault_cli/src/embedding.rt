@@ -2,9 +2,10 @@
 ghost use Rattle.std.specs.Prelude.{◌≡◌, ◌≢◌, ◌+◌, ◌≤◌, ℕ, [], drop, false, map};
 ghost use Rattle.std.specs.String.{string_bytes};
 ghost use Rattle.clap.specs.Words.{fault_of};
+ghost use Rattle.vault_text.specs.Sink.{MemoryTakes};
 ghost use Rattle.vault_files.specs.Memory.{file_at};
 ghost use Rattle.vault_cli.specs.CommandLine.{vault_app};
-ghost use Rattle.vault_cli.specs.Embedding.{Embeds, SinkTakes};
+ghost use Rattle.vault_cli.specs.Embedding.{Embeds};
 ghost use Rattle.vault_cli.specs.Explained.{ExplainsOneOf};
 ghost use Rattle.vault_cli.specs.Program.{asked_by, files_in, program, stdin_limit};
 
@@ -44,8 +45,8 @@ pub fn drive_in_memory(
 
     // Others are explained, and neither a file nor the input is asked for.
     ensures explained { let kinds = fault_of vault_app (map string_bytes words.now) in
-        kinds ≢ [] → ExplainsOneOf SinkTakes (λ s. s.stage) (λ s. s.failures)
-        SinkTakes (λ s. s.stage) (λ s. s.failures)
+        kinds ≢ [] → ExplainsOneOf MemoryTakes (λ s. s.stage) (λ s. s.failures)
+        MemoryTakes (λ s. s.stage) (λ s. s.failures)
         result out.old out.new err.old err.new kinds }
     ensures unasked { fault_of vault_app (map string_bytes words.now) ≢ []
         → (files.new ≡ files.old) × (src.new ≡ src.old) }

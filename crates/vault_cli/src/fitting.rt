@@ -1,5 +1,6 @@
 //! Runs in memory that fits the input.
-ghost use Rattle.std.specs.Prelude.{◌≡◌, ◌-◌, ◌^◌, ◌<◌, ◌≤◌, ◌⊎◌, ◌++◌, ℕ, List, [], true, false, length, map, unwrap_or};
+ghost use Rattle.std.specs.Prelude.{◌≡◌, ◌-◌, ◌^◌, ◌<◌, ◌≤◌, ◌⊎◌, ◌++◌, ℕ, List, [], true};
+ghost use Rattle.std.specs.Prelude.{false, length, map, unwrap_or};
 ghost use Rattle.vault_text.specs.Limits.{IsWorkLength, limit_of};
 ghost use Rattle.vault_text.specs.declared.limits.TheConstants.{PLAINTEXT_LIMIT};
 ghost use Rattle.vault_cli.specs.Fitting.{EndsOn, RunsWithin};
@@ -49,8 +50,8 @@ fn run_in<S: Source, K: Sink, E: Sink>(
         (Says E.takes E.stage E.failures)
         (limit_of room) request.now (map (λ file. file.items) secret_files.now) salt.now
         result src.old src.new out.old out.new err.old err.new }
-    ensures unread { asks_for_input request.now (map (λ file. file.items) secret_files.now) salt.now ≡ false
-        → src.new ≡ src.old }
+    ensures unread { let contents = map (λ file. file.items) secret_files.now in
+        asks_for_input request.now contents salt.now ≡ false → src.new ≡ src.old }
 {
     match vec![in alloc; 0u8; room] {
         Ok(mut work) => run(
@@ -77,14 +78,16 @@ fn run_chained<S: Source, K: Sink, E: Sink>(
     err: &mut E,
 ) -> Status
     requires files { length secret_files.now ≡ length (files_of request.now) }
-    requires asked { asks_for_input request.now (map (λ file. file.items) secret_files.now) salt.now ≡ true }
+    requires asked { let contents = map (λ file. file.items) secret_files.now in
+        asks_for_input request.now contents salt.now ≡ true }
     requires short { length src.old.front.now ≤ input_limit PLAINTEXT_LIMIT request.now.command }
     requires not_ended { src.old.ended ≡ false }
     requires not_full { S.failures src.old.rest.now < 2 ^ 64 - 1 }
     requires out_unbegun { K.stage out.old ≡ Stage.Unbegun }
     requires err_unbegun { E.stage err.old ≡ Stage.Unbegun }
     ensures runs { (later : List ℕ) × S.gives src.old.rest.now later src.new.rest.now
-        × EndsOn S.gives S.ended S.failures K.takes K.stage K.failures (Says E.takes E.stage E.failures)
+        × EndsOn S.gives S.ended S.failures K.takes K.stage K.failures
+        (Says E.takes E.stage E.failures)
         (src.old.front.now ++ later) PLAINTEXT_LIMIT request.now
         (map (λ file. file.items) secret_files.now) salt.now
         result src.old.rest.now src.new.rest.now out.old out.new err.old err.new }
@@ -114,13 +117,15 @@ fn run_behind<S: Source, K: Sink, E: Sink>(
     err: &mut E,
 ) -> Status
     requires files { length secret_files.now ≡ length (files_of request.now) }
-    requires asked { asks_for_input request.now (map (λ file. file.items) secret_files.now) salt.now ≡ true }
+    requires asked { let contents = map (λ file. file.items) secret_files.now in
+        asks_for_input request.now contents salt.now ≡ true }
     requires short { length front.now ≤ input_limit PLAINTEXT_LIMIT request.now.command }
     requires not_full { S.failures src.old < 2 ^ 64 - 1 }
     requires out_unbegun { K.stage out.old ≡ Stage.Unbegun }
     requires err_unbegun { E.stage err.old ≡ Stage.Unbegun }
     ensures runs { (later : List ℕ) × S.gives src.old later src.new
-        × EndsOn S.gives S.ended S.failures K.takes K.stage K.failures (Says E.takes E.stage E.failures)
+        × EndsOn S.gives S.ended S.failures K.takes K.stage K.failures
+        (Says E.takes E.stage E.failures)
         (front.now ++ later) PLAINTEXT_LIMIT request.now
         (map (λ file. file.items) secret_files.now) salt.now
         result src.old src.new out.old out.new err.old err.new }
@@ -188,8 +193,8 @@ pub(crate) fn run_fitting<S: Source, K: Sink, E: Sink>(
         (Says E.takes E.stage E.failures)
         PLAINTEXT_LIMIT request.now (map (λ file. file.items) secret_files.now) salt.now
         result src.old src.new out.old out.new err.old err.new }
-    ensures unread { asks_for_input request.now (map (λ file. file.items) secret_files.now) salt.now ≡ false
-        → src.new ≡ src.old }
+    ensures unread { let contents = map (λ file. file.items) secret_files.now in
+        asks_for_input request.now contents salt.now ≡ false → src.new ≡ src.old }
 {
     if !asks_for_input(request, secret_files, salt) {
         short_texts();

@@ -2,7 +2,8 @@
 ghost use Rattle.std.specs.Prelude.{◌≡◌, ◌≢◌, Ok, Err, IfOk, IfErr, length, map, vec_len};
 ghost use Rattle.vault_core.specs.declared.fault.Fault.TheVariants.{CannotOpen};
 ghost use Rattle.vault_core.specs.declared.fault.Role.TheVariants.{Input};
-ghost use Rattle.vault_cli.specs.Found.{ContentsMet, FrontMet, IsMissing, IsOpened, SaltMet, fault_in, secret_paths};
+ghost use Rattle.vault_cli.specs.Found.{ContentsMet, FrontMet, IsMissing, IsOpened, SaltMet};
+ghost use Rattle.vault_cli.specs.Found.{fault_in, secret_paths};
 ghost use Rattle.vault_cli.specs.Request.{files_of};
 
 use crate::limits::SEALING_SALT_LENGTH;
@@ -51,7 +52,8 @@ pub(crate) fn read_secret_files<F: FileSystem>(
 ) -> Result<Vec<Vec<u8>>, Fault>
     requires { F.stage files.now ≡ Stage.Unbegun }
     ensures count { IfOk result (λ contents. vec_len contents ≡ length (files_of request.now)) }
-    ensures read { IfOk result (λ contents. ContentsMet (F.meets files.now) (secret_paths request.now)
+    ensures read { IfOk result (λ contents.
+        ContentsMet (F.meets files.now) (secret_paths request.now)
         (Ok (map (λ file. file.items) contents.items))) }
     ensures refused { IfErr result (λ fault. fault ≢ Fault.Memory →
         ContentsMet (F.meets files.now) (secret_paths request.now) (Err fault)) }

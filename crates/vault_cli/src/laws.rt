@@ -1,6 +1,7 @@
 //! Laws of the outcomes, each the contract of a function that does nothing but name the laws that
 //! it stands on.
-ghost use Rattle.vault_cli.specs.Laws.{EncryptThenDecrypt, RekeyKeepsThePlaintext, SettledRequests, ShortTexts};
+ghost use Rattle.vault_cli.specs.Laws.{EncryptThenDecrypt, RekeyKeepsThePlaintext};
+ghost use Rattle.vault_cli.specs.Laws.{SettledRequests, ShortTexts};
 
 /// What settles a request makes one that the laws below speak of.
 pub fn settled_requests()

@@ -28,8 +28,8 @@ use vault_text::{Sink, Source, Stage};
 
 /// All that the program does: parses the words, of which the first is the program's name, settles
 /// the request, reads its password files and its salt file, opens its input file, and runs it. The
-/// input is a file or `src`, the output a file or `out`. Help and the version go to `out`, and every
-/// message to `err`.
+/// input is a file or `src`, the output a file or `out`. Help and the version go to `out`, and
+/// every message to `err`.
 pub fn drive<F: FileSystem, S: Source, K: Sink, E: Sink>(
     files: &mut F,
     alloc: Global,

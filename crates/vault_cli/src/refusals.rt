@@ -3,7 +3,9 @@ ghost use Rattle.std.specs.Prelude.{◌≡◌};
 ghost use Rattle.std.specs.List.{list_any};
 ghost use Rattle.std.specs.Option.{option_map};
 ghost use Rattle.std.specs.Result.{result_err};
-ghost use Rattle.vault_cli.specs.Refusal.{choice_fault, count_fault, is_control, mismatch_fault, name_fault, output_fault, refusal, rekey_fault, salt_fault};
+ghost use Rattle.vault_cli.specs.Refusal.{choice_fault, count_fault, is_control};
+ghost use Rattle.vault_cli.specs.Refusal.{mismatch_fault, name_fault, output_fault, refusal};
+ghost use Rattle.vault_cli.specs.Refusal.{rekey_fault, salt_fault};
 
 use crate::limits::SALT_TEXT_LIMIT;
 use crate::options::Options;

@@ -1,11 +1,13 @@
 //! The whole run of a request.
-ghost use Rattle.std.specs.Prelude.{◌≡◌, ◌≢◌, ◌+◌, ◌≤◌, ◌⊎◌, ℕ, List, false, is_some, length, map, take, IsTrue};
+ghost use Rattle.std.specs.Prelude.{◌≡◌, ◌≢◌, ◌+◌, ◌≤◌, ◌⊎◌, ℕ, List, false, is_some, length};
+ghost use Rattle.std.specs.Prelude.{map, take, IsTrue};
 ghost use Rattle.vault_text.specs.Failures.{HasRisen};
 ghost use Rattle.vault_core.specs.Input.{IsWhole, UnlessUnreadable};
 ghost use Rattle.vault_text.specs.Limits.{IsWorkLength, limit_of};
 ghost use Rattle.vault_core.specs.declared.fault.Fault.TheVariants.{Write};
 ghost use Rattle.vault_cli.specs.Line.{line_of};
-ghost use Rattle.vault_cli.specs.Outcome.{asks_for_input, input_limit, outcome_within, performed, task_limit, text_of_request};
+ghost use Rattle.vault_cli.specs.Outcome.{asks_for_input, input_limit, outcome_within};
+ghost use Rattle.vault_cli.specs.Outcome.{performed, task_limit, text_of_request};
 ghost use Rattle.vault_cli.specs.Reports.{Reports, Says};
 ghost use Rattle.vault_cli.specs.Request.{files_of};
 ghost use Rattle.vault_cli.specs.Run.{Ends};

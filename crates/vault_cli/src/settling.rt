@@ -1,11 +1,13 @@
 //! From the matches of a command line to a request.
-ghost use Rattle.std.specs.Prelude.{◌≡◌, ◌++◌, ◌⊎◌, true, Some, None, map, is_some, option_and_then, IfSome, IfOk, IfErr, OnOk, OnErr};
+ghost use Rattle.std.specs.Prelude.{◌≡◌, ◌++◌, ◌⊎◌, true, Some, None, map, is_some};
+ghost use Rattle.std.specs.Prelude.{option_and_then, IfSome, IfOk, IfErr, OnOk, OnErr};
 ghost use Rattle.std.specs.Option.{option_map};
 ghost use Rattle.std.specs.String.{string_bytes};
 ghost use Rattle.clap.specs.Words.{subcommand_name_of, subcommand_rows_of};
 ghost use Rattle.vault_cli.specs.CommandName.{command_of};
 ghost use Rattle.vault_cli.specs.Refusal.{choice_fault, refusal, rekey_fault};
-ghost use Rattle.vault_cli.specs.Settled.{Settles, asked, file_of_id, new_secret_of, plain_file, request_of, salt_path_of, settled_by};
+ghost use Rattle.vault_cli.specs.Settled.{Settles, asked, file_of_id, new_secret_of};
+ghost use Rattle.vault_cli.specs.Settled.{plain_file, request_of, salt_path_of, settled_by};
 ghost use Rattle.vault_cli.specs.VaultId.{fault_of, first_fault};
 ghost use Rattle.vault_core.specs.declared.fault.Fault.TheVariants.{Memory};
 

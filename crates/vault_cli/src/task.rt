@@ -46,7 +46,8 @@ pub(crate) fn prepare<'p>(
     salt: &[u8],
 ) -> Result<Task<'p>, Fault>
     requires { length secret_files.now ≡ length (files_of request.now) }
-    ensures prepared { let contents = map (λ file. file.items) secret_files.now in MatchResult result
+    ensures prepared { let contents = map (λ file. file.items) secret_files.now in
+        MatchResult result
         (λ task. prepared request.now contents salt.now ≡ Ok (task_in task))
         (λ fault. prepared request.now contents salt.now ≡ Err fault) }
     ensures chosen { IfOk result (λ task. HasPlace (task_in task)) }

@@ -1,7 +1,9 @@
 //! The faults of a run, with their numbers and texts.
 ghost use Rattle.std.specs.Prelude.{◌≡◌};
 ghost use Rattle.vault_core.specs.Fault.{number_of, of_choice, of_secret, of_text, text_of};
-ghost use Rattle.vault_core.specs.declared.fault.Fault.TheVariants.{BadLabel as LabelFault, Memory, Read, TooManySecrets, Write};
+ghost use Rattle.vault_core.specs.declared.fault.Fault.TheVariants.{BadLabel as LabelFault};
+ghost use Rattle.vault_core.specs.declared.fault.Fault.TheVariants.{Memory, Read};
+ghost use Rattle.vault_core.specs.declared.fault.Fault.TheVariants.{TooManySecrets, Write};
 ghost use Rattle.vault_core.specs.declared.fault.Role.TheVariants.{Input};
 
 use crate::choice::ChoiceFault;

@@ -1,5 +1,6 @@
 //! Reading the input of a call.
-ghost use Rattle.std.specs.Prelude.{◌≡◌, ℕ, ◌+◌, ◌-◌, ◌<◌, ◌≤◌, ◌↔◌, List, [], ◌++◌, length, take, IsTrue, IfOk, OnErr, MatchResult};
+ghost use Rattle.std.specs.Prelude.{◌≡◌, ℕ, ◌+◌, ◌-◌, ◌<◌, ◌≤◌, ◌↔◌, List, [], ◌++◌, length};
+ghost use Rattle.std.specs.Prelude.{take, IsTrue, IfOk, OnErr, MatchResult};
 ghost use Rattle.vault_text.specs.EnvelopeReader.{StandsFor};
 ghost use Rattle.vault_text.specs.Failures.{CountsFailure};
 ghost use Rattle.vault_core.specs.Decryption.{payload_of};

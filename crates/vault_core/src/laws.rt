@@ -1,7 +1,8 @@
 //! Laws of the definitions, each the contract of a function that does nothing.
 ghost use Rattle.std.specs.Prelude.{◌≡◌, ℕ, List, Some};
 ghost use Rattle.vault_aes.specs.Padding.{IsPadded};
-ghost use Rattle.vault_core.specs.Laws.{EncryptedDecrypts, RekeyedDecrypts, SealedOpens, SealedReadsBack, ShortInputs};
+ghost use Rattle.vault_core.specs.Laws.{EncryptedDecrypts, RekeyedDecrypts, SealedOpens};
+ghost use Rattle.vault_core.specs.Laws.{SealedReadsBack, ShortInputs};
 ghost use Rattle.vault_core.specs.Padding.{padded, without_padding};
 
 /// What is put on is padding.

@@ -1,5 +1,6 @@
 //! Opening an envelope in the memory that it was read into.
-ghost use Rattle.std.specs.Prelude.{◌≡◌, ◌+◌, ◌<◌, ◌≤◌, ◌^◌, IfSome, IfNone, None, Some, length, take};
+ghost use Rattle.std.specs.Prelude.{◌≡◌, ◌+◌, ◌<◌, ◌≤◌, ◌^◌, IfSome, IfNone, None, Some};
+ghost use Rattle.std.specs.Prelude.{length, take};
 ghost use Rattle.vault_core.specs.Agreement.{tries};
 ghost use Rattle.vault_core.specs.Opening.{deciphered_by, opening};
 ghost use Rattle.vault_core.specs.Padding.{padded_length, without_padding};

@@ -71,7 +71,8 @@ pub(crate) fn seal<'a>(
     requires room { padded_length n ≤ length work.old }
     requires countable { meter.old < 2 ^ 63 }
     ensures sealed { result
-        ≡ sealed (record { label = label.now; password = password.now }) salt.now (take n work.old) }
+        ≡ sealed (record { label = label.now; password = password.now }) salt.now
+        (take n work.old) }
     ensures counted { meter.new ≡ meter.old + 1 }
 {
     let keys = derive(password, salt.as_bytes(), meter);

@@ -32,7 +32,11 @@ impl<'a, R: Files> Model for HostFiles<'a, R> {
 
     ghost Value = { HostState };
 
-    ghost view = { λ s. record { aim = option_map string_bytes s.aim; stage = s.stage; failures = s.failures } };
+    ghost view = { λ s. record {
+      aim = option_map string_bytes s.aim;
+      stage = s.stage;
+      failures = s.failures;
+    } };
 }
 
 impl<'a, R: Files> HostFiles<'a, R> {
@@ -154,7 +158,8 @@ impl<'a, R: Files> FileSystem for HostFiles<'a, R> {
 
     ghost front_met = { λ s path r t xs n opened gives fits end. front-any xs n fits };
 
-    ghost break_met = { λ s path r t xs n opened gives short risen. break-any n (Prim.omega (arith, short)) };
+    ghost break_met = { λ s path r t xs n opened gives short risen.
+        break-any n (Prim.omega (arith, short)) };
 
     fn open(&self, path: &str) -> Result<ReadSource<R::File>, FileFault> {
         match fs::open(self.rt, path) {

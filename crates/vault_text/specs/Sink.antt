@@ -1,5 +1,5 @@
 -- What a contract sees of a sink of bytes.
-use Rattle.std.specs.Prelude.{ℕ, ◌≤◌, List, [], take, Bool, true, false, Option, Some, Result, Ok, Err}
+use Rattle.std.specs.Prelude.{◌≡◌, ℕ, ◌≤◌, List, [], take, Bool, true, false, Option, Some, Result, Ok, Err}
 use Rattle.std.specs.Io.KnownBytes.{Appends}
 use Rattle.vault_text.specs.declared.sink.Stage.{Stage}
 use Rattle.vault_text.specs.declared.sink.Stage.TheVariants.{Unbegun, Begun, Finished}
@@ -36,6 +36,10 @@ pub record MemoryState : Type 0 where
 abbrev pub state_of : MemoryState → SinkState
 state_of m = record { held = Some m.held; stage = m.stage; failures = m.failures }
 
+-- between two states it took these bytes
+abbrev pub MemoryTakes : MemoryState → List ℕ → MemoryState → Type 0
+MemoryTakes old taken new = Takes (state_of old) taken (state_of new) × (new.step ≡ old.step)
+
 -- a sink over memory that fails at each call after a number of them: the memory, how many calls it still
 -- answers, and its failures, those of the memory among them
 pub record FailingState : Type 0 where
@@ -45,3 +49,8 @@ pub record FailingState : Type 0 where
 
 abbrev pub failing_state_of : FailingState → SinkState
 failing_state_of f = record { held = Some f.memory.held; stage = f.memory.stage; failures = f.failures }
+
+-- between two states it took these bytes
+abbrev pub FailingTakes : FailingState → List ℕ → FailingState → Type 0
+FailingTakes old taken new =
+    Takes (failing_state_of old) taken (failing_state_of new) × (new.memory.step ≡ old.memory.step)

@@ -1,9 +1,9 @@
 -- What a sink took in two calls, one after the other.
-use Rattle.std.specs.Prelude.{ℕ, ◌++◌, List, [], Option, Some, None}
-use Rattle.std.proofs.Common.{arith, sym, append_assoc}
+use Rattle.std.specs.Prelude.{ℕ, ◌++◌, List, [], Option, Some, None, refl}
+use Rattle.std.proofs.Common.{arith, sym, append_assoc, ◌∙◌}
 use Rattle.std.proofs.lemmas.List.{append-nil}
 use Rattle.std.specs.Io.KnownBytes.{Appends}
-use Rattle.vault_text.specs.Sink.{SinkState, Takes}
+use Rattle.vault_text.specs.Sink.{FailingState, FailingTakes, MemoryState, MemoryTakes, SinkState, Takes, failing_state_of, state_of}
 
 Appends-none : (known : Option (List ℕ)) → Appends known known []
 Appends-none None = tt
@@ -25,3 +25,18 @@ Takes-more s t u xs ys p q = record {
   appended = Appends-more s.held t.held u.held xs ys p.appended q.appended;
   failures_stay = let a = p.failures_stay in let b = q.failures_stay in omega arith;
 }
+
+-- over memory
+pub MemoryTakes-none : (s : MemoryState) → MemoryTakes s [] s
+MemoryTakes-none s = (Takes-none (state_of s), refl)
+
+pub MemoryTakes-more : (s t u : MemoryState) (xs ys : List ℕ) → MemoryTakes s xs t → MemoryTakes t ys u → MemoryTakes s (xs ++ ys) u
+MemoryTakes-more s t u xs ys p q = (Takes-more (state_of s) (state_of t) (state_of u) xs ys p.0 q.0, q.1 ∙ p.1)
+
+-- over memory that fails after a number of calls
+pub FailingTakes-none : (s : FailingState) → FailingTakes s [] s
+FailingTakes-none s = (Takes-none (failing_state_of s), refl)
+
+pub FailingTakes-more : (s t u : FailingState) (xs ys : List ℕ) → FailingTakes s xs t → FailingTakes t ys u → FailingTakes s (xs ++ ys) u
+FailingTakes-more s t u xs ys p q =
+    (Takes-more (failing_state_of s) (failing_state_of t) (failing_state_of u) xs ys p.0 q.0, q.1 ∙ p.1)

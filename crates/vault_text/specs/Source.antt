@@ -30,6 +30,10 @@ pub record MemoryState : Type 0 where
 abbrev pub state_of : MemoryState → SourceState
 state_of m = record { left = Some m.left; ended = m.ended; failures = 0 }
 
+-- between two states it gave these bytes
+abbrev pub MemoryGives : MemoryState → List ℕ → MemoryState → Type 0
+MemoryGives old given new = Gives (state_of old) given (state_of new) × (new.step ≡ old.step)
+
 -- a source over memory that fails at each call after a number of them: the memory, how many calls it still
 -- answers, and its failures
 pub record FailingState : Type 0 where
@@ -39,3 +43,8 @@ pub record FailingState : Type 0 where
 
 abbrev pub failing_state_of : FailingState → SourceState
 failing_state_of f = record { left = Some f.memory.left; ended = f.memory.ended; failures = f.failures }
+
+-- between two states it gave these bytes
+abbrev pub FailingGives : FailingState → List ℕ → FailingState → Type 0
+FailingGives old given new =
+    Gives (failing_state_of old) given (failing_state_of new) × (new.memory.step ≡ old.memory.step)

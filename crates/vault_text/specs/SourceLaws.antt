@@ -1,8 +1,8 @@
 -- What a source gave in two calls, one after the other.
 use Rattle.std.specs.Prelude.{ℕ, ◌++◌, List, [], Option, Some, None, refl}
-use Rattle.std.proofs.Common.{arith, sym, append_assoc}
+use Rattle.std.proofs.Common.{arith, sym, append_assoc, ◌∙◌}
 use Rattle.std.specs.Io.KnownBytes.{Consumes}
-use Rattle.vault_text.specs.Source.{SourceState, Gives}
+use Rattle.vault_text.specs.Source.{FailingGives, FailingState, Gives, MemoryGives, MemoryState, SourceState, failing_state_of, state_of}
 
 Consumes-none : (known : Option (List ℕ)) → Consumes known known []
 Consumes-none None = tt
@@ -34,3 +34,18 @@ Gives-more s t u xs ys p q = record {
   end_is_real = λ sound e. q.end_is_real (p.end_is_real sound) e;
   failures_stay = let a = p.failures_stay in let b = q.failures_stay in omega arith;
 }
+
+-- over memory
+pub MemoryGives-none : (s : MemoryState) → MemoryGives s [] s
+MemoryGives-none s = (Gives-none (state_of s), refl)
+
+pub MemoryGives-more : (s t u : MemoryState) (xs ys : List ℕ) → MemoryGives s xs t → MemoryGives t ys u → MemoryGives s (xs ++ ys) u
+MemoryGives-more s t u xs ys p q = (Gives-more (state_of s) (state_of t) (state_of u) xs ys p.0 q.0, q.1 ∙ p.1)
+
+-- over memory that fails after a number of calls
+pub FailingGives-none : (s : FailingState) → FailingGives s [] s
+FailingGives-none s = (Gives-none (failing_state_of s), refl)
+
+pub FailingGives-more : (s t u : FailingState) (xs ys : List ℕ) → FailingGives s xs t → FailingGives t ys u → FailingGives s (xs ++ ys) u
+FailingGives-more s t u xs ys p q =
+    (Gives-more (failing_state_of s) (failing_state_of t) (failing_state_of u) xs ys p.0 q.0, q.1 ∙ p.1)

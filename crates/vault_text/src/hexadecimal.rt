@@ -1,6 +1,8 @@
 //! Hexadecimal text that comes in pieces.
-ghost use Rattle.std.specs.Prelude.{◌≡◌, ◌*◌, ◌/◌, ◌≤◌, [], None, Some, Option, if◌then◌else◌, List, ℕ, true, length, take};
-ghost use Rattle.vault_text.specs.Hexadecimal.{Decodes, byte_count, digit_value, new_decoder, unhex, unhex_on};
+ghost use Rattle.std.specs.Prelude.{◌≡◌, ◌*◌, ◌/◌, ◌≤◌, [], None, Some, Option, if◌then◌else◌};
+ghost use Rattle.std.specs.Prelude.{List, ℕ, true, length, take};
+ghost use Rattle.vault_text.specs.Hexadecimal.{Decodes, byte_count, digit_value, new_decoder};
+ghost use Rattle.vault_text.specs.Hexadecimal.{unhex, unhex_on};
 
 use std::marker::Model;
 

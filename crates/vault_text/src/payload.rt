@@ -20,7 +20,12 @@ impl<'a> Model for Payload<'a> {
 
     ghost Value = { Payload };
 
-    ghost view = { λ p. record { label = p.label; salt = p.salt; tag = p.tag; cipher = p.cipher.now } };
+    ghost view = { λ p. record {
+      label = p.label;
+      salt = p.salt;
+      tag = p.tag;
+      cipher = p.cipher.now;
+    } };
 }
 
 impl<'a> Payload<'a> {

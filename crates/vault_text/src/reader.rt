@@ -24,9 +24,9 @@ use std::marker::Model;
 /// How many bytes are decoded at once.
 const RUN_LIMIT: usize = 256;
 
-/// Reads an envelope that comes in pieces of any length. Faults are told at the end alone, since one
-/// that comes earlier in the order may still follow. The ciphertext lies in the memory that the
-/// reader is lent; of the rest of the input it keeps no more than its type has room for.
+/// Reads an envelope that comes in pieces of any length. Faults are told at the end alone, since
+/// one that comes earlier in the order may still follow. The ciphertext lies in the memory that
+/// the reader is lent; of the rest of the input it keeps no more than its type has room for.
 #[derive(Drop)]
 pub struct EnvelopeReader<'a> {
     /// The limit of the plaintext.
@@ -50,8 +50,8 @@ impl<'a> Model for EnvelopeReader<'a> {
 }
 
 impl<'a> EnvelopeReader<'a> {
-    /// A reader that writes the ciphertext to `work`. Of `work`, all but `PADDING_LIMIT` bytes is the
-    /// limit of the plaintext, from which those of the ciphertext and of the input follow.
+    /// A reader that writes the ciphertext to `work`. Of `work`, all but `PADDING_LIMIT` bytes is
+    /// the limit of the plaintext, from which those of the ciphertext and of the input follow.
     pub fn new(work: &'a mut [u8]) -> Self
         requires { IsWorkLength (length work.old) }
         ensures limit { result.limit ≡ limit_of (length work.old) }
@@ -85,8 +85,8 @@ impl<'a> EnvelopeReader<'a> {
     }
 
     /// The payload of the input, or its first fault in the order of the nine steps: `TooLong` over
-    /// `input_limit`, then those of the header line, `BadHex`, `BadPayload`, and `CipherTooLong` where
-    /// the ciphertext does not fit in the memory.
+    /// `input_limit`, then those of the header line, `BadHex`, `BadPayload`, and `CipherTooLong`
+    /// where the ciphertext does not fit in the memory.
     pub fn finish(self) -> Result<Payload<'a>, TextFault>
         ensures { (input : List ℕ) →
             StandsFor self.entry input → result ≡ read_within self.entry.limit input }

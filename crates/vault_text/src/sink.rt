@@ -1,5 +1,6 @@
 //! Where output goes.
-ghost use Rattle.std.specs.Prelude.{◌≡◌, ℕ, ◌-◌, ◌^◌, ◌<◌, ◌≤◌, ◌++◌, List, [], IsErr, IfOk, OnOk, OnErr, length, take};
+ghost use Rattle.std.specs.Prelude.{◌≡◌, ℕ, ◌-◌, ◌^◌, ◌<◌, ◌≤◌, ◌++◌, List, [], IsErr, IfOk};
+ghost use Rattle.std.specs.Prelude.{OnOk, OnErr, length, take};
 ghost use Rattle.vault_text.specs.Failures.{CountsFailure};
 ghost use Rattle.vault_text.specs.Sink.{taken};
 
@@ -68,7 +69,8 @@ pub trait Sink {
 
     ghost takes_none: { (s : Self) → takes s [] s };
 
-    ghost takes_more: { (s t u : Self) (xs ys : List ℕ) → takes s xs t → takes t ys u → takes s (xs ++ ys) u };
+    ghost takes_more: { (s t u : Self) (xs ys : List ℕ)
+        → takes s xs t → takes t ys u → takes s (xs ++ ys) u };
 
     ghost failures_stay: { (s t : Self) (xs : List ℕ) → takes s xs t → failures s ≤ failures t };
 }

@@ -1,5 +1,6 @@
 //! Where input comes from.
-ghost use Rattle.std.specs.Prelude.{◌≡◌, ℕ, ◌-◌, ◌^◌, ◌<◌, ◌≤◌, ◌↔◌, ◌++◌, List, [], Bool, IsTrue, IsErr, IfOk, OnErr, Ok, length, take};
+ghost use Rattle.std.specs.Prelude.{◌≡◌, ℕ, ◌-◌, ◌^◌, ◌<◌, ◌≤◌, ◌↔◌, ◌++◌, List, [], Bool};
+ghost use Rattle.std.specs.Prelude.{IsTrue, IsErr, IfOk, OnErr, Ok, length, take};
 ghost use Rattle.vault_text.specs.Failures.{CountsFailure};
 ghost use Rattle.vault_text.specs.Source.{given};
 
@@ -48,9 +49,11 @@ pub trait Source {
 
     ghost gives_none: { (s : Self) → gives s [] s };
 
-    ghost gives_more: { (s t u : Self) (xs ys : List ℕ) → gives s xs t → gives t ys u → gives s (xs ++ ys) u };
+    ghost gives_more: { (s t u : Self) (xs ys : List ℕ)
+        → gives s xs t → gives t ys u → gives s (xs ++ ys) u };
 
-    ghost nothing_after_end: { (s t : Self) (xs : List ℕ) → gives s xs t → IsTrue (ended s) → (xs ≡ []) × IsTrue (ended t) };
+    ghost nothing_after_end: { (s t : Self) (xs : List ℕ)
+        → gives s xs t → IsTrue (ended s) → (xs ≡ []) × IsTrue (ended t) };
 
     ghost failures_stay: { (s t : Self) (xs : List ℕ) → gives s xs t → failures s ≤ failures t };
 }
@@ -68,7 +71,8 @@ impl<S: Source> Source for &mut S {
 
     ghost gives_none = { λ s. (S.gives_none s.now, refl) };
 
-    ghost gives_more = { λ s t u xs ys g h. (S.gives_more s.now t.now u.now xs ys g.0 h.0, h.1 ∙ g.1) };
+    ghost gives_more = { λ s t u xs ys g h.
+        (S.gives_more s.now t.now u.now xs ys g.0 h.0, h.1 ∙ g.1) };
 
     ghost nothing_after_end = { λ s t xs g. S.nothing_after_end s.now t.now xs g.0 };
 

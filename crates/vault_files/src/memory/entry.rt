@@ -20,7 +20,10 @@ impl<'a> Model for MemFile<'a> {
 
     ghost Value = { Entry };
 
-    ghost view = { λ f. record { path = f.path.now; file = if f.breaks then Broken f.bytes.now else Whole f.bytes.now } };
+    ghost view = { λ f. record {
+      path = f.path.now;
+      file = if f.breaks then Broken f.bytes.now else Whole f.bytes.now;
+    } };
 }
 
 impl<'a> MemFile<'a> {

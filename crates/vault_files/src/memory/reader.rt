@@ -15,7 +15,12 @@ impl<'a> Model for MemFileReader<'a> {
 
     ghost Value = { ReaderState };
 
-    ghost view = { λ r. record { left = r.left.now; breaks = r.breaks; ended = r.ended; failures = r.failures } };
+    ghost view = { λ r. record {
+      left = r.left.now;
+      breaks = r.breaks;
+      ended = r.ended;
+      failures = r.failures;
+    } };
 }
 
 impl<'a> Source for MemFileReader<'a> {

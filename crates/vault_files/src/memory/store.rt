@@ -28,7 +28,11 @@ impl<'a> Model for MemFiles<'a> {
 
     ghost Value = { StoreState };
 
-    ghost view = { λ s. record { entries = s.entries.now; aim = option_map string_bytes s.aim; output = s.output } };
+    ghost view = { λ s. record {
+      entries = s.entries.now;
+      aim = option_map string_bytes s.aim;
+      output = s.output;
+    } };
 }
 
 impl<'a> MemFiles<'a> {

@@ -1,6 +1,7 @@
 //! The header line of an envelope, as it comes in pieces.
 ghost use Rattle.std.specs.Prelude.{◌≡◌, ℕ, List, ◌++◌, [], false};
-ghost use Rattle.vault_text.specs.EnvelopeReader.{head_of, line_on, digits_on, new_line, without_line_ends};
+ghost use Rattle.vault_text.specs.EnvelopeReader.{head_of, line_on, digits_on, new_line};
+ghost use Rattle.vault_text.specs.EnvelopeReader.{without_line_ends};
 
 use crate::fault::TextFault;
 use crate::header::{MARKER, before_line_end, read_header};

@@ -1,4 +1,5 @@
-ghost use Rattle.std.specs.Prelude.{◌≡◌, ◌-◌, ◌^◌, ◌<◌, ◌≤◌, ◌⊎◌, ◌↔◌, [], IsErr, IfOk, OnOk, OnErr, length, min};
+ghost use Rattle.std.specs.Prelude.{◌≡◌, ◌-◌, ◌^◌, ◌<◌, ◌≤◌, ◌⊎◌, ◌↔◌, [], IsErr, IfOk, OnOk};
+ghost use Rattle.std.specs.Prelude.{OnErr, length, min};
 ghost use Rattle.vault_text.specs.Failures.{CountsFailure};
 ghost use Rattle.vault_text.specs.Sink.{Takes, failing_state_of, has_begun, taken};
 
@@ -77,26 +78,24 @@ impl FailingSink {
 }
 
 impl Sink for FailingSink {
-    ghost use Rattle.std.specs.Prelude.{◌≡◌, refl};
-    ghost use Rattle.std.proofs.Common.{◌∙◌};
-    ghost use Rattle.vault_text.specs.SinkLaws.{Takes-none, Takes-more};
+    ghost use Rattle.vault_text.specs.Sink.{FailingTakes};
+    ghost use Rattle.vault_text.specs.SinkLaws.{FailingTakes-none, FailingTakes-more};
 
-    ghost takes = { λ s xs t. Takes (failing_state_of s) xs (failing_state_of t) × (t.memory.step ≡ s.memory.step) };
+    ghost takes = { FailingTakes };
 
     ghost stage = { λ s. s.memory.stage };
 
     ghost failures = { λ s. s.failures };
 
-    ghost takes_none = { λ s. (Takes-none (failing_state_of s), refl) };
+    ghost takes_none = { FailingTakes-none };
 
-    ghost takes_more = { λ s t u xs ys g h. (Takes-more (failing_state_of s) (failing_state_of t) (failing_state_of u) xs ys g.0 h.0, h.1 ∙ g.1) };
+    ghost takes_more = { FailingTakes-more };
 
     ghost failures_stay = { λ s t xs g. g.0.failures_stay };
 
     fn begin(&mut self) -> Result<(), SinkFailed>
         requires { self.old.memory.stage ≡ Stage.Unbegun }
-        ensures takes { Takes (failing_state_of self.old) [] (failing_state_of self.new)
-            × (self.new.memory.step ≡ self.old.memory.step) }
+        ensures takes { FailingTakes self.old [] self.new }
         ensures begun { OnOk result (self.new.memory.stage ≡ Stage.Begun) }
         ensures unbegun { OnErr result (self.new.memory.stage ≡ Stage.Unbegun) }
         ensures calls { self.new.calls ≡ self.old.calls - 1 }
@@ -111,8 +110,7 @@ impl Sink for FailingSink {
     fn put(&mut self, bytes: &[u8]) -> Result<usize, SinkFailed>
         requires begun { self.old.memory.stage ≡ Stage.Begun }
         requires some { 0 < length bytes.now }
-        ensures takes { Takes (failing_state_of self.old) (taken result bytes.now) (failing_state_of self.new)
-            × (self.new.memory.step ≡ self.old.memory.step) }
+        ensures takes { FailingTakes self.old (taken result bytes.now) self.new }
         ensures count { IfOk result (λ n. n ≡ min (length bytes.now) self.old.memory.step) }
         ensures progress { IfOk result (λ n. 1 ≤ n) }
         ensures bound { IfOk result (λ n. n ≤ length bytes.now) }
@@ -132,8 +130,7 @@ impl Sink for FailingSink {
 
     fn finish(&mut self) -> Result<(), SinkFailed>
         requires { self.old.memory.stage ≡ Stage.Begun }
-        ensures takes { Takes (failing_state_of self.old) [] (failing_state_of self.new)
-            × (self.new.memory.step ≡ self.old.memory.step) }
+        ensures takes { FailingTakes self.old [] self.new }
         ensures finished { OnOk result (self.new.memory.stage ≡ Stage.Finished) }
         ensures unfinished { OnErr result (self.new.memory.stage ≡ Stage.Begun) }
         ensures calls { self.new.calls ≡ self.old.calls - 1 }

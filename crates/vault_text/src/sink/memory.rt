@@ -1,4 +1,5 @@
-ghost use Rattle.std.specs.Prelude.{◌≡◌, ◌+◌, ◌-◌, ◌^◌, ◌<◌, ◌≤◌, [], IsErr, IfOk, OnOk, OnErr, length, min};
+ghost use Rattle.std.specs.Prelude.{◌≡◌, ◌+◌, ◌-◌, ◌^◌, ◌<◌, ◌≤◌, [], IsErr, IfOk, OnOk, OnErr};
+ghost use Rattle.std.specs.Prelude.{length, min};
 ghost use Rattle.vault_text.specs.Failures.{CountsFailure};
 ghost use Rattle.vault_text.specs.Sink.{taken, has_begun};
 
@@ -22,7 +23,12 @@ impl Model for MemSink {
 
     ghost Value = { MemoryState };
 
-    ghost view = { λ s. record { held = s.bytes.items; stage = s.stage; failures = s.failures; step = s.step } };
+    ghost view = { λ s. record {
+      held = s.bytes.items;
+      stage = s.stage;
+      failures = s.failures;
+      step = s.step;
+    } };
 
     ghost invariant = { λ s. 1 ≤ s.step };
 }
@@ -57,26 +63,24 @@ impl MemSink {
 }
 
 impl Sink for MemSink {
-    ghost use Rattle.std.specs.Prelude.{◌≡◌, refl};
-    ghost use Rattle.std.proofs.Common.{◌∙◌};
-    ghost use Rattle.vault_text.specs.Sink.{Takes, state_of};
-    ghost use Rattle.vault_text.specs.SinkLaws.{Takes-none, Takes-more};
+    ghost use Rattle.vault_text.specs.Sink.{MemoryTakes};
+    ghost use Rattle.vault_text.specs.SinkLaws.{MemoryTakes-none, MemoryTakes-more};
 
-    ghost takes = { λ s xs t. Takes (state_of s) xs (state_of t) × (t.step ≡ s.step) };
+    ghost takes = { MemoryTakes };
 
     ghost stage = { λ s. s.stage };
 
     ghost failures = { λ s. s.failures };
 
-    ghost takes_none = { λ s. (Takes-none (state_of s), refl) };
+    ghost takes_none = { MemoryTakes-none };
 
-    ghost takes_more = { λ s t u xs ys g h. (Takes-more (state_of s) (state_of t) (state_of u) xs ys g.0 h.0, h.1 ∙ g.1) };
+    ghost takes_more = { MemoryTakes-more };
 
     ghost failures_stay = { λ s t xs g. g.0.failures_stay };
 
     fn begin(&mut self) -> Result<(), SinkFailed>
         requires { self.old.stage ≡ Stage.Unbegun }
-        ensures takes { Takes (state_of self.old) [] (state_of self.new) × (self.new.step ≡ self.old.step) }
+        ensures takes { MemoryTakes self.old [] self.new }
         ensures begun { OnOk result (self.new.stage ≡ Stage.Begun) }
         ensures unbegun { OnErr result (self.new.stage ≡ Stage.Unbegun) }
         ensures failed { CountsFailure self.old.failures self.new.failures result }
@@ -93,7 +97,7 @@ impl Sink for MemSink {
     fn put(&mut self, bytes: &[u8]) -> Result<usize, SinkFailed>
         requires begun { self.old.stage ≡ Stage.Begun }
         requires some { 0 < length bytes.now }
-        ensures takes { Takes (state_of self.old) (taken result bytes.now) (state_of self.new) × (self.new.step ≡ self.old.step) }
+        ensures takes { MemoryTakes self.old (taken result bytes.now) self.new }
         ensures count { IfOk result (λ n. n ≡ min (length bytes.now) self.old.step) }
         ensures progress { IfOk result (λ n. 1 ≤ n) }
         ensures bound { IfOk result (λ n. n ≤ length bytes.now) }
@@ -114,7 +118,7 @@ impl Sink for MemSink {
 
     fn finish(&mut self) -> Result<(), SinkFailed>
         requires { self.old.stage ≡ Stage.Begun }
-        ensures takes { Takes (state_of self.old) [] (state_of self.new) × (self.new.step ≡ self.old.step) }
+        ensures takes { MemoryTakes self.old [] self.new }
         ensures finished { OnOk result (self.new.stage ≡ Stage.Finished) }
         ensures unfinished { OnErr result (self.new.stage ≡ Stage.Begun) }
         ensures failed { CountsFailure self.old.failures self.new.failures result }

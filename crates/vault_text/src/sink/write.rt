@@ -18,13 +18,18 @@ impl<W: Write> Model for WriteSink<W> {
 
     ghost Value = { SinkState };
 
-    ghost view = { λ s. record { held = W.contents s.writer; stage = s.stage; failures = s.failures } };
+    ghost view = { λ s. record {
+      held = W.contents s.writer;
+      stage = s.stage;
+      failures = s.failures;
+    } };
 }
 
 impl<W: Write> WriteSink<W> {
     /// Writes behind what `writer` holds. Opening the sink does not ask it.
     pub fn new(writer: W) -> Self
-        ensures { result ≡ record { held = W.contents writer; stage = Stage.Unbegun; failures = 0 } }
+        ensures { result
+            ≡ record { held = W.contents writer; stage = Stage.Unbegun; failures = 0 } }
     {
         WriteSink {
             writer,

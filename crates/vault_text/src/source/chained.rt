@@ -41,21 +41,28 @@ impl<'a, S: Source> ChainedSource<'a, S> {
 impl<'a, S: Source> Source for ChainedSource<'a, S> {
     ghost use Rattle.std.specs.Prelude.{◌≡◌};
     ghost use Rattle.vault_text.specs.ChainedSource.{GivesChained, chained};
-    ghost use Rattle.vault_text.specs.ChainedSourceLaws.{GivesChained-none, GivesChained-more, GivesChained-failures};
+    ghost use Rattle.vault_text.specs.ChainedSourceLaws.{GivesChained-none, GivesChained-more};
+    ghost use Rattle.vault_text.specs.ChainedSourceLaws.{GivesChained-failures};
 
-    ghost gives = { λ s xs t. GivesChained S.gives S.ended (chained s.front.now s.rest s.ended) xs (chained t.front.now t.rest t.ended) };
+    ghost gives = { λ s xs t. GivesChained S.gives S.ended
+        (chained s.front.now s.rest s.ended) xs (chained t.front.now t.rest t.ended) };
 
     ghost ended = { λ s. s.ended };
 
     ghost failures = { λ s. S.failures s.rest };
 
-    ghost gives_none = { λ s. GivesChained-none S.gives S.ended (chained s.front.now s.rest s.ended) };
+    ghost gives_none = { λ s. GivesChained-none S.gives S.ended
+        (chained s.front.now s.rest s.ended) };
 
-    ghost gives_more = { λ s t u xs ys g h. GivesChained-more S.gives S.ended S.gives_more (chained s.front.now s.rest s.ended) (chained t.front.now t.rest t.ended) (chained u.front.now u.rest u.ended) xs ys g h };
+    ghost gives_more = { λ s t u xs ys g h. GivesChained-more S.gives S.ended S.gives_more
+        (chained s.front.now s.rest s.ended) (chained t.front.now t.rest t.ended)
+        (chained u.front.now u.rest u.ended) xs ys g h };
 
     ghost nothing_after_end = { λ s t xs g. g.nothing_after_end };
 
-    ghost failures_stay = { λ s t xs g. GivesChained-failures S.gives S.ended S.failures S.failures_stay (chained s.front.now s.rest s.ended) (chained t.front.now t.rest t.ended) xs g };
+    ghost failures_stay = { λ s t xs g.
+        GivesChained-failures S.gives S.ended S.failures S.failures_stay
+        (chained s.front.now s.rest s.ended) (chained t.front.now t.rest t.ended) xs g };
 
     fn fill(&mut self, buf: &mut [u8]) -> Result<usize, SourceFailed> {
         if self.front.is_empty() {

@@ -1,4 +1,5 @@
-ghost use Rattle.std.specs.Prelude.{◌≡◌, ◌-◌, ◌^◌, ◌<◌, ◌≤◌, ◌↔◌, IsTrue, IsErr, IfOk, false, length, min};
+ghost use Rattle.std.specs.Prelude.{◌≡◌, ◌-◌, ◌^◌, ◌<◌, ◌≤◌, ◌↔◌, IsTrue, IsErr, IfOk, false};
+ghost use Rattle.std.specs.Prelude.{length, min};
 ghost use Rattle.vault_text.specs.Failures.{CountsFailure};
 ghost use Rattle.vault_text.specs.Source.{given};
 
@@ -43,20 +44,18 @@ impl<'a> FailingSource<'a> {
 }
 
 impl<'a> Source for FailingSource<'a> {
-    ghost use Rattle.std.specs.Prelude.{◌≡◌, refl};
-    ghost use Rattle.std.proofs.Common.{◌∙◌};
-    ghost use Rattle.vault_text.specs.Source.{Gives, failing_state_of};
-    ghost use Rattle.vault_text.specs.SourceLaws.{Gives-none, Gives-more};
+    ghost use Rattle.vault_text.specs.Source.{FailingGives};
+    ghost use Rattle.vault_text.specs.SourceLaws.{FailingGives-none, FailingGives-more};
 
-    ghost gives = { λ s xs t. Gives (failing_state_of s) xs (failing_state_of t) × (t.memory.step ≡ s.memory.step) };
+    ghost gives = { FailingGives };
 
     ghost ended = { λ s. s.memory.ended };
 
     ghost failures = { λ s. s.failures };
 
-    ghost gives_none = { λ s. (Gives-none (failing_state_of s), refl) };
+    ghost gives_none = { FailingGives-none };
 
-    ghost gives_more = { λ s t u xs ys g h. (Gives-more (failing_state_of s) (failing_state_of t) (failing_state_of u) xs ys g.0 h.0, h.1 ∙ g.1) };
+    ghost gives_more = { FailingGives-more };
 
     ghost nothing_after_end = { λ s t xs g. g.0.nothing_after_end };
 
@@ -64,12 +63,11 @@ impl<'a> Source for FailingSource<'a> {
 
     fn fill(&mut self, buf: &mut [u8]) -> Result<usize, SourceFailed>
         requires { 0 < length buf.old }
-        ensures gives { Gives (failing_state_of self.old) (given result buf.new) (failing_state_of self.new)
-            × (self.new.memory.step ≡ self.old.memory.step) }
+        ensures gives { FailingGives self.old (given result buf.new) self.new }
         ensures calls { self.new.calls ≡ self.old.calls - 1 }
         ensures fails { IsErr result ↔ (self.old.calls ≡ 0) }
-        ensures count { IfOk result
-            (λ n. n ≡ min (min (length buf.new) self.old.memory.step) (length self.old.memory.left)) }
+        ensures count { let memory = self.old.memory in IfOk result
+            (λ n. n ≡ min (min (length buf.new) memory.step) (length memory.left)) }
         ensures bound { IfOk result (λ n. n ≤ length buf.new) }
         ensures end { IfOk result (λ n. (n ≡ 0) ↔ IsTrue self.new.memory.ended) }
         ensures failed { CountsFailure self.old.failures self.new.failures result }

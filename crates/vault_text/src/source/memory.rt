@@ -1,4 +1,5 @@
-ghost use Rattle.std.specs.Prelude.{◌≡◌, ◌-◌, ◌^◌, ◌<◌, ◌≤◌, ◌↔◌, IsTrue, IsErr, IfOk, false, length, min};
+ghost use Rattle.std.specs.Prelude.{◌≡◌, ◌-◌, ◌^◌, ◌<◌, ◌≤◌, ◌↔◌, IsTrue, IsErr, IfOk, false};
+ghost use Rattle.std.specs.Prelude.{length, min};
 ghost use Rattle.vault_text.specs.Failures.{CountsFailure};
 ghost use Rattle.vault_text.specs.Source.{given};
 
@@ -39,20 +40,18 @@ impl<'a> MemSource<'a> {
 }
 
 impl<'a> Source for MemSource<'a> {
-    ghost use Rattle.std.specs.Prelude.{◌≡◌, refl};
-    ghost use Rattle.std.proofs.Common.{◌∙◌};
-    ghost use Rattle.vault_text.specs.Source.{Gives, state_of};
-    ghost use Rattle.vault_text.specs.SourceLaws.{Gives-none, Gives-more};
+    ghost use Rattle.vault_text.specs.Source.{MemoryGives};
+    ghost use Rattle.vault_text.specs.SourceLaws.{MemoryGives-none, MemoryGives-more};
 
-    ghost gives = { λ s xs t. Gives (state_of s) xs (state_of t) × (t.step ≡ s.step) };
+    ghost gives = { MemoryGives };
 
     ghost ended = { λ s. s.ended };
 
     ghost failures = { λ _. 0 };
 
-    ghost gives_none = { λ s. (Gives-none (state_of s), refl) };
+    ghost gives_none = { MemoryGives-none };
 
-    ghost gives_more = { λ s t u xs ys g h. (Gives-more (state_of s) (state_of t) (state_of u) xs ys g.0 h.0, h.1 ∙ g.1) };
+    ghost gives_more = { MemoryGives-more };
 
     ghost nothing_after_end = { λ s t xs g. g.0.nothing_after_end };
 
@@ -60,8 +59,9 @@ impl<'a> Source for MemSource<'a> {
 
     fn fill(&mut self, buf: &mut [u8]) -> Result<usize, SourceFailed>
         requires { 0 < length buf.old }
-        ensures gives { Gives (state_of self.old) (given result buf.new) (state_of self.new) × (self.new.step ≡ self.old.step) }
-        ensures count { result ≡ Ok (min (min (length buf.new) self.old.step) (length self.old.left)) }
+        ensures gives { MemoryGives self.old (given result buf.new) self.new }
+        ensures count { result
+            ≡ Ok (min (min (length buf.new) self.old.step) (length self.old.left)) }
         ensures bound { IfOk result (λ n. n ≤ length buf.new) }
         ensures end { IfOk result (λ n. (n ≡ 0) ↔ IsTrue self.new.ended) }
         ensures failed { CountsFailure 0 0 result }

@@ -19,7 +19,11 @@ impl<R: Read> Model for ReadSource<R> {
 
     ghost Value = { SourceState };
 
-    ghost view = { λ s. record { left = R.remaining s.reader; ended = s.ended; failures = s.failures } };
+    ghost view = { λ s. record {
+      left = R.remaining s.reader;
+      ended = s.ended;
+      failures = s.failures;
+    } };
 }
 
 impl<R: Read> ReadSource<R> {

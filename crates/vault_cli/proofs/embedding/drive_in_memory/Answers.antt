@@ -1,9 +1,10 @@
 use Rattle.std.proofs.Common.{map}
 use Rattle.std.specs.String.{string_bytes}
 use Rattle.vault_files.specs.Memory.{StoreState, StoreTakes, file_at}
-use Rattle.vault_cli.specs.Embedding.{SinkTakes}
+use Rattle.vault_text.specs.Sink.{MemoryTakes}
+use Rattle.vault_text.specs.Source.{MemoryGives}
 use Rattle.vault_cli.specs.Program.{asked_by, files_in}
-use Rattle.vault_cli.proofs.EmbeddingFacts.{AimedAt, SinkFailures, SinkSays, SinkStage, SourceGives, StoreFailures, StoreStage, embeds, taken}
+use Rattle.vault_cli.proofs.EmbeddingFacts.{AimedAt, SinkFailures, SinkSays, SinkStage, StoreFailures, StoreStage, embeds, taken}
 use Rattle.vault_cli.proofs.MemoryFacts.{drives-in}
 use Rattle.vault_cli.proofs.embedding.drive_in_memory.Goals as goal
 
@@ -14,7 +15,7 @@ returns-clause-answered c = λ parses.
     c.requires.files_unbegun c.requires.files_empty asks (files_in (file_at c.args.files.now.entries) asks)
     c.args.src.now c.drive.new.src c.requires.src_not_ended
     (drives-in (λ (s : StoreState) path. file_at s.entries path) AimedAt StoreTakes StoreStage StoreFailures
-    SourceGives (λ s. s.ended) (λ _. 0) SinkTakes SinkStage SinkFailures SinkSays asks
+    MemoryGives (λ s. s.ended) (λ _. 0) MemoryTakes SinkStage SinkFailures SinkSays asks
     c.drive.result c.args.files.now c.drive.new.files c.args.src.now c.drive.new.src
     c.args.out.now c.drive.new.out c.args.err.now c.drive.new.err (c.drive.ensures.answered parses))
 
@@ -25,6 +26,6 @@ returns-clause-taken c = λ parses.
     c.requires.files_unbegun c.requires.files_empty asks (files_in (file_at c.args.files.now.entries) asks)
     c.args.src.now c.drive.new.src c.requires.src_not_ended
     (drives-in (λ (s : StoreState) path. file_at s.entries path) AimedAt StoreTakes StoreStage StoreFailures
-    SourceGives (λ s. s.ended) (λ _. 0) SinkTakes SinkStage SinkFailures SinkSays asks
+    MemoryGives (λ s. s.ended) (λ _. 0) MemoryTakes SinkStage SinkFailures SinkSays asks
     c.drive.result c.args.files.now c.drive.new.files c.args.src.now c.drive.new.src
     c.args.out.now c.drive.new.out c.args.err.now c.drive.new.err (c.drive.ensures.answered parses))
