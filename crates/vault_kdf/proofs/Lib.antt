@@ -1,6 +1,8 @@
 pub mod Blocks
 pub mod Bytes
 pub mod ExclusiveOrLemmas
+pub mod HashValueFacts
+pub mod LaneFacts
 pub mod Lengths
 pub mod PaddedKey
 pub mod Rounds

@@ -1,4 +1,5 @@
 pub mod ExclusiveOr
 pub mod Hmac
 pub mod Derivation
+pub mod Lanes
 pub mod Keys
