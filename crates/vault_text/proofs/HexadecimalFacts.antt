@@ -1,11 +1,11 @@
 -- Hexadecimal text, pair by pair.
-use Rattle.std.proofs.Common.{◌≡◌, ℕ, ◌+◌, ◌*◌, ◌/◌, ◌%◌, ◌≤◌, ◌==◌, Bool, true, false, List, [], ◌∷◌, ◌++◌, length, take, drop, Option, Some, None, Result, Ok, Err, eq-eqb, refl, sym, ap, ◌∙◌, arith, inl, inr, append_assoc}
-use Rattle.std.specs.Prelude.{if◌then◌else◌, slice_get, ◌||◌, MatchResult, is_ok, is_some, not}
+use Rattle.std.proofs.Common.{◌≡◌, ℕ, ◌+◌, ◌*◌, ◌%◌, ◌≤◌, ◌==◌, Bool, true, false, List, [], ◌∷◌, ◌++◌, length, take, drop, Option, Some, None, Result, Ok, Err, refl, sym, ap, ◌∙◌, arith, inl, inr, append_assoc}
+use Rattle.std.specs.Prelude.{if◌then◌else◌, slice_get, ◌||◌, is_some, not}
 use Rattle.std.proofs.lemmas.List.{append-nil, length-drop, take-append-drop}
 use Rattle.std.specs.Option.{option_map, option_to_list}
 use Rattle.std.specs.Result.{result_ok}
 use Rattle.std.proofs.lemmas.Bool.{cases_Bool, eqb-true}
-use Rattle.hex.specs.Hex.{decode_of, decode_pairs, decode_sized, digit_or_error, hex_digit_value, pair_value, ◌>>=◌}
+use Rattle.hex.specs.Hex.{decode_pairs, digit_or_error, hex_digit_value, pair_value, ◌>>=◌}
 use Rattle.hex.specs.declared.error.FromHexError.{FromHexError}
 use Rattle.vault_text.specs.Hexadecimal.{DecoderState, new_decoder, unhex, unhex_on, Decodes}
 
@@ -23,10 +23,6 @@ abbrev pub spelled_bytes : List ℕ → Option (List ℕ)
 spelled_bytes [] = Some []
 spelled_bytes (digit ∷ []) = None
 spelled_bytes (high ∷ low ∷ rest) = cons_found (byte_of high low) (spelled_bytes rest)
-
-result_ok-digit : (c i : ℕ) (o : Option ℕ) → result_ok (digit_or_error c i o) ≡ o
-result_ok-digit c i (Some v) = refl
-result_ok-digit c i None = refl
 
 abbrev pub pair_found : Option ℕ → Option ℕ → Option ℕ
 pair_found (Some h) (Some l) = Some (h * 16 + l)
@@ -101,27 +97,10 @@ spelled_bytes-append (digit ∷ []) more even = absurd (omega arith)
 spelled_bytes-append (high ∷ low ∷ rest) more even =
     rw (spelled_bytes-append rest more (omega arith)) (cons_found-both_found (byte_of high low) (spelled_bytes rest) (spelled_bytes more))
 
-unhex-append : (pairs more : List ℕ) → length pairs % 2 ≡ 0 → unhex (pairs ++ more) ≡ both_found (unhex pairs) (unhex more)
+pub unhex-append : (pairs more : List ℕ) → length pairs % 2 ≡ 0 → unhex (pairs ++ more) ≡ both_found (unhex pairs) (unhex more)
 unhex-append pairs more even =
     unhex-spelled_bytes (pairs ++ more) ∙ spelled_bytes-append pairs more even
     ∙ rw (unhex-spelled_bytes pairs, unhex-spelled_bytes more) refl
-
--- what decoding of whole pairs answers, and leaves in its room
-abbrev Answered : List ℕ → Result (List ℕ) FromHexError → Result (Unit {0}) FromHexError → Type 0
-Answered out decoded r = MatchResult decoded (λ bytes. (r ≡ Ok tt) × (out ≡ bytes)) (λ e. r ≡ Err e)
-
-decode_sized-fits : (pairs : List ℕ) (n : ℕ) → length pairs ≡ 2 * n → decode_sized pairs n ≡ decode_of pairs
-decode_sized-fits pairs n fits =
-    let half : (length pairs / 2 == n) ≡ true = eq-eqb (length pairs / 2) n (omega arith) in
-    rw half refl
-
-pub unhex-answered : (pairs out : List ℕ) (n : ℕ) (r : Result (Unit {0}) FromHexError) → length pairs ≡ 2 * n
-    → Answered out (decode_sized pairs n) r → unhex pairs ≡ (if is_ok r then Some out else None)
-unhex-answered pairs out n r fits answered = found (decode_of pairs) (rw (decode_sized-fits pairs n fits) at answered)
-  where
-    found : (decoded : Result (List ℕ) FromHexError) → Answered out decoded r → result_ok decoded ≡ (if is_ok r then Some out else None)
-    found (Ok bytes) answered = rw (answered.0, answered.1) refl
-    found (Err e) answered = rw answered refl
 
 -- where no digit waits, the text stands alone
 unhex_on-aligned : (decoder : DecoderState) (text : List ℕ) → decoder.high ≡ None
@@ -210,3 +189,12 @@ complete-is_new decoder complete = parts decoder.high decoder.is_bad complete
     parts None true complete = cc
     parts (Some digit) true complete = cc
     parts (Some digit) false complete = let none = unhex-spelled_bytes (digit ∷ []) in cc
+
+-- behind a bad digit, or one that waits, whole pairs spell nothing
+pub unhex_on-incomplete : (decoder : DecoderState) (pairs : List ℕ) → unhex_on decoder [] ≡ None → length pairs % 2 ≡ 0 → unhex_on decoder pairs ≡ None
+unhex_on-incomplete decoder pairs incomplete even = parts decoder.high decoder.is_bad incomplete
+  where
+    parts : (high : Option ℕ) (is_bad : Bool) → unhex_on (record { high = high; is_bad = is_bad }) [] ≡ None → unhex_on (record { high = high; is_bad = is_bad }) pairs ≡ None
+    parts high true incomplete = refl
+    parts None false incomplete = let found = unhex-spelled_bytes [] in cc
+    parts (Some digit) false incomplete = unhex-spelled_bytes (digit ∷ pairs) ∙ spelled_bytes-odd (digit ∷ pairs) (omega (arith, even))

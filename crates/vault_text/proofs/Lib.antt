@@ -1,4 +1,3 @@
-pub mod DigitFacts
 pub mod EnvelopeFacts
 pub mod HexadecimalFacts
 pub mod InnerFacts
@@ -9,6 +8,7 @@ pub mod LineFacts
 pub mod Progress
 pub mod BlockFacts
 pub mod BodyFacts
+pub mod ChunkFacts
 pub mod CleanText
 pub mod PayloadFacts
 pub mod Prefixes

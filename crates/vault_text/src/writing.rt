@@ -55,9 +55,11 @@ pub fn write_block<K: Sink>(
     cipher: &[u8],
 ) -> Result<(), SinkFailed>
     requires { K.stage sink.old ≡ Stage.Begun }
-    ensures takes { let text = block (option_copied name.entry) label.now salt.now tag.now cipher.now in
+    ensures takes { let text = block (option_copied name.entry)
+        label.now salt.now tag.now cipher.now in
         OnOk result (K.takes sink.old text sink.new) }
-    ensures prefix { let text = block (option_copied name.entry) label.now salt.now tag.now cipher.now in
+    ensures prefix { let text = block (option_copied name.entry)
+        label.now salt.now tag.now cipher.now in
         (n : ℕ) × K.takes sink.old (take n text) sink.new }
     ensures stage { K.stage sink.new ≡ Stage.Begun }
     ensures failed { CountsFailure (K.failures sink.old) (K.failures sink.new) result }

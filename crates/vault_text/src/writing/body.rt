@@ -23,9 +23,11 @@ pub(super) fn put_body<K: Sink>(
 ) -> Result<(), SinkFailed>
     requires begun { K.stage sink.old ≡ Stage.Begun }
     requires narrow { length indentation.now ≤ INDENTATION_LIMIT }
-    ensures takes { let text = hexadecimal_lines indentation.now (inner_text salt.now tag.now cipher.now) in
+    ensures takes { let text = hexadecimal_lines indentation.now
+        (inner_text salt.now tag.now cipher.now) in
         OnOk result (K.takes sink.old text sink.new) }
-    ensures prefix { let text = hexadecimal_lines indentation.now (inner_text salt.now tag.now cipher.now) in
+    ensures prefix { let text = hexadecimal_lines indentation.now
+        (inner_text salt.now tag.now cipher.now) in
         (n : ℕ) × K.takes sink.old (take n text) sink.new }
     ensures stage { K.stage sink.new ≡ Stage.Begun }
     ensures failed { CountsFailure (K.failures sink.old) (K.failures sink.new) result }

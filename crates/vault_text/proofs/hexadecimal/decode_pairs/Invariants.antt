@@ -1,8 +1,6 @@
-use Rattle.std.proofs.Common.{◌≡◌, ◌*◌, take}
-use Rattle.vault_text.proofs.DigitFacts.{found_below}
-use Rattle.vault_text.proofs.HexadecimalFacts.{spelled_bytes}
+use Rattle.std.proofs.Common.{◌≡◌, ◌*◌, take, Some}
+use Rattle.vault_text.specs.Hexadecimal.{unhex}
 use Rattle.vault_text.proofs.hexadecimal.decode_pairs.Given as goal
 
-abbrev pub invariant-loop-place : goal.invariant-loop-place
-invariant-loop-place l =
-    found_below l.seen (take l.place l.bytes) ≡ spelled_bytes (take (2 * l.place) l.pairs)
+abbrev pub invariant-loop-i : goal.invariant-loop-i
+invariant-loop-i l = unhex (take (16 * l.i) l.pairs) ≡ Some (take (8 * l.i) l.bytes)
