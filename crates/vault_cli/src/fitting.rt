@@ -1,5 +1,5 @@
 //! Runs in memory that fits the input.
-ghost use Rattle.std.specs.Prelude.{◌≡◌, ◌-◌, ◌^◌, ◌<◌, ◌≤◌, ◌⊎◌, ◌++◌, ℕ, List, [], true};
+ghost use Rattle.std.specs.Prelude.{◌≡◌, ◌+◌, ◌-◌, ◌^◌, ◌<◌, ◌≤◌, ◌⊎◌, ◌++◌, ℕ, List, [], true};
 ghost use Rattle.std.specs.Prelude.{false, length, map, unwrap_or};
 ghost use Rattle.vault_text.specs.Limits.{IsWorkLength, limit_of};
 ghost use Rattle.vault_text.specs.declared.limits.TheConstants.{PLAINTEXT_LIMIT};
@@ -139,6 +139,8 @@ fn run_behind<S: Source, K: Sink, E: Sink>(
 fn first_length(hint: usize) -> usize
     ensures least { FIRST_LENGTH ≤ result }
     ensures most { result ≤ LONGEST_FIRST }
+    ensures whole { hint < LONGEST_FIRST → hint < result }
+    ensures tight { FIRST_LENGTH < result → result ≡ hint + 1 }
 {
     if hint < LONGEST_FIRST {
         FIRST_LENGTH.max(hint + 1)
@@ -152,6 +154,7 @@ fn room_for(command: CommandName, length: usize) -> usize
     requires { length ≤ PLAINTEXT_LIMIT }
     ensures work { IsWorkLength result }
     ensures fits { length ≤ room_limit (limit_of result) command }
+    ensures tight { 0 < limit_of result → room_limit (limit_of result - 1) command < length }
 {
     let plaintext = match command {
         CommandName::Encrypt | CommandName::EncryptString => length,
@@ -168,6 +171,7 @@ fn room_for_string(request: &Request) -> usize
     ensures work { IsWorkLength result }
     ensures fits { (length (unwrap_or request.now.string []) ≤ limit_of result)
         ⊎ (limit_of result ≡ PLAINTEXT_LIMIT) }
+    ensures tight { limit_of result ≤ length (unwrap_or request.now.string []) }
 {
     match request.string() {
         Some(string) => string.len().min(PLAINTEXT_LIMIT) + PADDING_LIMIT,
