@@ -14,8 +14,9 @@ use vault_text::{
 };
 
 /// An envelope with no salt, a tag of 32 zero bytes and no ciphertext.
-pub const EMPTY_ENVELOPE: &[u8; 160] =
-    b"$ANSIBLE_VAULT;1.1;AES256\n0a303030303030303030303030303030303030303030303030303030303030303030303030303030\n303030303030303030303030303030303030303030303030300a\n";
+pub const EMPTY_ENVELOPE: &[u8; 160] = b"$ANSIBLE_VAULT;1.1;AES256\n\
+    0a303030303030303030303030303030303030303030303030303030303030303030303030303030\n\
+    303030303030303030303030303030303030303030303030300a\n";
 
 /// The words of a command line, with the program's name before them.
 pub fn line_of(alloc: Global, words: &[&str]) -> Result<Vec<String>, AllocError> {

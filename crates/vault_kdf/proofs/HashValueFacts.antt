@@ -1,12 +1,9 @@
 -- Hash values of SHA-256: their words and their bytes, and the hash value of a message of a block and a digest.
-use Rattle.std.proofs.Common.{◌≡◌, ◌≢◌, ℕ, zero, suc, ◌+◌, ◌-◌, ◌*◌, ◌/◌, ◌%◌, ◌^◌, ◌<◌, ◌≤◌, List, [], ◌∷◌, ◌++◌, length, take, drop, slice_index, slice_index_or, set, map, bit_xor, inl, inr, add-one, below_more, lit<, refl, replicate, sym, ap, subst, ◌∙◌, arith, append_assoc, length-append}
+use Rattle.std.proofs.Common.{◌≡◌, ◌≢◌, ℕ, zero, suc, ◌+◌, ◌-◌, ◌*◌, ◌/◌, ◌%◌, ◌^◌, ◌<◌, ◌≤◌, List, [], ◌∷◌, ◌++◌, length, take, drop, slice_index, slice_index_or, set, bit_xor, inl, inr, add-one, below_more, lit<, refl, replicate, sym, ap, subst, ◌∙◌, arith, append_assoc, length-append}
 use Rattle.std.proofs.lemmas.Bool.{cases_lt}
-use Rattle.std.proofs.lemmas.List.{append-nil, drop_at, get_or_past, get_or-set_other, get_or-set_same, length-replicate, take_all, take_at, take_more}
+use Rattle.std.proofs.lemmas.List.{drop_at, get_or_past, get_or-set_other, get_or-set_same, length-replicate, take_all, take_at, take_more}
 use Rattle.std.proofs.lemmas.Nat.{be_bytes_4, from_be_bytes-to_be_bytes_4, xor_mod, xor_shr}
-use Rattle.std.proofs.lemmas.List.Folds.{concat-append}
-use Rattle.std.proofs.lemmas.List.FromFn.{map-range_with_len_more}
 use Rattle.std.specs.Int.{to_be_bytes, w32}
-use Rattle.std.specs.List.{concat, range_with_len}
 use Rattle.sha2.specs.Sha256.{add_state, compress, digest_bytes, hash_after, initial_hash_256, padded_message, padding, sha256, word_at}
 use Rattle.vault_kdf.specs.Hmac.{hmac, inner_key, outer_key, padded_key, shortened_key}
 use Rattle.vault_kdf.specs.Lanes.{AreWords, lane}
@@ -213,8 +210,3 @@ digest_bytes-xor words xs ys (suc n) each =
       rw (before.0, last) (sym (exclusive_or-append (digest_bytes xs n) (digest_bytes ys n) x y before.1)),
       rw (length-append (digest_bytes xs n) x, length-append (digest_bytes ys n) y, before.1) refl,
     )
-
-pub concat-map_more : (f : ℕ → List ℕ) (n : ℕ) → concat (map f (range_with_len 0 (n + 1))) ≡ concat (map f (range_with_len 0 n)) ++ f n
-concat-map_more f n =
-    ap concat (map-range_with_len_more f 0 n n (omega arith)) ∙ concat-append (map f (range_with_len 0 n)) (f n ∷ [])
-    ∙ ap (λ (last : List ℕ). concat (map f (range_with_len 0 n)) ++ last) (append-nil (f n))

@@ -3,7 +3,8 @@ use Rattle.std.proofs.lemmas.List.{take_all}
 use Rattle.std.proofs.lemmas.Slice.{overwrites, take-put_mid}
 use Rattle.sha2.specs.Sha256.{digest_bytes}
 use Rattle.vault_kdf.specs.Lanes.{lane}
-use Rattle.vault_kdf.proofs.HashValueFacts.{concat-map_more, length-digest_bytes}
+use Rattle.vault_kdf.proofs.HashValueFacts.{length-digest_bytes}
+use Rattle.vault_kdf.proofs.Lengths.{concat-map_more}
 use Rattle.vault_kdf.proofs.lanes.hash_values.digests.Goals as goal
 
 pub loop-j-init : goal.loop-j-init
@@ -19,7 +20,7 @@ loop-j-preserved c =
     let placed = take-put_mid (j * 32) ((j + 1) * 32 - j * 32) bytes digest ((j + 1) * 32) (omega (arith, len)) (omega arith) in (
       search (rules, overwrites),
       rw (c.copy_from_slice.ensures.after, placed, c.loop-j.invariant.1, c.digest.ensures)
-          (sym (concat-map_more (λ (j : ℕ). digest_bytes (lane j values) 8) j)),
+          (sym (concat-map_more (λ (j : ℕ). digest_bytes (lane j values) 8) 0 j j (omega arith))),
     )
 
 pub returns : goal.returns
