@@ -1,9 +1,9 @@
 -- The laws of the outcomes.
-use Rattle.std.proofs.Common.{◌≡◌, ◌≢◌, ℕ, ◌+◌, ◌*◌, ◌≤◌, List, [], ◌∷◌, length, Result, Ok, Err, inl, inr, refl, sym, ap, ◌∙◌, arith}
+use Rattle.std.proofs.Common.{◌≡◌, ◌≢◌, ℕ, ◌*◌, ◌≤◌, List, [], ◌∷◌, length, Result, Ok, Err, inl, inr, refl, sym, ap, ◌∙◌, arith}
 use Rattle.vault_text.specs.Steps.{◌>>=◌}
 use Rattle.vault_core.specs.Decryption.{decryption}
 use Rattle.vault_core.specs.Encryption.{encryption}
-use Rattle.vault_core.specs.Form.{Form, Envelope}
+use Rattle.vault_core.specs.Form.{Envelope}
 use Rattle.vault_core.specs.Laws.{EncryptedDecrypts, RekeyedDecrypts, ShortInputs}
 use Rattle.vault_core.specs.Rekeying.{rekeying}
 use Rattle.vault_core.specs.Secrets.{Secret, SecretList}
@@ -67,12 +67,30 @@ envelope-room limit text command.Decrypt short = short
 envelope-room limit text command.View short = short
 envelope-room limit text command.Rekey short = short
 
+-- how long a text may be that a task has room for wherever so much plaintext does
+abbrev task_room : ℕ → Task → ℕ
+task_room limit (Seal secrets place form salt) = limit
+task_room limit (Open secrets) = 4 * limit
+task_room limit (Reseal secrets new salt) = 4 * limit
+
 -- a text that has room under both limits
 module _ (law : ShortInputs) (smaller larger : ℕ) (text : List ℕ) (more : smaller ≤ larger) where
-  short-performed : (task : Task) (name : CommandName) → task_limit smaller task ≡ input_limit smaller name
-      → length text ≤ room_limit smaller name → performed larger task text ≡ performed smaller task text
-  short-performed (Seal secrets place form salt) name same short =
-      (law smaller larger text more secrets place form no_secrets no_secret salt).0 (sealed-short name same short)
+  short-performed : (task : Task) → length text ≤ task_room smaller task → performed larger task text ≡ performed smaller task text
+  short-performed (Seal secrets place form salt) short =
+      (law smaller larger text more secrets place form no_secrets no_secret salt).0 short
+  short-performed (Open secrets) short = ((law smaller larger text more [] 0 Envelope secrets no_secret []).1 short).0
+  short-performed (Reseal secrets new salt) short = ((law smaller larger text more [] 0 Envelope secrets new salt).1 short).1
+
+  -- every task has room for a text that is no longer than the limit
+  pub string-performed : (task : Task) → length text ≤ smaller → performed larger task text ≡ performed smaller task text
+  string-performed (Seal secrets place form salt) short = short-performed (Seal secrets place form salt) short
+  string-performed (Open secrets) short = short-performed (Open secrets) (omega (arith, short))
+  string-performed (Reseal secrets new salt) short = short-performed (Reseal secrets new salt) (omega (arith, short))
+
+  -- a task takes as much as its command, and has as much room
+  room-of_task : (task : Task) (name : CommandName) → task_limit smaller task ≡ input_limit smaller name
+      → length text ≤ room_limit smaller name → length text ≤ task_room smaller task
+  room-of_task (Seal secrets place form salt) name same short = sealed-short name same short
     where
       sealed-short : (name : CommandName) → smaller ≡ input_limit smaller name → length text ≤ room_limit smaller name
           → length text ≤ smaller
@@ -81,10 +99,8 @@ module _ (law : ShortInputs) (smaller larger : ℕ) (text : List ℕ) (more : sm
       sealed-short command.Decrypt same short = absurd (omega (arith, same))
       sealed-short command.View same short = absurd (omega (arith, same))
       sealed-short command.Rekey same short = absurd (omega (arith, same))
-  short-performed (Open secrets) name same short =
-      ((law smaller larger text more [] 0 Envelope secrets no_secret []).1 (envelope-room smaller text name short)).0
-  short-performed (Reseal secrets new salt) name same short =
-      ((law smaller larger text more [] 0 Envelope secrets new salt).1 (envelope-room smaller text name short)).1
+  room-of_task (Open secrets) name same short = envelope-room smaller text name short
+  room-of_task (Reseal secrets new salt) name same short = envelope-room smaller text name short
 
 short-tasks : (larger smaller : ℕ) (text : List ℕ) (found : Result Task Fault)
     → ((task : Task) → found ≡ Ok task → performed larger task text ≡ performed smaller task text)
@@ -97,4 +113,5 @@ unfolding outcome_within
 short_texts law smaller larger request contents salt input short more =
     let text = text_of_request request input in
     ap answered (short-tasks larger smaller text (prepared request contents salt) (λ task found.
-    short-performed law smaller larger text more task request.command (limit-prepared smaller request contents salt task found) short))
+    short-performed law smaller larger text more task
+    (room-of_task law smaller larger text more task request.command (limit-prepared smaller request contents salt task found) short)))

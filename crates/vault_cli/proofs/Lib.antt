@@ -1,5 +1,4 @@
 pub mod FoundFacts
-pub mod FittingFacts
 pub mod EndingFacts
 pub mod ProgramFacts
 pub mod DriveFacts
@@ -22,3 +21,5 @@ pub mod SettledSamples
 pub mod SettledFacts
 pub mod SettlingFacts
 pub mod TaskFacts
+pub mod RunFacts
+pub mod ReadingFacts

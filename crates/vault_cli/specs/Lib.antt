@@ -14,6 +14,7 @@ pub mod Outcome
 pub mod Run
 pub mod Found
 pub mod Fitting
+pub mod Reading
 pub mod Ending
 pub mod Program
 pub mod Drive

@@ -14,6 +14,7 @@ mod options;
 mod parsing;
 mod passwords;
 mod program;
+mod reading;
 mod refusals;
 mod report_line;
 mod request;
@@ -21,6 +22,7 @@ mod runs;
 mod settling;
 mod status;
 mod task;
+mod text_memory;
 mod vault_id;
 
 pub use command_line::command;

@@ -21,22 +21,8 @@ use crate::task::{Task, prepare};
 use vault_core::{Fault, Ready};
 use vault_text::{MemSource, Sink, Source, Stage};
 
-/// Whether a run of the request asks its source: where its passwords, secret and salt are not
-/// refused, and it has no STRING.
-pub(crate) fn asks_for_input<'r>(
-    request: &'r Request,
-    secret_files: &'r [Vec<u8>],
-    salt: &[u8],
-) -> bool
-    requires { length secret_files.now ≡ length (files_of request.now) }
-    ensures { let contents = map (λ file. file.items) secret_files.now in
-        result ≡ asks_for_input request.now contents salt.now }
-{
-    prepare(request, secret_files, salt).is_ok() && request.string().is_none()
-}
-
 /// Performs the task on the STRING of the request, or else on what the source gives.
-fn perform<'a, S: Source>(
+pub(crate) fn perform<'a, S: Source>(
     task: &'a Task<'_>,
     request: &Request,
     work: &'a mut [u8],
@@ -61,7 +47,7 @@ fn perform<'a, S: Source>(
 }
 
 /// Writes what is ready, and reports where the output fails.
-fn deliver<K: Sink, E: Sink>(ready: Ready<'_>, out: &mut K, err: &mut E) -> Status
+pub(crate) fn deliver<K: Sink, E: Sink>(ready: Ready<'_>, out: &mut K, err: &mut E) -> Status
     requires out_unbegun { K.stage out.old ≡ Stage.Unbegun }
     requires err_unbegun { E.stage err.old ≡ Stage.Unbegun }
     ensures status { (result ≡ Status.Success) ⊎ (result ≡ Status.DeviceFailed) }

@@ -3,7 +3,9 @@ ghost use Rattle.std.specs.Prelude.{◌≡◌, ℕ, ◌+◌, ◌<◌, ◌≤◌,
 ghost use Rattle.vault_core.specs.Form.{form_of};
 ghost use Rattle.vault_core.specs.Input.{IsWhole, UnlessUnreadable};
 ghost use Rattle.vault_text.specs.Limits.{IsWorkLength, limit_of};
+ghost use Rattle.vault_text.specs.declared.limits.TheConstants.{PLAINTEXT_LIMIT};
 ghost use Rattle.vault_cli.specs.Outcome.{performed, task_limit};
+ghost use Rattle.vault_cli.specs.Reading.{UnlessOutOfMemory};
 ghost use Rattle.vault_cli.specs.Request.{files_of};
 ghost use Rattle.vault_cli.specs.StoredTask.{task_in};
 ghost use Rattle.vault_cli.specs.Task.{HasPlace, prepared, reseal_of, salt_of, seal_of};
@@ -11,8 +13,13 @@ ghost use Rattle.vault_cli.specs.Task.{HasPlace, prepared, reseal_of, salt_of, s
 use crate::command_name::CommandName;
 use crate::limits::SEALING_SALT_LENGTH;
 use crate::passwords::{NewSecret, new_secret_of, secrets_of};
+use crate::reading::{Plaintext, read_envelope, read_plaintext};
 use crate::request::Request;
-use vault_core::{Fault, Form, Ready, Secrets, prepare_decrypt, prepare_encrypt, prepare_rekey};
+use crate::text_memory::TextMemory;
+use vault_core::{
+    Fault, Form, Ready, Secrets, decrypt_payload, encrypt_plaintext, prepare_decrypt,
+    prepare_encrypt, prepare_rekey, rekey_payload,
+};
 use vault_kdf::Meter;
 use vault_text::{Salt, Source};
 
@@ -162,6 +169,41 @@ impl<'p> Task<'p> {
                     salt,
                     &mut meter,
                 )
+            }
+        }
+    }
+
+    /// Reads the input in memory that grows with it, and does with it what is to be done.
+    pub(crate) fn perform_growing<'a, S: Source>(
+        &'a self,
+        src: &mut S,
+        memory: &'a mut TextMemory,
+    ) -> Result<Ready<'a>, Fault>
+        requires chosen { HasPlace (task_in self.now) }
+        ensures answer { let bound = task_limit PLAINTEXT_LIMIT (task_in self.now) in
+            (input : List ℕ) × S.gives src.old input src.new × (length input ≤ bound + 1)
+            × UnlessOutOfMemory (S.failures src.old) (S.failures src.new) result
+            (length input ≤ bound)
+            (IsWhole bound (S.ended src.new) input
+            × (result ≡ performed PLAINTEXT_LIMIT (task_in self.now) input)) }
+    {
+        let mut meter = Meter::new();
+        match self {
+            Task::Seal {
+                secrets,
+                place,
+                form,
+                salt,
+            } => {
+                let Plaintext { work, len } = read_plaintext(src, memory)?;
+                encrypt_plaintext(work, len, secrets, *place, *form, salt, &mut meter)
+            }
+            Task::Open { secrets } => {
+                decrypt_payload(read_envelope(src, memory)?, secrets, &mut meter)
+            }
+            Task::Reseal { secrets, new, salt } => {
+                let payload = read_envelope(src, memory)?;
+                rekey_payload(payload, secrets, new.label, new.password, salt, &mut meter)
             }
         }
     }

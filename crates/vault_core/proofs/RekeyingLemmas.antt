@@ -1,14 +1,20 @@
--- The answers of rekeying, by what decrypting gives.
-use Rattle.std.proofs.Common.{◌≡◌, ℕ, true, false, List, Ok, Err, refl}
-use Rattle.vault_core.specs.Decryption.{decryption}
+-- The answers of rekeying, by what decrypting gives, and of resealing, by what opening gives.
+use Rattle.std.proofs.Common.{◌≡◌, ◌≢◌, ℕ, true, false, List, Result, Ok, Err, refl, sym, ◌∙◌, inl, inr}
+use Rattle.std.proofs.lemmas.Bool.{cases_Bool}
+use Rattle.vault_text.specs.Envelope.{Payload}
+use Rattle.vault_text.specs.Steps.{◌>>=◌}
+use Rattle.vault_core.specs.Decryption.{decryption, payload_of}
 use Rattle.vault_core.specs.Encryption.{is_vault}
 use Rattle.vault_core.specs.Form.{Envelope}
+use Rattle.vault_core.specs.Opening.{opening}
 use Rattle.vault_core.specs.Ready.{Ready}
-use Rattle.vault_core.specs.Rekeying.{rekeying}
+use Rattle.vault_core.specs.Rekeying.{rekeying, resealed, resealing}
 use Rattle.vault_core.specs.Sealing.{sealed, text_in}
 use Rattle.vault_core.specs.Secrets.{Secret, SecretList}
 use Rattle.vault_core.specs.declared.fault.Fault.{Fault}
-use Rattle.vault_core.specs.declared.fault.Fault.TheVariants.{AlreadyVault}
+use Rattle.vault_core.specs.declared.fault.Fault.TheVariants.{AlreadyVault, Read}
+use Rattle.vault_core.specs.declared.fault.Role.TheVariants.{Input}
+use Rattle.vault_core.proofs.DecryptionLemmas.{opening-is_no_read}
 
 module _ (limit : ℕ) (secrets : SecretList) (new : Secret) (salt input : List ℕ) where
   pub rekeying-Err : (fault : Fault) → Err fault ≡ decryption limit secrets input → rekeying limit secrets new salt input ≡ Err fault
@@ -25,3 +31,49 @@ module _ (limit : ℕ) (secrets : SecretList) (new : Secret) (salt input : List 
       ≡ Ok (record { output = text_in Envelope (sealed new salt opened.output); tried = opened.tried })
   unfolding rekeying
   rekeying-sealed opened h plain = rw (← h, plain) refl
+
+  -- the same as reading the payload and resealing it
+  pub rekeying-resealing : rekeying limit secrets new salt input ≡ (payload_of limit input >>= resealing secrets new salt)
+  unfolding rekeying decryption resealing
+  rekeying-resealing = by_payload (payload_of limit input)
+    where
+      by_payload : (read : Result Payload Fault)
+          → ((read >>= opening secrets) >>= resealed new salt) ≡ (read >>= resealing secrets new salt)
+      by_payload (Ok payload) = refl
+      by_payload (Err fault) = refl
+
+  pub rekeying-no_payload : (fault : Fault) → Err fault ≡ payload_of limit input → rekeying limit secrets new salt input ≡ Err fault
+  rekeying-no_payload fault h = rw (rekeying-resealing, ← h) refl
+
+  pub rekeying-payload : (payload : Payload) → Ok payload ≡ payload_of limit input
+      → rekeying limit secrets new salt input ≡ resealing secrets new salt payload
+  rekeying-payload payload h = rw (rekeying-resealing, ← h) refl
+
+module _ (secrets : SecretList) (new : Secret) (salt : List ℕ) (payload : Payload) where
+  pub resealing-Err : (fault : Fault) → Err fault ≡ opening secrets payload → resealing secrets new salt payload ≡ Err fault
+  unfolding resealing
+  resealing-Err fault h = rw (← h) refl
+
+  pub resealing-vault : (opened : Ready) → Ok opened ≡ opening secrets payload → is_vault opened.output ≡ true
+      → resealing secrets new salt payload ≡ Err AlreadyVault
+  unfolding resealing
+  resealing-vault opened h vault = rw (← h, vault) refl
+
+  pub resealing-sealed : (opened : Ready) → Ok opened ≡ opening secrets payload → is_vault opened.output ≡ false
+      → resealing secrets new salt payload
+      ≡ Ok (record { output = text_in Envelope (sealed new salt opened.output); tried = opened.tried })
+  unfolding resealing
+  resealing-sealed opened h plain = rw (← h, plain) refl
+
+module _ (secrets : SecretList) (new : Secret) (salt : List ℕ) (payload : Payload) (fault : Fault) (refused : resealing secrets new salt payload ≡ Err fault) where
+  pub resealing-is_no_read : fault ≢ Read Input
+  resealing-is_no_read read = by_opened (opening secrets payload) refl
+    where
+      by_opened : (answer : Result Ready Fault) → opening secrets payload ≡ answer → ⊥
+      by_opened (Err other) known =
+          let same = sym (resealing-Err secrets new salt payload other (sym known)) ∙ refused in
+          opening-is_no_read secrets payload other known cc
+      by_opened (Ok opened) known = elim (cases_Bool (is_vault opened.output)) [
+        | inl vault ↦ let same = sym (resealing-vault secrets new salt payload opened (sym known) vault) ∙ refused in cc
+        | inr plain ↦ let other = sym (resealing-sealed secrets new salt payload opened (sym known) plain) ∙ refused in cc
+      ]

@@ -1,9 +1,11 @@
 -- What `rekey` answers.
 use Rattle.std.specs.Prelude.{ℕ, if◌then◌else◌, List, Result, Ok, Err}
+use Rattle.vault_text.specs.Envelope.{Payload}
 use Rattle.vault_text.specs.Steps.{◌>>=◌}
 use Rattle.vault_core.specs.Decryption.{decryption}
 use Rattle.vault_core.specs.Encryption.{is_vault}
 use Rattle.vault_core.specs.Form.{Envelope}
+use Rattle.vault_core.specs.Opening.{opening}
 use Rattle.vault_core.specs.Ready.{Ready}
 use Rattle.vault_core.specs.Sealing.{sealed, text_in}
 use Rattle.vault_core.specs.Secrets.{Secret, SecretList}
@@ -18,6 +20,12 @@ resealed new salt opened =
       output = text_in Envelope (sealed new salt opened.output);
       tried = opened.tried;
     })
+
+-- the plaintext of the payload under the new secret, or the first fault
+unfoldable pub resealing : SecretList → Secret → List ℕ → Payload → Result Ready Fault
+resealing secrets new salt payload = do
+  opened ← opening secrets payload
+  resealed new salt opened
 
 -- the plaintext of the input under the new secret, or the first fault
 unfoldable pub rekeying : ℕ → SecretList → Secret → List ℕ → List ℕ → Result Ready Fault

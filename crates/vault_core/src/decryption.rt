@@ -1,16 +1,19 @@
 //! Decrypting a vault.
 ghost use Rattle.std.specs.Prelude.{◌≡◌, ℕ, ◌+◌, ◌<◌, ◌≤◌, ◌^◌, List, length};
+ghost use Rattle.vault_core.specs.Agreement.{tries};
 ghost use Rattle.vault_core.specs.Decryption.{decryption, decryption_derivations};
 ghost use Rattle.vault_core.specs.Input.{IsWhole, UnlessUnreadable};
+ghost use Rattle.vault_core.specs.Opening.{opening};
+ghost use Rattle.vault_core.specs.Secrets.{tried_order};
 ghost use Rattle.vault_text.specs.Limits.{IsWorkLength, envelope_limit, limit_of};
 
 use crate::fault::Fault;
 use crate::input::read_payload;
-use crate::opening::{Opened, open};
+use crate::opening::open;
 use crate::ready::Ready;
 use crate::secrets::Secrets;
 use vault_kdf::Meter;
-use vault_text::Source;
+use vault_text::{Payload, Source};
 
 /// Reads an envelope and opens it with the first of the secrets, in the tried order, that agrees
 /// with its tag.
@@ -37,28 +40,23 @@ pub fn prepare_decrypt<'a, S: Source>(
         × (result ≡ decryption limit secrets.now input)
         × (meter.new ≡ meter.old + decryption_derivations limit secrets.now input)) }
 {
-    Ok(Ready::plain(read_and_open(src, work, secrets, meter)?))
+    let payload = read_payload(src, work)?;
+    decrypt_payload(payload, secrets, meter)
 }
 
-/// Reads an envelope and opens it, as `prepare_decrypt` says.
-pub(crate) fn read_and_open<'a, S: Source>(
-    src: &mut S,
-    work: &'a mut [u8],
+/// Opens the payload of an envelope, as `prepare_decrypt` does once it has read it.
+///
+/// All of it happens where the ciphertext lies. [`Fault::NoSecretFits`] comes before
+/// [`Fault::BadPadding`]; after either that memory holds any bytes.
+pub fn decrypt_payload<'a>(
+    payload: Payload<'a>,
     secrets: &Secrets,
     meter: &mut Meter,
-) -> Result<Opened<'a>, Fault>
-    requires room { IsWorkLength (length work.old) }
+) -> Result<Ready<'a>, Fault>
     requires countable { meter.old < 2 ^ 62 }
-    ensures answer { let limit = limit_of (length work.old) in
-        (input : List ℕ) × S.gives src.old input src.new
-        × (length input ≤ envelope_limit limit + 1)
-        × UnlessUnreadable (S.failures src.old) (S.failures src.new) result
-        ((length input ≤ envelope_limit limit) × (meter.new ≡ meter.old))
-        (IsWhole (envelope_limit limit) (S.ended src.new) input
-        × (result ≡ decryption limit secrets.now input)
-        × (meter.new ≡ meter.old + decryption_derivations limit secrets.now input)) }
-    ensures countable { meter.new < 2 ^ 63 }
+    ensures answer { result ≡ opening secrets.now payload.entry }
+    ensures counted { meter.new
+        ≡ meter.old + tries payload.entry (tried_order secrets.now payload.entry.label) }
 {
-    let payload = read_payload(src, work)?;
-    open(payload, secrets, meter)
+    Ok(Ready::plain(open(payload, secrets, meter)?))
 }

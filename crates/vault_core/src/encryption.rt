@@ -1,10 +1,11 @@
 //! Encrypting a plaintext.
-ghost use Rattle.std.specs.Prelude.{◌≡◌, ℕ, ◌+◌, ◌<◌, ◌≤◌, ◌^◌, List, length};
+ghost use Rattle.std.specs.Prelude.{◌≡◌, ℕ, ◌+◌, ◌<◌, ◌≤◌, ◌^◌, List, length, take};
 ghost use Rattle.vault_core.specs.Encryption.{encryption, is_vault};
 ghost use Rattle.vault_core.specs.Form.{form_of};
 ghost use Rattle.vault_core.specs.Input.{IsWhole, UnlessUnreadable};
 ghost use Rattle.vault_core.specs.Sealing.{sealing_derivations};
 ghost use Rattle.vault_text.specs.Limits.{IsWorkLength, limit_of};
+ghost use Rattle.vault_text.specs.declared.limits.TheConstants.{PADDING_LIMIT};
 
 use crate::fault::Fault;
 use crate::form::Form;
@@ -44,6 +45,31 @@ pub fn prepare_encrypt<'a, S: Source>(
         × (meter.new ≡ meter.old + sealing_derivations result)) }
 {
     let n = read_plaintext(src, work)?;
+    encrypt_plaintext(work, n, secrets, choice, form, salt, meter)
+}
+
+/// Seals the plaintext that stands in the first `n` bytes of `work`, as `prepare_encrypt` does once
+/// it has read it.
+///
+/// All of it happens in `work`, in which a whole block of padding has room behind the plaintext.
+/// [`Fault::EmptyString`], for a block alone, comes before [`Fault::AlreadyVault`].
+pub fn encrypt_plaintext<'a>(
+    work: &'a mut [u8],
+    n: usize,
+    secrets: &'a Secrets,
+    choice: usize,
+    form: Form<'a>,
+    salt: &'a Salt,
+    meter: &mut Meter,
+) -> Result<Ready<'a>, Fault>
+    requires within { n + PADDING_LIMIT ≤ length work.old }
+    requires chosen { choice < length secrets.now.secrets }
+    requires countable { meter.old < 2 ^ 62 }
+    ensures answer { (limit : ℕ) → n ≤ limit
+        → result ≡ encryption limit secrets.now.secrets choice (form_of form.entry) salt.now
+        (take n work.old) }
+    ensures counted { meter.new ≡ meter.old + sealing_derivations result }
+{
     if form.is_block() && n == 0 {
         return Err(Fault::EmptyString);
     }

@@ -1,21 +1,23 @@
 //! Giving a vault a new secret.
 ghost use Rattle.std.specs.Prelude.{◌≡◌, ℕ, ◌+◌, ◌<◌, ◌≤◌, ◌^◌, List, length};
+ghost use Rattle.vault_core.specs.Agreement.{tries};
 ghost use Rattle.vault_core.specs.Decryption.{decryption_derivations};
 ghost use Rattle.vault_core.specs.Input.{IsWhole, UnlessUnreadable};
-ghost use Rattle.vault_core.specs.Rekeying.{rekeying};
+ghost use Rattle.vault_core.specs.Rekeying.{rekeying, resealing};
 ghost use Rattle.vault_core.specs.Sealing.{sealing_derivations};
+ghost use Rattle.vault_core.specs.Secrets.{tried_order};
 ghost use Rattle.vault_text.specs.Limits.{IsWorkLength, envelope_limit, limit_of};
 
-use crate::decryption::read_and_open;
 use crate::encryption::is_vault;
 use crate::fault::Fault;
 use crate::form::Form;
-use crate::opening::Opened;
+use crate::input::read_payload;
+use crate::opening::{Opened, open};
 use crate::ready::Ready;
 use crate::sealing::seal;
 use crate::secrets::Secrets;
 use vault_kdf::Meter;
-use vault_text::{Label, Salt, Source};
+use vault_text::{Label, Payload, Salt, Source};
 
 /// Reads an envelope, opens it as `prepare_decrypt` does, and seals its plaintext with a new label,
 /// a new password and a new salt.
@@ -45,7 +47,32 @@ pub fn prepare_rekey<'a, S: Source>(
         × (meter.new ≡ meter.old + decryption_derivations limit secrets.now input
         + sealing_derivations result)) }
 {
-    let Opened { body, len, tried } = read_and_open(src, work, secrets, meter)?;
+    let payload = read_payload(src, work)?;
+    rekey_payload(payload, secrets, new, password, salt, meter)
+}
+
+/// Opens the payload of an envelope and seals its plaintext anew, as `prepare_rekey` does once it
+/// has read it.
+///
+/// All of it happens where the ciphertext lies, which holds one text at any moment. Faults come in
+/// this order: [`Fault::NoSecretFits`], [`Fault::BadPadding`], [`Fault::AlreadyVault`]. After one
+/// that memory holds any bytes.
+pub fn rekey_payload<'a>(
+    payload: Payload<'a>,
+    secrets: &Secrets,
+    new: &'a Label,
+    password: &[u8],
+    salt: &'a Salt,
+    meter: &mut Meter,
+) -> Result<Ready<'a>, Fault>
+    requires countable { meter.old < 2 ^ 62 }
+    ensures answer { result ≡ resealing secrets.now
+        (record { label = new.now; password = password.now }) salt.now payload.entry }
+    ensures counted { meter.new
+        ≡ meter.old + tries payload.entry (tried_order secrets.now payload.entry.label)
+        + sealing_derivations result }
+{
+    let Opened { body, len, tried } = open(payload, secrets, meter)?;
     if is_vault(&body[..len]) {
         return Err(Fault::AlreadyVault);
     }

@@ -9,7 +9,7 @@ use Rattle.std.proofs.lemmas.List.Sums.{sum_by-cons}
 use Rattle.vault_text.specs.Steps.{◌>>=◌}
 use Rattle.vault_text.specs.Hexadecimal.{DecoderState, unhex_on, Decodes}
 use Rattle.vault_text.specs.InnerText.{Parts, cut, is_line_feed}
-use Rattle.vault_text.specs.InnerReader.{PartState, InnerState, TakesDigits, part_on, payload_of, payload_on, rest_of_parts}
+use Rattle.vault_text.specs.InnerReader.{PartState, InnerState, TakesDigits, inner_in, part_on, payload_of, payload_on, rest_of_parts}
 use Rattle.vault_text.specs.declared.limits.TheConstants.{TAG_LENGTH}
 use Rattle.vault_text.specs.declared.fault.TextFault.{TextFault}
 use Rattle.vault_text.specs.declared.fault.TextFault.TheVariants.{BadPayload, CipherTooLong}
@@ -25,9 +25,10 @@ kept_bytes limit fault is_long bytes out None = refl
 kept_bytes limit fault is_long bytes out (Some rest) = rw (append_assoc bytes out rest) refl
 
 -- the bytes that the digits complete stand behind those of the part
-pub TakesDigits-kept : (limit : ℕ) (bytes digits out : List ℕ) (old new : DecoderState) (is_long : Bool) → Decodes old digits out new
-    → TakesDigits (record { bytes = bytes; decoder = old; limit = limit; is_long = is_long }) digits (record { bytes = bytes ++ out; decoder = new; limit = limit; is_long = is_long })
-TakesDigits-kept limit bytes digits out old new is_long decoded = record {
+pub TakesDigits-kept : (limit room : ℕ) (bytes digits out : List ℕ) (old new : DecoderState) (is_long : Bool) → Decodes old digits out new
+    → TakesDigits (record { bytes = bytes; decoder = old; limit = limit; room = room; is_long = is_long }) digits (record { bytes = bytes ++ out; decoder = new; limit = limit; room = room; is_long = is_long })
+TakesDigits-kept limit room bytes digits out old new is_long decoded = record {
+  memory = record { limit = refl; room = refl };
   same = λ fault more. rw (decoded.spelled more) (kept_bytes limit fault is_long bytes out (unhex_on new more));
 }
 
@@ -161,6 +162,13 @@ pub payload_on-cipher : (inner : InnerState) (cipher : PartState) (text more lab
     → payload_on inner label (text ++ more) ≡ payload_on (record { part = inner.part; salt = inner.salt; tag = inner.tag; cipher = cipher }) label more
 unfolding payload_on
 payload_on-cipher inner cipher text more label here taken = rw (here, taken.same CipherTooLong more) refl
+
+-- ---- other memory
+
+-- the memory at hand changes no answer
+pub payload_on-moved : (room : ℕ) (inner : InnerState) (label text : List ℕ) → payload_on (inner_in room inner) label text ≡ payload_on inner label text
+unfolding payload_on
+payload_on-moved room inner label text = refl
 
 -- ---- the end of the text
 

@@ -18,7 +18,7 @@ header_line-other b text other =
     let step : 1 + position_or_len is_line_end text ≡ suc (position_or_len is_line_end text) = omega arith in
     rw (other, step) refl
 
-without_line_ends-end : (b : ℕ) (text : List ℕ) → is_line_end b ≡ true → without_line_ends (b ∷ text) ≡ without_line_ends text
+pub without_line_ends-end : (b : ℕ) (text : List ℕ) → is_line_end b ≡ true → without_line_ends (b ∷ text) ≡ without_line_ends text
 without_line_ends-end b text end = rw end refl
 
 without_line_ends-other : (b : ℕ) (text : List ℕ) → is_line_end b ≡ false → without_line_ends (b ∷ text) ≡ b ∷ without_line_ends text
@@ -65,20 +65,55 @@ header_line-whole text past =
     let whole = header_line-goes_on text [] past in
     rw append-nil at whole
 
--- ---- a text without line ends, run by run
+-- the line with its end
+pub header_line-cut : (text : List ℕ) → length (header_line text) < length text
+    → header_line (take (length (header_line text) + 1) text) ≡ header_line text
+header_line-cut [] inside = absurd (omega arith)
+header_line-cut (b ∷ text) inside =
+    elim (cases_Bool (is_line_end b)) [
+      | inl end ↦ rw (header_line-end b text end) (header_line-end b [] end)
+      | inr other ↦
+          let shorter = rw (header_line-other b text other) at inside in
+          let on : suc (length (header_line text)) + 1 ≡ suc (length (header_line text) + 1) = omega arith in
+          rw (header_line-other b text other, on, header_line-other b (take (length (header_line text) + 1) text) other)
+          (ap (λ rest. b ∷ rest) (header_line-cut text (omega (arith, shorter))))
+    ]
 
--- the front of a text up to its first line end are digits of the body
-pub without_line_ends-run : (text : List ℕ) (n : ℕ)
-    → without_line_ends text ≡ header_line (take n text) ++ without_line_ends (drop (length (header_line (take n text))) text)
-without_line_ends-run [] zero = refl
-without_line_ends-run [] (suc n) = refl
-without_line_ends-run (b ∷ text) zero = refl
-without_line_ends-run (b ∷ text) (suc n) =
+-- no digit stands in front of what follows the line end
+pub without_line_ends-cut : (text : List ℕ) → length (header_line text) < length text
+    → without_line_ends (drop (length (header_line text)) (take (length (header_line text) + 1) text)) ≡ []
+without_line_ends-cut [] inside = absurd (omega arith)
+without_line_ends-cut (b ∷ text) inside =
+    elim (cases_Bool (is_line_end b)) [
+      | inl end ↦ rw (header_line-end b text end) (without_line_ends-end b [] end)
+      | inr other ↦
+          let shorter = rw (header_line-other b text other) at inside in
+          let on : suc (length (header_line text)) + 1 ≡ suc (length (header_line text) + 1) = omega arith in
+          rw (header_line-other b text other, on) (without_line_ends-cut text (omega (arith, shorter)))
+    ]
+
+-- ---- a run of digits
+
+-- the front of a text up to its first line end, and what follows it
+pub header_line-front : (text : List ℕ) (n : ℕ) → header_line (take n text) ++ drop (length (header_line (take n text))) text ≡ text
+header_line-front [] zero = refl
+header_line-front [] (suc n) = refl
+header_line-front (b ∷ text) zero = refl
+header_line-front (b ∷ text) (suc n) =
     elim (cases_Bool (is_line_end b)) [
       | inl end ↦ rw (header_line-end b (take n text) end) refl
+      | inr other ↦ rw (header_line-other b (take n text) other) (ap (λ rest. b ∷ rest) (header_line-front text n))
+    ]
+
+-- it has no line ends
+pub without_line_ends-line : (text : List ℕ) → without_line_ends (header_line text) ≡ header_line text
+without_line_ends-line [] = refl
+without_line_ends-line (b ∷ text) =
+    elim (cases_Bool (is_line_end b)) [
+      | inl end ↦ rw (header_line-end b text end) refl
       | inr other ↦
-          rw (header_line-other b (take n text) other, without_line_ends-other b text other)
-          (ap (λ rest. b ∷ rest) (without_line_ends-run text n))
+          rw (header_line-other b text other, without_line_ends-other b (header_line text) other)
+          (ap (λ rest. b ∷ rest) (without_line_ends-line text))
     ]
 
 -- ---- the front of a text

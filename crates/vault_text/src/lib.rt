@@ -33,7 +33,7 @@ pub use limits::{
     SALT_LIMIT, TAG_LENGTH,
 };
 pub use payload::Payload;
-pub use reader::EnvelopeReader;
+pub use reader::{EnvelopeReader, GrowingReader};
 pub use salt::Salt;
 pub use sink::{FailingSink, MemSink, Sink, SinkFailed, Stage, WriteSink, put_all};
 pub use source::{

@@ -8,6 +8,7 @@ ghost use Rattle.vault_text.specs.declared.limits.TheConstants.{ENVELOPE_LIMIT};
 
 mod body;
 mod cipher_part;
+mod growing;
 mod header_line;
 mod inner_text;
 mod short_part;
@@ -15,10 +16,9 @@ mod short_part;
 mod tests;
 
 use crate::fault::TextFault;
-use crate::limits::{PADDING_LIMIT, envelope_limit};
+use crate::limits::PADDING_LIMIT;
 use crate::payload::Payload;
-use body::BodyReader;
-use header_line::HeaderLine;
+pub use growing::GrowingReader;
 use std::marker::Model;
 
 /// How many bytes are decoded at once.
@@ -29,24 +29,19 @@ const RUN_LIMIT: usize = 256;
 /// the reader is lent; of the rest of the input it keeps no more than its type has room for.
 #[derive(Drop)]
 pub struct EnvelopeReader<'a> {
-    /// The limit of the plaintext.
-    limit: usize,
-    /// How many bytes were given, or the last number of 64 bits.
-    fed: usize,
-    line: HeaderLine,
-    body: BodyReader<'a>,
+    reader: GrowingReader<'a>,
 }
 
 impl<'a> Model for EnvelopeReader<'a> {
     ghost use Rattle.std.specs.Prelude.{◌≤◌};
-    ghost use Rattle.vault_text.specs.EnvelopeReader.{ReaderState};
-    ghost use Rattle.vault_text.specs.declared.limits.TheConstants.{PLAINTEXT_LIMIT};
+    ghost use Rattle.vault_text.specs.EnvelopeReader.{ReaderState, room_of};
+    ghost use Rattle.vault_text.specs.Limits.{ciphertext_limit};
 
     ghost Value = { ReaderState };
 
-    ghost view = { λ r. record { limit = r.limit; fed = r.fed; line = r.line; body = r.body } };
+    ghost view = { λ r. r.reader };
 
-    ghost invariant = { λ r. r.limit ≤ PLAINTEXT_LIMIT };
+    ghost invariant = { λ r. ciphertext_limit r.reader.limit ≤ room_of r.reader };
 }
 
 impl<'a> EnvelopeReader<'a> {
@@ -57,11 +52,9 @@ impl<'a> EnvelopeReader<'a> {
         ensures limit { result.limit ≡ limit_of (length work.old) }
         ensures nothing { StandsFor result [] }
     {
+        let limit = work.len() - PADDING_LIMIT;
         EnvelopeReader {
-            limit: work.len() - PADDING_LIMIT,
-            fed: 0,
-            line: HeaderLine::new(),
-            body: BodyReader::new(work),
+            reader: GrowingReader::with_limit(limit, work),
         }
     }
 
@@ -70,7 +63,7 @@ impl<'a> EnvelopeReader<'a> {
         ensures value { result ≡ envelope_limit self.now.limit }
         ensures bound { result ≤ ENVELOPE_LIMIT }
     {
-        envelope_limit(self.limit)
+        self.reader.input_limit()
     }
 
     /// Takes the piece of the input that comes next.
@@ -79,9 +72,8 @@ impl<'a> EnvelopeReader<'a> {
         ensures taken { (input : List ℕ) →
             StandsFor self.old input → StandsFor self.new (input ++ piece.now) }
     {
-        self.fed = self.fed.saturating_add(piece.len());
-        let rest = self.line.extend(piece);
-        self.body.extend(rest);
+        // The memory has room for all that the limit allows.
+        let _ = self.reader.feed(piece);
     }
 
     /// The payload of the input, or its first fault in the order of the nine steps: `TooLong` over
@@ -91,16 +83,6 @@ impl<'a> EnvelopeReader<'a> {
         ensures { (input : List ℕ) →
             StandsFor self.entry input → result ≡ read_within self.entry.limit input }
     {
-        let EnvelopeReader {
-            limit,
-            fed,
-            line,
-            body,
-        } = self;
-        if fed > envelope_limit(limit) {
-            return Err(TextFault::TooLong);
-        }
-        let label = line.finish()?;
-        body.finish(label)
+        self.reader.finish()
     }
 }

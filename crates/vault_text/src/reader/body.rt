@@ -1,6 +1,8 @@
 //! The body of an envelope, as it comes in pieces: the inner text in hexadecimal, in lines.
-ghost use Rattle.std.specs.Prelude.{◌≡◌, ◌<◌, ◌≤◌, ◌++◌, ℕ, List, [], IfNone, IfSome, length, take};
-ghost use Rattle.vault_text.specs.EnvelopeReader.{TakesBody, body_on, new_body, without_line_ends};
+ghost use Rattle.std.specs.Prelude.{◌≡◌, ◌<◌, ◌≤◌, [], IfNone, IfSome, length, take, true};
+ghost use Rattle.vault_text.specs.EnvelopeReader.{TakesBody, TakesLines, body_in, body_on};
+ghost use Rattle.vault_text.specs.EnvelopeReader.{new_body, without_line_ends};
+ghost use Rattle.vault_text.specs.InnerReader.{has_room};
 
 use super::RUN_LIMIT;
 use super::inner_text::InnerReader;
@@ -83,33 +85,36 @@ impl<'a> Model for BodyReader<'a> {
 }
 
 impl<'a> BodyReader<'a> {
-    pub(super) fn new(work: &'a mut [u8]) -> Self
-        ensures { result ≡ new_body (length work.old) }
+    pub(super) fn new(limit: usize, work: &'a mut [u8]) -> Self
+        ensures { result ≡ new_body limit (length work.old) }
     {
         BodyReader {
             decoder: HexDecoder::new(),
-            inner: InnerReader::new(work),
+            inner: InnerReader::new(limit, work),
             layout: Layout::Written,
         }
     }
 
-    /// Takes the text that comes next, line ends among its digits.
-    pub(super) fn extend(&mut self, text: &[u8])
-        ensures { TakesBody self.old (without_line_ends text.now) self.new }
+    /// Takes of the text that comes next, line ends among its digits, as much as there is room for,
+    /// and answers what follows.
+    pub(super) fn extend<'t>(&mut self, text: &'t [u8]) -> &'t [u8]
+        ensures taken { TakesLines self.old text.now result.now self.new }
+        ensures whole { self.old.inner.cipher.limit ≤ self.old.inner.cipher.room
+            → result.now ≡ [] }
     {
         let mut rest = text;
-        while !rest.is_empty() {
+        while !rest.is_empty() && self.inner.has_room() {
             rest = self.extend_run(rest);
         }
+        rest
     }
 
     /// Takes a line end, or digits of a line, and answers what follows.
     fn extend_run<'t>(&mut self, text: &'t [u8]) -> &'t [u8]
-        requires { 0 < length text.now }
+        requires some { 0 < length text.now }
+        requires room { has_room self.old.inner.cipher ≡ true }
         ensures shorter { length result.now < length text.now }
-        ensures taken { (label more : List ℕ) →
-            body_on self.old label (without_line_ends text.now ++ more)
-            ≡ body_on self.new label (without_line_ends result.now ++ more) }
+        ensures taken { TakesLines self.old text.now result.now self.new }
     {
         if is_line_end(text[0]) {
             return &text[1..];
@@ -130,10 +135,9 @@ impl<'a> BodyReader<'a> {
     /// Takes as many digits as a written line has, where this is expected and the text begins with
     /// them, and answers what follows. This looks for no line end.
     fn extend_line<'t>(&mut self, text: &'t [u8]) -> Option<&'t [u8]>
+        requires { has_room self.old.inner.cipher ≡ true }
         ensures shorter { IfSome result (λ rest. length rest.now < length text.now) }
-        ensures taken { IfSome result (λ rest. (label more : List ℕ) →
-            body_on self.old label (without_line_ends text.now ++ more)
-            ≡ body_on self.new label (without_line_ends rest.now ++ more)) }
+        ensures taken { IfSome result (λ rest. TakesLines self.old text.now rest.now self.new) }
         ensures untouched { IfNone result (self.new ≡ self.old) }
     {
         if !matches!(self.layout, Layout::Written) {
@@ -151,11 +155,10 @@ impl<'a> BodyReader<'a> {
     /// Takes the digits of the lines that come next, and answers what follows. They are decoded
     /// together, which costs less than line by line where lines are short.
     fn extend_short_lines<'t>(&mut self, text: &'t [u8]) -> &'t [u8]
-        requires { 0 < length text.now }
+        requires some { 0 < length text.now }
+        requires room { has_room self.old.inner.cipher ≡ true }
         ensures shorter { length result.now < length text.now }
-        ensures taken { (label more : List ℕ) →
-            body_on self.old label (without_line_ends text.now ++ more)
-            ≡ body_on self.new label (without_line_ends result.now ++ more) }
+        ensures taken { TakesLines self.old text.now result.now self.new }
     {
         let (lines, rest) = text.split_at(text.len().min(DIGITS_LIMIT));
         let mut digits = [0; DIGITS_LIMIT];
@@ -167,12 +170,30 @@ impl<'a> BodyReader<'a> {
 
     /// Takes the digits that come next.
     fn extend_digits(&mut self, digits: &[u8])
-        requires { length digits.now ≤ DIGITS_LIMIT }
+        requires short { length digits.now ≤ DIGITS_LIMIT }
+        requires room { has_room self.old.inner.cipher ≡ true }
         ensures { TakesBody self.old digits.now self.new }
     {
         let mut text = [0; RUN_LIMIT];
         let count = self.decoder.decode(digits, &mut text);
         self.inner.extend(&text[..count]);
+    }
+
+    /// The same body, with its ciphertext in other memory.
+    pub(super) fn move_to<'b>(self, work: &'b mut [u8]) -> BodyReader<'b>
+        requires { self.inner.cipher.room ≤ length work.old }
+        ensures { result ≡ body_in (length work.old) self.entry }
+    {
+        let BodyReader {
+            decoder,
+            inner,
+            layout,
+        } = self;
+        BodyReader {
+            decoder,
+            inner: inner.move_to(work),
+            layout,
+        }
     }
 
     /// The payload under this label, where no digit follows.

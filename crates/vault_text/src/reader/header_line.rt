@@ -1,7 +1,6 @@
 //! The header line of an envelope, as it comes in pieces.
 ghost use Rattle.std.specs.Prelude.{◌≡◌, ℕ, List, ◌++◌, [], false};
-ghost use Rattle.vault_text.specs.EnvelopeReader.{head_of, line_on, digits_on, new_line};
-ghost use Rattle.vault_text.specs.EnvelopeReader.{without_line_ends};
+ghost use Rattle.vault_text.specs.EnvelopeReader.{TakesHead, head_of, line_on, new_line};
 
 use crate::fault::TextFault;
 use crate::header::{MARKER, before_line_end, read_header};
@@ -39,21 +38,20 @@ impl HeaderLine {
         }
     }
 
-    /// Takes what belongs to the header line, and answers what follows it.
+    /// Takes what belongs to the header line, with its line end, and answers what follows.
     pub(super) fn extend<'t>(&mut self, text: &'t [u8]) -> &'t [u8]
-        ensures line { (rest : List ℕ) →
-            head_of (line_on self.old (text.now ++ rest)) ≡ head_of (line_on self.new rest) }
-        ensures digits { (rest : List ℕ) →
-            digits_on self.old (text.now ++ rest)
-            ≡ without_line_ends result.now ++ digits_on self.new rest }
+        ensures { TakesHead self.old text.now result.now self.new }
     {
         if self.has_ended {
             return text;
         }
         let line = before_line_end(text);
-        self.has_ended = line.len() < text.len();
         self.keep(line);
-        &text[line.len()..]
+        if line.len() == text.len() {
+            return &[];
+        }
+        self.has_ended = true;
+        &text[line.len() + 1..]
     }
 
     /// Keeps as many of the bytes as fit.

@@ -1,7 +1,8 @@
 //! The inner text of an envelope, as it comes in pieces: salt, tag and ciphertext in hexadecimal,
 //! with LF between them.
-ghost use Rattle.std.specs.Prelude.{◌≡◌, ◌<◌, ◌≤◌, ◌++◌, ℕ, List, [], length};
-ghost use Rattle.vault_text.specs.InnerReader.{TakesText, payload_on};
+ghost use Rattle.std.specs.Prelude.{◌≡◌, ◌<◌, ◌≤◌, ◌++◌, ℕ, List, [], length, true};
+ghost use Rattle.vault_text.specs.InnerReader.{SameMemory, TakesText, has_room, inner_in};
+ghost use Rattle.vault_text.specs.InnerReader.{payload_on};
 
 use super::RUN_LIMIT;
 use super::cipher_part::CipherPart;
@@ -43,20 +44,28 @@ impl<'a> Model for InnerReader<'a> {
 impl<'a> InnerReader<'a> {
     ghost use Rattle.vault_text.specs.InnerReader.{new_inner};
 
-    pub(super) fn new(work: &'a mut [u8]) -> Self
-        ensures { result ≡ new_inner (length work.old) }
+    pub(super) fn new(limit: usize, work: &'a mut [u8]) -> Self
+        ensures { result ≡ new_inner limit (length work.old) }
     {
         InnerReader {
             part: Part::Salt,
             salt: ShortPart::new(),
             tag: ShortPart::new(),
-            cipher: CipherPart::new(work),
+            cipher: CipherPart::new(limit, work),
         }
+    }
+
+    /// Whether any run of text can be taken.
+    pub(super) fn has_room(&self) -> bool
+        ensures { result ≡ has_room self.now.cipher }
+    {
+        self.cipher.has_room()
     }
 
     /// Takes the text that comes next.
     pub(super) fn extend(&mut self, text: &[u8])
-        requires { length text.now ≤ RUN_LIMIT }
+        requires short { length text.now ≤ RUN_LIMIT }
+        requires room { has_room self.old.cipher ≡ true }
         ensures { TakesText self.old text.now self.new }
     {
         let mut rest = text;
@@ -69,10 +78,13 @@ impl<'a> InnerReader<'a> {
     fn extend_part<'t>(&mut self, text: &'t [u8]) -> &'t [u8]
         requires some { 0 < length text.now }
         requires short { length text.now ≤ RUN_LIMIT }
+        requires room { has_room self.old.cipher ≡ true }
         ensures shorter { length result.now < length text.now }
         ensures taken { (label more : List ℕ) →
             payload_on self.old label (text.now ++ more)
             ≡ payload_on self.new label (result.now ++ more) }
+        ensures memory { SameMemory self.old.cipher self.new.cipher }
+        ensures cipher { 0 < length result.now → self.new.cipher ≡ self.old.cipher }
     {
         match self.part {
             Part::Salt => {
@@ -97,6 +109,25 @@ impl<'a> InnerReader<'a> {
                 self.cipher.extend(text);
                 &[]
             }
+        }
+    }
+
+    /// The same inner text, with its ciphertext in other memory.
+    pub(super) fn move_to<'b>(self, work: &'b mut [u8]) -> InnerReader<'b>
+        requires { self.cipher.room ≤ length work.old }
+        ensures { result ≡ inner_in (length work.old) self.entry }
+    {
+        let InnerReader {
+            part,
+            salt,
+            tag,
+            cipher,
+        } = self;
+        InnerReader {
+            part,
+            salt,
+            tag,
+            cipher: cipher.move_to(work),
         }
     }
 

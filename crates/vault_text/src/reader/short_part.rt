@@ -27,13 +27,14 @@ impl<const LIMIT: usize> Model for ShortPart<LIMIT> {
       bytes = p.bytes.items;
       decoder = p.decoder;
       limit = LIMIT;
+      room = LIMIT;
       is_long = p.is_long;
     } };
 }
 
 impl<const LIMIT: usize> ShortPart<LIMIT> {
     pub(super) fn new() -> Self
-        ensures { result ≡ new_part LIMIT }
+        ensures { result ≡ new_part LIMIT LIMIT }
     {
         ShortPart {
             bytes: ArrayVec::new(),

@@ -3,6 +3,7 @@ ghost use Rattle.std.specs.Prelude.{◌≡◌, ◌<◌, IfOk, length, vec_len};
 ghost use Rattle.vault_text.specs.Limits.{IsWorkLength};
 ghost use Rattle.vault_text.specs.declared.reader.tests.TheConstants.{WORK_LENGTH};
 
+mod moved;
 mod whole_list;
 
 use super::EnvelopeReader;

@@ -1,72 +1,80 @@
-use Rattle.std.proofs.Common.{◌≡◌, ◌≤◌, length, take, map, inl, inr, arith, length-take, ap, refl, sym, ◌∙◌}
-use Rattle.std.proofs.lemmas.Bool.{false≢true}
-use Rattle.vault_text.specs.Limits.{limit_of}
-use Rattle.vault_cli.specs.Outcome.{room_limit}
+use Rattle.std.proofs.Common.{[], inl, inr, map, arith, ap, refl, ◌≡◌, ◌∙◌}
+use Rattle.vault_text.specs.declared.limits.TheConstants.{PLAINTEXT_LIMIT}
+use Rattle.vault_core.specs.declared.fault.Fault.TheVariants.{Memory}
 use Rattle.vault_cli.specs.Reports.{Says}
-use Rattle.vault_cli.proofs.FittingFacts.{behind-runs, below_last, first_fits, short-runs, unasked-runs, written_whole}
+use Rattle.vault_cli.specs.Status.{status_of}
+use Rattle.vault_cli.specs.StoredTask.{task_in}
+use Rattle.vault_cli.proofs.RunFacts.{ends-ready, ends-refused, ends-unprepared, ends-unreadable}
+use Rattle.vault_cli.proofs.TaskFacts.{limit-prepared}
 use Rattle.vault_cli.proofs.fitting.run_fitting.Goals as goal
 
-pub run_behind-requires-clause-not_full : goal.run_behind-requires-clause-not_full
-run_behind-requires-clause-not_full g c =
-    below_last _ _ _ c.in-Ok-fill_up.ensures.failed (λ last some. false≢true (c.in-Ok-fill_up.ensures.full last some))
-    (omega (arith, c.if-n-length.false, c.in-Ok-fill_up.ensures.bound, c.fill_up.auto.buf, c.first_length-length.ensures.least))
-
-pub run_behind-requires-clause-short : goal.run_behind-requires-clause-short
-run_behind-requires-clause-short g c =
-    let whole : length c.deref.result.now ≡ c.first_length-length.result = omega (arith, c.deref.ensures.len, c.fill_up.auto.buf, c.as_mut_slice.ensures.len, c.in-Ok.ensures.len) in
-    omega (arith, whole, length-take c.in-Ok-fill_up.n c.deref.result.now, first_fits c.first_length-length.result c.args.request.now.command (omega (arith, c.first_length-length.ensures.most)))
-
-pub returns-then-not-asks_for_input-clause-runs : goal.returns-then-not-asks_for_input-clause-runs
-returns-then-not-asks_for_input-clause-runs g c =
-    unasked-runs g.S.Source.gives g.S.Source.ended g.S.Source.failures g.K.Sink.takes g.K.Sink.stage g.K.Sink.failures
-    (Says g.E.Sink.takes g.E.Sink.stage g.E.Sink.failures) c.args.request.now (map (λ file. file.items) c.args.secret_files.now) c.args.salt.now
-    c.run_in.result c.args.src.now c.run_in.new.src c.args.out.now c.run_in.new.out c.args.err.now c.run_in.new.err
-    c.short_texts.ensures (limit_of c.room_for_string-room.result) (sym c.if-not-asks_for_input.ensures)
-    c.room_for_string-room.ensures.fits (omega (arith, c.room_for_string-room.ensures.work.1)) c.run_in.ensures.runs
-
-pub returns-in-Err-fill_up-clause-runs : goal.returns-in-Err-fill_up-clause-runs
-returns-in-Err-fill_up-clause-runs g c =
-    let (xs, room, less, given) = c.in-Err-fill_up.ensures.some in
-    let size : length c.fill_up.new.buf ≡ c.first_length-length.result = omega (arith, c.fill_up.auto.buf, c.as_mut_slice.ensures.len, c.in-Ok.ensures.len) in
-    let larger = first_fits c.first_length-length.result c.args.request.now.command (omega (arith, c.first_length-length.ensures.most)) in (
-      xs,
-      given,
+pub returns-in-Err-clause-runs : goal.returns-in-Err-clause-runs
+returns-in-Err-clause-runs g c =
+    let contents = map (λ file. file.items) c.args.secret_files.now in (
+      [],
+      g.met.S.Source.gives_none c.args.src.now,
       (
-        omega (arith, room, size, larger),
-        inr (inr (inl (record {
-          status = c.report-in-Err-fill_up.ensures.status;
-          failed = (sym c.if-not-asks_for_input.ensures, c.in-Err-fill_up.ensures.failed);
-          bound = omega (arith, room, size, larger);
-          output = refl;
-          line = c.report-in-Err-fill_up.ensures.line;
-        }))),
+        omega arith,
+        inr (ends-unprepared g.S.Source.ended g.S.Source.failures g.K.Sink.takes g.K.Sink.stage g.K.Sink.failures
+            (Says g.E.Sink.takes g.E.Sink.stage g.E.Sink.failures) PLAINTEXT_LIMIT c.args.request.now contents c.args.salt.now []
+            c.report.result c.args.src.now c.args.src.now c.args.out.now c.args.out.now c.args.err.now c.report.new.err
+            c.in-Err.fault c.in-Err.ensures.prepared c.report.ensures.status refl refl c.report.ensures.line),
       ),
     )
 
-pub returns-then-n-length-clause-runs : goal.returns-then-n-length-clause-runs
-returns-then-n-length-clause-runs g c =
-    let size : length c.fill_up.new.buf ≡ c.first_length-length.result = omega (arith, c.fill_up.auto.buf, c.as_mut_slice.ensures.len, c.in-Ok.ensures.len) in
-    let value : c.deref.result.now ≡ c.fill_up.new.buf =
-    c.deref.ensures.value ∙ written_whole c.in-Ok.first.len c.fill_up.new.buf _ (omega (arith, size, c.in-Ok.ensures.len)) in
-    let fits : c.in-Ok-fill_up.n ≤ room_limit (limit_of c.room_for-room.result) c.args.request.now.command = rw c.command.ensures at c.room_for-room.ensures.fits in
-    let front : c.new-src.result.left ≡ take c.in-Ok-fill_up.n c.fill_up.new.buf = ap (λ m. m.left) c.new-src.ensures ∙ ap (take c.in-Ok-fill_up.n) value in
-    short-runs g.S.Source.gives g.S.Source.ended g.S.Source.failures g.K.Sink.takes g.K.Sink.stage g.K.Sink.failures
-    (Says g.E.Sink.takes g.E.Sink.stage g.E.Sink.failures) c.args.request.now (map (λ file. file.items) c.args.secret_files.now) c.args.salt.now
-    c.run_in-then-n-length.result c.args.src.now c.fill_up.new.source c.args.out.now c.run_in-then-n-length.new.out
-    c.args.err.now c.run_in-then-n-length.new.err c.short_texts-then-n-length.ensures (limit_of c.room_for-room.result) (omega (arith, c.room_for-room.ensures.work.1)) c.new-src.result c.run_in-then-n-length.new.src
-    (ap (λ m. m.ended) c.new-src.ensures)
-    (omega (arith, ap length front, length-take c.in-Ok-fill_up.n c.fill_up.new.buf, size, fits))
-    (sym c.if-not-asks_for_input.ensures) (rw front c.in-Ok-fill_up.ensures.gives)
-    (c.in-Ok-fill_up.ensures.short (omega (arith, size, c.if-n-length.true))) c.in-Ok-fill_up.ensures.failed
-    c.run_in-then-n-length.ensures.runs
+pub returns-in-Ok-perform_fitting-clause-runs : goal.returns-in-Ok-perform_fitting-clause-runs
+returns-in-Ok-perform_fitting-clause-runs g c =
+    let contents = map (λ file. file.items) c.args.secret_files.now in
+    let task = task_in c.in-Ok.task in
+    let found = c.in-Ok.ensures.prepared in
+    let amount = limit-prepared PLAINTEXT_LIMIT c.args.request.now contents c.args.salt.now task found in
+    let (input, given, fits, cases) = c.in-Ok-perform_fitting.ensures.answer in (
+      input,
+      given,
+      (
+        rw (← amount) fits,
+        elim cases [
+          | inl none ↦ absurd cc
+          | inr (unfailed, (whole, is)) ↦
+              inr (ends-ready g.S.Source.ended g.S.Source.failures g.K.Sink.takes g.K.Sink.stage g.K.Sink.failures
+              (Says g.E.Sink.takes g.E.Sink.stage g.E.Sink.failures) PLAINTEXT_LIMIT c.args.request.now contents c.args.salt.now input
+              c.deliver.result c.args.src.now c.perform_fitting.new.src c.args.out.now c.deliver.new.out c.args.err.now c.deliver.new.err
+              task found c.in-Ok-perform_fitting.ready unfailed whole is
+              c.deliver.ensures.status c.deliver.ensures.written c.deliver.ensures.silent c.deliver.ensures.intact
+              c.deliver.ensures.failed c.deliver.ensures.prefix)
+        ],
+      ),
+    )
 
 pub returns-clause-runs : goal.returns-clause-runs
 returns-clause-runs g c =
-    let size : length c.fill_up.new.buf ≡ c.first_length-length.result = omega (arith, c.fill_up.auto.buf, c.as_mut_slice.ensures.len, c.in-Ok.ensures.len) in
-    let value : c.deref.result.now ≡ c.fill_up.new.buf =
-    c.deref.ensures.value ∙ written_whole c.in-Ok.first.len c.fill_up.new.buf _ (omega (arith, size, c.in-Ok.ensures.len)) in
-    behind-runs g.S.Source.gives g.S.Source.ended g.S.Source.failures g.K.Sink.takes g.K.Sink.stage g.K.Sink.failures
-    (Says g.E.Sink.takes g.E.Sink.stage g.E.Sink.failures) c.args.request.now (map (λ file. file.items) c.args.secret_files.now) c.args.salt.now
-    c.run_behind.result c.args.src.now c.run_behind.new.src c.args.out.now c.run_behind.new.out
-    c.args.err.now c.run_behind.new.err g.met.S.Source.gives_more c.fill_up.new.source (take c.in-Ok-fill_up.n c.deref.result.now)
-    (rw value c.in-Ok-fill_up.ensures.gives) c.in-Ok-fill_up.ensures.failed c.run_behind.ensures.runs
+    let contents = map (λ file. file.items) c.args.secret_files.now in
+    let task = task_in c.in-Ok.task in
+    let found = c.in-Ok.ensures.prepared in
+    let amount = limit-prepared PLAINTEXT_LIMIT c.args.request.now contents c.args.salt.now task found in
+    let (input, given, fits, cases) = c.in-Err-perform_fitting.ensures.answer in
+    let fault = c.in-Err-perform_fitting.fault in
+    let report = c.report-in-Err-perform_fitting.ensures in (
+      input,
+      given,
+      (
+        rw (← amount) fits,
+        elim cases [
+          | inl none ↦
+              let memory : fault ≡ Memory = cc in
+              inl (record { status = report.status ∙ ap status_of memory; output = refl; line = rw memory at report.line })
+          | inr (inl (unread, (unnamed, front))) ↦
+              inr (ends-unreadable g.S.Source.ended g.S.Source.failures g.K.Sink.takes g.K.Sink.stage g.K.Sink.failures
+              (Says g.E.Sink.takes g.E.Sink.stage g.E.Sink.failures) PLAINTEXT_LIMIT c.args.request.now contents c.args.salt.now input
+              c.report-in-Err-perform_fitting.result c.args.src.now c.perform_fitting.new.src c.args.out.now c.args.out.now
+              c.args.err.now c.report-in-Err-perform_fitting.new.err
+              task found fault unread unnamed front report.status refl report.line)
+          | inr (inr (refused, (whole, is))) ↦
+              inr (ends-refused g.S.Source.ended g.S.Source.failures g.K.Sink.takes g.K.Sink.stage g.K.Sink.failures
+              (Says g.E.Sink.takes g.E.Sink.stage g.E.Sink.failures) PLAINTEXT_LIMIT c.args.request.now contents c.args.salt.now input
+              c.report-in-Err-perform_fitting.result c.args.src.now c.perform_fitting.new.src c.args.out.now c.args.out.now
+              c.args.err.now c.report-in-Err-perform_fitting.new.err
+              task found fault refused whole is report.status refl report.line)
+        ],
+      ),
+    )

@@ -1,20 +1,18 @@
-use Rattle.std.proofs.Common.{Ok, arith, ap, inl, inr, length, sym, ◌∙◌}
+use Rattle.std.proofs.Common.{◌≡◌, ◌+◌, arith, inl, inr, length, refl, sym, ◌∙◌}
 use Rattle.std.proofs.lemmas.Result.{err_from_is_err_and}
-use Rattle.vault_text.specs.Envelope.{Payload}
 use Rattle.vault_text.specs.Limits.{limit_of}
-use Rattle.vault_core.specs.Encryption.{is_vault}
-use Rattle.vault_core.specs.Form.{Envelope}
-use Rattle.vault_core.specs.Ready.{Ready}
-use Rattle.vault_core.specs.Sealing.{sealed, text_in}
+use Rattle.vault_core.specs.Decryption.{decryption_derivations}
 use Rattle.vault_core.specs.Secrets.{Secret}
-use Rattle.vault_core.proofs.RekeyingLemmas.{rekeying-Err, rekeying-sealed, rekeying-vault}
+use Rattle.vault_core.proofs.DecryptionLemmas.{UnlessUnreadable-from, decryption_derivations-Err, decryption_derivations-Ok}
+use Rattle.vault_core.proofs.RekeyingLemmas.{rekeying-no_payload, rekeying-payload, resealing-is_no_read}
 use Rattle.vault_core.proofs.rekeying.prepare_rekey.Goals as goal
 
-pub returns-in_err-body : goal.returns-in_err-body
-returns-in_err-body g c =
+pub returns-in_err-payload : goal.returns-in_err-payload
+returns-in_err-payload g c =
     let p = err_from_is_err_and c.from_residual.result c.from_residual.ensures.1 in
-    let read = c.in_err-body.ensures.answer in
+    let read = c.in_err-payload.ensures in
     let limit = limit_of (length c.args.work.now) in
+    let secrets = c.args.secrets.now in
     let new : Secret = record { label = c.args.new.now; password = c.args.password.now } in
     rw (p.1, p.2) (record {
       answer = (
@@ -22,43 +20,33 @@ returns-in_err-body g c =
         read.1,
         read.2,
         elim read.3 [
-          | inl unreadable ↦ inl unreadable
+          | inl unreadable ↦ inl (unreadable.0, (unreadable.1, refl))
           | inr refused ↦
-              inr (refused.0, (refused.1.0, sym (rekeying-Err limit c.args.secrets.now new c.args.salt.now read.0 _ refused.1.1), omega (arith, refused.1.2)))
+              let none : c.args.meter.now ≡ c.args.meter.now + decryption_derivations limit secrets read.0 + 0 =
+              omega (arith, decryption_derivations-Err limit secrets read.0 _ refused.1.1) in
+              inr (refused.0, (refused.1.0, sym (rekeying-no_payload limit secrets new c.args.salt.now read.0 _ refused.1.1), none))
         ],
       );
     })
 
-pub returns-then-is_vault : goal.returns-then-is_vault
-returns-then-is_vault g c =
-    let read = c.in_ok-body.ensures.answer in
-    let limit = limit_of (length c.args.work.now) in
-    let new : Secret = record { label = c.args.new.now; password = c.args.password.now } in
-    let marked = ap (λ (opened : Ready). is_vault opened.output) (sym c.body.view_is) ∙ sym c.if-is_vault.ensures in
-    let vault = rekeying-vault limit c.args.secrets.now new c.args.salt.now read.0 c.in_ok-body.field-0 read.3.1.1 marked in
-    record {
-      answer = (
-        read.0,
-        read.1,
-        read.2,
-        inr (((λ h. cc), read.3.0), (read.3.1.0, sym vault, omega (arith, read.3.1.2))),
-      );
-    }
-
 pub returns : goal.returns
 returns g c =
-    let read = c.in_ok-body.ensures.answer in
+    let read = c.in_ok-payload.ensures in
     let limit = limit_of (length c.args.work.now) in
+    let secrets = c.args.secrets.now in
     let new : Secret = record { label = c.args.new.now; password = c.args.password.now } in
-    let plain = ap (λ (opened : Ready). is_vault opened.output) (sym c.body.view_is) ∙ sym c.if-is_vault.ensures in
-    let answer = rekeying-sealed limit c.args.secrets.now new c.args.salt.now read.0 c.in_ok-body.field-0 read.3.1.1 plain in
-    let written = c.vault.ensures ∙ ap (λ (vault : Payload). record { output = text_in Envelope vault; tried = c.body.inside.tried }) c.seal-vault.ensures.sealed in
-    let opened = ap (λ (opened : Ready). record { output = text_in Envelope (sealed new c.args.salt.now opened.output); tried = opened.tried }) c.body.view_is in
+    let payload = c.in_ok-payload.payload in
     record {
       answer = (
         read.0,
         read.1,
         read.2,
-        (read.3.0, (read.3.1.0, ap Ok (written ∙ opened) ∙ sym answer, omega (arith, read.3.1.2, c.seal-vault.ensures.counted))),
+        UnlessUnreadable-from _ _ _ _ c.rekey_payload.result
+            (λ fault refused. resealing-is_no_read secrets new c.args.salt.now payload fault (sym c.rekey_payload.ensures.answer ∙ refused))
+            read.3.0 (
+              read.3.1.0,
+              c.rekey_payload.ensures.answer ∙ sym (rekeying-payload limit secrets new c.args.salt.now read.0 payload read.3.1.1),
+              omega (arith, c.rekey_payload.ensures.counted, decryption_derivations-Ok limit secrets read.0 payload read.3.1.1),
+            ),
       );
     }

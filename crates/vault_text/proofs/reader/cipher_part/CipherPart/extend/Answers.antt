@@ -11,4 +11,4 @@ returns-then-byte_count-self c =
     let inside : part.filled ≤ length part.work.now = omega (arith, c.self.invariant) in
     let front = take-written part.filled c.decode.result (length part.work.now - part.filled) part.work.now c.decode.new.bytes inside fits in
     let room = length-written part.filled part.work.now c.decode.new.bytes inside c.decode.auto.bytes in
-    rw (front, room, ← c.self.view_is) (TakesDigits-kept _ _ _ _ _ _ _ c.decode.ensures.decoded)
+    rw (front, room, ← c.self.view_is) (TakesDigits-kept _ _ _ _ _ _ _ _ c.decode.ensures.decoded)
