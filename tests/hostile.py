@@ -2,8 +2,8 @@
 """Runs the built program under limits and on devices that fail midway.
 
 Usage: hostile.py PROGRAM [--offered WORD,..] [--steps N]. Under each limit of memory a run ends with
-its whole output, or with `out of memory` and none; where writing fails behind some bytes, the output is
-a prefix. The last line is 'N passed, M failed'.
+its whole output, or with `out of memory` and none, and over a file in little more memory than its
+plaintext fills; where writing fails behind some bytes, the output is a prefix. The last line is 'N passed, M failed'.
 """
 
 import argparse
@@ -26,6 +26,8 @@ KIB = 1 << 10
 # A file that opens and cannot be read.
 UNREADABLE = "/proc/self/mem"
 FILE_SYSTEM_SIZE = 64 * KIB
+# What a run may take beside its plaintext and what the program takes at all.
+FITTING_SPARE = 384 * KIB
 
 
 def run_with(program: str, words: list[str], limit: int, amount: int, **streams) -> subprocess.CompletedProcess:
@@ -70,6 +72,17 @@ def memory_limits(cases: Cases, steps: int) -> None:
             counts = f"{answers.count(refused)} of {steps} runs out of memory"
             print(f"{sample.command} of {size} bytes from {least // KIB} KiB upward: {counts}")
             cases.check(f"{sample.command} of {size} bytes in the most memory", answers[-1][0], 0)
+
+
+def memory_that_fits(cases: Cases) -> None:
+    """A file tells how long it is: a run over it takes little more memory than the plaintext fills."""
+    least = least_memory(cases.program)
+    for size in (KIB, 64 * KIB, KIB * KIB, PLAINTEXT_LIMIT):
+        for sample in samples(cases, (TEXT * size)[:size]):
+            with open(cases.file(sample.stdin), "rb") as stdin:
+                amount = least + size + FITTING_SPARE
+                done = run_with(cases.program, sample.words, resource.RLIMIT_AS, amount, stdin=stdin, stdout=subprocess.PIPE, stderr=subprocess.PIPE)
+            cases.check(f"{sample.command} of {size} bytes in memory that fits", (done.returncode, done.stdout, done.stderr), (0, sample.output, b""))
 
 
 def limited_files(cases: Cases) -> None:
@@ -154,7 +167,7 @@ def main() -> int:
     with tempfile.TemporaryDirectory() as folder:
         cases = Cases(os.path.abspath(given.program), folder, given.offered.split(","))
         memory_limits(cases, given.steps)
-        for group in (limited_files, full_file_system, failing_reads, long_words):
+        for group in (memory_that_fits, limited_files, full_file_system, failing_reads, long_words):
             group(cases)
     print(f"{cases.passed} passed, {cases.failed} failed")
     return 1 if cases.failed else 0
