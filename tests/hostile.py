@@ -2,8 +2,9 @@
 """Runs the built program under limits and on devices that fail midway.
 
 Usage: hostile.py PROGRAM [--offered WORD,..] [--steps N]. Under each limit of memory a run ends with
-its whole output, or with `out of memory` and none, and over a file in little more memory than its
-plaintext fills; where writing fails behind some bytes, the output is a prefix. The last line is 'N passed, M failed'.
+its whole output, or with `out of memory` and none. Over a file it ends with its whole output in little
+more memory than the plaintext fills. Where writing fails behind some bytes, the output is a prefix. The
+last line is 'N passed, M failed'.
 """
 
 import argparse

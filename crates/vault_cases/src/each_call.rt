@@ -1,10 +1,11 @@
 //! Devices that fail at each of their calls in turn, and are not asked again.
 use crate::commands::{run_words_between, run_words_from};
+use crate::support::line_of;
 use crate::watched::Watched;
 use std::alloc::Global;
 use std::process::Abort;
 use std::test::Fail;
-use vault_cli::Status;
+use vault_cli::{MemFile, MemFiles, Status, drive};
 use vault_made::{envelope, spelled};
 use vault_text::{
     FailingSink, FailingSource, Label, MemSink, MemSource, Salt, Sink, write_envelope,
@@ -61,6 +62,47 @@ fn tells_each_read_that_fails(rt: HostRuntime) -> Result<(), Fail> {
     assert_reads_told(&rt, alloc, REKEY, TWO, vault.as_slice())?;
     assert_reads_told(&rt, alloc, ENCRYPT, ONE, b"text")?;
     assert_reads_told(&rt, alloc, ENCRYPT_STRING, ONE, b"text")
+}
+
+/// The same of the program, which reads in memory that grows.
+fn assert_program_tells_reads(
+    rt: &impl Abort,
+    alloc: Global,
+    words: &[&str],
+    input: &[u8],
+) -> Result<(), Fail> {
+    let files = [
+        MemFile::whole("f1", b"one\n"),
+        MemFile::whole("f2", b"two\n"),
+    ];
+    let line = line_of(alloc, words)?;
+    for calls in 0..=input.len() + 1 {
+        let is_whole = calls > input.len();
+        let mut src = Watched::new(FailingSource::new(input, 1, calls));
+        let mut out = MemSink::new(alloc, usize::MAX);
+        let mut err = MemSink::new(alloc, usize::MAX);
+        let mut files = MemFiles::new(alloc, &files);
+        let line = line.as_slice();
+        let status = drive(&mut files, alloc, line, &mut src, &mut out, &mut err);
+        assert_eq!(rt; status == Status::Success, is_whole, "{words:?} {calls}");
+        assert_eq!(rt;
+            status == Status::DeviceFailed,
+            !is_whole,
+            "{words:?} {calls}"
+        );
+        assert_eq!(rt; out.begun(), is_whole, "{words:?} {calls}");
+        assert_eq!(rt; src.asked_after, 0, "{words:?} {calls}");
+    }
+    Ok(())
+}
+
+#[test]
+fn the_program_tells_each_read_that_fails(rt: HostRuntime) -> Result<(), Fail> {
+    let alloc = rt.alloc();
+    let vault = envelope(alloc, "default", b"one", ZEROS, b"")?;
+    assert_program_tells_reads(&rt, alloc, &["view", "--vault-id=a@f1"], vault.as_slice())?;
+    let encrypt = ["encrypt", "--vault-id=a@f1", "--salt=s"];
+    assert_program_tells_reads(&rt, alloc, &encrypt, b"text")
 }
 
 /// The sink takes one byte a call. It fails at each call in turn, and then at none.

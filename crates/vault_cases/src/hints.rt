@@ -7,8 +7,9 @@ use std::test::Fail;
 use vault_cli::{MemFile, MemFiles, Status, drive};
 use vault_text::{MemSink, ReadSource};
 
-/// Too few, just enough and too many for a plaintext of 65,537 bytes and for its vault.
-const HINTS: [usize; 7] = [0, 65_536, 65_537, 70_000, 265_649, 265_650, usize::MAX];
+/// Too few, just enough and too many for a plaintext of 65,537 bytes. Its vault has 265,650 bytes,
+/// for which 262,144 suffice, since its line ends take no memory.
+const HINTS: [usize; 7] = [0, 65_536, 65_537, 262_140, 262_144, 265_650, usize::MAX];
 
 /// What a run writes whose input comes with a hint.
 fn output_of(alloc: Global, words: &[&str], input: &[u8], hint: usize) -> Result<MemSink, Fail> {

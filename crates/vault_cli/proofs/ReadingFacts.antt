@@ -19,7 +19,7 @@ use Rattle.vault_cli.proofs.LawProofs.{string-performed}
 use Rattle.vault_cli.proofs.RefusedAlone.{alone-performed}
 
 -- an answer to a text that was read
-pub performed-read : (Failed Read : Type 0) (limit : ℕ) (task : Task) (text : List ℕ) (result : Result Ready Fault) (before after : ℕ)
+performed-read : (Failed Read : Type 0) (limit : ℕ) (task : Task) (text : List ℕ) (result : Result Ready Fault) (before after : ℕ)
     → after ≡ before → Read → result ≡ performed limit task text
     → UnlessUnreadable before after result Failed (Read × (result ≡ performed limit task text))
 performed-read Failed Read limit task text result before after same read is =
@@ -30,7 +30,7 @@ performed-read Failed Read limit task text result before after same read is =
     absurd cc) same (read, is)
 
 -- a fault of reading, of which it is known what it says of the text
-pub fault-read : (T U Failed Read Is Says : Type 0) (fault : Fault) (before after : ℕ) → (Is → Says)
+fault-read : (T U Failed Read Is Says : Type 0) (fault : Fault) (before after : ℕ) → (Is → Says)
     → UnlessUnreadable {T = T} before after (Err fault) Failed (Read × Is)
     → UnlessUnreadable {T = U} before after (Err fault) Failed (Read × Says)
 fault-read T U Failed Read Is Says fault before after f (inl unread) = inl unread
@@ -50,7 +50,7 @@ module _ {S : Type 0} (gives : S → List ℕ → S → Type 0) (ended : S → B
       → ((input : List ℕ) → Is input → Err fault ≡ performed limit task input)
       → Reading Ready (Err fault) (λ input. Err fault ≡ performed limit task input)
   performing-fault T fault Is (input, given, fits, inl none) says =
-      (input, given, fits, inl (let same : fault ≡ Memory = cc in rw same refl))
+      (input, given, fits, inl (let same : fault ≡ Memory = cc in rw same refl, none.1))
   performing-fault T fault Is (input, given, fits, inr read) says =
       (input, given, fits, inr (fault-read T Ready _ _ _ _ fault (failures s) (failures t) (says input) read))
 
@@ -71,7 +71,7 @@ task_grows smaller larger (Reseal secrets new salt) grows = omega (arith, grows)
 -- what a request with a STRING answers in memory that the STRING fits, it answers in all of it
 module _ {S : Type 0} (gives : S → List ℕ → S → Type 0) (ended : S → Bool) (failures : S → ℕ) (s t : S)
     (task : Task) (string : Option (List ℕ)) (result : Result Ready Fault) where
-  abbrev pub OverString : ℕ → Type 0
+  abbrev OverString : ℕ → Type 0
   OverString limit =
       (input : List ℕ) × gives s input t × (length input ≤ task_limit limit task + 1)
       × UnlessUnreadable (failures s) (failures t) result ((is_some string ≡ false) × (length input ≤ task_limit limit task))

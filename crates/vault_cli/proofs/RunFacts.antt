@@ -24,7 +24,7 @@ module _ {S K E : Type 0} (ended : S → Bool) (failures : S → ℕ) (takes : K
     (write_failures : K → ℕ) (says : E → List ℕ → E → Type 0)
     (limit : ℕ) (request : Request) (contents : List (List ℕ)) (salt input : List ℕ)
     (result : Status) (src new_src : S) (out new_out : K) (err new_err : E) where
-  abbrev pub EndsWithin : Type 0
+  abbrev EndsWithin : Type 0
   EndsWithin =
       Ends ended failures takes stage write_failures says (asks_for_input request contents salt) (input_limit limit request.command) input
       (outcome_within limit request contents salt input) result src new_src out new_out err new_err

@@ -1,5 +1,5 @@
 //! Runs in memory that fits the text.
-ghost use Rattle.std.specs.Prelude.{◌≡◌, ℕ, ◌+◌, ◌-◌, ◌<◌, ◌≤◌, ◌⊎◌, List, [], true, false, length};
+ghost use Rattle.std.specs.Prelude.{◌≡◌, ℕ, ◌+◌, ◌≤◌, ◌⊎◌, List, [], false, length};
 ghost use Rattle.std.specs.Prelude.{map, unwrap_or, is_some, IsTrue};
 ghost use Rattle.vault_core.specs.Input.{IsWhole};
 ghost use Rattle.vault_text.specs.Limits.{IsWorkLength, limit_of};

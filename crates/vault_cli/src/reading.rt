@@ -1,7 +1,7 @@
 //! Reading a text in memory that grows with it: at first there is as much as the source says that
 //! the text needs, and where this does not suffice, all that the limit asks for.
 ghost use Rattle.std.specs.Prelude.{◌≡◌, ℕ, ◌+◌, ◌*◌, ◌<◌, ◌≤◌, ◌⊎◌, ◌++◌, List, [], length, take};
-ghost use Rattle.std.specs.Prelude.{Err, IsTrue, MatchResult, IfOk, IfErr};
+ghost use Rattle.std.specs.Prelude.{IsTrue, MatchResult, IfOk};
 ghost use Rattle.vault_text.specs.Failures.{CountsFailure};
 ghost use Rattle.vault_text.specs.EnvelopeReader.{StandsFor, room_of};
 ghost use Rattle.vault_text.specs.Limits.{IsWorkLength, limit_of};
@@ -10,7 +10,7 @@ ghost use Rattle.vault_core.specs.Decryption.{payload_of};
 ghost use Rattle.vault_core.specs.Input.{IsWhole, UnlessUnreadable};
 ghost use Rattle.vault_cli.specs.Reading.{UnlessOutOfMemory};
 ghost use Rattle.vault_cli.specs.declared.text_memory.TheConstants.{FIRST_LIMIT};
-ghost use Rattle.vault_core.specs.declared.fault.Fault.TheVariants.{Memory, TooLong};
+ghost use Rattle.vault_core.specs.declared.fault.Fault.TheVariants.{TooLong};
 
 use crate::text_memory::{TextMemory, first_room, zeros};
 use std::marker::Model;
@@ -25,6 +25,9 @@ const PIECE_LIMIT: usize = 4_096;
 
 /// How many digits an envelope spells a byte of its ciphertext with.
 const DIGITS_PER_BYTE: usize = 4;
+
+/// How much room the reader wants behind the ciphertext, so as to read on in the same memory.
+const READER_SPARE: usize = 256;
 
 /// A plaintext, at the front of memory that has room for its padding.
 #[derive(Drop)]
@@ -46,7 +49,7 @@ impl<'a> Model for Plaintext<'a> {
 
 /// Reads a plaintext to its end, or to one byte more than `work` has room for beside padding, and
 /// answers how many bytes stand at the front.
-fn read_front<S: Source>(src: &mut S, work: &mut [u8]) -> Result<usize, SourceFailed>
+fn fill_work<S: Source>(src: &mut S, work: &mut [u8]) -> Result<usize, SourceFailed>
     requires { IsWorkLength (length work.old) }
     ensures input { let limit = limit_of (length work.old) in
         (input : List ℕ) × S.gives src.old input src.new × (length input ≤ limit + 1)
@@ -76,7 +79,7 @@ pub(crate) fn read_plaintext<'a, S: Source>(
 {
     memory.first = zeros(memory.alloc, first_room(src.length_hint()))?;
     let limit = memory.first.len() - PADDING_LIMIT;
-    let len = read_front(src, memory.first.as_mut_slice())?;
+    let len = fill_work(src, memory.first.as_mut_slice())?;
     if len <= limit {
         let work = memory.first.as_mut_slice();
         return Ok(Plaintext { work, len });
@@ -117,16 +120,15 @@ fn read_behind<'a, S: Source>(
     Ok(Plaintext { work, len })
 }
 
-/// How much memory is taken at first for the ciphertext of an envelope of about this length: the
-/// reader wants room for a piece more.
+/// How much memory is taken at first for the ciphertext of an envelope of about this length.
 fn first_room_of_envelope(length: usize) -> usize
     ensures work { IsWorkLength result }
-    ensures fits { (length ≤ DIGITS_PER_BYTE * limit_of result)
+    ensures fits { (length + DIGITS_PER_BYTE * READER_SPARE ≤ DIGITS_PER_BYTE * limit_of result)
         ⊎ (limit_of result ≡ PLAINTEXT_LIMIT) }
     ensures tight { FIRST_LIMIT < limit_of result
-        → DIGITS_PER_BYTE * limit_of result < length + DIGITS_PER_BYTE * (PIECE_LIMIT + 1) }
+        → DIGITS_PER_BYTE * limit_of result < length + DIGITS_PER_BYTE * (READER_SPARE + 1) }
 {
-    first_room(length.div_ceil(DIGITS_PER_BYTE) + PIECE_LIMIT)
+    first_room(length.div_ceil(DIGITS_PER_BYTE) + READER_SPARE)
 }
 
 /// Reads an envelope to its end, or to one byte more than is taken, and answers its payload.
@@ -176,7 +178,8 @@ fn read_rest<'a, S: Source>(
         → result ≡ payload_of PLAINTEXT_LIMIT (input ++ unfed.now ++ later))) }
 {
     let mut reader = reader;
-    reader.feed(unfed);
+    // The memory has room for all that the limit allows.
+    let _ = reader.feed(unfed);
     let mut left = left;
     feed_input(src, &mut reader, &mut left, &mut [0; PIECE_LIMIT])?;
     Ok(reader.finish()?)

@@ -55,6 +55,7 @@ pub(crate) fn zeros(alloc: Global, count: usize) -> Result<Vec<u8>, Fault>
 /// about this length.
 pub(crate) fn first_room(length: usize) -> usize
     ensures work { IsWorkLength result }
+    ensures least { FIRST_LIMIT ≤ limit_of result }
     ensures fits { (length ≤ limit_of result) ⊎ (limit_of result ≡ PLAINTEXT_LIMIT) }
     ensures tight { FIRST_LIMIT < limit_of result → limit_of result ≤ length }
 {

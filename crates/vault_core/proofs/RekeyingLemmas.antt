@@ -33,7 +33,7 @@ module _ (limit : ℕ) (secrets : SecretList) (new : Secret) (salt input : List 
   rekeying-sealed opened h plain = rw (← h, plain) refl
 
   -- the same as reading the payload and resealing it
-  pub rekeying-resealing : rekeying limit secrets new salt input ≡ (payload_of limit input >>= resealing secrets new salt)
+  rekeying-resealing : rekeying limit secrets new salt input ≡ (payload_of limit input >>= resealing secrets new salt)
   unfolding rekeying decryption resealing
   rekeying-resealing = by_payload (payload_of limit input)
     where

@@ -290,7 +290,7 @@ nat_lt-same : (limit a b : ℕ) → (limit < a → limit < b) → (limit < b →
 nat_lt-same limit a b there back = grind (arith, nat_tests)
 
 -- a reader that took a piece stands for what it stood for, and the piece
-pub StandsFor-piece : (old new : ReaderState) (input piece text : List ℕ) → old.limit ≤ PLAINTEXT_LIMIT
+StandsFor-piece : (old new : ReaderState) (input piece text : List ℕ) → old.limit ≤ PLAINTEXT_LIMIT
     → new.limit ≡ old.limit → new.fed ≡ min (old.fed + length piece) (2 ^ 64 - 1)
     → ((rest : List ℕ) → head_of (line_on old.line (piece ++ rest)) ≡ head_of (line_on new.line rest))
     → ((rest : List ℕ) → digits_on old.line (piece ++ rest) ≡ without_line_ends text ++ digits_on new.line rest)

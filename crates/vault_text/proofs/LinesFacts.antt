@@ -5,7 +5,7 @@ use Rattle.vault_text.specs.Header.{header_line, is_line_end}
 use Rattle.vault_text.specs.InnerReader.{PartState, SameMemory}
 use Rattle.vault_text.proofs.LineEndFacts.{header_line-front, without_line_ends-append, without_line_ends-end, without_line_ends-line}
 
-pub SameMemory-then : (old mid new : PartState) → SameMemory old mid → SameMemory mid new → SameMemory old new
+SameMemory-then : (old mid new : PartState) → SameMemory old mid → SameMemory mid new → SameMemory old new
 SameMemory-then old mid new first second =
     record { limit = second.limit ∙ first.limit; room = second.room ∙ first.room }
 
@@ -23,9 +23,6 @@ pub TakesLines-digits : (old new : BodyState) (text front rest digits : List ℕ
     → digits ≡ without_line_ends front → TakesBody old digits new → TakesLines old text rest new
 TakesLines-digits old new text front rest digits whole spelled taken =
     record { front = front; whole = sym whole; taken = rw spelled at taken }
-
-pub TakesLines-nothing : (state : BodyState) (text : List ℕ) → TakesLines state text text state
-TakesLines-nothing state text = record { front = []; whole = refl; taken = TakesBody-nothing state }
 
 -- a line end
 pub TakesLines-line_end : (state : BodyState) (text : List ℕ) → 0 < length text → is_line_end (get_or text 0 0) ≡ true

@@ -1,5 +1,6 @@
 //! The body of an envelope, as it comes in pieces: the inner text in hexadecimal, in lines.
-ghost use Rattle.std.specs.Prelude.{◌≡◌, ◌<◌, ◌≤◌, [], IfNone, IfSome, length, take, true};
+ghost use Rattle.std.specs.Prelude.{◌≡◌, ◌<◌, ◌≤◌, ◌⊎◌, [], IfNone, IfSome, false, length, take};
+ghost use Rattle.std.specs.Prelude.{true};
 ghost use Rattle.vault_text.specs.EnvelopeReader.{TakesBody, TakesLines, body_in, body_on};
 ghost use Rattle.vault_text.specs.EnvelopeReader.{new_body, without_line_ends};
 ghost use Rattle.vault_text.specs.InnerReader.{has_room};
@@ -101,6 +102,7 @@ impl<'a> BodyReader<'a> {
         ensures taken { TakesLines self.old text.now result.now self.new }
         ensures whole { self.old.inner.cipher.limit ≤ self.old.inner.cipher.room
             → result.now ≡ [] }
+        ensures full { (result.now ≡ []) ⊎ (has_room self.new.inner.cipher ≡ false) }
     {
         let mut rest = text;
         while !rest.is_empty() && self.inner.has_room() {

@@ -1,5 +1,5 @@
 //! The ciphertext of the inner text.
-ghost use Rattle.std.specs.Prelude.{◌≡◌, ◌≤◌, ℕ, [], MatchResult, Ok, Err, length, true};
+ghost use Rattle.std.specs.Prelude.{◌≡◌, ◌≤◌, [], MatchResult, Ok, Err, length, true};
 ghost use Rattle.vault_text.specs.InnerReader.{TakesDigits, has_room, new_part, part_in, part_on};
 ghost use Rattle.vault_text.specs.declared.fault.TextFault.TheVariants.{CipherTooLong};
 
@@ -16,7 +16,7 @@ pub(super) struct CipherPart<'a> {
     /// How many bytes it may have: more or fewer than the memory holds.
     limit: usize,
     decoder: HexDecoder,
-    /// Whether it has more bytes than it may have, and than fit.
+    /// Whether bytes were left out, since it has more than it may have.
     is_long: bool,
 }
 

@@ -1,7 +1,8 @@
 //! Reading an envelope that comes in pieces, in memory that can be exchanged for more.
-ghost use Rattle.std.specs.Prelude.{◌≡◌, ◌≤◌, ℕ, List, [], ◌++◌, length};
+ghost use Rattle.std.specs.Prelude.{◌≡◌, ◌≤◌, ◌⊎◌, ℕ, List, [], ◌++◌, false, length};
 ghost use Rattle.vault_text.specs.Envelope.{read_within};
 ghost use Rattle.vault_text.specs.EnvelopeReader.{StandsFor, room_of};
+ghost use Rattle.vault_text.specs.InnerReader.{has_room};
 ghost use Rattle.vault_text.specs.Limits.{ciphertext_limit, envelope_limit};
 ghost use Rattle.vault_text.specs.declared.limits.TheConstants.{ENVELOPE_LIMIT, PLAINTEXT_LIMIT};
 
@@ -83,6 +84,7 @@ impl<'a> GrowingReader<'a> {
         ensures taken { (front : List ℕ) × (piece.now ≡ front ++ result.now)
             × ((input : List ℕ) → StandsFor self.old input → StandsFor self.new (input ++ front)) }
         ensures whole { ciphertext_limit self.old.limit ≤ room_of self.old → result.now ≡ [] }
+        ensures full { (result.now ≡ []) ⊎ (has_room self.new.body.inner.cipher ≡ false) }
     {
         let text = self.line.extend(piece);
         let rest = self.body.extend(text);

@@ -1,5 +1,5 @@
 //! A part of the inner text that is short: the salt or the tag.
-ghost use Rattle.std.specs.Prelude.{◌≡◌, ◌≤◌, ℕ, [], MatchResult, Ok, Err, length};
+ghost use Rattle.std.specs.Prelude.{◌≡◌, ◌≤◌, [], MatchResult, Ok, Err, length};
 ghost use Rattle.vault_text.specs.InnerReader.{TakesDigits, new_part, part_on};
 ghost use Rattle.vault_text.specs.declared.fault.TextFault.TheVariants.{BadPayload};
 
