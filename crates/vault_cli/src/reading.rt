@@ -1,16 +1,15 @@
 //! Reading a text in memory that grows with it: at first there is as much as the source says that
 //! the text needs, and where this does not suffice, all that the limit asks for.
-ghost use Rattle.std.specs.Prelude.{◌≡◌, ℕ, ◌+◌, ◌*◌, ◌<◌, ◌≤◌, ◌⊎◌, ◌++◌, List, [], length, take};
-ghost use Rattle.std.specs.Prelude.{IsTrue, MatchResult, IfOk};
+ghost use Rattle.std.specs.Prelude.{◌≡◌, ℕ, ◌+◌, ◌*◌, ◌<◌, ◌≤◌, ◌⊎◌, ◌++◌};
+ghost use Rattle.std.specs.Prelude.{List, [], length, take, IsTrue, MatchResult, IfOk};
 ghost use Rattle.vault_text.specs.Failures.{CountsFailure};
-ghost use Rattle.vault_text.specs.EnvelopeReader.{StandsFor, room_of};
+ghost use Rattle.vault_text.specs.EnvelopeReader.{StandsFor, TakesFront, room_of};
 ghost use Rattle.vault_text.specs.Limits.{IsWorkLength, limit_of};
 ghost use Rattle.vault_text.specs.declared.limits.TheConstants.{ENVELOPE_LIMIT, PLAINTEXT_LIMIT};
 ghost use Rattle.vault_core.specs.Decryption.{payload_of};
 ghost use Rattle.vault_core.specs.Input.{IsWhole, UnlessUnreadable};
-ghost use Rattle.vault_cli.specs.Reading.{UnlessOutOfMemory};
+ghost use Rattle.vault_cli.specs.Reading.{IsPlaintext, UnlessOutOfMemory};
 ghost use Rattle.vault_cli.specs.declared.text_memory.TheConstants.{FIRST_LIMIT};
-ghost use Rattle.vault_core.specs.declared.fault.Fault.TheVariants.{TooLong};
 
 use crate::text_memory::{TextMemory, first_room, zeros};
 use std::marker::Model;
@@ -73,9 +72,7 @@ pub(crate) fn read_plaintext<'a, S: Source>(
         × (length input ≤ PLAINTEXT_LIMIT + 1)
         × UnlessOutOfMemory (S.failures src.old) (S.failures src.new) result
         (length input ≤ PLAINTEXT_LIMIT)
-        (IsWhole PLAINTEXT_LIMIT (S.ended src.new) input × MatchResult result
-        (λ text. (text ≡ input) × (length input ≤ PLAINTEXT_LIMIT))
-        (λ fault. (fault ≡ TooLong) × (PLAINTEXT_LIMIT < length input))) }
+        (IsWhole PLAINTEXT_LIMIT (S.ended src.new) input × IsPlaintext input result) }
 {
     memory.first = zeros(memory.alloc, first_room(src.length_hint()))?;
     let limit = memory.first.len() - PADDING_LIMIT;
@@ -107,9 +104,8 @@ fn read_behind<'a, S: Source>(
         × (length (front.now ++ later) ≤ PLAINTEXT_LIMIT + 1)
         × UnlessUnreadable (S.failures src.old) (S.failures src.new) result
         (length (front.now ++ later) ≤ PLAINTEXT_LIMIT)
-        (IsWhole PLAINTEXT_LIMIT (S.ended src.new) (front.now ++ later) × MatchResult result
-        (λ text. (text ≡ front.now ++ later) × (length (front.now ++ later) ≤ PLAINTEXT_LIMIT))
-        (λ fault. (fault ≡ TooLong) × (PLAINTEXT_LIMIT < length (front.now ++ later)))) }
+        (IsWhole PLAINTEXT_LIMIT (S.ended src.new) (front.now ++ later)
+        × IsPlaintext (front.now ++ later) result) }
 {
     work[..front.len()].copy_from_slice(front);
     let n = fill_up(src, &mut work[front.len()..PLAINTEXT_LIMIT + 1])?;
@@ -200,9 +196,7 @@ fn feed_input<'b, S: Source>(
     ensures fed { (input : List ℕ) × S.gives src.old input src.new
         × (length input + left.new ≡ left.old)
         × MatchResult result
-        (λ unfed. ((front : List ℕ) × (input ≡ front ++ unfed.now)
-        × ((before : List ℕ) → StandsFor reader.old before
-        → StandsFor reader.new (before ++ front)))
+        (λ unfed. TakesFront reader.old input unfed.now reader.new
         × (unfed.now ≡ [] → IsTrue (S.ended src.new) ⊎ (left.new ≡ 0)))
         (λ _. 0 < left.new) }
     ensures whole { CIPHERTEXT_LIMIT ≤ room_of reader.old

@@ -52,8 +52,8 @@ pub fn prepare_encrypt<'a, S: Source>(
 /// it has read it.
 ///
 /// All of it happens in `work`, in which a whole block of padding has room behind the plaintext; no
-/// other limit is looked at.
-/// [`Fault::EmptyString`], for a block alone, comes before [`Fault::AlreadyVault`].
+/// other limit is looked at. [`Fault::EmptyString`], for a block alone, comes before
+/// [`Fault::AlreadyVault`].
 pub fn encrypt_plaintext<'a>(
     work: &'a mut [u8],
     n: usize,

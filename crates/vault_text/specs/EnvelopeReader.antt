@@ -95,3 +95,9 @@ read_on reader rest =
 -- the reader has been given this input: whatever follows, it answers for both together
 pub record StandsFor (reader : ReaderState) (input : List ℕ) : Type 0 where
   pub answers : (rest : List ℕ) → read_on reader rest ≡ read_within reader.limit (input ++ rest)
+
+-- the reader was fed with the front of a text, and left this rest
+abbrev pub TakesFront : ReaderState → List ℕ → List ℕ → ReaderState → Type 0
+TakesFront old text rest new =
+    (front : List ℕ) × (text ≡ front ++ rest)
+    × ((input : List ℕ) → StandsFor old input → StandsFor new (input ++ front))

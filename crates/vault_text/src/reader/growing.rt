@@ -1,7 +1,7 @@
 //! Reading an envelope that comes in pieces, in memory that can be exchanged for more.
-ghost use Rattle.std.specs.Prelude.{◌≡◌, ◌≤◌, ◌⊎◌, ℕ, List, [], ◌++◌, false, length};
+ghost use Rattle.std.specs.Prelude.{◌≡◌, ◌≤◌, ◌⊎◌, ℕ, List, [], false, length};
 ghost use Rattle.vault_text.specs.Envelope.{read_within};
-ghost use Rattle.vault_text.specs.EnvelopeReader.{StandsFor, room_of};
+ghost use Rattle.vault_text.specs.EnvelopeReader.{StandsFor, TakesFront, room_of};
 ghost use Rattle.vault_text.specs.InnerReader.{has_room};
 ghost use Rattle.vault_text.specs.Limits.{ciphertext_limit, envelope_limit};
 ghost use Rattle.vault_text.specs.declared.limits.TheConstants.{ENVELOPE_LIMIT, PLAINTEXT_LIMIT};
@@ -81,8 +81,7 @@ impl<'a> GrowingReader<'a> {
         ensures limit { self.new.limit ≡ self.old.limit }
         ensures bound { self.old.limit ≤ PLAINTEXT_LIMIT }
         ensures room { room_of self.new ≡ room_of self.old }
-        ensures taken { (front : List ℕ) × (piece.now ≡ front ++ result.now)
-            × ((input : List ℕ) → StandsFor self.old input → StandsFor self.new (input ++ front)) }
+        ensures taken { TakesFront self.old piece.now result.now self.new }
         ensures whole { ciphertext_limit self.old.limit ≤ room_of self.old → result.now ≡ [] }
         ensures full { (result.now ≡ []) ⊎ (has_room self.new.body.inner.cipher ≡ false) }
     {
