@@ -1,5 +1,5 @@
 -- The exclusive or of byte strings: element by element, and one string more.
-use Rattle.std.proofs.Common.{◌≡◌, ◌≢◌, ℕ, ◌+◌, ◌<◌, ◌≤◌, List, [], ◌∷◌, ◌++◌, length, get_or, set, refl, sym, ap, ◌∙◌, arith, below_more, get_or-set_same, get_or-set_other}
+use Rattle.std.proofs.Common.{◌≡◌, ◌≢◌, ℕ, ◌+◌, ◌<◌, ◌≤◌, List, [], ◌∷◌, ◌++◌, length, get_or, set, sym, ap, ◌∙◌, arith, below_more, get_or-set_same, get_or-set_other}
 use Rattle.std.specs.Prelude.{bit_xor}
 use Rattle.std.specs.List.{zip}
 use Rattle.std.proofs.lemmas.List.{length-map, length-set, get_or-map, ext_get_or}
@@ -42,16 +42,6 @@ pub IsExclusiveOrBelow_all : (xs ys zs : List ℕ) (n : ℕ) → length ys ≡ l
 IsExclusiveOrBelow_all xs ys zs n same all done =
     ext_get_or 0 zs (exclusive_or xs ys) (omega (arith, length-exclusive_or xs ys same, done.len))
     (λ k in_zs. done.below k (omega (arith, done.len)) ∙ sym (get_or-exclusive_or xs ys k (omega (arith, done.len)) (omega (arith, done.len))))
-
--- of two strings that are joined
-pub exclusive_or-append : (xs ys more_xs more_ys : List ℕ) → length xs ≡ length ys
-    → exclusive_or (xs ++ more_xs) (ys ++ more_ys) ≡ exclusive_or xs ys ++ exclusive_or more_xs more_ys
-unfolding exclusive_or
-exclusive_or-append [] [] more_xs more_ys same = refl
-exclusive_or-append [] (y ∷ ys) more_xs more_ys same = absurd (omega (arith, same))
-exclusive_or-append (x ∷ xs) [] more_xs more_ys same = absurd (omega (arith, same))
-exclusive_or-append (x ∷ xs) (y ∷ ys) more_xs more_ys same =
-    ap (λ (l : List ℕ). bit_xor x y ∷ l) (exclusive_or-append xs ys more_xs more_ys (omega (arith, same)))
 
 -- one string more
 pub exclusive_or_all_push : (strings : List (List ℕ)) (last : List ℕ) → 0 < length strings

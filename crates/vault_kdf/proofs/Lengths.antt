@@ -1,7 +1,7 @@
 -- How long what the definitions give is, also for the proofs of callers.
-use Rattle.std.proofs.Common.{◌≡◌, ℕ, zero, suc, ◌+◌, ◌-◌, ◌*◌, ◌≤◌, List, [], ◌∷◌, ◌++◌, length, drop, map, lit≤, refl, sym, ap, ◌∙◌, arith, add-one}
+use Rattle.std.proofs.Common.{◌≡◌, ℕ, zero, suc, ◌+◌, ◌-◌, ◌*◌, ◌≤◌, List, [], ◌∷◌, ◌++◌, length, drop, lit≤, refl, sym, ap, ◌∙◌, arith, add-one}
 use Rattle.std.specs.Int.{div_ceil, to_be_bytes, w32}
-use Rattle.std.specs.List.{concat, range_with_len}
+use Rattle.std.specs.List.{concat}
 use Rattle.std.proofs.lemmas.List.{append-nil, length-append, length-drop, length-take-le}
 use Rattle.std.proofs.lemmas.List.Folds.{concat-append}
 use Rattle.std.proofs.lemmas.List.FromFn.{map-range_with_len_more}
@@ -38,17 +38,13 @@ length-block password salt c i some =
     let whole : c ≡ c - 1 + 1 = omega arith in
     ap (λ (k : ℕ). length (exclusive_or_all (iterates password (salt ++ to_be_bytes w32 i) k))) whole ∙ length-sum password (salt ++ to_be_bytes w32 i) (c - 1)
 
--- joined lists, and one more
-pub concat-map_more : (f : ℕ → List ℕ) (first n last : ℕ) → first + n ≡ last
-    → concat (map f (range_with_len first (n + 1))) ≡ concat (map f (range_with_len first n)) ++ f last
-concat-map_more f first n last at =
-    ap concat (map-range_with_len_more f first n last at) ∙ concat-append (map f (range_with_len first n)) (f last ∷ [])
-    ∙ ap (λ (l : List ℕ). concat (map f (range_with_len first n)) ++ l) (append-nil (f last))
-
 pub concat-blocks_more : (password salt : List ℕ) (c i : ℕ)
     → concat (blocks password salt c (i + 1)) ≡ concat (blocks password salt c i) ++ block password salt c (i + 1)
 unfolding blocks
-concat-blocks_more password salt c i = concat-map_more (block password salt c) 1 i (i + 1) (omega arith)
+concat-blocks_more password salt c i =
+    ap concat (map-range_with_len_more (block password salt c) 1 i (i + 1) (omega arith))
+    ∙ concat-append (blocks password salt c i) (block password salt c (i + 1) ∷ [])
+    ∙ ap (λ (last : List ℕ). concat (blocks password salt c i) ++ last) (append-nil (block password salt c (i + 1)))
 
 length-concat-no_blocks : (password salt : List ℕ) (c : ℕ) → length (concat (blocks password salt c 0)) ≡ 0
 unfolding blocks

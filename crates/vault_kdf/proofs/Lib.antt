@@ -1,8 +1,6 @@
 pub mod Blocks
 pub mod Bytes
 pub mod ExclusiveOrLemmas
-pub mod HashValueFacts
-pub mod LaneFacts
 pub mod Lengths
 pub mod PaddedKey
 pub mod Rounds

@@ -1,6 +1,5 @@
 -- The key of HMAC, filled up to a block.
-use Rattle.std.proofs.Common.{◌≡◌, ℕ, ◌<◌, ◌≤◌, List, ◌++◌, length, replicate, drop, inl, inr, ap, refl, arith}
-use Rattle.std.proofs.lemmas.Bool.{cases_lt}
+use Rattle.std.proofs.Common.{◌≡◌, ℕ, ◌<◌, ◌≤◌, List, ◌++◌, length, replicate, drop, refl, arith}
 use Rattle.std.proofs.lemmas.Bool.Decides.{nat_tests}
 use Rattle.std.proofs.lemmas.List.{drop-replicate}
 use Rattle.sha2.specs.Sha256.{sha256}
@@ -14,12 +13,6 @@ shortened_key_long key long = grind (arith, nat_tests)
 shortened_key_short : (key : List ℕ) → length key ≤ 64 → shortened_key key ≡ key
 unfolding shortened_key
 shortened_key_short key short = grind (arith, nat_tests)
-
-pub length-shortened_key : (key : List ℕ) → length (shortened_key key) ≤ 64
-length-shortened_key key = elim (cases_lt 64 (length key)) [
-  | inl long ↦ omega (arith, ap length (shortened_key_long key long), length-sha256 key)
-  | inr short ↦ omega (arith, ap length (shortened_key_short key (omega arith)))
-]
 
 pub padded_key_long : (key digest : List ℕ) → 64 < length key → digest ≡ sha256 key → digest ++ replicate 32 0 ≡ padded_key key
 unfolding padded_key

@@ -27,4 +27,5 @@ hmac key message = sha256 (outer_key key ++ sha256 (inner_key key ++ message))
 
 -- the state stands for the key and for the message as far as it was given
 unfoldable pub StandsFor : Hmac → List ℕ → List ℕ → Type 0
-StandsFor state key message = Holds256 state.inner (inner_key key ++ message) × Holds256 state.outer (outer_key key)
+StandsFor state key message =
+    Holds256 state.inner (inner_key key ++ message) × Holds256 state.outer (outer_key key)

@@ -1,5 +1,4 @@
 pub mod ExclusiveOr
 pub mod Hmac
 pub mod Derivation
-pub mod Lanes
 pub mod Keys

@@ -1,5 +1,5 @@
 ghost use Rattle.std.specs.Prelude.{◌≡◌, ℕ, List, [], ◌++◌};
-ghost use Rattle.vault_kdf.specs.Hmac.{hmac, inner_key, outer_key, padded_key};
+ghost use Rattle.vault_kdf.specs.Hmac.{hmac, padded_key};
 
 use crate::exclusive_or::exclusive_or;
 use sha2::{Digest, Sha256};
@@ -8,7 +8,7 @@ use sha2::{Digest, Sha256};
 pub(crate) const DIGEST_LEN: usize = 32;
 
 // The length of a block of SHA-256, in bytes.
-pub(crate) const BLOCK_LEN: usize = 64;
+const BLOCK_LEN: usize = 64;
 
 const INNER_PAD: [u8; BLOCK_LEN] = [0x36; BLOCK_LEN];
 
@@ -26,20 +26,6 @@ fn padded_key(key: &[u8]) -> [u8; BLOCK_LEN]
     block
 }
 
-/// The block of the key that stands before the message.
-pub(crate) fn inner_key(key: &[u8]) -> [u8; BLOCK_LEN]
-    ensures { result ≡ inner_key key.now }
-{
-    exclusive_or(&padded_key(key), &INNER_PAD)
-}
-
-/// The block of the key that stands before the inner digest.
-pub(crate) fn outer_key(key: &[u8]) -> [u8; BLOCK_LEN]
-    ensures { result ≡ outer_key key.now }
-{
-    exclusive_or(&padded_key(key), &OUTER_PAD)
-}
-
 /// An HMAC-SHA-256 in progress (RFC 2104): a key, and the message as far as it was given.
 #[derive(Clone, Drop)]
 pub struct Hmac {
@@ -54,9 +40,10 @@ impl Hmac {
     pub fn new(key: &[u8]) -> Hmac
         ensures { StandsFor result key.now [] }
     {
+        let block = padded_key(key);
         Hmac {
-            inner: Sha256::new_with_prefix(inner_key(key)),
-            outer: Sha256::new_with_prefix(outer_key(key)),
+            inner: Sha256::new_with_prefix(exclusive_or(&block, &INNER_PAD)),
+            outer: Sha256::new_with_prefix(exclusive_or(&block, &OUTER_PAD)),
         }
     }
 
@@ -74,5 +61,18 @@ impl Hmac {
     {
         let Hmac { inner, outer } = self;
         outer.chain_update(inner.finalize()).finalize()
+    }
+
+    /// The tag of the message and a last piece. Each hasher is cloned where it is fed, and fed in
+    /// place: a clone of both at once, or `chain_update`, moves them more often.
+    pub(crate) fn tag_with(&self, last: &[u8]) -> [u8; DIGEST_LEN]
+        ensures { (key message : List ℕ) → StandsFor self.now key message
+            → result ≡ hmac key (message ++ last.now) }
+    {
+        let mut inner = self.inner.clone().unwrap();
+        inner.update(last);
+        let mut outer = self.outer.clone().unwrap();
+        outer.update(inner.finalize());
+        outer.finalize()
     }
 }

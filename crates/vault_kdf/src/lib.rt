@@ -16,7 +16,6 @@ mod derivation;
 mod exclusive_or;
 mod keyed_hash;
 mod keys;
-mod lanes;
 mod meter;
 mod tag;
 #[cfg(test)]

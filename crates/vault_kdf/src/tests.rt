@@ -197,8 +197,7 @@ fn pbkdf2_of_two_blocks(rt: HostRuntime) {
     );
 }
 
-// More blocks than are derived side by side: computed by python3's
-// `hashlib.pbkdf2_hmac("sha256", b"passwd", b"salt", 2, 160)`.
+// Computed by python3's `hashlib.pbkdf2_hmac("sha256", b"passwd", b"salt", 2, 160)`.
 #[test]
 fn pbkdf2_of_five_blocks(rt: HostRuntime) {
     assert_key(

@@ -1,7 +1,14 @@
-use Rattle.std.proofs.Common.{append-nil}
-use Rattle.vault_kdf.specs.Hmac.{StandsFor}
+use Rattle.std.proofs.Common.{◌≡◌, ℕ, List, replicate, ap, ◌∙◌, append-nil}
+use Rattle.vault_kdf.specs.ExclusiveOr.{exclusive_or}
+use Rattle.vault_kdf.specs.Hmac.{inner_key, outer_key, StandsFor}
 use Rattle.vault_kdf.proofs.keyed_hash.Hmac.new.Goals as goal
 
 pub returns : goal.returns
-unfolding StandsFor
-returns c = (rw (append-nil, ← c.inner_key.ensures) c.new_with_prefix.ensures, rw (← c.outer_key.ensures) c.new_with_prefix-2.ensures)
+unfolding StandsFor inner_key outer_key
+returns c =
+    let key : List ℕ = c.args.key.now in
+    let inner : c.exclusive_or.result ≡ inner_key key =
+    c.exclusive_or.ensures ∙ ap (λ (block : List ℕ). exclusive_or block (replicate 64 0x36)) c.padded_key-block.ensures in
+    let outer : c.exclusive_or-2.result ≡ outer_key key =
+    c.exclusive_or-2.ensures ∙ ap (λ (block : List ℕ). exclusive_or block (replicate 64 0x5c)) c.padded_key-block.ensures in
+    (rw (append-nil, ← inner) c.new_with_prefix.ensures, rw (← outer) c.new_with_prefix-2.ensures)
