@@ -9,7 +9,7 @@ pub mod LinesFacts
 pub mod Progress
 pub mod BlockFacts
 pub mod BodyFacts
-pub mod ChunkFacts
+pub mod DigitFacts
 pub mod CleanText
 pub mod PayloadFacts
 pub mod Prefixes

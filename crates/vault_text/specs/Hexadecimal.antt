@@ -1,16 +1,12 @@
 -- Hexadecimal text: two digits a byte, the high four bits first.
-use Rattle.std.specs.Prelude.{◌≡◌, ℕ, ◌/◌, Bool, false, ◌++◌, if◌then◌else◌, List, length, Option, None, unwrap_or}
+use Rattle.std.specs.Prelude.{◌≡◌, ℕ, ◌/◌, Bool, false, ◌++◌, if◌then◌else◌, List, length, Option, None}
 use Rattle.std.specs.Option.{option_map, option_to_list}
 use Rattle.std.specs.Result.{result_ok}
-use Rattle.hex.specs.Hex.{decode_of, hex_digit_value}
+use Rattle.hex.specs.Hex.{decode_of}
 
 -- the bytes that an even number of digits of either case spells; none where the text is anything else
 abbrev pub unhex : List ℕ → Option (List ℕ)
 unhex text = result_ok (decode_of text)
-
--- the value of a digit of either case, and 255 for a byte that is none
-abbrev pub digit_value : ℕ → ℕ
-digit_value digit = unwrap_or (hex_digit_value digit) 255
 
 -- a decoder of text in pieces: the first digit of a byte whose second has not come yet, and whether there was a
 -- byte that is no digit

@@ -1,91 +1,34 @@
 //! Hexadecimal text that comes in pieces.
-ghost use Rattle.std.specs.Prelude.{◌≡◌, ◌*◌, ◌/◌, ◌<◌, ◌≤◌, [], None, Some, if◌then◌else◌};
-ghost use Rattle.std.specs.Prelude.{ℕ, true, length, slice_index, take};
-ghost use Rattle.vault_text.specs.Hexadecimal.{Decodes, byte_count, digit_value, new_decoder};
-ghost use Rattle.vault_text.specs.Hexadecimal.{unhex, unhex_on};
+ghost use Rattle.std.specs.Prelude.{◌≡◌, ◌*◌, ◌/◌, ◌≤◌, [], None, Some, if◌then◌else◌};
+ghost use Rattle.std.specs.Prelude.{true, length, take};
+ghost use Rattle.hex.specs.Hex.{hex_digit_value};
+ghost use Rattle.vault_text.specs.Hexadecimal.{Decodes, byte_count, new_decoder, unhex, unhex_on};
 
 use std::marker::Model;
-use std::simd::prelude::*;
 
-/// The largest value of a digit.
-const LARGEST_DIGIT: u8 = 15;
-
-/// What stands for the value of a byte that is no digit.
-const NO_DIGIT: u8 = 255;
-
-/// How many digits are decoded side by side.
-const CHUNK_DIGITS: usize = 16;
-
-/// How many bytes these digits spell.
-const CHUNK_BYTES: usize = 8;
-
-/// The values of digits of either case, lane by lane, and `NO_DIGIT` for a byte that is none.
-/// Nothing branches on a digit, which no processor could foretell.
-#[inline(always)]
-fn digit_values(digits: u8x16) -> u8x16
-    ensures { (j : ℕ) → j < 16 → slice_index result j ≡ digit_value (slice_index digits j) }
+/// The value of a digit of either case.
+fn digit_value(digit: u8) -> Option<u8>
+    ensures { result ≡ hex_digit_value digit }
 {
-    let ten = u8x16::splat(10);
-    let six = u8x16::splat(6);
-    // Lanes wrap around: a byte below a range comes out far above it.
-    let figures = digits - u8x16::splat(b'0');
-    let lower = digits - u8x16::splat(b'a');
-    let upper = digits - u8x16::splat(b'A');
-    let of_upper = upper
-        .simd_lt(six)
-        .select(upper + ten, u8x16::splat(NO_DIGIT));
-    let of_letters = lower.simd_lt(six).select(lower + ten, of_upper);
-    figures.simd_lt(ten).select(figures, of_letters)
-}
-
-/// Decodes as many digits as a vector has lanes, and answers whether all were digits.
-#[inline(always)]
-fn decode_chunk(pairs: &[u8], bytes: &mut [u8]) -> bool
-    requires pairs { length pairs.now ≡ CHUNK_DIGITS }
-    requires bytes { length bytes.old ≡ CHUNK_BYTES }
-    ensures { unhex pairs.now ≡ (if result then Some bytes.new else None) }
-{
-    let values = digit_values(u8x16::from_slice(pairs));
-    let high = values.swizzle([0, 2, 4, 6, 8, 10, 12, 14]);
-    let low = values.swizzle([1, 3, 5, 7, 9, 11, 13, 15]);
-    (high << u8x8::splat(4) | low).copy_to_slice(bytes);
-    values.simd_gt(u8x16::splat(LARGEST_DIGIT)).to_bitmask() == 0
-}
-
-/// Decodes at most `CHUNK_DIGITS` digits. Zeros behind them fill the vector.
-fn decode_few(pairs: &[u8], bytes: &mut [u8]) -> bool
-    requires pairs { length pairs.now ≡ 2 * length bytes.old }
-    requires few { length bytes.old ≤ CHUNK_BYTES }
-    ensures { unhex pairs.now ≡ (if result then Some bytes.new else None) }
-{
-    if pairs.is_empty() {
-        return true;
-    }
-    let mut digits = [b'0'; CHUNK_DIGITS];
-    digits[..pairs.len()].copy_from_slice(pairs);
-    let mut decoded = [0; CHUNK_BYTES];
-    let is_good = decode_chunk(&digits, &mut decoded);
-    bytes.copy_from_slice(&decoded[..bytes.len()]);
-    is_good
+    let mut value = [0];
+    hex::decode_to_slice([b'0', digit].as_slice(), &mut value).ok()?;
+    Some(value[0])
 }
 
 /// Decodes pairs of digits, each to a byte, and answers whether all were digits. Where one was not,
-/// the bytes mean nothing.
+/// the bytes mean nothing. Nothing branches on a digit, which no processor could foretell.
 fn decode_pairs(pairs: &[u8], bytes: &mut [u8]) -> bool
     requires { length pairs.now ≡ 2 * length bytes.old }
     ensures { unhex pairs.now ≡ (if result then Some bytes.new else None) }
 {
-    let count = bytes.len() / CHUNK_BYTES;
-    for i in 0..count {
-        let digits = &pairs[CHUNK_DIGITS * i..CHUNK_DIGITS * (i + 1)];
-        if !decode_chunk(digits, &mut bytes[CHUNK_BYTES * i..CHUNK_BYTES * (i + 1)]) {
-            return false;
-        }
+    let mut is_good = true;
+    for place in 0..bytes.len() {
+        let high = digit_value(pairs[2 * place]);
+        let low = digit_value(pairs[2 * place + 1]);
+        is_good &= high.is_some() & low.is_some();
+        bytes[place] = high.unwrap_or(0) << 4 | low.unwrap_or(0);
     }
-    decode_few(
-        &pairs[CHUNK_DIGITS * count..],
-        &mut bytes[CHUNK_BYTES * count..],
-    )
+    is_good
 }
 
 /// Decodes hexadecimal text that may be cut anywhere, also between the two digits of a byte.

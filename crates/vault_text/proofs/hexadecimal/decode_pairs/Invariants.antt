@@ -1,6 +1,7 @@
-use Rattle.std.proofs.Common.{◌≡◌, ◌*◌, take, Some}
+use Rattle.std.proofs.Common.{◌≡◌, ◌*◌, take}
 use Rattle.vault_text.specs.Hexadecimal.{unhex}
+use Rattle.vault_text.proofs.DigitFacts.{found_if}
 use Rattle.vault_text.proofs.hexadecimal.decode_pairs.Given as goal
 
-abbrev pub invariant-loop-i : goal.invariant-loop-i
-invariant-loop-i l = unhex (take (16 * l.i) l.pairs) ≡ Some (take (8 * l.i) l.bytes)
+abbrev pub invariant-loop-place : goal.invariant-loop-place
+invariant-loop-place l = unhex (take (2 * l.place) l.pairs) ≡ found_if l.is_good (take l.place l.bytes)
