@@ -38,10 +38,10 @@ check:
 	@$(MAKE) --no-print-directory test
 
 test: all
-	tests/end_to_end.py bin/ansible-vault
-	tests/tables_are_read
+	tests/end_to_end bin/ansible-vault
+	tests/cipher_reads_its_tables
 	tests/options_agree bin/ansible-vault
-	tests/tables_agree
+	tests/documents_agree
 	tests/audit_agrees
 	tests/completions
 	tests/progress
@@ -49,14 +49,14 @@ test: all
 	tests/first_page bin/ansible-vault
 	tests/workflows bin/ansible-vault
 	tests/with_ansible bin/ansible-vault
-	tests/hostile.py bin/ansible-vault
-	tests/growths.py bin/ansible-vault
+	tests/hostile bin/ansible-vault
+	tests/growths bin/ansible-vault
 	tests/with_valgrind bin/ansible-vault
-	tests/fuzz.py bin/ansible-vault --seed 1 --runs 6000 --seconds 60
+	tests/fuzz bin/ansible-vault --seed 1 --runs 6000 --seconds 60
 
 # Random requests, until told to stop.
 fuzz: all
-	tests/fuzz.py bin/ansible-vault
+	tests/fuzz bin/ansible-vault
 
 bench: all
 	bench/commands.py bin/ansible-vault --chart docs/speed.svg
@@ -67,7 +67,7 @@ bench: all
 
 install: all
 	install -D -m 0755 bin/ansible-vault $(DESTDIR)$(PREFIX)/bin/ansible-vault
-	install -D -m 0644 doc/ansible-vault.1 $(PAGE)
+	install -D -m 0644 man/ansible-vault.1 $(PAGE)
 	install -D -m 0644 completions/ansible-vault.bash $(BASH_COMPLETION)
 	install -D -m 0644 completions/ansible-vault.zsh $(ZSH_COMPLETION)
 	install -D -m 0644 completions/ansible-vault.fish $(FISH_COMPLETION)

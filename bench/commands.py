@@ -1,15 +1,13 @@
-#!/usr/bin/env python3
+#!/usr/bin/env -S python3 -B
 """Times the commands of the built program beside Ansible's own tool, the two taking turns.
 
-Usage: commands.py PROGRAM [--offered WORD,..] [--runs N] [--chart FILE.svg]. Of all runs of a tool the
+Usage: commands.py PROGRAM [--runs N] [--chart FILE.svg]. Of all runs of a tool the
 least time counts. A ratio stands only where wall and processor time of both tools agree. The vaults are
-made by the tests' own Python; Ansible's tool is found as `tests/with_ansible` finds it. The chart shows
+made by the tests' own Python; Ansible's tool is found as `tests/lib/ansible.py` says. The chart shows
 time and memory of `view` against the size of the vault.
 """
 
 import argparse
-import importlib.machinery
-import importlib.util
 import json
 import os
 import subprocess
@@ -18,14 +16,13 @@ import tempfile
 from pathlib import Path
 from typing import NamedTuple
 
-sys.dont_write_bytecode = True
 HERE = Path(__file__).resolve().parent
 TESTS = HERE.parent / "tests"
 sys.path.insert(0, str(TESTS))
 
+from lib.ansible import ansible_vault
 from measured import Times, Work, taken_in_turn
-from offered import EVERYTHING, OFFERED
-from vaults import PLAINTEXT_LIMIT, seal
+from model.vaults import seal
 
 SIZES = {"1 KiB": 1 << 10, "64 KiB": 1 << 16, "1 MiB": 1 << 20, "16 MiB": 1 << 24}
 CHART_SIZES = {"4 KiB": 1 << 12, "16 KiB": 1 << 14, "256 KiB": 1 << 18, "4 MiB": 1 << 22}
@@ -46,15 +43,7 @@ GOALS = {
 class Row(NamedTuple):
     name: str
     size: int
-    needs: set[str]
     works: dict[str, Work]
-
-
-def ansible_vault() -> str | None:
-    loader = importlib.machinery.SourceFileLoader("with_ansible", str(TESTS / "with_ansible"))
-    module = importlib.util.module_from_spec(importlib.util.spec_from_loader("with_ansible", loader))
-    loader.exec_module(module)
-    return module.ansible_vault()
 
 
 class Rows:
@@ -86,20 +75,20 @@ class Rows:
     def view(self, name: str, size: int, options: list[str]) -> Row:
         text = plaintext(size)
         work = Work(["view", *options], seal(RIGHT, text), lambda output: output.rstrip(b"\n") == text.rstrip(b"\n"))
-        return Row(f"view, {name}", size, {"view"}, self.both(work, ["decrypt", "--output", "-", *options]))
+        return Row(f"view, {name}", size, self.both(work, ["decrypt", "--output", "-", *options]))
 
     def view_file(self, name: str, size: int) -> Row:
         text = plaintext(size)
         path = self.file(f"vault{size}", seal(RIGHT, text))
         work = Work(["view", *self.alone, path], b"", lambda output: output.rstrip(b"\n") == text.rstrip(b"\n"))
-        return Row(f"view FILE, {name}", size, {"view", "FILE"}, self.both(work, ["decrypt", *self.alone, "--output", "-", path]))
+        return Row(f"view FILE, {name}", size, self.both(work, ["decrypt", *self.alone, "--output", "-", path]))
 
     def encrypt(self, name: str, size: int) -> Row:
         text = plaintext(size)
         length = len(seal(RIGHT, text))
         # Ansible's tool may end its output with one more line feed.
         work = Work(["encrypt", *self.alone], text, lambda output: 0 <= len(output) - length <= 1)
-        return Row(f"encrypt, {name}", size, {"encrypt"}, self.both(work, ["encrypt", "--output", "-", *self.alone]))
+        return Row(f"encrypt, {name}", size, self.both(work, ["encrypt", "--output", "-", *self.alone]))
 
     def rekey(self, name: str, size: int) -> Row:
         """Ansible's tool rekeys in place, so it gets a new file before each run."""
@@ -109,13 +98,13 @@ class Rows:
         work = Work(["rekey", *options], vault, lambda output: len(output) == len(vault))
         prepare = lambda: Path(path).write_bytes(vault)
         theirs = self.both(work, ["rekey", *options, path], stdin=b"", accepts=lambda _: True, prepare=prepare)
-        return Row(f"rekey, {name}", size, {"rekey"}, theirs)
+        return Row(f"rekey, {name}", size, theirs)
 
     def every(self) -> list[Row]:
-        rows = [self.view(name, size, self.alone) for name, size in SIZES.items() if size <= PLAINTEXT_LIMIT]
+        rows = [self.view(name, size, self.alone) for name, size in SIZES.items()]
         rows.append(self.view("1 KiB, the last of 16 secrets", 1 << 10, self.last))
         for make in (self.view_file, self.encrypt, self.rekey):
-            rows += [make(name, size) for name, size in SIZES.items() if size <= PLAINTEXT_LIMIT]
+            rows += [make(name, size) for name, size in SIZES.items()]
         return rows
 
 
@@ -149,8 +138,7 @@ def draw(points: list[dict], path: str) -> None:
 
 def chart_points(rows: Rows, runs: int, measured: dict[int, dict[str, Times]]) -> list[dict]:
     for name, size in CHART_SIZES.items():
-        if size <= PLAINTEXT_LIMIT:
-            measured[size] = taken_in_turn(rows.view(name, size, rows.alone).works, runs)
+        measured[size] = taken_in_turn(rows.view(name, size, rows.alone).works, runs)
     return [
         {"size": size, "tool": tool, "milliseconds": took.wall, "memory": took.memory}
         for size, times in sorted(measured.items())
@@ -161,7 +149,6 @@ def chart_points(rows: Rows, runs: int, measured: dict[int, dict[str, Times]]) -
 def parsed_arguments() -> argparse.Namespace:
     parser = argparse.ArgumentParser(description=__doc__.splitlines()[0])
     parser.add_argument("program")
-    parser.add_argument("--offered", default=",".join(OFFERED))
     parser.add_argument("--runs", type=int, default=RUNS)
     parser.add_argument("--only", default="", help="rows whose names begin so")
     parser.add_argument("--chart")
@@ -173,13 +160,12 @@ def main() -> None:
     ansible = ansible_vault()
     if ansible is None:
         print("Ansible's own tool (Debian's package ansible-core) is not installed: no ratios")
-    missing = set(EVERYTHING) - set(given.offered.split(","))
     measured: dict[int, dict[str, Times]] = {}
     with tempfile.TemporaryDirectory() as folder:
         rows = Rows(os.path.abspath(given.program), ansible, Path(folder))
         print(heading(ansible is not None))
         for row in rows.every():
-            if not row.needs & missing and row.name.startswith(given.only):
+            if row.name.startswith(given.only):
                 times = taken_in_turn(row.works, given.runs)
                 print(line_of(row.name, times), flush=True)
                 if row.name in (f"view, {name}" for name in SIZES):

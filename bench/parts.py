@@ -1,4 +1,4 @@
-#!/usr/bin/env python3
+#!/usr/bin/env -S python3 -B
 """Says where the time for a vault of 1 MiB goes, by the programs of the other benchmarks.
 
 Usage: parts.py PROGRAM
@@ -11,10 +11,9 @@ import tempfile
 import time
 from pathlib import Path
 
-sys.dont_write_bytecode = True
 sys.path.insert(0, str(Path(__file__).resolve().parent.parent / "tests"))
 
-from vaults import seal
+from model.vaults import seal
 
 RUNS = 5
 SIZE = 1 << 20

@@ -1,13 +1,12 @@
 """The end-to-end cases by topic, and what runs them."""
 
+import os
 import subprocess
 from pathlib import Path
 
-from faults import Fault
-from offered import EVERYTHING
-from options import OPTIONS
+from lib.outcome import Outcome
+from model.faults import Fault
 
-FIXTURES = Path(__file__).resolve().parent.parent / "fixtures"
 SECONDS = 60
 TEXT = b"secret: value\n"
 READING = ("view", "decrypt")
@@ -21,31 +20,14 @@ def by_id(path: str, label: str = "default") -> list[str]:
     return ["--vault-id", f"{label}@{path}"]
 
 
-class Cases:
-    """Runs the program, counts what is as expected and prints what is not."""
+class Cases(Outcome):
+    """Runs the program, with files in a folder of its own."""
 
-    def __init__(self, program: str, folder: str, offered: list[str]) -> None:
-        self.program = program
+    def __init__(self, program: str, folder: str) -> None:
+        super().__init__()
+        self.program = os.path.abspath(program)
         self.folder = Path(folder)
-        self.offered = offered
         self.files = 0
-        self.passed = 0
-        self.failed = 0
-
-    def has(self, word: str) -> bool:
-        """Whether the program has a command, FILE, or an option; most come with their command."""
-        return word in self.offered or word not in EVERYTHING
-
-    @property
-    def commands(self) -> list[str]:
-        return [command for command in OPTIONS if command in self.offered]
-
-    def check(self, name: str, actual, expected) -> None:
-        if actual == expected:
-            self.passed += 1
-        else:
-            self.failed += 1
-            print(f"FAILED {name}: got {actual!r:.600}, want {expected!r:.600}")
 
     def path(self) -> str:
         """A path at which nothing stands."""

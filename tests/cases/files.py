@@ -8,8 +8,8 @@ from pathlib import Path
 
 from cases import SECONDS, TEXT, Cases, by_file
 from cases.samples import SALT_WORDS, Sample, samples
-from faults import Fault
-from vaults import ENVELOPE_LIMIT, MAGIC, seal
+from model.faults import Fault
+from model.vaults import ENVELOPE_LIMIT, MAGIC, seal
 
 OLD = b"what stood here before\n" * 1_000
 NOT_ASKED = b"standard input is not asked"
@@ -243,7 +243,6 @@ def without_rights(cases: Cases) -> None:
     cases.check("the locked file stays", Path(locked).read_bytes(), OLD)
 
 
-NEEDS = ["FILE", "--output"]
 GROUPS = [
     inputs,
     input_pipes,

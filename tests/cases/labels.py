@@ -1,8 +1,8 @@
 """Labels and several secrets: which are allowed, and in which order they are tried."""
 
 from cases import TEXT, Cases, by_file, by_id
-from faults import Fault
-from vaults import HEADER, seal
+from model.faults import Fault
+from model.vaults import HEADER, seal
 
 
 def vault_ids(cases: Cases) -> None:
@@ -61,7 +61,6 @@ def several_secrets(cases: Cases) -> None:
         cases.refuses(f"{name} with a secret", by_file(right), stdin, fault)
 
 
-NEEDS = []
 GROUPS = [
     vault_ids,
     several_secrets,

@@ -3,17 +3,17 @@
 import subprocess
 
 from cases import SECONDS, Cases
-from faults import Fault
-from options import COMMON, FLAGS, OPTIONS
+from model.faults import Fault
+from model.options import COMMON, FLAGS, OPTIONS
 
 
 def texts(cases: Cases) -> None:
     usage = lambda text: b"Usage: ansible-vault" in text
-    cases.run("help", ["--help"], out=lambda text: usage(text) and all(name.encode() in text for name in cases.commands))
+    cases.run("help", ["--help"], out=lambda text: usage(text) and all(name.encode() in text for name in OPTIONS))
     cases.run("version", ["--version"], out=lambda text: text.startswith(b"ansible-vault "))
     cases.run("no command", [], status=2, err=usage)
-    for command in cases.commands:
-        options = {option for option in COMMON | OPTIONS[command] if cases.has(option)}
+    for command in OPTIONS:
+        options = COMMON | OPTIONS[command]
         names = lambda text: f"Usage: ansible-vault {command}".encode() in text and all(option.encode() in text for option in options)
         cases.run(f"help of {command}", [command, "--help"], out=names)
     cases.run("an argument that is not UTF-8", [b"view", b"\xff"], status=2, err=b"error: an argument is not UTF-8\n")
@@ -25,12 +25,11 @@ def refused_words(cases: Cases) -> None:
     cases.no_command_line("an unknown command", ["show"], b"show")
     cases.no_command_line("the command help", ["help"], b"help")
     every = COMMON.union(*OPTIONS.values())
-    for command in cases.commands:
+    for command in OPTIONS:
         cases.no_command_line(f"{command}, an unknown option", [command, "--loud"], b"--loud")
         cases.no_command_line(f"{command}, too many arguments", [command, "x", "y"], b"")
         for option in COMMON | OPTIONS[command]:
-            if cases.has(option):
-                valued(cases, command, option)
+            valued(cases, command, option)
         for option in every - COMMON - OPTIONS[command]:
             cases.no_command_line(f"{command} has no {option}", [command, option, "x"], option.encode())
 
@@ -54,7 +53,6 @@ def endless_pipe(cases: Cases) -> None:
     child.stdin.close()
 
 
-NEEDS = ["--help"]
 GROUPS = [
     texts,
     refused_words,

@@ -3,9 +3,10 @@
 import os
 import subprocess
 
-from cases import FIXTURES, TEXT, Cases, by_file, by_id
-from faults import Fault
-from vaults import ENVELOPE_LIMIT, HEADER, seal
+from cases import TEXT, Cases, by_file, by_id
+from lib.paths import FIXTURES
+from model.faults import Fault
+from model.vaults import ENVELOPE_LIMIT, HEADER, seal
 
 
 def passwords(cases: Cases) -> None:
@@ -90,7 +91,6 @@ def password_paths(cases: Cases) -> None:
     cases.opens("a vault id with nothing before @", ["--vault-id", f"@{right}"], vault, TEXT)
 
 
-NEEDS = []
 GROUPS = [
     passwords,
     refused_passwords,

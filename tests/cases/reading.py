@@ -1,8 +1,9 @@
 """Envelopes: whole ones in every layout, malformed ones, damaged ones."""
 
-from cases import FIXTURES, TEXT, Cases, by_file, by_id
-from faults import Fault
-from vaults import CIPHERTEXT_LIMIT, ENVELOPE, ENVELOPE_LIMIT, HEADER, PLAINTEXT_LIMIT, padded, parts, seal, spelled
+from cases import TEXT, Cases, by_file, by_id
+from lib.paths import FIXTURES
+from model.faults import Fault
+from model.vaults import CIPHERTEXT_LIMIT, ENVELOPE, ENVELOPE_LIMIT, HEADER, PLAINTEXT_LIMIT, padded, parts, seal, spelled
 
 
 def format_faults(cases: Cases) -> None:
@@ -123,7 +124,6 @@ def damaged(cases: Cases) -> None:
         cases.refuses(f"wrong padding after a wrong secret: {name}", wrong + right, vault, Fault.BAD_PADDING)
 
 
-NEEDS = []
 GROUPS = [
     format_faults,
     well_formed,

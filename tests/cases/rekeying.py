@@ -1,8 +1,8 @@
 """`rekey`: new secrets, options and inputs."""
 
 from cases import TEXT, Cases, by_file
-from faults import Fault
-from vaults import CIPHERTEXT_LIMIT, ENVELOPE, ENVELOPE_LIMIT, HEADER, MAGIC, PLAINTEXT_LIMIT, parts, seal, spelled
+from model.faults import Fault
+from model.vaults import CIPHERTEXT_LIMIT, ENVELOPE, ENVELOPE_LIMIT, HEADER, MAGIC, PLAINTEXT_LIMIT, parts, seal, spelled
 
 SALT_WORDS = ["--salt", "abc"]
 SALT = b"abc"
@@ -93,7 +93,6 @@ def refused_inputs(cases: Cases) -> None:
     cases.run("rekey of almost a vault", words, seal(b"right", almost), 0, seal(b"new", almost, b"prod", SALT))
 
 
-NEEDS = ["rekey"]
 GROUPS = [
     rekeyed,
     worked,

@@ -2,8 +2,8 @@
 
 from cases import READING, TEXT, Cases, by_file, by_id
 from cases.rekeying import SALT, SALT_WORDS
-from faults import Fault
-from vaults import ENVELOPE, parts, seal, spelled
+from model.faults import Fault
+from model.vaults import ENVELOPE, parts, seal, spelled
 
 FLAG = "--require-id-match"
 
@@ -45,7 +45,6 @@ def required_in_rekey(cases: Cases) -> None:
         cases.refused(f"{command}, required without secrets", [command, FLAG], Fault.NO_SECRET_FITS, ENVELOPE)
 
 
-NEEDS = ["--require-id-match", "rekey"]
 GROUPS = [
     required_label,
     required_in_rekey,

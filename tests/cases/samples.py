@@ -3,7 +3,7 @@
 from typing import NamedTuple
 
 from cases import TEXT, Cases, by_file, by_id
-from vaults import seal, yaml_block
+from model.vaults import seal, yaml_block
 
 SALT_TEXT = b"a salt"
 SALT_WORDS = ["--salt", SALT_TEXT.decode()]
@@ -20,16 +20,15 @@ class Sample(NamedTuple):
 
 
 def samples(cases: Cases, text: bytes = TEXT) -> list[Sample]:
-    """A run for each command that is offered, over this plaintext."""
+    """A run of each command over this plaintext."""
     right = lambda: by_file(cases.file(b"right\n"))
     new = cases.file(b"new\n")
     vault, sealed = seal(b"right", text), seal(b"right", text, salt=SALT_TEXT)
     rekeyed = seal(b"new", text, b"prod", SALT_TEXT)
-    every = [
+    return [
         Sample(["encrypt", *right(), *SALT_WORDS], text, sealed),
         Sample(["decrypt", *right()], vault, text),
         Sample(["view", *by_id(cases.file(b"right\n"), "dev")], vault, text),
         Sample(["rekey", *right(), "--new-vault-id", f"prod@{new}", *SALT_WORDS], vault, rekeyed),
         Sample(["encrypt_string", *right(), *SALT_WORDS, "--stdin-name", "k"], text, yaml_block(sealed, b"k")),
     ]
-    return [sample for sample in every if sample.command in cases.offered]

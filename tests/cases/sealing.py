@@ -4,20 +4,17 @@ import os
 import subprocess
 
 from cases import TEXT, Cases, by_file, by_id
-from faults import Fault
-from vaults import ENVELOPE, HEADER, MAGIC, PLAINTEXT_LIMIT, SALT, seal, yaml_block
+from model.faults import Fault
+from model.vaults import ENVELOPE, HEADER, MAGIC, PLAINTEXT_LIMIT, SALT, seal, yaml_block
 
 ZEROS = bytes(32)
 RIGHT = b"right"
+SEALING = ("encrypt", "encrypt_string")
 
 
 def with_salt(cases: Cases, salt: bytes = ZEROS) -> list[str]:
     """Options for the password `right` and a salt file."""
     return [*by_file(cases.file(b"right\n")), "--salt-file", cases.file(salt)]
-
-
-def sealing(cases: Cases) -> list[str]:
-    return [command for command in ("encrypt", "encrypt_string") if command in cases.commands]
 
 
 def sizes(cases: Cases) -> None:
@@ -64,7 +61,7 @@ def salt_texts(cases: Cases) -> None:
         ("salt text and file", ["--salt", "abc", "--salt-file", salt], Fault.SALT_CHOICE),
         ("an empty salt text and a file", ["--salt", "", "--salt-file", salt], Fault.SALT_CHOICE),
     ]
-    for command in sealing(cases):
+    for command in SEALING:
         for name, options, fault in refused:
             cases.refused(f"{command}, {name}", [command, *right, *options], fault, TEXT)
 
@@ -82,7 +79,7 @@ def salt_files(cases: Cases) -> None:
     ]
     for name, path, salt in good:
         cases.run(f"salt file of {name}", ["encrypt", *right, "--salt-file", path], TEXT, 0, seal(RIGHT, TEXT, salt=salt))
-    for command in sealing(cases):
+    for command in SEALING:
         for name, path, fault in refused:
             cases.refused(f"{command}, salt file: {name}", [command, *right, "--salt-file", path], fault, TEXT)
 
@@ -123,16 +120,15 @@ def choices(cases: Cases) -> None:
     for name, options, password, label in chosen:
         vault = seal(password, TEXT, label, b"abc")
         cases.run(f"encrypt with {name}", ["encrypt", *options, *salt], TEXT, 0, vault)
-        if "encrypt_string" in cases.commands:
-            cases.run(f"encrypt_string with {name}", ["encrypt_string", *options, *salt], TEXT, 0, yaml_block(vault))
-    for command in sealing(cases):
+        cases.run(f"encrypt_string with {name}", ["encrypt_string", *options, *salt], TEXT, 0, yaml_block(vault))
+    for command in SEALING:
         for name, options, fault in refused:
             cases.refused(f"{command}, {name}", [command, *options, *salt], fault, TEXT)
 
 
 def plaintexts(cases: Cases) -> None:
     right, salt = by_file(cases.file(b"right\n")), ["--salt", "abc"]
-    for command in sealing(cases):
+    for command in SEALING:
         for text in (ENVELOPE, MAGIC, MAGIC + b" and more"):
             cases.refused(f"{command} of {text!r:.20}", [command, *right, *salt], Fault.ALREADY_VAULT, text)
         for text in (MAGIC[:-1], b" " + MAGIC, b"\n" + ENVELOPE, MAGIC.lower(), b"\x00", b"\xff" * 40):
@@ -161,7 +157,7 @@ def order(cases: Cases) -> None:
         ("a short salt, then a vault", [*by_file(right), *short], Fault.SALT_SHORT, ENVELOPE),
         ("long input that is a vault", by_file(right), Fault.TOO_LONG, ENVELOPE.ljust(PLAINTEXT_LIMIT + 1)),
     ]
-    for command in sealing(cases):
+    for command in SEALING:
         for name, options, fault, stdin in refused:
             cases.refused(f"{command}, {name}", [command, *options], fault, stdin)
 
@@ -170,9 +166,8 @@ def input_not_asked(cases: Cases) -> None:
     """Nobody writes to this pipe: who reads it waits."""
     right = cases.file(b"right\n")
     runs = [(["encrypt", *by_file(right), "--salt-file", cases.file(bytes(31))], 1), (["encrypt"], 1)]
-    if "encrypt_string" in cases.commands:
-        runs.append((["encrypt_string", *by_file(right), "secret"], 0))
-        runs.append((["encrypt_string", *by_file(right), ""], 1))
+    runs.append((["encrypt_string", *by_file(right), "secret"], 0))
+    runs.append((["encrypt_string", *by_file(right), ""], 1))
     for words, status in runs:
         reader, writer = os.pipe()
         cases.run_streams(f"{words[0]}, no input asked", words, status, stdin=reader, stdout=subprocess.DEVNULL, stderr=subprocess.DEVNULL)
@@ -180,7 +175,6 @@ def input_not_asked(cases: Cases) -> None:
         os.close(writer)
 
 
-NEEDS = ["encrypt"]
 GROUPS = [
     sizes,
     worked,

@@ -7,8 +7,8 @@ from pathlib import Path
 
 from cases import SECONDS, TEXT, Cases, by_file
 from cases.samples import Sample, samples
-from faults import Fault
-from vaults import ENVELOPE_LIMIT, HEADER, PLAINTEXT_LIMIT, seal
+from model.faults import Fault
+from model.vaults import ENVELOPE_LIMIT, HEADER, PLAINTEXT_LIMIT, seal
 
 FULL = "/dev/full"
 LARGE = 1 << 20
@@ -118,7 +118,6 @@ def leaving_reader(cases: Cases) -> None:
             cases.check(f"{sample.command}, a reader that leaves", (child.wait(SECONDS), message), (3, Fault.NOT_WRITTEN.line))
 
 
-NEEDS = []
 GROUPS = [
     without_secrets,
     folder_as_input,

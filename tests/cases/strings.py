@@ -2,8 +2,8 @@
 
 from cases import Cases, by_file
 from cases.sealing import RIGHT, with_salt
-from faults import Fault
-from vaults import MAGIC, seal, yaml_block
+from model.faults import Fault
+from model.vaults import MAGIC, seal, yaml_block
 
 
 def strings(cases: Cases) -> None:
@@ -48,7 +48,6 @@ def refused_strings(cases: Cases) -> None:
         cases.refused(name, ["encrypt_string", *right, *options], fault, b"")
 
 
-NEEDS = ["encrypt_string"]
 GROUPS = [
     strings,
     refused_strings,

@@ -7,8 +7,8 @@ import shutil
 import subprocess
 import tempfile
 
-ROOT = pathlib.Path(__file__).resolve().parent.parent
-COMPLETIONS = ROOT / "completions"
+HERE = pathlib.Path(__file__).resolve().parent
+COMPLETIONS = HERE.parent.parent / "completions"
 NAME = "ansible-vault"
 
 # Calls the function as readline does: with the words cut at `=` and `@` too, and with the text that
@@ -91,7 +91,7 @@ def fish(line: str, folder: pathlib.Path) -> set[str]:
 def zsh(line: str, folder: pathlib.Path) -> set[str]:
     with tempfile.TemporaryDirectory() as functions:
         shutil.copy(COMPLETIONS / f"{NAME}.zsh", pathlib.Path(functions) / f"_{NAME}")
-        return printed([str(ROOT / "tests" / "zsh_matches"), functions, line], folder)
+        return printed([str(HERE / "zsh_matches"), functions, line], folder)
 
 
 SHELLS = {name: ask for name, ask in (("bash", bash), ("zsh", zsh), ("fish", fish)) if shutil.which(name)}

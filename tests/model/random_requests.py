@@ -6,9 +6,9 @@ from dataclasses import dataclass
 from pathlib import Path
 from random import Random
 
-import random_envelopes
-from options import FLAGS, OPTIONS, SEALING
-from vaults import ENVELOPE
+from model import random_envelopes
+from model.options import FLAGS, OPTIONS, SEALING
+from model.vaults import ENVELOPE
 
 PASSWORDS = {
     "right": b"right\n",
@@ -47,12 +47,11 @@ SECRET_COUNTS = [0] * 3 + [1] * 12 + [2] * 4 + [3, 4] + [16, 17]
 
 @dataclass
 class Case:
-    """`files` has None for a folder; `needs` is what a program must offer to run it."""
+    """`files` has None for a folder."""
 
     words: list[str]
     files: dict[str, bytes | None]
     stdin: bytes
-    needs: list[str]
 
     @property
     def size(self) -> int:
@@ -69,7 +68,7 @@ class Case:
 def save(case: Case, path: Path) -> None:
     encoded = lambda content: None if content is None else base64.b85encode(content).decode()
     files = {name: encoded(content) for name, content in case.files.items()}
-    record = {"words": case.words, "needs": case.needs, "files": files, "stdin": encoded(case.stdin)}
+    record = {"words": case.words, "files": files, "stdin": encoded(case.stdin)}
     path.parent.mkdir(exist_ok=True)
     path.write_text(json.dumps(record, indent=1) + "\n")
 
@@ -78,20 +77,18 @@ def load(path: Path) -> Case:
     record = json.loads(path.read_text())
     decoded = lambda text: None if text is None else base64.b85decode(text)
     files = {name: decoded(text) for name, text in record["files"].items()}
-    return Case(record["words"], files, decoded(record["stdin"]), record["needs"])
+    return Case(record["words"], files, decoded(record["stdin"]))
 
 
 class Maker:
     """Makes one request; every choice comes from `random`."""
 
-    def __init__(self, random: Random, offered: list[str]) -> None:
+    def __init__(self, random: Random) -> None:
         self.random = random
-        self.offered = offered
-        self.command = random.choice([command for command in OPTIONS if command in offered])
+        self.command = random.choice(list(OPTIONS))
         self.options: list[tuple[str, str]] = []
         self.files: dict[str, bytes | None] = {FOLDER: None}
         self.held: list[tuple[str, bytes]] = []
-        self.needs = {self.command}
 
     def likely(self, chance: float) -> bool:
         return self.random.random() < chance
@@ -100,12 +97,10 @@ class Maker:
         return self.random.choice(good if self.likely(chance) else bad)
 
     def has(self, option: str) -> bool:
-        optional = ("--output", "--require-id-match")
-        return option in OPTIONS[self.command] and (option not in optional or option in self.offered)
+        return option in OPTIONS[self.command]
 
     def add(self, option: str, value: str = "") -> None:
         self.options.append((option, value))
-        self.needs |= {option} & {"--output", "--require-id-match"}
 
     def file(self, name: str, content: bytes) -> str:
         self.files[name] = content
@@ -201,9 +196,8 @@ class Maker:
         if self.command == "encrypt_string":
             string = self.random.choice(STRINGS) if self.likely(0.6) else None
             return string, self.content()
-        if "FILE" not in self.offered or self.likely(0.4):
+        if self.likely(0.4):
             return None, self.content()
-        self.needs.add("FILE")
         if self.likely(0.05):
             return self.random.choice(NO_FILES), b"not asked"
         if self.likely(0.1):
@@ -246,8 +240,8 @@ class Maker:
         for add in (self.add_choice, self.add_new_secret, self.add_salt, self.add_flag, self.add_name):
             add()
         self.add_output(positional if self.command != "encrypt_string" else None)
-        return Case(self.words(positional), self.files, stdin, sorted(self.needs))
+        return Case(self.words(positional), self.files, stdin)
 
 
-def make(seed: str, offered: list[str]) -> Case:
-    return Maker(Random(seed), offered).case()
+def make(seed: str) -> Case:
+    return Maker(Random(seed)).case()

@@ -2,8 +2,8 @@
 
 from random import Random
 
-from vaults import CIPHERTEXT_LIMIT, ENVELOPE, ENVELOPE_LIMIT, HEADER, MAGIC, PLAINTEXT_LIMIT
-from vaults import padded, parts, seal, spelled
+from model.vaults import CIPHERTEXT_LIMIT, ENVELOPE, ENVELOPE_LIMIT, HEADER, MAGIC, PLAINTEXT_LIMIT
+from model.vaults import padded, parts, seal, spelled
 
 SIZES = [0, 1, 2, 14, 15, 16, 17, 31, 32, 33, 47, 48, 49, 63, 64, 65, 255, 256, 257, 1_000]
 LARGE_SIZES = [4_079, 4_080, 4_095, 4_096, 4_097, 65_519, 65_520, 65_535, 65_536, 65_537]

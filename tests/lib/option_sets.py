@@ -3,12 +3,10 @@
 The key None stands for the program without a command.
 """
 
-import pathlib
 import re
 import subprocess
 
-ROOT = pathlib.Path(__file__).resolve().parent.parent
-PAGE = ROOT / "doc" / "ansible-vault.1"
+from lib.paths import PAGE
 
 OPTION = re.compile(r"\bFl (-?[\w-]+)")
 

@@ -7,10 +7,10 @@ import subprocess
 import tempfile
 from pathlib import Path
 
-from faults import Fault
-from model import SALT_LENGTH, Answer, CannotOpen, HostFiles, answer, refusal
-from options import SALT_FILE
-from random_requests import Case
+from model.answers import SALT_LENGTH, Answer, CannotOpen, HostFiles, answer, refusal
+from model.faults import Fault
+from model.options import SALT_FILE
+from model.random_requests import Case
 
 SECONDS = 120
 OWNER_ALONE = 0o600

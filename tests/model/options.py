@@ -2,7 +2,7 @@
 
 from dataclasses import dataclass, field
 
-from faults import Fault, Refused
+from model.faults import Fault, Refused
 
 COMMON = {"--vault-id", "--vault-password-file"}
 SALTS = {"--salt-file", "--salt"}

@@ -7,8 +7,6 @@ import hashlib
 import hmac
 import subprocess
 
-from offered import PLAINTEXT_LIMIT
-
 MAGIC = b"$ANSIBLE_VAULT"
 HEADER = MAGIC + b";1.1;AES256"
 
@@ -17,6 +15,7 @@ HEADER = MAGIC + b";1.1;AES256"
 BODY = b"0a" + b"30" * 39 + b"\n" + b"30" * 25 + b"0a" + b"\n"
 ENVELOPE = HEADER + b"\n" + BODY
 
+PLAINTEXT_LIMIT = 16_777_216
 CIPHERTEXT_LIMIT = PLAINTEXT_LIMIT + 16
 ENVELOPE_LIMIT = 6 * PLAINTEXT_LIMIT + 8_192
 

@@ -9,10 +9,10 @@ import string
 from dataclasses import dataclass
 from typing import BinaryIO, NamedTuple, Protocol
 
-from faults import Fault, Refused
-from options import DEFAULT_LABEL, NotParsed, Request, is_label, parse, settle
-from vaults import CIPHERTEXT_LIMIT, ENVELOPE_LIMIT, MAGIC, PLAINTEXT_LIMIT
-from vaults import applied, padded, parts, spelled, tag_of, yaml_block
+from model.faults import Fault, Refused
+from model.options import DEFAULT_LABEL, NotParsed, Request, is_label, parse, settle
+from model.vaults import CIPHERTEXT_LIMIT, ENVELOPE_LIMIT, MAGIC, PLAINTEXT_LIMIT
+from model.vaults import applied, padded, parts, spelled, tag_of, yaml_block
 
 HEADER_LIMIT = 256
 SALT_READ_LIMIT = 256

@@ -1,0 +1,15 @@
+"""Where things stand in the repository."""
+
+import re
+from pathlib import Path
+
+ROOT = Path(__file__).resolve().parent.parent.parent
+FIXTURES = ROOT / "tests" / "fixtures"
+PAGE = ROOT / "man" / "ansible-vault.1"
+README = ROOT / "README.md"
+COMMAND_LINE = ROOT / "crates" / "vault_cli" / "src" / "command_line.rt"
+
+
+def version() -> str:
+    """The program's version, from the one place where it stands."""
+    return re.search(r'^const VERSION: &str = "(.*)";$', COMMAND_LINE.read_text(), re.MULTILINE)[1]
