@@ -1,37 +1,45 @@
 #!/usr/bin/env python3
 """Builds the Debian package bin/ansible-vault_VERSION_ARCHITECTURE.deb: tools/package.py VERSION.
 
-What it holds is what `make install` puts below /usr.
+It holds what `make install` puts below /usr, and its documents. Whatever another package has at the
+same paths, as Ansible's packages do, steps aside for as long as this package is installed.
 """
 
 import gzip
+import hashlib
 import os
-import pathlib
 import re
 import subprocess
 import sys
 import tempfile
+import textwrap
+from pathlib import Path
 
-ROOT = pathlib.Path(__file__).resolve().parent.parent
+ROOT = Path(__file__).resolve().parent.parent
 PROGRAM = ROOT / "bin" / "ansible-vault"
+PARTS = ROOT / "tools" / "debian"
+NAME = "ansible-vault"
+MAINTAINER = "The authors of ansible-vault in Rattle <ansible-vault@example.org>"
 
-# Who else has a program of this name, in one release of Debian or another.
-CONFLICTS = "ansible, ansible-base, ansible-core"
+# Where the files of another package go. Ansible finds its command behind the first dash of the name;
+# zsh looks at no file here that has no `_` in front.
+ASIDE = {
+    "/usr/bin/ansible-vault": "/usr/bin/ansible-vault-original",
+    "/usr/share/man/man1/ansible-vault.1.gz": "/usr/share/man/man1/ansible-vault-original.1.gz",
+    "/usr/share/bash-completion/completions/ansible-vault": "/usr/share/bash-completion/completions/ansible-vault-original",
+    "/usr/share/fish/vendor_completions.d/ansible-vault.fish": "/usr/share/fish/vendor_completions.d/ansible-vault-original.fish",
+    "/usr/share/zsh/vendor-completions/_ansible-vault": "/usr/share/zsh/vendor-completions/ansible-vault-original",
+}
 
-CONTROL = """\
-Package: ansible-vault
-Version: {version}
-Architecture: {architecture}
-Maintainer: The authors of ansible-vault in Rattle <root@localhost>
-Section: admin
-Priority: optional
-Installed-Size: {kibibytes}
-Depends: {depends}
-Conflicts: {conflicts}
-Description: keeps text files of playbooks under passwords
- Encrypts, decrypts, shows and rekeys files in the formats 1.1 and 1.2 of
- Ansible Vault, and makes blocks of YAML. It is written in Rattle, and what
- it does is proved.
+SCRIPT = """\
+#!/bin/sh
+set -e
+
+case $1 in
+{when})
+{lines}
+    ;;
+esac
 """
 
 
@@ -41,7 +49,7 @@ def printed(*command: str) -> str:
 
 def owner(library: str) -> str:
     """The package that a library belongs to; its folder may be the link that /lib is."""
-    for path in (library, str(pathlib.Path("/usr") / library.lstrip("/"))):
+    for path in (library, f"/usr{library}"):
         found = subprocess.run(["dpkg", "-S", path], capture_output=True, text=True).stdout
         if found:
             return found.split(":")[0]
@@ -62,40 +70,82 @@ def dependencies() -> str:
     return ", ".join(bounds.get(package, package) for package in packages)
 
 
-def installed(folder: pathlib.Path):
-    """Installs below the folder, with the manual page packed as Debian has its pages."""
-    subprocess.run(
-        ["make", "-s", "-C", str(ROOT), "install", "PREFIX=/usr", f"DESTDIR={folder}"], check=True
-    )
+def packed(path: Path, text: str) -> None:
+    path.write_bytes(gzip.compress(text.encode(), 9, mtime=0))
+
+
+def debian_changelog(version: str) -> str:
+    """The entries of CHANGELOG.md from this version on, in Debian's form."""
+    _, *parts = re.split(r"^## (\S+), (\d+-\d+-\d+)\n", (ROOT / "CHANGELOG.md").read_text(), flags=re.MULTILINE)
+    entries = list(zip(parts[::3], parts[1::3], parts[2::3]))
+    versions = [each for each, _, _ in entries]
+    if version not in versions:
+        raise SystemExit(f"CHANGELOG.md has no entry `## {version}, DATE`")
+    return "\n".join(debian_entry(*entry) for entry in entries[versions.index(version) :])
+
+
+def debian_entry(version: str, date: str, text: str) -> str:
+    changes = re.findall(r"^- (.*)$", text, re.MULTILINE)
+    lines = [textwrap.fill(each, 78, initial_indent="  * ", subsequent_indent="    ") for each in changes]
+    when = printed("date", "-u", "-R", "-d", date).strip()
+    return "\n".join([f"{NAME} ({version}) unstable; urgency=medium", "", *lines, "", f" -- {MAINTAINER}  {when}", ""])
+
+
+def lay_out(folder: Path, version: str) -> None:
+    """Everything that is installed: the program without its symbols, texts packed as Debian has them."""
+    subprocess.run(["make", "-s", "-C", str(ROOT), "install", "PREFIX=/usr", f"DESTDIR={folder}"], check=True)
+    strip = ["strip", "--strip-unneeded", "--remove-section=.comment", "--remove-section=.note"]
+    subprocess.run([*strip, str(folder / "usr/bin" / NAME)], check=True)
     page = folder / "usr/share/man/man1/ansible-vault.1"
-    page.with_suffix(".1.gz").write_bytes(gzip.compress(page.read_bytes(), 9, mtime=0))
+    packed(page.with_suffix(".1.gz"), page.read_text())
     page.unlink()
+    documents = folder / "usr/share/doc" / NAME
+    documents.mkdir(parents=True)
+    (documents / "copyright").write_text((PARTS / "copyright").read_text())
+    packed(documents / "changelog.gz", debian_changelog(version))
 
 
-def main():
+def diversions(when: str, change: str) -> str:
+    """A script by which what is in the way steps aside, or comes back."""
+    command = f"    dpkg-divert --package {NAME} {change} --rename --divert"
+    lines = "\n".join(f"{command} \\\n        {aside} {path}" for path, aside in ASIDE.items())
+    return SCRIPT.format(when=when, lines=lines)
+
+
+def lay_out_control(folder: Path, version: str, architecture: str) -> None:
+    files = [path for path in sorted(folder.rglob("*")) if path.is_file()]
+    sums = [f"{hashlib.md5(path.read_bytes()).hexdigest()}  {path.relative_to(folder)}\n" for path in files]
+    fields = {
+        "version": version,
+        "architecture": architecture,
+        "maintainer": MAINTAINER,
+        "kibibytes": sum(path.stat().st_size for path in files) // 1024,
+        "depends": dependencies(),
+    }
+    control = folder / "DEBIAN"
+    control.mkdir()
+    (control / "control").write_text((PARTS / "control").read_text().format(**fields))
+    (control / "md5sums").write_text("".join(sums))
+    scripts = {
+        "preinst": diversions("install | upgrade", "--add"),
+        "postrm": diversions("remove | abort-install | disappear", "--remove"),
+    }
+    for name, text in scripts.items():
+        (control / name).write_text(text)
+        (control / name).chmod(0o755)
+
+
+def main() -> None:
     os.umask(0o022)
     version = sys.argv[1]
     architecture = printed("dpkg", "--print-architecture").strip()
-    package = ROOT / "bin" / f"ansible-vault_{version}_{architecture}.deb"
+    package = ROOT / "bin" / f"{NAME}_{version}_{architecture}.deb"
     with tempfile.TemporaryDirectory() as path:
-        folder = pathlib.Path(path)
+        folder = Path(path)
         folder.chmod(0o755)
-        installed(folder)
-        sizes = [each.stat().st_size for each in folder.rglob("*") if each.is_file()]
-        control = folder / "DEBIAN" / "control"
-        control.parent.mkdir()
-        control.write_text(
-            CONTROL.format(
-                version=version,
-                architecture=architecture,
-                kibibytes=sum(sizes) // 1024,
-                depends=dependencies(),
-                conflicts=CONFLICTS,
-            )
-        )
-        subprocess.run(
-            ["dpkg-deb", "--root-owner-group", "--build", str(folder), str(package)], check=True
-        )
+        lay_out(folder, version)
+        lay_out_control(folder, version, architecture)
+        subprocess.run(["dpkg-deb", "--root-owner-group", "--build", str(folder), str(package)], check=True)
 
 
 if __name__ == "__main__":

@@ -1,0 +1,97 @@
+"""A root of its own for dpkg: what is installed there, and Ansible's package as a stand-in."""
+
+import os
+import re
+import shutil
+import subprocess
+import tempfile
+from pathlib import Path
+
+# What the maintainer scripts run.
+TOOLS = ["/bin/sh", "/usr/bin/dpkg-divert"]
+FOLDERS = ["usr/bin", "var/lib/dpkg/updates", "var/lib/dpkg/info", "var/log", "etc", "tmp"]
+CONTROL = """\
+Package: {name}
+Version: {version}
+Architecture: all
+Maintainer: A stand-in <stand-in@example.org>
+Description: a stand-in
+"""
+
+
+def stand_in(folder: Path, name: str, version: str, files: dict[str, str]) -> Path:
+    """A package that has these files."""
+    with tempfile.TemporaryDirectory() as path:
+        top = Path(path)
+        top.chmod(0o755)
+        for file, content in files.items():
+            (top / file).parent.mkdir(parents=True, exist_ok=True)
+            (top / file).write_text(content)
+            (top / file).chmod(0o755)
+        return built(top, folder, CONTROL.format(name=name, version=version))
+
+
+def later(package: Path, folder: Path, version: str) -> Path:
+    """The same package in another version."""
+    with tempfile.TemporaryDirectory() as path:
+        top = Path(path) / "package"
+        subprocess.run(["dpkg-deb", "-R", str(package), str(top)], check=True)
+        control = (top / "DEBIAN/control").read_text()
+        return built(top, folder, re.sub(r"^Version: .*$", f"Version: {version}", control, flags=re.MULTILINE))
+
+
+def built(top: Path, folder: Path, control: str) -> Path:
+    (top / "DEBIAN").mkdir(exist_ok=True)
+    (top / "DEBIAN/control").write_text(control)
+    command = ["dpkg-deb", "--root-owner-group", "-b", str(top), str(folder)]
+    told = subprocess.run(command, check=True, capture_output=True, text=True).stdout
+    return Path(re.search(r"'([^']+\.deb)'", told)[1])
+
+
+class Root:
+    """A folder that is the whole system for the packages in it."""
+
+    def __init__(self, path: str, program: str) -> None:
+        self.path = Path(path)
+        for folder in FOLDERS:
+            (self.path / folder).mkdir(parents=True)
+        for folder in ("bin", "lib", "lib64"):
+            (self.path / "usr" / folder).mkdir(exist_ok=True)
+            (self.path / folder).symlink_to(f"usr/{folder}")
+        for file in ("status", "available", "info/format"):
+            (self.path / "var/lib/dpkg" / file).write_text("1\n" if file == "info/format" else "")
+        for tool in TOOLS:
+            self.copy(tool)
+        for library in {each for tool in [*TOOLS, program] for each in libraries(tool)}:
+            self.copy(library)
+
+    def copy(self, path: str) -> None:
+        copy = self.path / path.lstrip("/")
+        copy.parent.mkdir(parents=True, exist_ok=True)
+        shutil.copy(path, copy)
+
+    def dpkg(self, *words: str) -> subprocess.CompletedProcess:
+        command = ["dpkg", f"--root={self.path}", *words]
+        return subprocess.run(command, capture_output=True, text=True, env={**os.environ, "LC_ALL": "C"})
+
+    def run(self, *words: str) -> str:
+        """What a program of this root prints."""
+        done = subprocess.run(["chroot", str(self.path), *words], capture_output=True, text=True)
+        return done.stdout + done.stderr
+
+    def read(self, path: str) -> str | None:
+        file = self.path / path.lstrip("/")
+        return file.read_text(errors="replace") if file.is_file() else None
+
+    def aside(self, path: str) -> str:
+        """Where another package's file of this path stands."""
+        return self.run("/usr/bin/dpkg-divert", "--truename", path).strip()
+
+    def diverted(self) -> str:
+        """The paths whose files step aside."""
+        return self.run("/usr/bin/dpkg-divert", "--list")
+
+
+def libraries(program: str) -> list[str]:
+    told = subprocess.run(["ldd", program], capture_output=True, text=True, check=True).stdout
+    return re.findall(r"(/\S+) \(0x", told)
