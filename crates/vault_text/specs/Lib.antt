@@ -3,8 +3,6 @@ pub mod Steps
 pub mod Limits
 pub mod Source
 pub mod SourceLaws
-pub mod ChainedSource
-pub mod ChainedSourceLaws
 pub mod Sink
 pub mod SinkLaws
 pub mod Whitespace

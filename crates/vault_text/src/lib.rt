@@ -36,8 +36,6 @@ pub use payload::Payload;
 pub use reader::{EnvelopeReader, GrowingReader};
 pub use salt::Salt;
 pub use sink::{FailingSink, MemSink, Sink, SinkFailed, Stage, WriteSink, put_all};
-pub use source::{
-    ChainedSource, FailingSource, MemSource, ReadSource, Source, SourceFailed, fill_up,
-};
+pub use source::{FailingSource, MemSource, ReadSource, Source, SourceFailed, fill_up};
 pub use whitespace::strip;
 pub use writing::{write_block, write_envelope};

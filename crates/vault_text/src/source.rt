@@ -4,12 +4,10 @@ ghost use Rattle.std.specs.Prelude.{IsTrue, IsErr, IfOk, OnErr, Ok, length, take
 ghost use Rattle.vault_text.specs.Failures.{CountsFailure};
 ghost use Rattle.vault_text.specs.Source.{given};
 
-mod chained;
 mod failing;
 mod memory;
 mod read;
 
-pub use chained::ChainedSource;
 pub use failing::FailingSource;
 pub use memory::MemSource;
 pub use read::ReadSource;
@@ -56,35 +54,6 @@ pub trait Source {
         → gives s xs t → IsTrue (ended s) → (xs ≡ []) × IsTrue (ended t) };
 
     ghost failures_stay: { (s t : Self) (xs : List ℕ) → gives s xs t → failures s ≤ failures t };
-}
-
-impl<S: Source> Source for &mut S {
-    ghost use Rattle.std.specs.Prelude.{◌≡◌, refl};
-    ghost use Rattle.std.proofs.Common.{◌∙◌};
-
-    // the reference stays, so that what it lends can be followed
-    ghost gives = { λ s xs t. S.gives s.now xs t.now × (t.ghost_name ≡ s.ghost_name) };
-
-    ghost ended = { λ s. S.ended s.now };
-
-    ghost failures = { λ s. S.failures s.now };
-
-    ghost gives_none = { λ s. (S.gives_none s.now, refl) };
-
-    ghost gives_more = { λ s t u xs ys g h.
-        (S.gives_more s.now t.now u.now xs ys g.0 h.0, h.1 ∙ g.1) };
-
-    ghost nothing_after_end = { λ s t xs g. S.nothing_after_end s.now t.now xs g.0 };
-
-    ghost failures_stay = { λ s t xs g. S.failures_stay s.now t.now xs g.0 };
-
-    fn fill(&mut self, buf: &mut [u8]) -> Result<usize, SourceFailed> {
-        (**self).fill(buf)
-    }
-
-    fn length_hint(&self) -> usize {
-        (**self).length_hint()
-    }
 }
 
 /// Reads until the end or until `buf` is full, and answers how many bytes stand at its front. An
