@@ -1,6 +1,7 @@
 pub mod Failures
 pub mod Steps
 pub mod Limits
+pub mod TextMemory
 pub mod Source
 pub mod SourceLaws
 pub mod Sink

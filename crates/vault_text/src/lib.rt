@@ -22,6 +22,7 @@ mod reader;
 mod salt;
 mod sink;
 mod source;
+mod text_memory;
 mod whitespace;
 mod writing;
 
@@ -37,5 +38,6 @@ pub use reader::{EnvelopeReader, GrowingReader};
 pub use salt::Salt;
 pub use sink::{FailingSink, MemSink, Sink, SinkFailed, Stage, WriteSink, put_all};
 pub use source::{FailingSource, MemSource, ReadSource, Source, SourceFailed, fill_up};
+pub use text_memory::TextMemory;
 pub use whitespace::strip;
 pub use writing::{write_block, write_envelope};

@@ -1,0 +1,114 @@
+//! The memory that holds a text while it is read and worked on.
+ghost use Rattle.std.specs.Prelude.{◌≡◌, ◌+◌, ◌≤◌, ◌++◌, [], length, take, vec_capacity};
+
+use std::marker::Model;
+
+/// Where the text lies, at the front.
+#[derive(Drop)]
+pub(crate) enum Place<'a> {
+    /// In a slice, so many bytes of which are the text.
+    Lent(&'a mut [u8], usize),
+    /// In a vector, all of which is the text.
+    Reserved(&'a mut Vec<u8>),
+}
+
+/// Memory for one text, which grows at its end up to a limit and never asks for more memory. A lent
+/// slice was touched as a whole when it was made; of a vector's capacity no more is touched than
+/// the text takes.
+#[derive(Drop)]
+pub struct TextMemory<'a> {
+    place: Place<'a>,
+    limit: usize,
+}
+
+impl<'a> Model for TextMemory<'a> {
+    ghost use Rattle.vault_text.specs.TextMemory.{HasRoom, MemoryText, bytes_of};
+
+    ghost Value = { MemoryText };
+
+    ghost view = { λ m. record { bytes = bytes_of m.place; limit = m.limit } };
+
+    ghost invariant = { λ m. HasRoom m.place m.limit };
+}
+
+impl<'a> TextMemory<'a> {
+    /// The whole slice, with no text in it.
+    pub fn lent(memory: &'a mut [u8]) -> Self
+        ensures { result ≡ record { bytes = []; limit = length memory.old } }
+    {
+        let limit = memory.len();
+        TextMemory {
+            place: Place::Lent(memory, 0),
+            limit,
+        }
+    }
+
+    /// So much of the vector's capacity, with no text in it: what the vector held is dropped.
+    pub fn reserved(memory: &'a mut Vec<u8>, limit: usize) -> Self
+        requires { limit ≤ vec_capacity memory.old }
+        ensures { result ≡ record { bytes = []; limit = limit } }
+    {
+        memory.clear();
+        TextMemory {
+            place: Place::Reserved(memory),
+            limit,
+        }
+    }
+
+    /// How many bytes more fit.
+    pub fn room(&self) -> usize
+        ensures { length self.now.bytes + result ≡ self.now.limit }
+    {
+        match &self.place {
+            Place::Lent(_, filled) => self.limit - *filled,
+            Place::Reserved(memory) => self.limit - memory.len(),
+        }
+    }
+
+    /// Puts bytes behind the text.
+    pub fn put(&mut self, bytes: &[u8])
+        requires { length self.old.bytes + length bytes.now ≤ self.old.limit }
+        ensures { self.new
+            ≡ record { bytes = self.old.bytes ++ bytes.now; limit = self.old.limit } }
+    {
+        match &mut self.place {
+            Place::Lent(memory, filled) => {
+                let end = *filled + bytes.len();
+                memory[*filled..end].copy_from_slice(bytes);
+                *filled = end;
+            }
+            Place::Reserved(memory) => {
+                // It stays within the capacity.
+                let _ = memory.extend_from_slice(bytes);
+            }
+        }
+    }
+
+    /// The text, where it lies.
+    pub fn into_bytes(self) -> &'a mut [u8]
+        ensures { result.now ≡ self.entry.bytes }
+    {
+        let TextMemory { place, limit: _ } = self;
+        match place {
+            Place::Lent(memory, filled) => &mut memory[..filled],
+            Place::Reserved(memory) => memory.as_mut_slice(),
+        }
+    }
+
+    /// The text, where it lies, and behind it so many bytes more, of any value.
+    pub fn into_bytes_and_spare(self, spare: usize) -> &'a mut [u8]
+        requires { length self.bytes + spare ≤ self.limit }
+        ensures bytes { take (length self.entry.bytes) result.now ≡ self.entry.bytes }
+        ensures length { length result.now ≡ length self.entry.bytes + spare }
+    {
+        let TextMemory { place, limit: _ } = self;
+        match place {
+            Place::Lent(memory, filled) => &mut memory[..filled + spare],
+            Place::Reserved(memory) => {
+                // It stays within the capacity.
+                let _ = memory.resize(memory.len() + spare, 0);
+                memory.as_mut_slice()
+            }
+        }
+    }
+}
