@@ -1,5 +1,5 @@
 -- The steps of reading an envelope, by a reader of pieces.
-use Rattle.std.proofs.Common.{◌≡◌, ℕ, zero-add, ◌+◌, ◌-◌, ◌^◌, ◌<◌, ◌≤◌, ◌==◌, Bool, true, false, not, List, [], ◌∷◌, ◌++◌, length, take, drop, min, Option, Some, None, Result, Ok, Err, refl, sym, ap, ◌∙◌, arith, inl, inr, append_assoc, length-append}
+use Rattle.std.proofs.Common.{◌≡◌, ℕ, zero-add, ◌+◌, ◌-◌, ◌^◌, ◌<◌, ◌≤◌, ◌==◌, Bool, true, false, not, List, [], ◌++◌, length, take, drop, min, Option, Some, None, Result, Ok, Err, refl, sym, ap, ◌∙◌, arith, inl, inr, append_assoc, length-append}
 use Rattle.std.specs.Prelude.{if◌then◌else◌, nat_lt, nat_le, nat_eq, IsOk, OnOk}
 use Rattle.std.specs.List.{starts_with}
 use Rattle.std.specs.Option.{ok_or}
@@ -7,18 +7,17 @@ use Rattle.std.proofs.lemmas.Bool.{cases_Bool, cases_lt, eqb-true}
 use Rattle.std.proofs.lemmas.Bool.Decides.{nat_tests}
 use Rattle.std.proofs.lemmas.List.{append-nil, drop-append-le, drop-drop, drop_all, drop_at, take-append-le, take_all, take-append-drop, length-take}
 use Rattle.vault_text.specs.Header.{header_line, marker, read_header}
-use Rattle.vault_text.specs.Hexadecimal.{unhex, unhex_on}
+use Rattle.vault_text.specs.Hexadecimal.{unhex}
 use Rattle.vault_text.specs.InnerText.{Parts, cut, fitting, parts_of}
 use Rattle.vault_text.specs.InnerReader.{new_inner, payload_of, payload_on, whole_tag}
 use Rattle.vault_text.specs.Envelope.{Payload, body, read_body, read_within}
 use Rattle.vault_text.specs.Limits.{ciphertext_limit, envelope_limit}
 use Rattle.vault_text.specs.Steps.{◌>>=◌}
-use Rattle.vault_text.specs.EnvelopeReader.{LineState, ReaderState, digits_on, line_on, BodyState, StandsFor, TakesBody, TakesHead, TakesLines, body_in, body_on, head_of, new_body, new_line, without_line_ends}
+use Rattle.vault_text.specs.EnvelopeReader.{LineState, ReaderState, digits_on, line_on, StandsFor, TakesBody, body_on, head_of, new_body, new_line, without_line_ends}
 use Rattle.vault_text.specs.declared.limits.TheConstants.{HEADER_LIMIT, PLAINTEXT_LIMIT, SALT_LIMIT, TAG_LENGTH}
 use Rattle.vault_text.specs.declared.fault.TextFault.{TextFault}
 use Rattle.vault_text.specs.declared.fault.TextFault.TheVariants.{TooLong, BadHex, BadPayload, CipherTooLong, NotVault}
-use Rattle.vault_text.proofs.InnerFacts.{payload_on-moved}
-use Rattle.vault_text.proofs.LineEndFacts.{header_line-cut, header_line-ended, header_line-goes_on, header_line-whole, starts_with-header_line, without_line_ends-append, without_line_ends-cut}
+use Rattle.vault_text.proofs.LineEndFacts.{header_line-ended, header_line-goes_on, header_line-whole, starts_with-header_line, without_line_ends-append}
 
 -- two spellings of what follows a step
 bind-same : (r : Result (List ℕ) TextFault) (f g : List ℕ → Result Payload TextFault) → ((found : List ℕ) → f found ≡ g found)
@@ -110,48 +109,6 @@ digits_on-goes_on text line rest new front ended =
           let long : length text ≤ length (header_line text) = rw front at past in
           rw (ended, test, front, header_line-goes_on text rest long, header_line-whole text long, drop_all (length text) text (omega arith), length-append text (header_line rest), ← drop-drop (length (header_line rest)) (length text) (text ++ rest), drop_at text rest (length text) refl) refl
     ]
-
--- a line that has ended takes nothing
-pub TakesHead-ended : (line : LineState) (text : List ℕ) → line.has_ended ≡ true → TakesHead line text text line
-TakesHead-ended line text ended =
-    record { front = []; whole = refl; line = λ more. refl; digits = λ more. refl; ended = λ some. ended }
-
--- a front that is a line, or a part of one, and perhaps the end of it
-takes_front : (old new : LineState) (text front line rest : List ℕ) → old.has_ended ≡ false → text ≡ front ++ rest → line ≡ header_line front
-    → without_line_ends (drop (length line) front) ≡ [] → new.has_ended ≡ nat_lt (length line) (length front)
-    → (0 < length rest → new.has_ended ≡ true)
-    → ((more : List ℕ) → head_of (old.kept ++ (line ++ more)) ≡ head_of (new.kept ++ more))
-    → TakesHead old text rest new
-takes_front old new text front line rest goes_on whole cut no_digits has_ended ended same = record {
-  front = front;
-  whole = whole;
-  line = λ more. rw goes_on (head_of-goes_on old.kept front line more new cut has_ended same);
-  digits = λ more. rw goes_on (rw no_digits at (digits_on-goes_on front line more new cut has_ended));
-  ended = ended;
-}
-
--- the text has no end of the line
-pub TakesHead-goes_on : (old new : LineState) (text line : List ℕ) → old.has_ended ≡ false → line ≡ header_line text → length line ≡ length text
-    → new.has_ended ≡ false → ((more : List ℕ) → head_of (old.kept ++ (line ++ more)) ≡ head_of (new.kept ++ more))
-    → TakesHead old text [] new
-TakesHead-goes_on old new text line goes_on cut whole has_ended same =
-    let test : nat_lt (length line) (length text) ≡ false = grind (arith, nat_tests) in
-    let nothing : without_line_ends (drop (length line) text) ≡ [] = rw (drop_all (length line) text (omega arith)) refl in
-    takes_front old new text text line [] goes_on (sym (append-nil text)) cut nothing (has_ended ∙ sym test) (λ some. absurd (omega arith)) same
-
--- the text has the line's end
-pub TakesHead-ends : (old new : LineState) (text line : List ℕ) → old.has_ended ≡ false → line ≡ header_line text → length line < length text
-    → new.has_ended ≡ true → ((more : List ℕ) → head_of (old.kept ++ (line ++ more)) ≡ head_of (new.kept ++ more))
-    → TakesHead old text (drop (length line + 1) text) new
-TakesHead-ends old new text line goes_on cut inside has_ended same =
-    let n = length line in
-    let short : length (header_line text) < length text = rw cut at inside in
-    let front : line ≡ header_line (take (n + 1) text) = rw cut (sym (header_line-cut text short)) in
-    let nothing : without_line_ends (drop n (take (n + 1) text)) ≡ [] = rw cut (without_line_ends-cut text short) in
-    let test : nat_lt n (length (take (n + 1) text)) ≡ true =
-    let len = length-take (n + 1) text in grind (arith, nat_tests) in
-    takes_front old new text (take (n + 1) text) line (drop (n + 1) text) goes_on (sym (take-append-drop (n + 1) text)) front nothing
-    (has_ended ∙ sym test) (λ some. has_ended) same
 
 -- ---- the whole envelope
 
@@ -251,20 +208,20 @@ payload_by_parts-all room label (Some s) (Some t) cipher =
     ]
 
 -- steps 8 and 9 from the start
-payload_of-new : (limit room : ℕ) (label : List ℕ) (digits : Option Parts)
-    → (ok_or digits BadPayload >>= payload_of (new_inner limit room) label)
-    ≡ (ok_or digits BadPayload >>= (λ d. parts_at_once (unhex d.salt) (unhex d.tag) (unhex d.cipher)) >>= bounded_payload limit label)
-payload_of-new limit room label None = refl
-payload_of-new limit room label (Some digits) = payload_by_parts-all limit label (unhex digits.salt) (unhex digits.tag) (unhex digits.cipher)
+payload_of-new : (room : ℕ) (label : List ℕ) (digits : Option Parts)
+    → (ok_or digits BadPayload >>= payload_of (new_inner room) label)
+    ≡ (ok_or digits BadPayload >>= (λ d. parts_at_once (unhex d.salt) (unhex d.tag) (unhex d.cipher)) >>= bounded_payload room label)
+payload_of-new room label None = refl
+payload_of-new room label (Some digits) = payload_by_parts-all room label (unhex digits.salt) (unhex digits.tag) (unhex digits.cipher)
 
-payload_on-new : (limit room : ℕ) (label text : List ℕ) → payload_on (new_inner limit room) label text ≡ (parts_of text >>= bounded_payload limit label)
+payload_on-new : (room : ℕ) (label text : List ℕ) → payload_on (new_inner room) label text ≡ (parts_of text >>= bounded_payload room label)
 unfolding payload_on parts_of
-payload_on-new limit room label text = payload_of-new limit room label (cut text)
+payload_on-new room label text = payload_of-new room label (cut text)
 
 -- steps 7 to 9 from the start
-read_body-new : (limit room : ℕ) (label digits : List ℕ) → body_on (new_body (ciphertext_limit limit) room) label digits ≡ read_body limit label digits
+read_body-new : (limit : ℕ) (label digits : List ℕ) → body_on (new_body (ciphertext_limit limit)) label digits ≡ read_body limit label digits
 unfolding read_body
-read_body-new limit room label digits = bind-same (ok_or (unhex digits) BadHex) _ _ (λ text. payload_on-new (ciphertext_limit limit) room label text)
+read_body-new limit label digits = bind-same (ok_or (unhex digits) BadHex) _ _ (λ text. payload_on-new (ciphertext_limit limit) label text)
 
 -- a refusal comes before all that follows
 bind-unless : (refused : Bool) (fault : TextFault) (r : Result (List ℕ) TextFault) (f g : List ℕ → Result Payload TextFault)
@@ -274,14 +231,14 @@ bind-unless true fault r f g same = refl
 bind-unless false fault r f g same = bind-same r f g same
 
 -- the reader that was given nothing answers as the definition
-pub StandsFor-nothing : (limit room : ℕ) → StandsFor (record { limit = limit; fed = 0; line = new_line; body = new_body (ciphertext_limit limit) room }) []
+pub StandsFor-nothing : (limit : ℕ) → StandsFor (record { limit = limit; fed = 0; line = new_line; body = new_body (ciphertext_limit limit) }) []
 unfolding read_within head_of
-StandsFor-nothing limit room = record {
+StandsFor-nothing limit = record {
   answers = λ rest.
       rw (zero-add (length rest), starts_with-header_line marker rest refl)
       (ap (λ answer. if nat_lt (envelope_limit limit) (length rest) then Err TooLong else answer)
       (bind-unless (not (starts_with nat_eq (header_line rest) marker)) NotVault (read_header (header_line rest)) _ _
-      (λ label. read_body-new limit room label (body rest))));
+      (λ label. read_body-new limit label (body rest))));
 }
 
 -- ---- a piece more, and the end
@@ -290,7 +247,7 @@ nat_lt-same : (limit a b : ℕ) → (limit < a → limit < b) → (limit < b →
 nat_lt-same limit a b there back = grind (arith, nat_tests)
 
 -- a reader that took a piece stands for what it stood for, and the piece
-StandsFor-piece : (old new : ReaderState) (input piece text : List ℕ) → old.limit ≤ PLAINTEXT_LIMIT
+pub StandsFor-piece : (old new : ReaderState) (input piece text : List ℕ) → old.limit ≤ PLAINTEXT_LIMIT
     → new.limit ≡ old.limit → new.fed ≡ min (old.fed + length piece) (2 ^ 64 - 1)
     → ((rest : List ℕ) → head_of (line_on old.line (piece ++ rest)) ≡ head_of (line_on new.line rest))
     → ((rest : List ℕ) → digits_on old.line (piece ++ rest) ≡ without_line_ends text ++ digits_on new.line rest)
@@ -304,50 +261,6 @@ StandsFor-piece old new input piece text bound same_limit fed head digits taken 
       rw (append_assoc, same_limit)
       (sym (ap (λ answer. if nat_lt (envelope_limit old.limit) (new.fed + length rest) then Err TooLong else answer) same)
       ∙ rw (long, head rest, digits rest) at (stands.answers (piece ++ rest)));
-}
-
--- nothing of the line follows its end
-line_on-behind : (line : LineState) (front more : List ℕ) → (0 < length front → line.has_ended ≡ true) → line_on line (front ++ more) ≡ line_on line more
-line_on-behind line [] more ended = refl
-line_on-behind line (b ∷ front) more ended = rw (ended (omega arith)) refl
-
-digits_on-behind : (line : LineState) (front more : List ℕ) → (0 < length front → line.has_ended ≡ true)
-    → digits_on line (front ++ more) ≡ without_line_ends front ++ digits_on line more
-digits_on-behind line [] more ended = refl
-digits_on-behind line (b ∷ front) more ended = rw (ended (omega arith)) (without_line_ends-append (b ∷ front) more)
-
--- a reader that took the front of a piece stands for what it stood for, and the front
-pub StandsFor-front : (old : ReaderState) (line : LineState) (state : BodyState) (fed : ℕ) (piece text rest : List ℕ)
-    → old.limit ≤ PLAINTEXT_LIMIT → TakesHead old.line piece text line → TakesLines old.body text rest state
-    → fed ≡ min (old.fed + (length piece - length rest)) (2 ^ 64 - 1)
-    → (front : List ℕ) × (piece ≡ front ++ rest)
-    × ((input : List ℕ) → StandsFor old input → StandsFor (record { limit = old.limit; fed = fed; line = line; body = state }) (input ++ front))
-StandsFor-front old line state fed piece text rest bound head lines count =
-    let front = head.front ++ lines.front in
-    let whole : piece ≡ front ++ rest =
-    head.whole ∙ ap (λ more. head.front ++ more) lines.whole ∙ sym (append_assoc head.front lines.front rest) in
-    let ended : 0 < length lines.front → line.has_ended ≡ true =
-    λ some. head.ended (omega (arith, ap length lines.whole, length-append lines.front rest)) in
-    let same : fed ≡ min (old.fed + length front) (2 ^ 64 - 1) = omega (arith, count, ap length whole, length-append front rest) in (
-      front,
-      whole,
-      λ input stands.
-          StandsFor-piece old (record { limit = old.limit; fed = fed; line = line; body = state }) input front lines.front bound refl same
-          (λ more. rw (append_assoc head.front lines.front more) (head.line (lines.front ++ more) ∙ ap head_of (line_on-behind line lines.front more ended)))
-          (λ more. rw (append_assoc head.front lines.front more) (head.digits (lines.front ++ more) ∙ digits_on-behind line lines.front more ended))
-          lines.taken stands,
-    )
-
--- a reader in other memory stands for what it stood for
-pub StandsFor-moved : (room : ℕ) (reader : ReaderState) (input : List ℕ) → StandsFor reader input
-    → StandsFor (record { limit = reader.limit; fed = reader.fed; line = reader.line; body = body_in room reader.body }) input
-StandsFor-moved room reader input stands = record {
-  answers = λ rest.
-      let same = bind-same (head_of (line_on reader.line rest)) _ _ (λ label.
-      bind-same (ok_or (unhex_on reader.body.decoder (digits_on reader.line rest)) BadHex) _ _ (λ text.
-      payload_on-moved room reader.body.inner label text)) in
-      ap (λ answer. if nat_lt (envelope_limit reader.limit) (reader.fed + length rest) then Err TooLong else answer) same
-      ∙ stands.answers rest;
 }
 
 -- an input that is too long

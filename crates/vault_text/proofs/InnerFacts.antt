@@ -9,7 +9,7 @@ use Rattle.std.proofs.lemmas.List.Sums.{sum_by-cons}
 use Rattle.vault_text.specs.Steps.{◌>>=◌}
 use Rattle.vault_text.specs.Hexadecimal.{DecoderState, unhex_on, Decodes}
 use Rattle.vault_text.specs.InnerText.{Parts, cut, is_line_feed}
-use Rattle.vault_text.specs.InnerReader.{PartState, InnerState, TakesDigits, inner_in, part_on, payload_of, payload_on, rest_of_parts}
+use Rattle.vault_text.specs.InnerReader.{PartState, InnerState, GivesDigits, IsGiven, TakesDigits, next_part, part_on, payload_of, payload_on, rest_of_parts, with_digits}
 use Rattle.vault_text.specs.declared.limits.TheConstants.{TAG_LENGTH}
 use Rattle.vault_text.specs.declared.fault.TextFault.{TextFault}
 use Rattle.vault_text.specs.declared.fault.TextFault.TheVariants.{BadPayload, CipherTooLong}
@@ -25,10 +25,9 @@ kept_bytes limit fault is_long bytes out None = refl
 kept_bytes limit fault is_long bytes out (Some rest) = rw (append_assoc bytes out rest) refl
 
 -- the bytes that the digits complete stand behind those of the part
-pub TakesDigits-kept : (limit room : ℕ) (bytes digits out : List ℕ) (old new : DecoderState) (is_long : Bool) → Decodes old digits out new
-    → TakesDigits (record { bytes = bytes; decoder = old; limit = limit; room = room; is_long = is_long }) digits (record { bytes = bytes ++ out; decoder = new; limit = limit; room = room; is_long = is_long })
-TakesDigits-kept limit room bytes digits out old new is_long decoded = record {
-  memory = record { limit = refl; room = refl };
+pub TakesDigits-kept : (limit : ℕ) (bytes digits out : List ℕ) (old new : DecoderState) (is_long : Bool) → Decodes old digits out new
+    → TakesDigits (record { bytes = bytes; decoder = old; limit = limit; is_long = is_long }) digits (record { bytes = bytes ++ out; decoder = new; limit = limit; is_long = is_long })
+TakesDigits-kept limit bytes digits out old new is_long decoded = record {
   same = λ fault more. rw (decoded.spelled more) (kept_bytes limit fault is_long bytes out (unhex_on new more));
 }
 
@@ -54,12 +53,6 @@ after_first-other b text other =
 
 -- ---- what the parts still get
 
--- the parts, with these digits in front of those of one
-abbrev pub with_digits : Part → List ℕ → Parts → Parts
-with_digits Salt digits parts = record { salt = digits ++ parts.salt; tag = parts.tag; cipher = parts.cipher }
-with_digits Tag digits parts = record { salt = parts.salt; tag = digits ++ parts.tag; cipher = parts.cipher }
-with_digits Cipher digits parts = record { salt = parts.salt; tag = parts.tag; cipher = digits ++ parts.cipher }
-
 option_map-unless : (lacking : Bool) (f : Parts → Parts) (parts : Parts)
     → option_map f (if lacking then None else Some parts) ≡ (if lacking then None else Some (f parts))
 option_map-unless true f parts = refl
@@ -77,16 +70,16 @@ rest_of_parts-other Tag b text other =
 rest_of_parts-other Cipher b text other = refl
 
 -- behind an LF comes the next part
-pub rest_of_parts-salt_end : (text : List ℕ) → rest_of_parts Salt (10 ∷ text) ≡ rest_of_parts Tag text
+rest_of_parts-end : (part : Part) (text : List ℕ) → (part ≡ Cipher → ⊥)
+    → rest_of_parts part (10 ∷ text) ≡ rest_of_parts (next_part part) text
 unfolding cut
-rest_of_parts-salt_end text =
+rest_of_parts-end Salt text early =
     let same : nat_lt (1 + count_by is_line_feed text) 2 ≡ nat_lt (count_by is_line_feed text) 1 = grind (arith, nat_tests) in
     rw (count_by-found text, same) refl
-
-pub rest_of_parts-tag_end : (text : List ℕ) → rest_of_parts Tag (10 ∷ text) ≡ rest_of_parts Cipher text
-rest_of_parts-tag_end text =
+rest_of_parts-end Tag text early =
     let enough : nat_lt (1 + count_by is_line_feed text) 1 ≡ false = grind (arith, nat_tests) in
     rw (count_by-found text, enough) refl
+rest_of_parts-end Cipher text early = absurd (early refl)
 
 with_digits-nil : (part : Part) (found : Option Parts) → option_map (with_digits part []) found ≡ found
 with_digits-nil Salt None = refl
@@ -119,56 +112,37 @@ rest_of_parts-append part (b ∷ text) more =
           ∙ with_digits-more part b (before_first is_line_feed text) (rest_of_parts part more))
     ]
 
+-- the text has no LF, or is the ciphertext
+pub IsGiven-all : (part : Part) (text digits more : List ℕ) → digits ≡ before_first is_line_feed text → text ≡ digits
+    → IsGiven part digits part (text ++ more) more
+IsGiven-all part text digits more first whole =
+    rw whole (rw (← first) at (rest_of_parts-append part text more))
+
+-- the text has an LF
+pub IsGiven-ended : (part : Part) (text digits rest more : List ℕ) → (part ≡ Cipher → ⊥)
+    → digits ≡ before_first is_line_feed text → text ≡ digits ++ 10 ∷ rest
+    → IsGiven part digits (next_part part) (text ++ more) (rest ++ more)
+IsGiven-ended part text digits rest more early first whole =
+    let front : rest_of_parts part (digits ++ 10 ∷ (rest ++ more)) ≡ option_map (with_digits part digits) (rest_of_parts part (10 ∷ (rest ++ more))) =
+    rw (← first) at (rest_of_parts-append part text (10 ∷ (rest ++ more))) in
+    rw (whole, append_assoc) (front ∙ ap (option_map (with_digits part digits)) (rest_of_parts-end part (rest ++ more) early))
+
 -- ---- the payload
 
-payload_of-salt : (inner : InnerState) (salt : PartState) (part : Part) (digits label : List ℕ) (found : Option Parts)
-    → TakesDigits inner.salt digits salt
-    → (ok_or (option_map (with_digits Salt digits) found) BadPayload >>= payload_of inner label)
-    ≡ (ok_or found BadPayload >>= payload_of (record { part = part; salt = salt; tag = inner.tag; cipher = inner.cipher }) label)
-payload_of-salt inner salt part digits label None taken = refl
-payload_of-salt inner salt part digits label (Some parts) taken = rw (taken.same BadPayload parts.salt) refl
+payload_of-found : (old new : InnerState) (part : Part) (digits label : List ℕ) (found : Option Parts)
+    → ((rest : Parts) → payload_of old label (with_digits part digits rest) ≡ payload_of new label rest)
+    → (ok_or (option_map (with_digits part digits) found) BadPayload >>= payload_of old label)
+    ≡ (ok_or found BadPayload >>= payload_of new label)
+payload_of-found old new part digits label None same = refl
+payload_of-found old new part digits label (Some parts) same = same parts
 
-payload_of-tag : (inner : InnerState) (tag : PartState) (part : Part) (digits label : List ℕ) (found : Option Parts)
-    → TakesDigits inner.tag digits tag
-    → (ok_or (option_map (with_digits Tag digits) found) BadPayload >>= payload_of inner label)
-    ≡ (ok_or found BadPayload >>= payload_of (record { part = part; salt = inner.salt; tag = tag; cipher = inner.cipher }) label)
-payload_of-tag inner tag part digits label None taken = refl
-payload_of-tag inner tag part digits label (Some parts) taken = rw (taken.same BadPayload parts.tag) refl
-
--- a salt takes what stands before the first LF of a text, and the reader goes on at what `part` gets of the rest
-pub payload_on-salt : (inner : InnerState) (salt : PartState) (part : Part) (text digits front rest label : List ℕ)
-    → inner.part ≡ Salt → digits ≡ before_first is_line_feed text → TakesDigits inner.salt digits salt
-    → rest_of_parts Salt front ≡ rest_of_parts part rest
-    → payload_on inner label (digits ++ front) ≡ payload_on (record { part = part; salt = salt; tag = inner.tag; cipher = inner.cipher }) label rest
+-- a reader that gives digits to a part goes on with the rest of the text
+pub payload_on-given : (old new : InnerState) (digits text rest label : List ℕ) → GivesDigits old digits new
+    → (next : Part) → IsGiven old.part digits next text rest
+    → payload_on old label text ≡ payload_on (record { part = next; salt = new.salt; tag = new.tag; cipher = new.cipher }) label rest
 unfolding payload_on
-payload_on-salt inner salt part text digits front rest label here cut_off taken same =
-    let found = rest_of_parts-append Salt text front in
-    let got = rw (← cut_off, same) at found in
-    rw (here, got) (payload_of-salt inner salt part digits label (rest_of_parts part rest) taken)
-
-pub payload_on-tag : (inner : InnerState) (tag : PartState) (part : Part) (text digits front rest label : List ℕ)
-    → inner.part ≡ Tag → digits ≡ before_first is_line_feed text → TakesDigits inner.tag digits tag
-    → rest_of_parts Tag front ≡ rest_of_parts part rest
-    → payload_on inner label (digits ++ front) ≡ payload_on (record { part = part; salt = inner.salt; tag = tag; cipher = inner.cipher }) label rest
-unfolding payload_on
-payload_on-tag inner tag part text digits front rest label here cut_off taken same =
-    let found = rest_of_parts-append Tag text front in
-    let got = rw (← cut_off, same) at found in
-    rw (here, got) (payload_of-tag inner tag part digits label (rest_of_parts part rest) taken)
-
--- the ciphertext takes all of a text
-pub payload_on-cipher : (inner : InnerState) (cipher : PartState) (text more label : List ℕ)
-    → inner.part ≡ Cipher → TakesDigits inner.cipher text cipher
-    → payload_on inner label (text ++ more) ≡ payload_on (record { part = inner.part; salt = inner.salt; tag = inner.tag; cipher = cipher }) label more
-unfolding payload_on
-payload_on-cipher inner cipher text more label here taken = rw (here, taken.same CipherTooLong more) refl
-
--- ---- other memory
-
--- the memory at hand changes no answer
-pub payload_on-moved : (room : ℕ) (inner : InnerState) (label text : List ℕ) → payload_on (inner_in room inner) label text ≡ payload_on inner label text
-unfolding payload_on
-payload_on-moved room inner label text = refl
+payload_on-given old new digits text rest label gives next given =
+    rw given (payload_of-found old new old.part digits label (rest_of_parts next rest) (gives.same label))
 
 -- ---- the end of the text
 

@@ -5,7 +5,6 @@ pub mod LabelFacts
 pub mod LimitFacts
 pub mod LineEndFacts
 pub mod LineFacts
-pub mod LinesFacts
 pub mod Progress
 pub mod BlockFacts
 pub mod BodyFacts

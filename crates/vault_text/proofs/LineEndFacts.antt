@@ -18,7 +18,7 @@ header_line-other b text other =
     let step : 1 + position_or_len is_line_end text ≡ suc (position_or_len is_line_end text) = omega arith in
     rw (other, step) refl
 
-pub without_line_ends-end : (b : ℕ) (text : List ℕ) → is_line_end b ≡ true → without_line_ends (b ∷ text) ≡ without_line_ends text
+without_line_ends-end : (b : ℕ) (text : List ℕ) → is_line_end b ≡ true → without_line_ends (b ∷ text) ≡ without_line_ends text
 without_line_ends-end b text end = rw end refl
 
 without_line_ends-other : (b : ℕ) (text : List ℕ) → is_line_end b ≡ false → without_line_ends (b ∷ text) ≡ b ∷ without_line_ends text
@@ -65,55 +65,20 @@ header_line-whole text past =
     let whole = header_line-goes_on text [] past in
     rw append-nil at whole
 
--- the line with its end
-pub header_line-cut : (text : List ℕ) → length (header_line text) < length text
-    → header_line (take (length (header_line text) + 1) text) ≡ header_line text
-header_line-cut [] inside = absurd (omega arith)
-header_line-cut (b ∷ text) inside =
-    elim (cases_Bool (is_line_end b)) [
-      | inl end ↦ rw (header_line-end b text end) (header_line-end b [] end)
-      | inr other ↦
-          let shorter = rw (header_line-other b text other) at inside in
-          let on : suc (length (header_line text)) + 1 ≡ suc (length (header_line text) + 1) = omega arith in
-          rw (header_line-other b text other, on, header_line-other b (take (length (header_line text) + 1) text) other)
-          (ap (λ rest. b ∷ rest) (header_line-cut text (omega (arith, shorter))))
-    ]
+-- ---- a text without line ends, run by run
 
--- no digit stands in front of what follows the line end
-pub without_line_ends-cut : (text : List ℕ) → length (header_line text) < length text
-    → without_line_ends (drop (length (header_line text)) (take (length (header_line text) + 1) text)) ≡ []
-without_line_ends-cut [] inside = absurd (omega arith)
-without_line_ends-cut (b ∷ text) inside =
-    elim (cases_Bool (is_line_end b)) [
-      | inl end ↦ rw (header_line-end b text end) (without_line_ends-end b [] end)
-      | inr other ↦
-          let shorter = rw (header_line-other b text other) at inside in
-          let on : suc (length (header_line text)) + 1 ≡ suc (length (header_line text) + 1) = omega arith in
-          rw (header_line-other b text other, on) (without_line_ends-cut text (omega (arith, shorter)))
-    ]
-
--- ---- a run of digits
-
--- the front of a text up to its first line end, and what follows it
-pub header_line-front : (text : List ℕ) (n : ℕ) → header_line (take n text) ++ drop (length (header_line (take n text))) text ≡ text
-header_line-front [] zero = refl
-header_line-front [] (suc n) = refl
-header_line-front (b ∷ text) zero = refl
-header_line-front (b ∷ text) (suc n) =
+-- the front of a text up to its first line end are digits of the body
+pub without_line_ends-run : (text : List ℕ) (n : ℕ)
+    → without_line_ends text ≡ header_line (take n text) ++ without_line_ends (drop (length (header_line (take n text))) text)
+without_line_ends-run [] zero = refl
+without_line_ends-run [] (suc n) = refl
+without_line_ends-run (b ∷ text) zero = refl
+without_line_ends-run (b ∷ text) (suc n) =
     elim (cases_Bool (is_line_end b)) [
       | inl end ↦ rw (header_line-end b (take n text) end) refl
-      | inr other ↦ rw (header_line-other b (take n text) other) (ap (λ rest. b ∷ rest) (header_line-front text n))
-    ]
-
--- it has no line ends
-pub without_line_ends-line : (text : List ℕ) → without_line_ends (header_line text) ≡ header_line text
-without_line_ends-line [] = refl
-without_line_ends-line (b ∷ text) =
-    elim (cases_Bool (is_line_end b)) [
-      | inl end ↦ rw (header_line-end b text end) refl
       | inr other ↦
-          rw (header_line-other b text other, without_line_ends-other b (header_line text) other)
-          (ap (λ rest. b ∷ rest) (without_line_ends-line text))
+          rw (header_line-other b (take n text) other, without_line_ends-other b text other)
+          (ap (λ rest. b ∷ rest) (without_line_ends-run text n))
     ]
 
 -- ---- the front of a text
@@ -135,24 +100,3 @@ starts_with-header_line (m ∷ needle) (b ∷ text) none =
         false_from_ne_true (nat_eq m b) (λ same.
         let ends : is_line_end m ≡ true = rw (eqb-true m b same) end in
         let clash : not true ≡ true = rw ends at other in cc)
-
--- ---- digits that are copied one by one
-
--- one byte more behind the digits that were copied: a digit stays, and a line end is written over
-pub copied_next : (text copied : List ℕ) (place count step : ℕ) → place < length text → count < length copied
-    → (is_line_end (get_or text place 0) ≡ true → step ≡ 0) → (is_line_end (get_or text place 0) ≡ false → step ≡ 1)
-    → take count copied ≡ without_line_ends (take place text)
-    → take (count + step) (set copied count (get_or text place 0)) ≡ without_line_ends (take (place + 1) text)
-copied_next text copied place count step inside room over kept same =
-    let b = get_or text place 0 in
-    let on : place + 1 ≡ suc place = omega arith in
-    let more : without_line_ends (take (place + 1) text) ≡ without_line_ends (take place text) ++ without_line_ends (b ∷ []) =
-    rw (on, take-suc text place 0 inside) (without_line_ends-append (take place text) (b ∷ [])) in
-    elim (cases_Bool (is_line_end b)) [
-      | inl end ↦
-          let stays : count + step ≡ count = omega (arith, over end) in
-          rw (stays, more, without_line_ends-end b [] end, append-nil) (take-set copied count b ∙ same)
-      | inr other ↦
-          let grows : count + step ≡ count + 1 = omega (arith, kept other) in
-          rw (grows, more, without_line_ends-other b [] other) (take_more_set copied count b room ∙ ap (λ (front : List ℕ). front ++ b ∷ []) same)
-    ]

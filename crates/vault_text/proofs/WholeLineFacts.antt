@@ -1,11 +1,11 @@
 -- Digits that are decoded before a line end is looked for.
-use Rattle.std.proofs.Common.{◌≡◌, ℕ, ◌==◌, Bool, true, not, List, [], ◌∷◌, ◌++◌, Option, Some, None, refl, sym, inl, inr}
+use Rattle.std.proofs.Common.{◌≡◌, ℕ, ◌==◌, Bool, true, not, List, [], ◌∷◌, ◌++◌, Option, Some, None, refl, inl, inr, append_assoc}
 use Rattle.std.specs.Prelude.{IfSome}
 use Rattle.std.specs.List.{list_all}
 use Rattle.std.specs.Option.{option_map, ok_or}
 use Rattle.std.proofs.lemmas.Bool.{cases_Bool, eqb-true}
 use Rattle.hex.specs.Hex.{hex_digit_value}
-use Rattle.vault_text.specs.EnvelopeReader.{BodyState, TakesBody, TakesLines, without_line_ends}
+use Rattle.vault_text.specs.EnvelopeReader.{BodyState, TakesBody, body_on, without_line_ends}
 use Rattle.vault_text.specs.Header.{is_line_end}
 use Rattle.vault_text.specs.Hexadecimal.{DecoderState, Decodes, unhex, unhex_on}
 use Rattle.vault_text.specs.InnerReader.{InnerState, TakesText, payload_on}
@@ -13,7 +13,7 @@ use Rattle.vault_text.specs.Steps.{◌>>=◌}
 use Rattle.vault_text.specs.declared.fault.TextFault.TheVariants.{BadHex}
 use Rattle.vault_text.proofs.CleanText.{filter-clean}
 use Rattle.vault_text.proofs.HexadecimalFacts.{byte_of, byte_of-pair, cons_found, pair_found, spelled_bytes, unhex-spelled_bytes}
-use Rattle.vault_text.proofs.LinesFacts.{TakesLines-digits}
+use Rattle.vault_text.proofs.LineEndFacts.{without_line_ends-append}
 
 -- ---- digits are no line ends
 
@@ -62,7 +62,6 @@ pub TakesBody-decoded : (old new : DecoderState) (inner next : InnerState) (digi
     → Decodes old digits bytes new → TakesText inner bytes next
     → TakesBody (record { decoder = old; inner = inner }) digits (record { decoder = new; inner = next })
 TakesBody-decoded old new inner next digits bytes decoded taken = record {
-  memory = taken.memory;
   same = λ label more. rw (decoded.spelled more) (read_on label (unhex_on new more));
 }
   where
@@ -72,7 +71,9 @@ TakesBody-decoded old new inner next digits bytes decoded taken = record {
     read_on label (Some rest) = taken.same label rest
 
 -- the front of a text, which spells bytes
-pub TakesLines-whole_line : (old new : BodyState) (text line rest bytes : List ℕ) → unhex line ≡ Some bytes
-    → TakesBody old line new → line ++ rest ≡ text → TakesLines old text rest new
-TakesLines-whole_line old new text line rest bytes spelled taken cut =
-    TakesLines-digits old new text line rest line cut (sym (without_line_ends-digits line bytes spelled)) taken
+pub body_on-whole_line : (old new : BodyState) (text line rest bytes label more : List ℕ) → unhex line ≡ Some bytes
+    → TakesBody old line new → line ++ rest ≡ text
+    → body_on old label (without_line_ends text ++ more) ≡ body_on new label (without_line_ends rest ++ more)
+body_on-whole_line old new text line rest bytes label more spelled taken cut =
+    let clean = without_line_ends-digits line bytes spelled in
+    rw (← cut, without_line_ends-append line rest, clean, append_assoc) (taken.same label (without_line_ends rest ++ more))

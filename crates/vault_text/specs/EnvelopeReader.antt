@@ -1,11 +1,11 @@
 -- An envelope that comes in pieces.
-use Rattle.std.specs.Prelude.{◌≡◌, ℕ, ◌+◌, ◌<◌, nat_lt, nat_eq, not, Bool, true, false, if◌then◌else◌, List, [], ◌++◌, length, filter, Result, Err}
+use Rattle.std.specs.Prelude.{◌≡◌, ℕ, ◌+◌, nat_lt, nat_eq, not, Bool, false, if◌then◌else◌, List, [], ◌++◌, length, filter, Result, Err}
 use Rattle.std.specs.List.{starts_with}
 use Rattle.std.specs.Option.{ok_or}
 use Rattle.vault_text.specs.Envelope.{Payload, body, read_within}
 use Rattle.vault_text.specs.Header.{header_line, is_line_end, marker, read_header}
 use Rattle.vault_text.specs.Hexadecimal.{DecoderState, new_decoder, unhex_on}
-use Rattle.vault_text.specs.InnerReader.{InnerState, SameMemory, inner_in, new_inner, payload_on}
+use Rattle.vault_text.specs.InnerReader.{InnerState, new_inner, payload_on}
 use Rattle.vault_text.specs.Limits.{envelope_limit}
 use Rattle.vault_text.specs.Steps.{◌>>=◌}
 use Rattle.vault_text.specs.declared.fault.TextFault.{TextFault}
@@ -36,14 +36,6 @@ digits_on line rest = if line.has_ended then without_line_ends rest else body re
 unfoldable pub head_of : List ℕ → Result (List ℕ) TextFault
 head_of line = if not (starts_with nat_eq line marker) then Err NotVault else read_header line
 
--- a header line that takes the front of a text, and leaves this rest, goes on as before, whatever follows
-pub record TakesHead (old : LineState) (text rest : List ℕ) (new : LineState) : Type 0 where
-  pub front : List ℕ
-  pub whole : text ≡ front ++ rest
-  pub line : (more : List ℕ) → head_of (line_on old (front ++ more)) ≡ head_of (line_on new more)
-  pub digits : (more : List ℕ) → digits_on old (front ++ more) ≡ digits_on new more
-  pub ended : 0 < length rest → new.has_ended ≡ true
-
 -- the body so far: the decoder of its digits, and the inner text that they have spelled
 pub record BodyState : Type 0 where
   pub decoder : DecoderState
@@ -55,49 +47,31 @@ body_on state label digits = do
   inner ← ok_or (unhex_on state.decoder digits) BadHex
   payload_on state.inner label inner
 
--- nothing of a body whose ciphertext may have so many bytes, in memory of so many
-abbrev pub new_body : ℕ → ℕ → BodyState
-new_body limit room = record { decoder = new_decoder; inner = new_inner limit room }
+-- nothing of a body whose ciphertext may have so many bytes
+abbrev pub new_body : ℕ → BodyState
+new_body limit = record { decoder = new_decoder; inner = new_inner limit }
 
--- the same body, whose ciphertext lies in memory of so many bytes
-abbrev pub body_in : ℕ → BodyState → BodyState
-body_in room state = record { decoder = state.decoder; inner = inner_in room state.inner }
-
--- a reader of the body that takes these digits reads on as before, whatever follows, in the same memory
+-- a reader of the body that takes these digits reads on as before, whatever follows
 pub record TakesBody (old : BodyState) (digits : List ℕ) (new : BodyState) : Type 0 where
-  pub same : (label more : List ℕ) → body_on old label (digits ++ more) ≡ body_on new label more
-  pub memory : SameMemory old.inner.cipher new.inner.cipher
+  pub same : (label more : List ℕ)
+      → body_on old label (digits ++ more) ≡ body_on new label more
 
--- a reader of the body that takes the front of a text, line ends among its digits, and leaves this rest
-pub record TakesLines (old : BodyState) (text rest : List ℕ) (new : BodyState) : Type 0 where
-  pub front : List ℕ
-  pub whole : text ≡ front ++ rest
-  pub taken : TakesBody old (without_line_ends front) new
-
--- a reader: the limit of the plaintext, how many bytes it was given, where this fits 64 bits, the header line and
--- the body
+-- a reader: the limit of the plaintext, how many bytes it was given, where this fits 64 bits, the
+-- header line and the body
 pub record ReaderState : Type 0 where
   pub limit : ℕ
   pub fed : ℕ
   pub line : LineState
   pub body : BodyState
 
--- how many bytes of ciphertext the memory at hand holds
-abbrev pub room_of : ReaderState → ℕ
-room_of reader = reader.body.inner.cipher.room
-
 -- what a reader answers, where this is the rest of the input
 abbrev pub read_on : ReaderState → List ℕ → Result Payload TextFault
 read_on reader rest =
     if nat_lt (envelope_limit reader.limit) (reader.fed + length rest) then Err TooLong
-    else head_of (line_on reader.line rest) >>= (λ label. body_on reader.body label (digits_on reader.line rest))
+    else head_of (line_on reader.line rest)
+    >>= (λ label. body_on reader.body label (digits_on reader.line rest))
 
 -- the reader has been given this input: whatever follows, it answers for both together
 pub record StandsFor (reader : ReaderState) (input : List ℕ) : Type 0 where
-  pub answers : (rest : List ℕ) → read_on reader rest ≡ read_within reader.limit (input ++ rest)
-
--- the reader was fed with the front of a text, and left this rest
-abbrev pub TakesFront : ReaderState → List ℕ → List ℕ → ReaderState → Type 0
-TakesFront old text rest new =
-    (front : List ℕ) × (text ≡ front ++ rest)
-    × ((input : List ℕ) → StandsFor old input → StandsFor new (input ++ front))
+  pub answers : (rest : List ℕ)
+      → read_on reader rest ≡ read_within reader.limit (input ++ rest)

@@ -34,7 +34,7 @@ pub use limits::{
     SALT_LIMIT, TAG_LENGTH,
 };
 pub use payload::Payload;
-pub use reader::{EnvelopeReader, GrowingReader};
+pub use reader::EnvelopeReader;
 pub use salt::Salt;
 pub use sink::{FailingSink, MemSink, Sink, SinkFailed, Stage, WriteSink, put_all};
 pub use source::{FailingSource, MemSource, ReadSource, Source, SourceFailed, fill_up};

@@ -8,7 +8,6 @@ ghost use Rattle.vault_text.specs.declared.limits.TheConstants.{ENVELOPE_LIMIT};
 
 mod body;
 mod cipher_part;
-mod growing;
 mod header_line;
 mod inner_text;
 mod short_part;
@@ -16,9 +15,11 @@ mod short_part;
 mod tests;
 
 use crate::fault::TextFault;
-use crate::limits::PADDING_LIMIT;
+use crate::limits::{PADDING_LIMIT, envelope_limit};
 use crate::payload::Payload;
-pub use growing::GrowingReader;
+use crate::text_memory::TextMemory;
+use body::BodyReader;
+use header_line::HeaderLine;
 use std::marker::Model;
 
 /// How many bytes are decoded at once.
@@ -29,19 +30,24 @@ const RUN_LIMIT: usize = 256;
 /// the reader is lent; of the rest of the input it keeps no more than its type has room for.
 #[derive(Drop)]
 pub struct EnvelopeReader<'a> {
-    reader: GrowingReader<'a>,
+    /// The limit of the plaintext.
+    limit: usize,
+    /// How many bytes were given, or the last number of 64 bits.
+    fed: usize,
+    line: HeaderLine,
+    body: BodyReader<'a>,
 }
 
 impl<'a> Model for EnvelopeReader<'a> {
     ghost use Rattle.std.specs.Prelude.{◌≤◌};
-    ghost use Rattle.vault_text.specs.EnvelopeReader.{ReaderState, room_of};
-    ghost use Rattle.vault_text.specs.Limits.{ciphertext_limit};
+    ghost use Rattle.vault_text.specs.EnvelopeReader.{ReaderState};
+    ghost use Rattle.vault_text.specs.declared.limits.TheConstants.{PLAINTEXT_LIMIT};
 
     ghost Value = { ReaderState };
 
-    ghost view = { λ r. r.reader };
+    ghost view = { λ r. record { limit = r.limit; fed = r.fed; line = r.line; body = r.body } };
 
-    ghost invariant = { λ r. ciphertext_limit r.reader.limit ≤ room_of r.reader };
+    ghost invariant = { λ r. r.limit ≤ PLAINTEXT_LIMIT };
 }
 
 impl<'a> EnvelopeReader<'a> {
@@ -52,9 +58,22 @@ impl<'a> EnvelopeReader<'a> {
         ensures limit { result.limit ≡ limit_of (length work.old) }
         ensures nothing { StandsFor result [] }
     {
-        let limit = work.len() - PADDING_LIMIT;
+        EnvelopeReader::in_memory(TextMemory::lent(work))
+    }
+
+    /// A reader that puts the ciphertext into memory that holds no text. Its limits follow from
+    /// that of the memory as those of `new` follow from the length of `work`.
+    pub fn in_memory(memory: TextMemory<'a>) -> Self
+        requires empty { memory.bytes ≡ [] }
+        requires room { IsWorkLength memory.limit }
+        ensures limit { result.limit ≡ limit_of memory.entry.limit }
+        ensures nothing { StandsFor result [] }
+    {
         EnvelopeReader {
-            reader: GrowingReader::with_limit(limit, work),
+            limit: memory.room() - PADDING_LIMIT,
+            fed: 0,
+            line: HeaderLine::new(),
+            body: BodyReader::new(memory),
         }
     }
 
@@ -63,7 +82,7 @@ impl<'a> EnvelopeReader<'a> {
         ensures value { result ≡ envelope_limit self.now.limit }
         ensures bound { result ≤ ENVELOPE_LIMIT }
     {
-        self.reader.input_limit()
+        envelope_limit(self.limit)
     }
 
     /// Takes the piece of the input that comes next.
@@ -72,8 +91,9 @@ impl<'a> EnvelopeReader<'a> {
         ensures taken { (input : List ℕ) →
             StandsFor self.old input → StandsFor self.new (input ++ piece.now) }
     {
-        // The memory has room for all that the limit allows.
-        let _ = self.reader.feed(piece);
+        self.fed = self.fed.saturating_add(piece.len());
+        let rest = self.line.extend(piece);
+        self.body.extend(rest);
     }
 
     /// The payload of the input, or its first fault in the order of the nine steps: `TooLong` over
@@ -83,6 +103,16 @@ impl<'a> EnvelopeReader<'a> {
         ensures { (input : List ℕ) →
             StandsFor self.entry input → result ≡ read_within self.entry.limit input }
     {
-        self.reader.finish()
+        let EnvelopeReader {
+            limit,
+            fed,
+            line,
+            body,
+        } = self;
+        if fed > envelope_limit(limit) {
+            return Err(TextFault::TooLong);
+        }
+        let label = line.finish()?;
+        body.finish(label)
     }
 }

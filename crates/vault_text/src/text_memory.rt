@@ -1,6 +1,9 @@
 //! The memory that holds a text while it is read and worked on.
 ghost use Rattle.std.specs.Prelude.{◌≡◌, ◌+◌, ◌≤◌, ◌++◌, [], length, take, vec_capacity};
 
+#[cfg(test)]
+mod tests;
+
 use std::marker::Model;
 
 /// Where the text lies, at the front.
@@ -86,7 +89,8 @@ impl<'a> TextMemory<'a> {
 
     /// The text, where it lies.
     pub fn into_bytes(self) -> &'a mut [u8]
-        ensures { result.now ≡ self.entry.bytes }
+        ensures bytes { result.now ≡ self.entry.bytes }
+        ensures bound { length result.now ≤ self.entry.limit }
     {
         let TextMemory { place, limit: _ } = self;
         match place {

@@ -1,96 +1,59 @@
 //! The ciphertext of the inner text.
-ghost use Rattle.std.specs.Prelude.{◌≡◌, ◌≤◌, [], MatchResult, Ok, Err, length, true};
-ghost use Rattle.vault_text.specs.InnerReader.{TakesDigits, has_room, new_part, part_in, part_on};
+ghost use Rattle.std.specs.Prelude.{◌≡◌, ◌≤◌, [], MatchResult, Ok, Err, length};
+ghost use Rattle.vault_text.specs.InnerReader.{TakesDigits, new_part, part_on};
 ghost use Rattle.vault_text.specs.declared.fault.TextFault.TheVariants.{CipherTooLong};
 
 use super::RUN_LIMIT;
 use crate::fault::TextFault;
 use crate::hexadecimal::HexDecoder;
+use crate::text_memory::TextMemory;
 use std::marker::Model;
 
-/// The ciphertext so far, which lies in the memory that the reader was lent.
+/// The ciphertext so far, in the memory of the reader.
 #[derive(Drop)]
 pub(super) struct CipherPart<'a> {
-    work: &'a mut [u8],
-    filled: usize,
-    /// How many bytes it may have: more or fewer than the memory holds.
-    limit: usize,
+    memory: TextMemory<'a>,
     decoder: HexDecoder,
-    /// Whether bytes were left out, since it has more than it may have.
+    /// Whether the ciphertext has more bytes than fit.
     is_long: bool,
 }
 
 impl<'a> Model for CipherPart<'a> {
-    ghost use Rattle.std.specs.Prelude.{◌≤◌, take, length};
     ghost use Rattle.vault_text.specs.InnerReader.{PartState};
 
     ghost Value = { PartState };
 
     ghost view = { λ p. record {
-      bytes = take p.filled p.work.now;
+      bytes = p.memory.bytes;
       decoder = p.decoder;
-      limit = p.limit;
-      room = length p.work.now;
+      limit = p.memory.limit;
       is_long = p.is_long;
     } };
-
-    ghost invariant = { λ p. p.filled ≤ length p.work.now };
 }
 
 impl<'a> CipherPart<'a> {
-    pub(super) fn new(limit: usize, work: &'a mut [u8]) -> Self
-        ensures { result ≡ new_part limit (length work.old) }
+    pub(super) fn new(memory: TextMemory<'a>) -> Self
+        requires { memory.bytes ≡ [] }
+        ensures { result ≡ new_part memory.entry.limit }
     {
         CipherPart {
-            work,
-            filled: 0,
-            limit,
+            memory,
             decoder: HexDecoder::new(),
             is_long: false,
         }
     }
 
-    /// Whether the memory holds all that the ciphertext may have, or a whole run more.
-    pub(super) fn has_room(&self) -> bool
-        ensures { result ≡ has_room self.now }
-    {
-        self.limit <= self.work.len() || RUN_LIMIT <= self.work.len() - self.filled
-    }
-
     /// Takes the digits that come next.
     pub(super) fn extend(&mut self, digits: &[u8])
-        requires short { length digits.now ≤ RUN_LIMIT }
-        requires room { has_room self.old ≡ true }
+        requires { length digits.now ≤ RUN_LIMIT }
         ensures { TakesDigits self.old digits.now self.new }
     {
-        if self.decoder.byte_count(digits) <= self.work.len() - self.filled {
-            self.filled += self.decoder.decode(digits, &mut self.work[self.filled..]);
+        let mut bytes = [0; RUN_LIMIT];
+        let count = self.decoder.decode(digits, &mut bytes);
+        if count <= self.memory.room() {
+            self.memory.put(&bytes[..count]);
         } else {
-            // The memory holds all that it may have, where it has no room for a run.
-            self.decoder.decode(digits, &mut [0; RUN_LIMIT]);
             self.is_long = true;
-        }
-    }
-
-    /// The same ciphertext in other memory.
-    pub(super) fn move_to<'b>(self, work: &'b mut [u8]) -> CipherPart<'b>
-        requires { self.room ≤ length work.old }
-        ensures { result ≡ part_in (length work.old) self.entry }
-    {
-        let CipherPart {
-            work: left,
-            filled,
-            limit,
-            decoder,
-            is_long,
-        } = self;
-        work[..filled].copy_from_slice(&left[..filled]);
-        CipherPart {
-            work,
-            filled,
-            limit,
-            decoder,
-            is_long,
         }
     }
 
@@ -101,18 +64,16 @@ impl<'a> CipherPart<'a> {
             (λ fault. part_on CipherTooLong self.entry [] ≡ Err fault) }
     {
         let CipherPart {
-            work,
-            filled,
-            limit,
+            memory,
             decoder,
             is_long,
         } = self;
         if !decoder.is_complete() {
             return Err(TextFault::BadPayload);
         }
-        if is_long || filled > limit {
+        if is_long {
             return Err(TextFault::CipherTooLong);
         }
-        Ok(&mut work[..filled])
+        Ok(memory.into_bytes())
     }
 }

@@ -1,6 +1,7 @@
 //! The header line of an envelope, as it comes in pieces.
 ghost use Rattle.std.specs.Prelude.{◌≡◌, ℕ, List, ◌++◌, [], false};
-ghost use Rattle.vault_text.specs.EnvelopeReader.{TakesHead, head_of, line_on, new_line};
+ghost use Rattle.vault_text.specs.EnvelopeReader.{head_of, line_on, digits_on, new_line};
+ghost use Rattle.vault_text.specs.EnvelopeReader.{without_line_ends};
 
 use crate::fault::TextFault;
 use crate::header::{MARKER, before_line_end, read_header};
@@ -38,20 +39,21 @@ impl HeaderLine {
         }
     }
 
-    /// Takes what belongs to the header line, with its line end, and answers what follows.
+    /// Takes what belongs to the header line, and answers what follows it.
     pub(super) fn extend<'t>(&mut self, text: &'t [u8]) -> &'t [u8]
-        ensures { TakesHead self.old text.now result.now self.new }
+        ensures line { (rest : List ℕ) →
+            head_of (line_on self.old (text.now ++ rest)) ≡ head_of (line_on self.new rest) }
+        ensures digits { (rest : List ℕ) →
+            digits_on self.old (text.now ++ rest)
+            ≡ without_line_ends result.now ++ digits_on self.new rest }
     {
         if self.has_ended {
             return text;
         }
         let line = before_line_end(text);
+        self.has_ended = line.len() < text.len();
         self.keep(line);
-        if line.len() == text.len() {
-            return &[];
-        }
-        self.has_ended = true;
-        &text[line.len() + 1..]
+        &text[line.len()..]
     }
 
     /// Keeps as many of the bytes as fit.

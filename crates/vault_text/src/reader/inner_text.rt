@@ -1,7 +1,7 @@
 //! The inner text of an envelope, as it comes in pieces: salt, tag and ciphertext in hexadecimal,
 //! with LF between them.
-ghost use Rattle.std.specs.Prelude.{◌≡◌, ◌<◌, ◌≤◌, ◌++◌, ℕ, List, [], length, true};
-ghost use Rattle.vault_text.specs.InnerReader.{SameMemory, TakesText, has_room, inner_in};
+ghost use Rattle.std.specs.Prelude.{◌≡◌, ◌<◌, ◌≤◌, ◌++◌, ℕ, List, [], length, IfNone, IfSome};
+ghost use Rattle.vault_text.specs.InnerReader.{GivesDigits, IsGiven, TakesText, next_part};
 ghost use Rattle.vault_text.specs.InnerReader.{payload_on};
 
 use super::RUN_LIMIT;
@@ -13,6 +13,7 @@ use crate::label::Label;
 use crate::limits::{SALT_LIMIT, TAG_LENGTH};
 use crate::payload::Payload;
 use crate::salt::Salt;
+use crate::text_memory::TextMemory;
 use std::marker::Model;
 
 /// A part of the inner text.
@@ -21,6 +22,33 @@ pub(super) enum Part {
     Salt,
     Tag,
     Cipher,
+}
+
+impl Part {
+    /// What a text gives to the part, and what follows the LF that ends it, where there is one.
+    fn split(self, text: &[u8]) -> (&[u8], Option<&[u8]>)
+        ensures whole { IfNone result.1 ((more : List ℕ)
+            → IsGiven self result.0.now self (text.now ++ more) more) }
+        ensures cut { IfSome result.1 (λ rest. (more : List ℕ)
+            → IsGiven self result.0.now (next_part self) (text.now ++ more) (rest.now ++ more)) }
+        ensures bound { length result.0.now ≤ length text.now }
+        ensures shorter { IfSome result.1 (λ rest. length rest.now < length text.now) }
+    {
+        match self {
+            Part::Salt | Part::Tag => split_at_byte(text, b'\n'),
+            Part::Cipher => (text, None),
+        }
+    }
+
+    /// The part behind it; the ciphertext is the last.
+    fn next(self) -> Part
+        ensures { result ≡ next_part self }
+    {
+        match self {
+            Part::Salt => Part::Tag,
+            Part::Tag | Part::Cipher => Part::Cipher,
+        }
+    }
 }
 
 /// The inner text so far.
@@ -44,28 +72,21 @@ impl<'a> Model for InnerReader<'a> {
 impl<'a> InnerReader<'a> {
     ghost use Rattle.vault_text.specs.InnerReader.{new_inner};
 
-    pub(super) fn new(limit: usize, work: &'a mut [u8]) -> Self
-        ensures { result ≡ new_inner limit (length work.old) }
+    pub(super) fn new(memory: TextMemory<'a>) -> Self
+        requires { memory.bytes ≡ [] }
+        ensures { result ≡ new_inner memory.entry.limit }
     {
         InnerReader {
             part: Part::Salt,
             salt: ShortPart::new(),
             tag: ShortPart::new(),
-            cipher: CipherPart::new(limit, work),
+            cipher: CipherPart::new(memory),
         }
-    }
-
-    /// Whether any run of text can be taken.
-    pub(super) fn has_room(&self) -> bool
-        ensures { result ≡ has_room self.now.cipher }
-    {
-        self.cipher.has_room()
     }
 
     /// Takes the text that comes next.
     pub(super) fn extend(&mut self, text: &[u8])
-        requires short { length text.now ≤ RUN_LIMIT }
-        requires room { has_room self.old.cipher ≡ true }
+        requires { length text.now ≤ RUN_LIMIT }
         ensures { TakesText self.old text.now self.new }
     {
         let mut rest = text;
@@ -78,56 +99,29 @@ impl<'a> InnerReader<'a> {
     fn extend_part<'t>(&mut self, text: &'t [u8]) -> &'t [u8]
         requires some { 0 < length text.now }
         requires short { length text.now ≤ RUN_LIMIT }
-        requires room { has_room self.old.cipher ≡ true }
         ensures shorter { length result.now < length text.now }
         ensures taken { (label more : List ℕ) →
             payload_on self.old label (text.now ++ more)
             ≡ payload_on self.new label (result.now ++ more) }
-        ensures memory { SameMemory self.old.cipher self.new.cipher }
-        ensures cipher { 0 < length result.now → self.new.cipher ≡ self.old.cipher }
     {
-        match self.part {
-            Part::Salt => {
-                let (digits, rest) = split_at_byte(text, b'\n');
-                self.salt.extend(digits);
-                let Some(rest) = rest else {
-                    return &[];
-                };
-                self.part = Part::Tag;
-                rest
-            }
-            Part::Tag => {
-                let (digits, rest) = split_at_byte(text, b'\n');
-                self.tag.extend(digits);
-                let Some(rest) = rest else {
-                    return &[];
-                };
-                self.part = Part::Cipher;
-                rest
-            }
-            Part::Cipher => {
-                self.cipher.extend(text);
-                &[]
-            }
-        }
+        let (digits, rest) = self.part.split(text);
+        self.extend_digits(digits);
+        let Some(rest) = rest else {
+            return &[];
+        };
+        self.part = self.part.next();
+        rest
     }
 
-    /// The same inner text, with its ciphertext in other memory.
-    pub(super) fn move_to<'b>(self, work: &'b mut [u8]) -> InnerReader<'b>
-        requires { self.cipher.room ≤ length work.old }
-        ensures { result ≡ inner_in (length work.old) self.entry }
+    /// Gives digits to the part that comes next.
+    fn extend_digits(&mut self, digits: &[u8])
+        requires { length digits.now ≤ RUN_LIMIT }
+        ensures { GivesDigits self.old digits.now self.new }
     {
-        let InnerReader {
-            part,
-            salt,
-            tag,
-            cipher,
-        } = self;
-        InnerReader {
-            part,
-            salt,
-            tag,
-            cipher: cipher.move_to(work),
+        match self.part {
+            Part::Salt => self.salt.extend(digits),
+            Part::Tag => self.tag.extend(digits),
+            Part::Cipher => self.cipher.extend(digits),
         }
     }
 

@@ -1,5 +1,5 @@
 //! A part of the inner text that is short: the salt or the tag.
-ghost use Rattle.std.specs.Prelude.{◌≡◌, ◌≤◌, [], MatchResult, Ok, Err, length};
+ghost use Rattle.std.specs.Prelude.{◌≡◌, ◌≤◌, ℕ, [], MatchResult, Ok, Err, length};
 ghost use Rattle.vault_text.specs.InnerReader.{TakesDigits, new_part, part_on};
 ghost use Rattle.vault_text.specs.declared.fault.TextFault.TheVariants.{BadPayload};
 
@@ -27,14 +27,13 @@ impl<const LIMIT: usize> Model for ShortPart<LIMIT> {
       bytes = p.bytes.items;
       decoder = p.decoder;
       limit = LIMIT;
-      room = LIMIT;
       is_long = p.is_long;
     } };
 }
 
 impl<const LIMIT: usize> ShortPart<LIMIT> {
     pub(super) fn new() -> Self
-        ensures { result ≡ new_part LIMIT LIMIT }
+        ensures { result ≡ new_part LIMIT }
     {
         ShortPart {
             bytes: ArrayVec::new(),

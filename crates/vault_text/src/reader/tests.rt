@@ -3,13 +3,13 @@ ghost use Rattle.std.specs.Prelude.{◌≡◌, ◌<◌, IfOk, length, vec_len};
 ghost use Rattle.vault_text.specs.Limits.{IsWorkLength};
 ghost use Rattle.vault_text.specs.declared.reader.tests.TheConstants.{WORK_LENGTH};
 
-mod moved;
 mod whole_list;
 
 use super::EnvelopeReader;
 use crate::fault::TextFault;
 use crate::limits::PADDING_LIMIT;
 use crate::payload::Payload;
+use crate::text_memory::TextMemory;
 use std::alloc::{AllocError, Global};
 use std::process::Abort;
 use std::test::Fail;
@@ -316,5 +316,25 @@ fn memory_for_padding_alone(rt: HostRuntime) -> Result<(), Fail> {
     }
     let reading = read_in_steps(work, input.as_slice(), 7);
     assert_eq!(rt; reading.err(), Some(TextFault::TooLong));
+    Ok(())
+}
+
+#[test]
+fn in_reserved_memory(rt: HostRuntime) -> Result<(), Fail> {
+    let alloc = rt.alloc();
+    let mut memory = Vec::with_capacity(alloc, WORK_LENGTH)?;
+    memory.extend_from_slice(b"what it held")?;
+    let input = text_of(alloc, HEADER, &FILLED, "\n")?;
+    let whole = read_envelope(alloc, input.as_slice())?;
+    assert!(rt; whole.is_ok());
+    for step in [1, 7, 4_096] {
+        let mut reader = EnvelopeReader::in_memory(TextMemory::reserved(&mut memory, WORK_LENGTH));
+        for piece in input.chunks(step) {
+            reader.feed(piece);
+        }
+        assert_same(&rt, reader.finish(), &whole);
+    }
+    assert_eq!(rt; memory.len(), 32);
+    assert_eq!(rt; memory.capacity(), WORK_LENGTH);
     Ok(())
 }

@@ -1,9 +1,12 @@
-use Rattle.std.proofs.Common.{◌≡◌, ◌∙◌}
-use Rattle.std.proofs.lemmas.List.{append-nil}
+use Rattle.std.proofs.Common.{refl}
+use Rattle.vault_text.proofs.EnvelopeFacts.{StandsFor-piece}
 use Rattle.vault_text.proofs.reader.EnvelopeReader.feed.Goals as goal
 
 pub returns-clause-taken : goal.returns-clause-taken
 returns-clause-taken c input stands =
-    let taken = c.feed.ensures.taken in
-    let whole : c.args.piece.now ≡ taken.0 = taken.1 ∙ rw (c.feed.ensures.whole c.self.invariant) (append-nil taken.0) in
-    rw whole (taken.2 input (rw (← c.self.view_is) at stands))
+    let line = c.extend-rest.ensures in
+    StandsFor-piece
+    (record { limit = c.self.inside.limit; fed = c.self.inside.fed; line = c.self.inside.line; body = c.self.inside.body })
+    (record { limit = c.self.inside.limit; fed = c.saturating_add-self-inside.result; line = c.extend-rest.new.self; body = c.extend.new.self })
+    input c.args.piece.now c.extend-rest.result.now c.self.invariant refl c.saturating_add-self-inside.ensures line.line line.digits c.extend.ensures
+    (rw (← c.self.view_is) at stands)

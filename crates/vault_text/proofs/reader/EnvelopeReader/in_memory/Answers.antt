@@ -1,0 +1,10 @@
+use Rattle.std.proofs.Common.{◌≡◌, ap, arith, length}
+use Rattle.vault_text.specs.Limits.{ciphertext_limit, limit_of}
+use Rattle.vault_text.proofs.EnvelopeFacts.{StandsFor-nothing}
+use Rattle.vault_text.proofs.reader.EnvelopeReader.in_memory.Goals as goal
+
+pub returns-clause-nothing : goal.returns-clause-nothing
+returns-clause-nothing c =
+    let limit = limit_of c.room.result in
+    let room : ciphertext_limit limit ≡ c.args.memory.limit = omega (arith, c.requires.room, c.room.ensures, ap length c.requires.empty) in
+    rw (c.new.ensures, c.new-2.ensures) (rw room at (StandsFor-nothing limit))
