@@ -1,5 +1,5 @@
 //! Decrypting a vault.
-ghost use Rattle.std.specs.Prelude.{◌≡◌, ℕ, ◌+◌, ◌<◌, ◌≤◌, ◌^◌, List, length};
+ghost use Rattle.std.specs.Prelude.{◌≡◌, ℕ, ◌+◌, ◌<◌, ◌≤◌, ◌^◌, List, [], length};
 ghost use Rattle.vault_core.specs.Agreement.{tries};
 ghost use Rattle.vault_core.specs.Decryption.{decryption, decryption_derivations};
 ghost use Rattle.vault_core.specs.Input.{IsWhole, UnlessUnreadable};
@@ -13,7 +13,7 @@ use crate::opening::open;
 use crate::ready::Ready;
 use crate::secrets::Secrets;
 use vault_kdf::Meter;
-use vault_text::{Payload, Source};
+use vault_text::{Payload, Source, TextMemory};
 
 /// Reads an envelope and opens it with the first of the secrets, in the tried order, that agrees
 /// with its tag.
@@ -40,15 +40,34 @@ pub fn prepare_decrypt<'a, S: Source>(
         × (result ≡ decryption limit secrets.now input)
         × (meter.new ≡ meter.old + decryption_derivations limit secrets.now input)) }
 {
-    let payload = read_payload(src, work)?;
+    prepare_decrypt_in(src, TextMemory::lent(work), secrets, meter)
+}
+
+/// Does what `prepare_decrypt` does, in memory that holds no text.
+pub fn prepare_decrypt_in<'a, S: Source>(
+    src: &mut S,
+    memory: TextMemory<'a>,
+    secrets: &Secrets,
+    meter: &mut Meter,
+) -> Result<Ready<'a>, Fault>
+    requires empty { memory.bytes ≡ [] }
+    requires room { IsWorkLength memory.limit }
+    requires countable { meter.old < 2 ^ 62 }
+    ensures answer { let limit = limit_of memory.entry.limit in
+        (input : List ℕ) × S.gives src.old input src.new
+        × (length input ≤ envelope_limit limit + 1)
+        × UnlessUnreadable (S.failures src.old) (S.failures src.new) result
+        ((length input ≤ envelope_limit limit) × (meter.new ≡ meter.old))
+        (IsWhole (envelope_limit limit) (S.ended src.new) input
+        × (result ≡ decryption limit secrets.now input)
+        × (meter.new ≡ meter.old + decryption_derivations limit secrets.now input)) }
+{
+    let payload = read_payload(src, memory)?;
     decrypt_payload(payload, secrets, meter)
 }
 
-/// Opens the payload of an envelope, as `prepare_decrypt` does once it has read it.
-///
-/// All of it happens where the ciphertext lies. [`Fault::NoSecretFits`] comes before
-/// [`Fault::BadPadding`]; after either that memory holds any bytes.
-pub fn decrypt_payload<'a>(
+/// Opens the payload of an envelope where its ciphertext lies.
+fn decrypt_payload<'a>(
     payload: Payload<'a>,
     secrets: &Secrets,
     meter: &mut Meter,

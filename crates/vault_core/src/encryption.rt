@@ -1,5 +1,5 @@
 //! Encrypting a plaintext.
-ghost use Rattle.std.specs.Prelude.{◌≡◌, ℕ, ◌+◌, ◌<◌, ◌≤◌, ◌^◌, List, length, take};
+ghost use Rattle.std.specs.Prelude.{◌≡◌, ℕ, ◌+◌, ◌<◌, ◌≤◌, ◌^◌, List, [], length};
 ghost use Rattle.vault_core.specs.Encryption.{encryption, is_vault};
 ghost use Rattle.vault_core.specs.Form.{form_of};
 ghost use Rattle.vault_core.specs.Input.{IsWhole, UnlessUnreadable};
@@ -14,7 +14,7 @@ use crate::ready::Ready;
 use crate::sealing::seal;
 use crate::secrets::Secrets;
 use vault_kdf::Meter;
-use vault_text::{MARKER, Salt, Source};
+use vault_text::{MARKER, PADDING_LIMIT, Salt, Source, TextMemory};
 
 /// Reads a plaintext and seals it with the secret at the place `choice`, counted from 0.
 ///
@@ -44,33 +44,65 @@ pub fn prepare_encrypt<'a, S: Source>(
         ≡ encryption limit secrets.now.secrets choice (form_of form.entry) salt.now input)
         × (meter.new ≡ meter.old + sealing_derivations result)) }
 {
-    let n = read_plaintext(src, work)?;
-    encrypt_plaintext(work, n, secrets, choice, form, salt, meter)
+    prepare_encrypt_in(
+        src,
+        TextMemory::lent(work),
+        secrets,
+        choice,
+        form,
+        salt,
+        meter,
+    )
 }
 
-/// Seals the plaintext that stands in the first `n` bytes of `work`, as `prepare_encrypt` does once
-/// it has read it.
-///
-/// All of it happens in `work`, in which a whole block of padding has room behind the plaintext; no
-/// other limit is looked at. [`Fault::EmptyString`], for a block alone, comes before
-/// [`Fault::AlreadyVault`].
-pub fn encrypt_plaintext<'a>(
-    work: &'a mut [u8],
-    n: usize,
+/// Does what `prepare_encrypt` does, in memory that holds no text.
+pub fn prepare_encrypt_in<'a, S: Source>(
+    src: &mut S,
+    mut memory: TextMemory<'a>,
     secrets: &'a Secrets,
     choice: usize,
     form: Form<'a>,
     salt: &'a Salt,
     meter: &mut Meter,
 ) -> Result<Ready<'a>, Fault>
-    requires within { n + PADDING_LIMIT ≤ length work.old }
+    requires empty { memory.bytes ≡ [] }
+    requires room { IsWorkLength memory.limit }
     requires chosen { choice < length secrets.now.secrets }
     requires countable { meter.old < 2 ^ 62 }
-    ensures answer { (limit : ℕ) → n ≤ limit
+    ensures answer { let limit = limit_of memory.entry.limit in
+        (input : List ℕ) × S.gives src.old input src.new
+        × (length input ≤ limit + 1)
+        × UnlessUnreadable (S.failures src.old) (S.failures src.new) result
+        ((length input ≤ limit) × (meter.new ≡ meter.old))
+        (IsWhole limit (S.ended src.new) input
+        × (result
+        ≡ encryption limit secrets.now.secrets choice (form_of form.entry) salt.now input)
+        × (meter.new ≡ meter.old + sealing_derivations result)) }
+{
+    read_plaintext(src, &mut memory)?;
+    encrypt_plaintext(memory, secrets, choice, form, salt, meter)
+}
+
+/// Seals the plaintext that the memory holds, in which a whole block of padding has room behind it;
+/// no other limit is looked at.
+fn encrypt_plaintext<'a>(
+    memory: TextMemory<'a>,
+    secrets: &'a Secrets,
+    choice: usize,
+    form: Form<'a>,
+    salt: &'a Salt,
+    meter: &mut Meter,
+) -> Result<Ready<'a>, Fault>
+    requires within { length memory.bytes + PADDING_LIMIT ≤ memory.limit }
+    requires chosen { choice < length secrets.now.secrets }
+    requires countable { meter.old < 2 ^ 62 }
+    ensures answer { (limit : ℕ) → length memory.entry.bytes ≤ limit
         → result ≡ encryption limit secrets.now.secrets choice (form_of form.entry) salt.now
-        (take n work.old) }
+        memory.entry.bytes }
     ensures counted { meter.new ≡ meter.old + sealing_derivations result }
 {
+    let work = memory.into_bytes_and_spare(PADDING_LIMIT);
+    let n = work.len() - PADDING_LIMIT;
     if form.is_block() && n == 0 {
         return Err(Fault::EmptyString);
     }

@@ -1,6 +1,6 @@
 //! Reading the input of a call.
 ghost use Rattle.std.specs.Prelude.{◌≡◌, ℕ, ◌+◌, ◌-◌, ◌<◌, ◌≤◌, ◌↔◌, List, [], ◌++◌, length};
-ghost use Rattle.std.specs.Prelude.{take, IsTrue, IfOk, OnErr, MatchResult};
+ghost use Rattle.std.specs.Prelude.{IsTrue, IfOk, OnErr, MatchResult};
 ghost use Rattle.vault_text.specs.EnvelopeReader.{StandsFor};
 ghost use Rattle.vault_text.specs.Failures.{CountsFailure};
 ghost use Rattle.vault_core.specs.Decryption.{payload_of};
@@ -9,41 +9,69 @@ ghost use Rattle.vault_text.specs.Limits.{IsWorkLength, envelope_limit, limit_of
 ghost use Rattle.vault_core.specs.declared.fault.Fault.TheVariants.{TooLong};
 
 use crate::fault::Fault;
-use vault_text::{EnvelopeReader, PADDING_LIMIT, Payload, Source, SourceFailed, fill_up};
+use vault_text::{EnvelopeReader, PADDING_LIMIT, Payload, Source, SourceFailed, TextMemory};
 
-/// How many bytes of an envelope a source is asked for at once.
+/// How many bytes a source is asked for at once.
 const PIECE_LIMIT: usize = 4096;
 
-/// Reads a plaintext to its end, or to one byte more than is taken, to the front of `work`, and
-/// answers its length.
-pub(crate) fn read_plaintext<S: Source>(src: &mut S, work: &mut [u8]) -> Result<usize, Fault>
-    requires { IsWorkLength (length work.old) }
-    ensures input { let limit = limit_of (length work.old) in
-        (input : List ℕ) × S.gives src.old input src.new
+/// Reads a plaintext to its end, or to one byte more than is taken, into memory that holds no text.
+/// A plaintext is taken that leaves room for padding.
+pub(crate) fn read_plaintext<S: Source>(src: &mut S, memory: &mut TextMemory) -> Result<(), Fault>
+    requires empty { memory.old.bytes ≡ [] }
+    requires room { IsWorkLength memory.old.limit }
+    ensures limit { memory.new.limit ≡ memory.old.limit }
+    ensures input { let limit = limit_of memory.old.limit in
+        let input = memory.new.bytes in
+        S.gives src.old input src.new
         × (length input ≤ limit + 1)
         × UnlessUnreadable (S.failures src.old) (S.failures src.new) result
         (length input ≤ limit)
         (IsWhole limit (S.ended src.new) input × MatchResult result
-        (λ n. (n ≤ limit) × (input ≡ take n work.new))
+        (λ _. length input ≤ limit)
         (λ fault. (fault ≡ TooLong) × (limit < length input))) }
-    ensures length { length work.new ≡ length work.old }
 {
-    let limit = work.len() - PADDING_LIMIT;
-    let n = fill_up(src, &mut work[..limit + 1])?;
-    if n > limit {
+    put_input(src, memory)?;
+    if memory.room() < PADDING_LIMIT {
         return Err(Fault::TooLong);
     }
-    Ok(n)
+    Ok(())
+}
+
+/// Puts the input into memory that holds no text, to its end, or to one byte more than leaves room
+/// for padding.
+fn put_input<S: Source>(src: &mut S, memory: &mut TextMemory) -> Result<(), SourceFailed>
+    requires empty { memory.old.bytes ≡ [] }
+    requires room { IsWorkLength memory.old.limit }
+    ensures limit { memory.new.limit ≡ memory.old.limit }
+    ensures put { let limit = limit_of memory.old.limit in
+        let input = memory.new.bytes in
+        S.gives src.old input src.new
+        × (length input ≤ limit + 1)
+        × MatchResult result (λ _. IsWhole limit (S.ended src.new) input)
+        (λ _. length input ≤ limit) }
+    ensures failed { CountsFailure (S.failures src.old) (S.failures src.new) result }
+{
+    let mut buffer = [0; PIECE_LIMIT];
+    while memory.room() >= PADDING_LIMIT {
+        let most = memory.room() - PADDING_LIMIT + 1;
+        let piece = next_piece(src, &mut buffer[..most.min(PIECE_LIMIT)])?;
+        if piece.is_empty() {
+            break;
+        }
+        memory.put(piece);
+    }
+    Ok(())
 }
 
 /// Reads an envelope to its end, or to one byte more than is taken, and answers its payload, whose
-/// ciphertext lies in `work`.
+/// ciphertext lies in the memory, which holds no text before.
 pub(crate) fn read_payload<'a, S: Source>(
     src: &mut S,
-    work: &'a mut [u8],
+    memory: TextMemory<'a>,
 ) -> Result<Payload<'a>, Fault>
-    requires { IsWorkLength (length work.old) }
-    ensures { let limit = limit_of (length work.old) in
+    requires empty { memory.bytes ≡ [] }
+    requires room { IsWorkLength memory.limit }
+    ensures { let limit = limit_of memory.entry.limit in
         (input : List ℕ) × S.gives src.old input src.new
         × (length input ≤ envelope_limit limit + 1)
         × UnlessUnreadable (S.failures src.old) (S.failures src.new) result
@@ -51,7 +79,7 @@ pub(crate) fn read_payload<'a, S: Source>(
         (IsWhole (envelope_limit limit) (S.ended src.new) input
         × (result ≡ payload_of limit input)) }
 {
-    let mut reader = EnvelopeReader::new(work);
+    let mut reader = EnvelopeReader::in_memory(memory);
     feed_input(src, &mut reader)?;
     Ok(reader.finish()?)
 }

@@ -39,13 +39,13 @@ mod secrets;
 mod tests;
 
 pub use choice::ChoiceFault;
-pub use decryption::{decrypt_payload, prepare_decrypt};
-pub use encryption::{encrypt_plaintext, prepare_encrypt};
+pub use decryption::{prepare_decrypt, prepare_decrypt_in};
+pub use encryption::{prepare_encrypt, prepare_encrypt_in};
 pub use fault::{Fault, Role};
 pub use form::Form;
 pub use label_rule::LabelRule;
 pub use limits::{PASSWORD_FILE_LIMIT, SECRET_COUNT_LIMIT};
 pub use password::{SecretFault, password_of};
 pub use ready::{Ready, WriteFault};
-pub use rekeying::{prepare_rekey, rekey_payload};
+pub use rekeying::{prepare_rekey, prepare_rekey_in};
 pub use secrets::{ListFault, Secrets};

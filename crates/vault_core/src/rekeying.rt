@@ -1,5 +1,5 @@
 //! Giving a vault a new secret.
-ghost use Rattle.std.specs.Prelude.{◌≡◌, ℕ, ◌+◌, ◌<◌, ◌≤◌, ◌^◌, List, length};
+ghost use Rattle.std.specs.Prelude.{◌≡◌, ℕ, ◌+◌, ◌<◌, ◌≤◌, ◌^◌, List, [], length};
 ghost use Rattle.vault_core.specs.Agreement.{tries};
 ghost use Rattle.vault_core.specs.Decryption.{decryption_derivations};
 ghost use Rattle.vault_core.specs.Input.{IsWhole, UnlessUnreadable};
@@ -17,7 +17,7 @@ use crate::ready::Ready;
 use crate::sealing::seal;
 use crate::secrets::Secrets;
 use vault_kdf::Meter;
-use vault_text::{Label, Payload, Salt, Source};
+use vault_text::{Label, Payload, Salt, Source, TextMemory};
 
 /// Reads an envelope, opens it as `prepare_decrypt` does, and seals its plaintext with a new label,
 /// a new password and a new salt.
@@ -47,17 +47,47 @@ pub fn prepare_rekey<'a, S: Source>(
         × (meter.new ≡ meter.old + decryption_derivations limit secrets.now input
         + sealing_derivations result)) }
 {
-    let payload = read_payload(src, work)?;
+    prepare_rekey_in(
+        src,
+        TextMemory::lent(work),
+        secrets,
+        new,
+        password,
+        salt,
+        meter,
+    )
+}
+
+/// Does what `prepare_rekey` does, in memory that holds no text.
+pub fn prepare_rekey_in<'a, S: Source>(
+    src: &mut S,
+    memory: TextMemory<'a>,
+    secrets: &Secrets,
+    new: &'a Label,
+    password: &[u8],
+    salt: &'a Salt,
+    meter: &mut Meter,
+) -> Result<Ready<'a>, Fault>
+    requires empty { memory.bytes ≡ [] }
+    requires room { IsWorkLength memory.limit }
+    requires countable { meter.old < 2 ^ 62 }
+    ensures answer { let limit = limit_of memory.entry.limit in
+        (input : List ℕ) × S.gives src.old input src.new
+        × (length input ≤ envelope_limit limit + 1)
+        × UnlessUnreadable (S.failures src.old) (S.failures src.new) result
+        ((length input ≤ envelope_limit limit) × (meter.new ≡ meter.old))
+        (IsWhole (envelope_limit limit) (S.ended src.new) input
+        × (result ≡ rekeying limit secrets.now
+        (record { label = new.now; password = password.now }) salt.now input)
+        × (meter.new ≡ meter.old + decryption_derivations limit secrets.now input
+        + sealing_derivations result)) }
+{
+    let payload = read_payload(src, memory)?;
     rekey_payload(payload, secrets, new, password, salt, meter)
 }
 
-/// Opens the payload of an envelope and seals its plaintext anew, as `prepare_rekey` does once it
-/// has read it.
-///
-/// All of it happens where the ciphertext lies, which holds one text at any moment. Faults come in
-/// this order: [`Fault::NoSecretFits`], [`Fault::BadPadding`], [`Fault::AlreadyVault`]. After one
-/// that memory holds any bytes.
-pub fn rekey_payload<'a>(
+/// Opens the payload of an envelope and seals its plaintext anew, both where its ciphertext lies.
+fn rekey_payload<'a>(
     payload: Payload<'a>,
     secrets: &Secrets,
     new: &'a Label,

@@ -1,11 +1,8 @@
-use Rattle.std.proofs.Common.{◌≡◌, ◌≤◌, ℕ, List, [], ◌∷◌, ◌++◌, append_assoc, arith, eqb-true, inl, length, length-append, length-take, refl, sym, ◌∙◌}
+use Rattle.std.proofs.Common.{◌≡◌, ◌≤◌, ℕ, ◌++◌, append_assoc, arith, eqb-true, inl, length, length-append, length-take, sym, ◌∙◌}
+use Rattle.std.proofs.lemmas.List.{nil_from_length}
 use Rattle.std.proofs.lemmas.Result.{MatchResult-from_err}
 use Rattle.vault_text.proofs.Progress.{taken_none}
 use Rattle.vault_core.proofs.input.feed_input.Goals as goal
-
-nothing : (xs : List ℕ) → length xs ≡ 0 → xs ≡ []
-nothing [] none = refl
-nothing (x ∷ xs) none = absurd (omega arith)
 
 pub returns-in_err-piece-clause-fed : goal.returns-in_err-piece-clause-fed
 returns-in_err-piece-clause-fed g c =
@@ -40,7 +37,7 @@ returns-then-is_empty-clause-fed g c =
     let kept = c.loop-left.invariant.1 in
     let empty : length c.in_ok-piece.piece.now ≡ 0 = eqb-true _ _ (sym c.is_empty.ensures ∙ c.if-is_empty.true) in (
       input,
-      taken_none g.S.Source.gives g.met.S.Source.gives_more _ _ _ input kept.gives (rw (nothing _ empty) at c.in_ok-piece.ensures.gives),
+      taken_none g.S.Source.gives g.met.S.Source.gives_more _ _ _ input kept.gives (rw (nil_from_length _ empty) at c.in_ok-piece.ensures.gives),
       omega (arith, kept.left),
       inl (c.in_ok-piece.ensures.end.0 empty),
       kept.fed,

@@ -9,9 +9,9 @@ pub returns-in_err-finish : goal.returns-in_err-finish
 returns-in_err-finish g c =
     let p = err_from_is_err_and c.from_residual-in_err-finish.result c.from_residual-in_err-finish.ensures.1 in
     let read = c.in_ok-feed_input.ensures.fed in
-    let new = c.new-reader.ensures.limit in
+    let new = c.in_memory-reader.ensures.limit in
     let fed = c.in_ok-feed_input.ensures.limit ∙ new in
-    let answer = rw fed at (c.in_err-finish.ensures read.0 (read.4 [] c.new-reader.ensures.nothing)) in
+    let answer = rw fed at (c.in_err-finish.ensures read.0 (read.4 [] c.in_memory-reader.ensures.nothing)) in
     rw (p.1, p.2) (
       read.0,
       read.1,
@@ -22,9 +22,9 @@ returns-in_err-finish g c =
 pub returns : goal.returns
 returns g c =
     let read = c.in_ok-feed_input.ensures.fed in
-    let new = c.new-reader.ensures.limit in
+    let new = c.in_memory-reader.ensures.limit in
     let fed = c.in_ok-feed_input.ensures.limit ∙ new in
-    let answer = rw fed at (c.in_ok-finish.ensures read.0 (read.4 [] c.new-reader.ensures.nothing)) in (
+    let answer = rw fed at (c.in_ok-finish.ensures read.0 (read.4 [] c.in_memory-reader.ensures.nothing)) in (
       read.0,
       read.1,
       rw new at read.2,

@@ -3,13 +3,13 @@ use Rattle.std.proofs.lemmas.Result.{err_from_is_err_and}
 use Rattle.vault_text.specs.Limits.{limit_of}
 use Rattle.vault_core.specs.Decryption.{decryption_derivations}
 use Rattle.vault_core.proofs.DecryptionLemmas.{UnlessUnreadable-from, decryption-Err, decryption-Ok, decryption_derivations-Err, decryption_derivations-Ok, opening-is_no_read}
-use Rattle.vault_core.proofs.decryption.prepare_decrypt.Goals as goal
+use Rattle.vault_core.proofs.decryption.prepare_decrypt_in.Goals as goal
 
 pub returns-in_err-payload : goal.returns-in_err-payload
 returns-in_err-payload g c =
     let p = err_from_is_err_and c.from_residual.result c.from_residual.ensures.1 in
     let read = c.in_err-payload.ensures in
-    let limit = limit_of (length c.args.work.now) in
+    let limit = limit_of c.args.memory.limit in
     let secrets = c.args.secrets.now in
     rw (p.1, p.2) (record {
       answer = (
@@ -29,7 +29,7 @@ returns-in_err-payload g c =
 pub returns : goal.returns
 returns g c =
     let read = c.in_ok-payload.ensures in
-    let limit = limit_of (length c.args.work.now) in
+    let limit = limit_of c.args.memory.limit in
     let secrets = c.args.secrets.now in
     let payload = c.in_ok-payload.payload in
     record {

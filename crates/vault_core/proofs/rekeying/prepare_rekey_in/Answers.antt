@@ -5,13 +5,13 @@ use Rattle.vault_core.specs.Decryption.{decryption_derivations}
 use Rattle.vault_core.specs.Secrets.{Secret}
 use Rattle.vault_core.proofs.DecryptionLemmas.{UnlessUnreadable-from, decryption_derivations-Err, decryption_derivations-Ok}
 use Rattle.vault_core.proofs.RekeyingLemmas.{rekeying-no_payload, rekeying-payload, resealing-is_no_read}
-use Rattle.vault_core.proofs.rekeying.prepare_rekey.Goals as goal
+use Rattle.vault_core.proofs.rekeying.prepare_rekey_in.Goals as goal
 
 pub returns-in_err-payload : goal.returns-in_err-payload
 returns-in_err-payload g c =
     let p = err_from_is_err_and c.from_residual.result c.from_residual.ensures.1 in
     let read = c.in_err-payload.ensures in
-    let limit = limit_of (length c.args.work.now) in
+    let limit = limit_of c.args.memory.limit in
     let secrets = c.args.secrets.now in
     let new : Secret = record { label = c.args.new.now; password = c.args.password.now } in
     rw (p.1, p.2) (record {
@@ -32,7 +32,7 @@ returns-in_err-payload g c =
 pub returns : goal.returns
 returns g c =
     let read = c.in_ok-payload.ensures in
-    let limit = limit_of (length c.args.work.now) in
+    let limit = limit_of c.args.memory.limit in
     let secrets = c.args.secrets.now in
     let new : Secret = record { label = c.args.new.now; password = c.args.password.now } in
     let payload = c.in_ok-payload.payload in
