@@ -1,6 +1,7 @@
 -- The cipher of AES-256 (FIPS 197, section 5.1). A state is a matrix of bytes with four rows and
 -- four columns, held as the list of its 16 entries column by column (3.4).
-use Rattle.std.specs.Prelude.{ℕ, zero, suc, ◌+◌, ◌*◌, ◌%◌, List, [], ◌∷◌, ◌++◌, bit_xor, slice_index}
+use Rattle.std.specs.Prelude.{ℕ, zero, suc, ◌+◌, ◌*◌, ◌%◌, bit_xor}
+use Rattle.std.specs.Prelude.{List, [], ◌∷◌, ◌++◌, slice_index}
 use Rattle.std.specs.Int.{w32, to_be_bytes}
 use Rattle.vault_aes.specs.Field.{mul}
 use Rattle.vault_aes.specs.SubstitutionBox.{s_box}
@@ -25,8 +26,8 @@ sub_bytes state = matrix (λ r c. s_box (entry state r c))
 unfoldable pub shift_rows : List ℕ → List ℕ
 shift_rows state = matrix (λ r c. entry state r ((c + r) % 4))
 
--- entry (r, c) of the product of two matrices over the field: row r of the first by column c of the
--- second
+-- entry (r, c) of the product of two matrices over the field (4.3): row r of the first by column c
+-- of the second
 abbrev pub product_entry : List ℕ → List ℕ → ℕ → ℕ → ℕ
 product_entry left right r c =
     bit_xor (bit_xor (bit_xor
@@ -55,7 +56,7 @@ add_round_key words n state =
 unfoldable pub round : List ℕ → ℕ → List ℕ → List ℕ
 round words n state = add_round_key words n (mix_columns (shift_rows (sub_bytes state)))
 
--- the state after the first round key and n rounds
+-- the state after the first round key and n rounds (5.1)
 unfoldable pub rounds : List ℕ → List ℕ → ℕ → List ℕ
 rounds words block zero = add_round_key words 0 block
 rounds words block (suc n) = round words (suc n) (rounds words block n)

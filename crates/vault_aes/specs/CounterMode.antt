@@ -1,16 +1,16 @@
--- Counter mode (SP 800-38A, section 6.5), with the standard incrementing function over all 128 bits
--- of the counter block (appendix B.1).
+-- Counter mode (SP 800-38A, section 6.5), with the standard incrementing function over all 128
+-- bits of the counter block (appendix B.1).
 use Rattle.std.specs.Prelude.{ℕ, ◌+◌, ◌/◌, ◌%◌, ◌^◌, List, bit_xor, length, map, slice_index}
 use Rattle.std.specs.Int.{w128, from_be_bytes, to_be_bytes}
 use Rattle.std.specs.List.{range_with_len}
 use Rattle.vault_aes.specs.Cipher.{cipher}
 
--- counter block j, from the initial counter block: the counter is a number of 16 bytes, the highest
--- first
+-- counter block j, T_(j + 1), from the initial one, T_1: the counter is a number of 16 bytes, the
+-- highest first (B.1)
 unfoldable pub counter_block : List ℕ → ℕ → List ℕ
 counter_block iv j = to_be_bytes w128 ((from_be_bytes w128 iv + j) % 2 ^ 128)
 
--- byte i of the key stream: the output blocks joined
+-- byte i of the key stream: the output blocks O_1, O_2, … joined (6.5)
 unfoldable pub stream_byte : List ℕ → List ℕ → ℕ → ℕ
 stream_byte words iv i = slice_index (cipher words (counter_block iv (i / 16))) (i % 16)
 
@@ -19,7 +19,8 @@ abbrev pub with_stream : (ℕ → ℕ) → List ℕ → List ℕ
 with_stream stream input =
     map (λ i. bit_xor (slice_index input i) (stream i)) (range_with_len 0 (length input))
 
--- the input with the key stream added, under the words of a key schedule; of the last output block
--- only as many bytes are used as there is input
+-- the input with the key stream added, under the words of a key schedule: of a plaintext the
+-- ciphertext, and of that the plaintext. Of the last output block only as many bytes are used as
+-- there is input (6.5).
 unfoldable pub counter_mode : List ℕ → List ℕ → List ℕ → List ℕ
 counter_mode words iv input = with_stream (stream_byte words iv) input

@@ -7,8 +7,8 @@ use Rattle.vault_aes.specs.Field.{inverse}
 abbrev pub affine_constant : ℕ
 affine_constant = 0x63
 
--- bit i of the affine transformation of b (5.1.1): the sum over GF(2) of five bits of
--- b and one of the constant
+-- bit i of the affine transformation of b (5.1.1): the sum over GF(2) of five bits of b and one of
+-- the constant
 abbrev pub affine_bit : ℕ → ℕ → ℕ
 affine_bit b i =
     (bit_at b i + bit_at b ((i + 4) % 8) + bit_at b ((i + 5) % 8) + bit_at b ((i + 6) % 8)
@@ -19,6 +19,6 @@ unfoldable pub number_of_bits : (ℕ → ℕ) → ℕ → ℕ
 number_of_bits bit zero = 0
 number_of_bits bit (suc n) = number_of_bits bit n + bit n * 2 ^ n
 
--- S of a byte: the affine transformation of its inverse
+-- S of a byte: the affine transformation of its inverse (5.1.1)
 unfoldable pub s_box : ℕ → ℕ
 s_box a = number_of_bits (affine_bit (inverse a)) 8

@@ -11,12 +11,12 @@ use crate::tables::{
     first_row_column, fourth_row_column, second_row_column, substituted, third_row_column,
 };
 
-/// Each list has one padding, and each padded list is that of one list.
+/// Each plaintext has one padding, and each padded list is that of one plaintext.
 pub fn one_padding()
-    ensures some { (plain : List ℕ) → (padded : List ℕ) × IsPadded plain padded }
-    ensures padded_once { (plain one other : List ℕ)
-        → IsPadded plain one → IsPadded plain other → one ≡ other }
-    ensures plain_once { (one other padded : List ℕ)
+    ensures some { (plaintext : List ℕ) → (padded : List ℕ) × IsPadded plaintext padded }
+    ensures padded_once { (plaintext one other : List ℕ)
+        → IsPadded plaintext one → IsPadded plaintext other → one ≡ other }
+    ensures plaintext_once { (one other padded : List ℕ)
         → IsPadded one padded → IsPadded other padded → one ≡ other }
 {}
 

@@ -24,7 +24,8 @@ pub fn pad(work: &mut [u8], n: usize) -> usize
 pub fn unpad(padded: &[u8]) -> Option<usize>
     ensures within { IfSome result (λ n. n < length padded.now) }
     ensures found { IfSome result (λ n. IsPadded (take n padded.now) padded.now) }
-    ensures every { (plain : List ℕ) → IsPadded plain padded.now → result ≡ Some (length plain) }
+    ensures every { (plaintext : List ℕ) → IsPadded plaintext padded.now
+        → result ≡ Some (length plaintext) }
 {
     let count = *padded.last()?;
     if padded.len() % BLOCK_LEN != 0 || count == 0 || count as usize > BLOCK_LEN {

@@ -1,10 +1,10 @@
 // The vectors of the standards, and the cipher beside one that computes over the field.
 
-mod plain_cipher;
+mod field_cipher;
 
 use crate::key_expansion::expanded;
 use crate::{Key, ctr_apply, laws, pad, unpad};
-use plain_cipher::PlainCipher;
+use field_cipher::FieldCipher;
 use std::process::Abort;
 
 const ZERO_KEY: [u8; 32] = [0; 32];
@@ -65,7 +65,7 @@ fn expands_the_example_key(rt: HostRuntime) {
 #[test]
 fn applies_the_key_stream(rt: HostRuntime) {
     let iv = 0xf0f1f2f3f4f5f6f7f8f9fafbfcfdfeffu128.to_be_bytes();
-    let plain = joined([
+    let plaintext = joined([
         0x6bc1bee22e409f96e93d7e117393172a,
         0xae2d8a571e03ac9c9eb76fac45af8e51,
         0x30c81c46a35ce411e5fbc1191a0a52ef,
@@ -78,13 +78,13 @@ fn applies_the_key_stream(rt: HostRuntime) {
         0xdfc9c58db67aada613c2dd08457941a6,
     ]);
     let key = Key::new(&EXAMPLE_KEY);
-    let mut whole = plain;
+    let mut whole = plaintext;
     ctr_apply(&key, &iv, &mut whole);
     assert_eq!(rt; whole, want);
-    let mut front = plain;
+    let mut front = plaintext;
     ctr_apply(&key, &iv, &mut front[..17]);
     for i in 0..64 {
-        let byte = if i < 17 { want[i] } else { plain[i] };
+        let byte = if i < 17 { want[i] } else { plaintext[i] };
         assert_eq!(rt; front[i], byte, "byte {i}");
     }
 }
@@ -153,7 +153,7 @@ fn reads_the_tables(rt: HostRuntime) {
 }
 
 #[test]
-fn agrees_with_the_plain_cipher(rt: HostRuntime) {
+fn agrees_with_the_field_cipher(rt: HostRuntime) {
     for key in [counting_key(), ZERO_KEY, EXAMPLE_KEY] {
         agrees_under(&rt, &key);
     }
@@ -161,9 +161,9 @@ fn agrees_with_the_plain_cipher(rt: HostRuntime) {
 
 fn agrees_under(rt: &impl Abort, key: &[u8; 32]) {
     let tables = Key::new(key);
-    let plain = PlainCipher::new(key);
+    let field = FieldCipher::new(key);
     for n in 0..1000u32 {
         let block = u128::from(n).to_be_bytes();
-        assert_eq!(rt; tables.block(&block), plain.block(&block), "block {n}");
+        assert_eq!(rt; tables.block(&block), field.block(&block), "block {n}");
     }
 }

@@ -7,5 +7,5 @@ returns-clause-some c = IsPadded-every
 pub returns-clause-padded_once : goal.returns-clause-padded_once
 returns-clause-padded_once c = IsPadded-padded_once
 
-pub returns-clause-plain_once : goal.returns-clause-plain_once
-returns-clause-plain_once c = IsPadded-plain_once
+pub returns-clause-plaintext_once : goal.returns-clause-plaintext_once
+returns-clause-plaintext_once c = IsPadded-plain_once

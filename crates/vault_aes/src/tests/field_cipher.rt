@@ -1,13 +1,13 @@
 // AES-256 on bytes, with products and inverses over the field computed as it runs.
 
 #[derive(Drop)]
-pub(crate) struct PlainCipher {
+pub(crate) struct FieldCipher {
     s_box: [u8; 256],
     round_keys: [[u8; 16]; 15],
 }
 
-impl PlainCipher {
-    pub(crate) fn new(key: &[u8; 32]) -> PlainCipher {
+impl FieldCipher {
+    pub(crate) fn new(key: &[u8; 32]) -> FieldCipher {
         let s_box = computed_s_box();
         let mut round_keys = [[0; 16]; 15];
         round_keys[0].copy_from_slice(&key[..16]);
@@ -27,7 +27,7 @@ impl PlainCipher {
             }
             round_keys[n] = next_round_key(&round_keys[n - 2], word);
         }
-        PlainCipher { s_box, round_keys }
+        FieldCipher { s_box, round_keys }
     }
 
     pub(crate) fn block(&self, block: &[u8; 16]) -> [u8; 16] {
