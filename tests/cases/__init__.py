@@ -1,6 +1,7 @@
 """The end-to-end cases by topic, and what runs them."""
 
 import os
+import stat
 import subprocess
 from pathlib import Path
 
@@ -10,6 +11,8 @@ from model.faults import Fault
 SECONDS = 60
 TEXT = b"secret: value\n"
 READING = ("view", "decrypt")
+# The user and group that own nothing.
+NOBODY = 65_534
 
 
 def by_file(path: str) -> list[str]:
@@ -40,6 +43,18 @@ class Cases(Outcome):
         path.write_bytes(content)
         path.chmod(mode)
         return str(path)
+
+    def device(self, name: str) -> str:
+        """The path of a device, of the tests' own where one can be made: a wrong program that root runs
+        would change that of the system."""
+        path = self.path()
+        try:
+            os.mknod(path, stat.S_IFCHR, os.stat(f"/dev/{name}").st_rdev)
+            os.chmod(path, 0o666)
+            os.close(os.open(path, os.O_WRONLY))
+        except PermissionError:
+            return f"/dev/{name}"
+        return path
 
     def done(self, words, stdin=b"") -> subprocess.CompletedProcess:
         return subprocess.run([self.program, *words], input=stdin, capture_output=True, timeout=SECONDS)

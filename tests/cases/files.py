@@ -1,37 +1,26 @@
-"""FILE and `--output`: every kind of path, modes, and what a refusal leaves."""
+"""FILE and `--output`: every kind of path, and what a refusal leaves."""
 
 import os
-import stat
 import subprocess
 import threading
 from pathlib import Path
 
-from cases import SECONDS, TEXT, Cases, by_file
+from cases import NOBODY, SECONDS, TEXT, Cases, by_file
+from cases.modes import OLD, mode, wanted_mode, with_output
 from cases.samples import SALT_WORDS, Sample, samples
 from model.faults import Fault
 from model.vaults import ENVELOPE_LIMIT, MAGIC, seal
 
-OLD = b"what stood here before\n" * 1_000
 NOT_ASKED = b"standard input is not asked"
-# The user and group that own nothing.
-NOBODY = 65_534
 
 
 def with_files(cases: Cases) -> list[Sample]:
     return [sample for sample in samples(cases) if sample.command != "encrypt_string"]
 
 
-def with_output(cases: Cases) -> list[Sample]:
-    return [sample for sample in samples(cases) if sample.command != "view"]
-
-
 def to_output(sample: Sample) -> list[str]:
     """What a FILE makes necessary."""
     return [] if sample.command == "view" else ["--output", "-"]
-
-
-def mode(path: str) -> int:
-    return stat.S_IMODE(os.stat(path).st_mode)
 
 
 def inputs(cases: Cases) -> None:
@@ -89,32 +78,18 @@ def output_needed(cases: Cases) -> None:
 def outputs(cases: Cases) -> None:
     for sample in with_output(cases):
         new, old, name = cases.path(), cases.file(OLD, 0o640), sample.command
-        written(cases, f"{name} to a new file", sample, new, 0o600)
-        written(cases, f"{name} to an old file", sample, old, 0o640)
-        link, target = cases.path(), cases.file(OLD, 0o644)
-        os.symlink(target, link)
-        written(cases, f"{name} through a link", sample, link, 0o644)
-        cases.check(f"{name}: the link stays", os.path.islink(link), True)
+        written(cases, f"{name} to a new file", sample, new, oct(0o600))
+        written(cases, f"{name} to an old file", sample, old, wanted_mode(sample, 0o640))
         cases.run(f"{name} to -", [*sample.words, "--output", "-"], sample.stdin, 0, sample.output)
         cases.check(f"{name}: no file called -", os.path.exists("-"), False)
-        cases.run(f"{name} to a device", [*sample.words, "--output", "/dev/null"], sample.stdin)
+        cases.run(f"{name} to a device", [*sample.words, "--output", cases.device("null")], sample.stdin)
         cases.run(f"{name} to standard output by name", [*sample.words, "--output=/dev/stdout"], sample.stdin, 0, sample.output)
 
 
-def written(cases: Cases, name: str, sample: Sample, path: str, wanted_mode: int) -> None:
+def written(cases: Cases, name: str, sample: Sample, path: str, wanted: str) -> None:
     cases.run(name, [*sample.words, "--output", path], sample.stdin)
     cases.check(f"{name}: content", Path(path).read_bytes(), sample.output)
-    cases.check(f"{name}: mode", oct(mode(path)), oct(wanted_mode))
-
-
-def every_umask(cases: Cases) -> None:
-    for sample in with_output(cases)[:1]:
-        for umask, wanted in (("000", 0o600), ("077", 0o600), ("022", 0o600), ("277", 0o400)):
-            path = cases.path()
-            script = f'umask {umask}; exec "$0" "$@"'
-            words = ["sh", "-c", script, cases.program, *sample.words, "--output", path]
-            subprocess.run(words, input=sample.stdin, timeout=SECONDS, check=True)
-            cases.check(f"mode under umask {umask}", oct(mode(path)), oct(wanted))
+    cases.check(f"{name}: mode", mode(path), wanted)
 
 
 def output_pipes(cases: Cases) -> None:
@@ -134,14 +109,14 @@ def unwritable(cases: Cases) -> None:
             ("a missing folder", f"{cases.path()}/x"),
             ("a file in the place of a folder", f"{file}/x"),
             ("an empty path", ""),
-            ("a full device", "/dev/full"),
+            ("a full device", cases.device("full")),
         ]
         for name, path in refused:
             cases.refused(f"{sample.command} to {name}", [*sample.words, "--output", path], Fault.NOT_WRITTEN, sample.stdin)
         cases.check(f"{sample.command}: the file stays", Path(file).read_bytes(), OLD)
     for sample in samples(cases, b""):
         if sample.command == "decrypt":
-            cases.run("nothing to a full device by name", [*sample.words, "--output", "/dev/full"], sample.stdin)
+            cases.run("nothing to a full device by name", [*sample.words, "--output", cases.device("full")], sample.stdin)
 
 
 def onto_the_input(cases: Cases) -> None:
@@ -150,7 +125,7 @@ def onto_the_input(cases: Cases) -> None:
         for sample in samples(cases, text):
             if sample.command not in ("view", "encrypt_string"):
                 path = cases.file(sample.stdin, 0o644)
-                written(cases, f"{sample.command} onto its input", Sample([*sample.words, path], NOT_ASKED, sample.output), path, 0o644)
+                written(cases, f"{sample.command} onto its input", Sample([*sample.words, path], NOT_ASKED, sample.output), path, wanted_mode(sample, 0o644))
 
 
 def onto_a_password_file(cases: Cases) -> None:
@@ -174,7 +149,7 @@ def refused_leaves_outputs(cases: Cases) -> None:
                 done = cases.done([*words, "--output", path], stdin)
                 cases.check(f"{sample.command}, refusal {place}: refused", (done.returncode != 0, done.stdout), (True, b""))
             cases.check(f"{sample.command}, refusal {place}: no new file", os.path.exists(new), False)
-            cases.check(f"{sample.command}, refusal {place}: the old file", (Path(old).read_bytes(), mode(old)), (OLD, 0o640))
+            cases.check(f"{sample.command}, refusal {place}: the old file", (Path(old).read_bytes(), mode(old)), (OLD, oct(0o640)))
 
 
 def order(cases: Cases) -> None:
@@ -225,8 +200,7 @@ def without_rights(cases: Cases) -> None:
     try:
         runs(["--version"], b"")
     except PermissionError:
-        print("left out: nobody else may run the program where it lies")
-        return
+        return cases.left_out("files without rights", "nobody else may run the program where it lies")
     locked = cases.file(OLD, 0)
     for sample in with_files(cases):
         fault = Fault.INPUT_NOT_OPENED
@@ -248,7 +222,6 @@ GROUPS = [
     input_pipes,
     output_needed,
     outputs,
-    every_umask,
     output_pipes,
     unwritable,
     onto_the_input,

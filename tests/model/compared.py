@@ -6,6 +6,7 @@ import stat
 import subprocess
 import tempfile
 from pathlib import Path
+from typing import Iterable
 
 from model.answers import SALT_LENGTH, Answer, CannotOpen, HostFiles, answer, refusal
 from model.faults import Fault
@@ -13,7 +14,7 @@ from model.options import SALT_FILE
 from model.random_requests import Case
 
 SECONDS = 120
-OWNER_ALONE = 0o600
+OWNER_ALONE = oct(0o600)
 FULL_DEVICE = "/dev/full"
 
 
@@ -57,6 +58,10 @@ def salt_in(output: bytes) -> bytes:
         return bytes(SALT_LENGTH)
 
 
+def modes(folder: Path, paths: Iterable[str]) -> dict[str, str]:
+    return {path: oct(stat.S_IMODE((folder / path).stat().st_mode)) for path in paths}
+
+
 def contents(folder: Path) -> dict[str, bytes]:
     paths = [path for path in folder.rglob("*") if path.is_file()]
     return {str(path.relative_to(folder)): path.read_bytes() for path in paths}
@@ -82,21 +87,24 @@ def differences(case: Case, program: list[str]) -> list[str]:
         folder = Path(name)
         case.lay_out(folder)
         before = contents(folder)
+        old_modes = modes(folder, before)
         try:
             done = run(case, program, folder)
         except subprocess.TimeoutExpired:
             return [f"no answer in {SECONDS} seconds"]
         after = contents(folder)
-        modes = {path: stat.S_IMODE((folder / path).stat().st_mode) for path in after.keys() - before.keys()}
+        new_modes = modes(folder, after)
     changed = [content for path, content in after.items() if before.get(path) != content]
     want = expected(case, salt_in(changed[0] if changed else done.stdout))
     if want.path is not None and want.path != FULL_DEVICE:
+        if want.path not in before or case.words[0] == "decrypt":
+            old_modes[want.path] = OWNER_ALONE
         before[want.path] = want.output
     pairs = {
         "status": (done.returncode, want.status),
         "message": (done.stderr, want.message if want.message is not None else done.stderr or b"a text"),
         "output": (done.stdout, (want.output or b"") if want.path is None else b""),
         "files": (after, before),
-        "modes": (modes, dict.fromkeys(modes, OWNER_ALONE)),
+        "modes": (new_modes, old_modes),
     }
     return [f"{what}: got {got!r:.400}, want {wanted!r:.400}" for what, (got, wanted) in pairs.items() if got != wanted]

@@ -1,0 +1,169 @@
+"""The mode of what `--output` names: a new file, one that is there, links, devices, pipes, sockets."""
+
+import os
+import socket
+import stat
+import subprocess
+from pathlib import Path
+
+from cases import NOBODY, SECONDS, Cases, by_file
+from cases.samples import Sample, samples
+from lib.file_events import CLOSED, MODE_CHANGED, MODIFIED, FileEvents
+from model.faults import Fault
+from model.vaults import MAGIC
+
+OLD = b"what stood here before\n" * 1_000
+UMASKS = ("000", "022", "077")
+OLD_MODES = (0o600, 0o640, 0o644, 0o666, 0o755)
+
+
+def mode(path: str) -> str:
+    return oct(stat.S_IMODE(os.stat(path).st_mode))
+
+
+def with_output(cases: Cases) -> list[Sample]:
+    return [sample for sample in samples(cases) if sample.command != "view"]
+
+
+def wanted_mode(sample: Sample, old: int) -> str:
+    """That of an existing file: plaintext is for its owner alone."""
+    return oct(0o600 if sample.command == "decrypt" else old)
+
+
+def under(cases: Cases, umask: str, sample: Sample, path: str) -> subprocess.CompletedProcess:
+    script = f'umask {umask}; exec "$0" "$@"'
+    words = ["sh", "-c", script, cases.program, *sample.words, "--output", path]
+    return subprocess.run(words, input=sample.stdin, capture_output=True, timeout=SECONDS)
+
+
+def written(cases: Cases, name: str, umask: str, sample: Sample, path: str, wanted: str) -> None:
+    done = under(cases, umask, sample, path)
+    name = f"{sample.command} {name} under umask {umask}"
+    cases.check(name, (done.returncode, done.stdout, done.stderr), (0, b"", b""))
+    cases.check(f"{name}: content", Path(path).read_bytes(), sample.output)
+    cases.check(f"{name}: mode", mode(path), wanted)
+
+
+def new_files(cases: Cases) -> None:
+    for sample in with_output(cases):
+        for umask in UMASKS:
+            written(cases, "to a new file", umask, sample, cases.path(), oct(0o600))
+            target, link = cases.path(), cases.path()
+            os.symlink(target, link)
+            written(cases, "to a new file through a link", umask, sample, link, oct(0o600))
+
+
+def masked_new_file(cases: Cases) -> None:
+    [sample] = [sample for sample in with_output(cases) if sample.command == "encrypt"]
+    written(cases, "to a new file", "277", sample, cases.path(), oct(0o400))
+
+
+def old_files(cases: Cases) -> None:
+    for sample in with_output(cases):
+        for umask in UMASKS:
+            for old in OLD_MODES:
+                path, wanted = cases.file(OLD, old), wanted_mode(sample, old)
+                written(cases, f"to a file of mode {old:o}", umask, sample, path, wanted)
+
+
+def links(cases: Cases) -> None:
+    """A link is followed, and stays; what it names gets the mode."""
+    for sample in with_output(cases):
+        for umask in UMASKS:
+            target, link, twin = cases.file(OLD, 0o644), cases.path(), cases.path()
+            wanted = wanted_mode(sample, 0o644)
+            os.symlink(target, link)
+            written(cases, "through a link", umask, sample, link, wanted)
+            cases.check(f"{sample.command}: the link stays", os.readlink(link), target)
+            os.link(cases.file(OLD, 0o644), twin)
+            written(cases, "to a hard link", umask, sample, twin, wanted)
+            cases.check(f"{sample.command}: both names stay", os.stat(twin).st_nlink, 2)
+
+
+def devices(cases: Cases) -> None:
+    for sample in with_output(cases):
+        path = cases.device("null")
+        for umask in UMASKS:
+            done = under(cases, umask, sample, path)
+            name = f"{sample.command} to a device under umask {umask}"
+            cases.check(name, (done.returncode, done.stdout, done.stderr), (0, b"", b""))
+            cases.check(f"{name}: mode", mode(path), oct(0o666))
+
+
+def pipes(cases: Cases) -> None:
+    for sample in with_output(cases):
+        for umask in UMASKS:
+            path = cases.path()
+            os.mkfifo(path)
+            os.chmod(path, 0o644)
+            with subprocess.Popen(["cat", path], stdout=subprocess.PIPE) as reader:
+                done = under(cases, umask, sample, path)
+                output = reader.stdout.read()
+            name = f"{sample.command} to a pipe under umask {umask}"
+            cases.check(name, (done.returncode, output, done.stderr), (0, sample.output, b""))
+            cases.check(f"{name}: mode", mode(path), oct(0o644))
+
+
+def sockets(cases: Cases) -> None:
+    """The system opens none of them for writing."""
+    for sample in with_output(cases):
+        path = cases.path()
+        with socket.socket(socket.AF_UNIX) as listener:
+            listener.bind(path)
+            os.chmod(path, 0o644)
+            cases.refused(f"{sample.command} to a socket", [*sample.words, "--output", path], Fault.NOT_WRITTEN, sample.stdin)
+        cases.check(f"{sample.command} to a socket: mode", mode(path), oct(0o644))
+
+
+def order(cases: Cases) -> None:
+    """The file is cut to nothing, then it is made its owner's, and only then the plaintext comes."""
+    for sample in with_output(cases):
+        path = cases.file(OLD, 0o644)
+        events = FileEvents(path)
+        cases.run(f"{sample.command} to a watched file", [*sample.words, "--output", path], sample.stdin)
+        wanted = [MODIFIED, MODE_CHANGED, MODIFIED, CLOSED] if sample.command == "decrypt" else [MODIFIED, CLOSED]
+        cases.check(f"{sample.command}: what happened to the file", events.told(), wanted)
+
+
+def refused(cases: Cases) -> None:
+    """A refusal changes no mode."""
+    for sample in with_output(cases):
+        path, other = cases.file(OLD, 0o644), cases.file(b"")
+        stdin = b"no vault\n" if sample.command in ("decrypt", "rekey") else MAGIC
+        for words, text in (([], stdin), (by_file(other), sample.stdin)):
+            done = cases.done([*sample.words, *words, "--output", path], text)
+            cases.check(f"{sample.command}, refused: status", (done.returncode, done.stdout), (1, b""))
+            cases.check(f"{sample.command}, refused: the file", (Path(path).read_bytes(), mode(path)), (OLD, oct(0o644)))
+
+
+def of_another_owner(cases: Cases) -> None:
+    """Whose mode cannot be changed gets no plaintext; the program runs as somebody else for that."""
+    if os.geteuid() != 0:
+        return cases.left_out("a file of another owner", "that takes the rights of root")
+    cases.folder.chmod(0o755)
+    for sample in with_output(cases):
+        path = cases.file(OLD, 0o666)
+        words = [cases.program, *sample.words, "--output", path]
+        try:
+            done = subprocess.run(words, input=sample.stdin, capture_output=True, timeout=SECONDS, user=NOBODY, group=NOBODY)
+        except PermissionError:
+            return cases.left_out("a file of another owner", "nobody else may run the program where it lies")
+        keeps = sample.command != "decrypt"
+        wanted = (0, b"", sample.output) if keeps else (Fault.NOT_WRITTEN.status, Fault.NOT_WRITTEN.line, b"")
+        found = (done.returncode, done.stderr, Path(path).read_bytes())
+        cases.check(f"{sample.command} to a file of another owner", found, wanted)
+        cases.check(f"{sample.command} to a file of another owner: mode", mode(path), oct(0o666))
+
+
+GROUPS = [
+    new_files,
+    masked_new_file,
+    old_files,
+    links,
+    devices,
+    pipes,
+    sockets,
+    order,
+    refused,
+    of_another_owner,
+]
