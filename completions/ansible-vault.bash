@@ -51,10 +51,11 @@ _ansible_vault_files() {
 # Such files behind a label, whose `@` readline keeps in the word.
 _ansible_vault_labelled_files() {
     local path
-    while read -r path; do
+    while IFS= read -r path; do
         [[ -d $path ]] && path+=/
         COMPREPLY+=("${1%%@*}@$path")
     done < <(compgen -f -- "${1#*@}")
+    compopt -o filenames 2>/dev/null
     [[ ${COMPREPLY[*]} == */ ]] && compopt -o nospace 2>/dev/null
 }
 

@@ -12,10 +12,10 @@ set -l given __fish_seen_subcommand_from
 set -l none "not $given $commands"
 
 complete -c ansible-vault -f
-complete -c ansible-vault -n "$none" -a encrypt -d 'Plaintext to an envelope'
-complete -c ansible-vault -n "$none" -a decrypt -d 'An envelope to its plaintext'
-complete -c ansible-vault -n "$none" -a view -d 'An envelope to its plaintext, on standard output'
-complete -c ansible-vault -n "$none" -a rekey -d 'An envelope to one under a new secret'
+complete -c ansible-vault -n "$none" -a encrypt -d 'Plaintext to an encrypted file'
+complete -c ansible-vault -n "$none" -a decrypt -d 'An encrypted file to its plaintext'
+complete -c ansible-vault -n "$none" -a view -d 'An encrypted file to its plaintext, on standard output'
+complete -c ansible-vault -n "$none" -a rekey -d 'An encrypted file to one under a new secret'
 complete -c ansible-vault -n "$none" -a encrypt_string -d 'A text to a block of YAML'
 complete -c ansible-vault -n "$none" -s V -l version -d 'Print version'
 complete -c ansible-vault -s h -l help -d 'Print help'
@@ -27,7 +27,7 @@ complete -c ansible-vault -n "$given $commands" -l vault-password-file -r -F \
 complete -c ansible-vault -n "$given encrypt encrypt_string" -l encrypt-vault-id -x \
     -d 'The label of the secret to encrypt with'
 complete -c ansible-vault -n "$given decrypt view rekey" -l require-id-match \
-    -d 'Try the secrets of the envelope\'s label alone'
+    -d 'Try only the secrets with the label of the encrypted file'
 complete -c ansible-vault -n "$given rekey" -l new-vault-id -x -a '(__ansible_vault_ids)' \
     -d 'The password file of the new secret, with its label'
 complete -c ansible-vault -n "$given rekey" -l new-vault-password-file -r -F \

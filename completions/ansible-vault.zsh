@@ -9,10 +9,10 @@ _ansible_vault_id() {
 
 _ansible_vault_commands() {
     local -a commands=(
-        'encrypt:plaintext to an envelope'
-        'decrypt:an envelope to its plaintext'
-        'view:an envelope to its plaintext, on standard output'
-        'rekey:an envelope to one under a new secret'
+        'encrypt:plaintext to an encrypted file'
+        'decrypt:an encrypted file to its plaintext'
+        'view:an encrypted file to its plaintext, on standard output'
+        'rekey:an encrypted file to one under a new secret'
         'encrypt_string:a text to a block of YAML'
     )
     _describe command commands
@@ -26,7 +26,7 @@ _ansible_vault_arguments() {
         '*--vault-password-file=[a password file for the label default]:file:_files'
     )
     local -a choice=('--encrypt-vault-id=[the label of the secret to encrypt with]:label: ')
-    local -a binding=('--require-id-match[try the secrets of the label alone]')
+    local -a binding=('--require-id-match[try only the secrets with the label of the encrypted file]')
     local -a salt=(
         '(--salt)--salt-file=[the file whose first 32 bytes are the salt]:file:_files'
         '(--salt-file)--salt=[the salt itself, used once]:text: '

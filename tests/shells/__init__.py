@@ -3,6 +3,7 @@
 import os
 import pathlib
 import pty
+import select
 import shutil
 import subprocess
 import tempfile
@@ -10,6 +11,8 @@ import tempfile
 HERE = pathlib.Path(__file__).resolve().parent
 COMPLETIONS = HERE.parent.parent / "completions"
 NAME = "ansible-vault"
+# Seconds after which a shell is taken to wait.
+PAUSE = 5
 
 # Calls the function as readline does: with the words cut at `=` and `@` too, and with the text that
 # a match replaces, which keeps its `@`.
@@ -53,11 +56,12 @@ def bash(line: str, folder: pathlib.Path) -> set[str]:
 
 
 def all_shown(terminal: int) -> bytes:
-    """What comes until the shell on the other side ends."""
+    """What comes until the shell on the other side ends, or waits for the end of a word."""
     shown = b""
     while True:
         try:
-            piece = os.read(terminal, 4096)
+            waits = not select.select([terminal], [], [], PAUSE)[0]
+            piece = b"" if waits else os.read(terminal, 4096)
         except OSError:
             piece = b""
         if not piece:
@@ -65,19 +69,21 @@ def all_shown(terminal: int) -> bytes:
         shown += piece
 
 
-def typed_in_bash(line: str, folder: pathlib.Path) -> str:
+def typed_in_bash(line: str, folder: pathlib.Path) -> list[str]:
     """The arguments that a command gets whose line is typed on a terminal and ended by a tab."""
     here, there = pty.openpty()
     shell = subprocess.Popen(
         ["bash", "--norc", "--noprofile", "-i"], cwd=folder, stdin=there, stdout=there, stderr=there
     )
-    setup = f"bind 'set bell-style none'; source {COMPLETIONS / NAME}.bash; {NAME}() {{ echo \"got $*.\"; }}"
+    told = f"{NAME}() {{ printf 'got'; printf '<%s>' \"$@\"; echo .; }}"
+    setup = f"bind 'set bell-style none'; source {COMPLETIONS / NAME}.bash; {told}"
     os.close(there)
     os.write(here, f"{setup}\n{NAME} {line}\t\nexit\n".encode())
     shown = all_shown(here).decode()
     os.close(here)
+    shell.kill()
     shell.wait()
-    return shown.split("got ")[-1].split(".\r")[0].strip()
+    return shown.split("got<")[-1].split(">.\r")[0].split("><")
 
 
 def fish(line: str, folder: pathlib.Path) -> set[str]:
