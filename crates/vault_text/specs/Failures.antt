@@ -1,9 +1,17 @@
 -- How a contract counts the failures of a source or a sink.
-use Rattle.std.specs.Prelude.{◌≡◌, ℕ, ◌+◌, ◌-◌, ◌^◌, min, Result, Ok, Err}
+use Rattle.std.specs.Prelude.{◌≡◌, ℕ, ◌+◌, ◌-◌, ◌^◌, ◌≤◌, min, Result, Ok, Err}
 
--- the count rose by one, or stands at the last number of 64 bits
+-- the last number of 64 bits, at which a count of failures stops
+abbrev pub last_count : ℕ
+last_count = 2 ^ 64 - 1
+
+-- the count has stopped
+abbrev pub IsLast : ℕ → Type 0
+IsLast count = last_count ≤ count
+
+-- the count rose by one, or has stopped
 abbrev pub HasRisen : ℕ → ℕ → Type 0
-HasRisen before after = after ≡ min (before + 1) (2 ^ 64 - 1)
+HasRisen before after = after ≡ min (before + 1) last_count
 
 -- a call that answers an error counts one failure, and no other call counts any
 abbrev pub CountsFailure : {T E : Type 0} → ℕ → ℕ → Result T E → Type 0

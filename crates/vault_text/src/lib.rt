@@ -11,6 +11,7 @@
 //! ```
 #![tactic(auto)]
 
+mod failure_count;
 mod fault;
 mod header;
 mod hexadecimal;
@@ -26,6 +27,7 @@ mod text_memory;
 mod whitespace;
 mod writing;
 
+pub use failure_count::FailureCount;
 pub use fault::TextFault;
 pub use header::MARKER;
 pub use label::{BadLabel, Label};

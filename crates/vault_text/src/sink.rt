@@ -1,7 +1,7 @@
 //! Where output goes.
-ghost use Rattle.std.specs.Prelude.{◌≡◌, ℕ, ◌-◌, ◌^◌, ◌<◌, ◌≤◌, ◌++◌, List, [], IsErr, IfOk};
+ghost use Rattle.std.specs.Prelude.{◌≡◌, ℕ, ◌<◌, ◌≤◌, ◌++◌, List, [], IsErr, IfOk};
 ghost use Rattle.std.specs.Prelude.{OnOk, OnErr, length, take};
-ghost use Rattle.vault_text.specs.Failures.{CountsFailure};
+ghost use Rattle.vault_text.specs.Failures.{CountsFailure, IsLast};
 ghost use Rattle.vault_text.specs.Sink.{taken};
 
 mod failing;
@@ -45,7 +45,7 @@ pub trait Sink {
         ensures begun { OnOk result (stage self.new ≡ Stage.Begun) }
         ensures unbegun { OnErr result (stage self.new ≡ Stage.Unbegun) }
         ensures failed { CountsFailure (failures self.old) (failures self.new) result }
-        ensures full { 2 ^ 64 - 1 ≤ failures self.old → IsErr result };
+        ensures full { IsLast (failures self.old) → IsErr result };
 
     /// Takes a prefix of `bytes` and answers its length, at least 1. A failed call takes none.
     fn put(&mut self, bytes: &[u8]) -> Result<usize, SinkFailed>
@@ -56,7 +56,7 @@ pub trait Sink {
         ensures bound { IfOk result (λ n. n ≤ length bytes.now) }
         ensures stage { stage self.new ≡ stage self.old }
         ensures failed { CountsFailure (failures self.old) (failures self.new) result }
-        ensures full { 2 ^ 64 - 1 ≤ failures self.old → IsErr result };
+        ensures full { IsLast (failures self.old) → IsErr result };
 
     /// Flushes what was taken.
     fn finish(&mut self) -> Result<(), SinkFailed>
@@ -65,7 +65,7 @@ pub trait Sink {
         ensures finished { OnOk result (stage self.new ≡ Stage.Finished) }
         ensures unfinished { OnErr result (stage self.new ≡ Stage.Begun) }
         ensures failed { CountsFailure (failures self.old) (failures self.new) result }
-        ensures full { 2 ^ 64 - 1 ≤ failures self.old → IsErr result };
+        ensures full { IsLast (failures self.old) → IsErr result };
 
     ghost takes_none: { (s : Self) → takes s [] s };
 

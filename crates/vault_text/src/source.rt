@@ -1,7 +1,7 @@
 //! Where input comes from.
-ghost use Rattle.std.specs.Prelude.{◌≡◌, ℕ, ◌-◌, ◌^◌, ◌<◌, ◌≤◌, ◌↔◌, ◌++◌, List, [], Bool};
+ghost use Rattle.std.specs.Prelude.{◌≡◌, ℕ, ◌<◌, ◌≤◌, ◌↔◌, ◌++◌, List, [], Bool};
 ghost use Rattle.std.specs.Prelude.{IsTrue, IsErr, IfOk, OnErr, Ok, length, take};
-ghost use Rattle.vault_text.specs.Failures.{CountsFailure};
+ghost use Rattle.vault_text.specs.Failures.{CountsFailure, IsLast};
 ghost use Rattle.vault_text.specs.Source.{given};
 
 mod failing;
@@ -37,7 +37,7 @@ pub trait Source {
         ensures bound { IfOk result (λ n. n ≤ length buf.new) }
         ensures end { IfOk result (λ n. (n ≡ 0) ↔ IsTrue (ended self.new)) }
         ensures failed { CountsFailure (failures self.old) (failures self.new) result }
-        ensures full { 2 ^ 64 - 1 ≤ failures self.old → IsErr result };
+        ensures full { IsLast (failures self.old) → IsErr result };
 
     /// About how many bytes are left, 0 where nothing is known: a hint for who takes memory for
     /// them, on which no answer may depend.
@@ -66,7 +66,7 @@ pub fn fill_up<S: Source>(source: &mut S, buf: &mut [u8]) -> Result<usize, Sourc
     ensures bound { IfOk result (λ n. n ≤ length buf.new) }
     ensures short { IfOk result (λ n. n < length buf.new → IsTrue (S.ended source.new)) }
     ensures failed { CountsFailure (S.failures source.old) (S.failures source.new) result }
-    ensures full { 2 ^ 64 - 1 ≤ S.failures source.old → 0 < length buf.old → IsErr result }
+    ensures full { IsLast (S.failures source.old) → 0 < length buf.old → IsErr result }
 {
     let mut filled = 0;
     while filled < buf.len() {

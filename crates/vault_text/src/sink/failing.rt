@@ -1,9 +1,10 @@
-ghost use Rattle.std.specs.Prelude.{◌≡◌, ◌-◌, ◌^◌, ◌<◌, ◌≤◌, ◌⊎◌, ◌↔◌, [], IsErr, IfOk, OnOk};
+ghost use Rattle.std.specs.Prelude.{◌≡◌, ◌-◌, ◌<◌, ◌≤◌, ◌⊎◌, ◌↔◌, [], IsErr, IfOk, OnOk};
 ghost use Rattle.std.specs.Prelude.{OnErr, length, min};
-ghost use Rattle.vault_text.specs.Failures.{CountsFailure};
+ghost use Rattle.vault_text.specs.Failures.{CountsFailure, IsLast};
 ghost use Rattle.vault_text.specs.Sink.{Takes, failing_state_of, has_begun, taken};
 
 use super::{MemSink, Sink, SinkFailed, Stage};
+use crate::failure_count::FailureCount;
 use std::alloc::Global;
 use std::marker::Model;
 
@@ -13,7 +14,7 @@ use std::marker::Model;
 pub struct FailingSink {
     memory: MemSink,
     calls: usize,
-    failures: u64,
+    failures: FailureCount,
 }
 
 impl Model for FailingSink {
@@ -41,7 +42,7 @@ impl FailingSink {
         FailingSink {
             memory: MemSink::new(alloc, step),
             calls,
-            failures: 0,
+            failures: FailureCount::new(),
         }
     }
 
@@ -64,13 +65,13 @@ impl FailingSink {
         ensures takes { Takes (failing_state_of self.old) [] (failing_state_of self.new) }
         ensures memory { self.new.memory ≡ self.old.memory }
         ensures calls { self.new.calls ≡ self.old.calls - 1 }
-        ensures fails { IsErr result ↔ ((self.old.calls ≡ 0) ⊎ (2 ^ 64 - 1 ≤ self.old.failures)) }
+        ensures fails { IsErr result ↔ ((self.old.calls ≡ 0) ⊎ IsLast self.old.failures) }
         ensures failed { CountsFailure self.old.failures self.new.failures result }
     {
         let calls = self.calls;
         self.calls = calls.saturating_sub(1);
-        if calls == 0 || self.failures == u64::MAX {
-            self.failures = self.failures.saturating_add(1);
+        if calls == 0 || self.failures.is_last() {
+            self.failures.raise();
             return Err(SinkFailed);
         }
         Ok(())
@@ -99,9 +100,9 @@ impl Sink for FailingSink {
         ensures begun { OnOk result (self.new.memory.stage ≡ Stage.Begun) }
         ensures unbegun { OnErr result (self.new.memory.stage ≡ Stage.Unbegun) }
         ensures calls { self.new.calls ≡ self.old.calls - 1 }
-        ensures fails { IsErr result ↔ ((self.old.calls ≡ 0) ⊎ (2 ^ 64 - 1 ≤ self.old.failures)) }
+        ensures fails { IsErr result ↔ ((self.old.calls ≡ 0) ⊎ IsLast self.old.failures) }
         ensures failed { CountsFailure self.old.failures self.new.failures result }
-        ensures full { 2 ^ 64 - 1 ≤ self.old.failures → IsErr result }
+        ensures full { IsLast self.old.failures → IsErr result }
     {
         self.use_call()?;
         self.memory.begin()
@@ -118,12 +119,12 @@ impl Sink for FailingSink {
         ensures calls { self.new.calls ≡ self.old.calls - 1 }
         ensures fails { self.old.calls ≡ 0 → IsErr result }
         ensures failed { CountsFailure self.old.failures self.new.failures result }
-        ensures full { 2 ^ 64 - 1 ≤ self.old.failures → IsErr result }
+        ensures full { IsLast self.old.failures → IsErr result }
     {
         self.use_call()?;
         let result = self.memory.put(bytes);
         if result.is_err() {
-            self.failures += 1;
+            self.failures.raise();
         }
         result
     }
@@ -134,9 +135,9 @@ impl Sink for FailingSink {
         ensures finished { OnOk result (self.new.memory.stage ≡ Stage.Finished) }
         ensures unfinished { OnErr result (self.new.memory.stage ≡ Stage.Begun) }
         ensures calls { self.new.calls ≡ self.old.calls - 1 }
-        ensures fails { IsErr result ↔ ((self.old.calls ≡ 0) ⊎ (2 ^ 64 - 1 ≤ self.old.failures)) }
+        ensures fails { IsErr result ↔ ((self.old.calls ≡ 0) ⊎ IsLast self.old.failures) }
         ensures failed { CountsFailure self.old.failures self.new.failures result }
-        ensures full { 2 ^ 64 - 1 ≤ self.old.failures → IsErr result }
+        ensures full { IsLast self.old.failures → IsErr result }
     {
         self.use_call()?;
         self.memory.finish()

@@ -1,9 +1,10 @@
-ghost use Rattle.std.specs.Prelude.{◌≡◌, ◌+◌, ◌-◌, ◌^◌, ◌<◌, ◌≤◌, [], IsErr, IfOk, OnOk, OnErr};
+ghost use Rattle.std.specs.Prelude.{◌≡◌, ◌+◌, ◌<◌, ◌≤◌, [], IsErr, IfOk, OnOk, OnErr};
 ghost use Rattle.std.specs.Prelude.{length, min};
-ghost use Rattle.vault_text.specs.Failures.{CountsFailure};
+ghost use Rattle.vault_text.specs.Failures.{CountsFailure, IsLast};
 ghost use Rattle.vault_text.specs.Sink.{taken, has_begun};
 
 use super::{Sink, SinkFailed, Stage};
+use crate::failure_count::FailureCount;
 use std::alloc::Global;
 use std::marker::Model;
 
@@ -14,7 +15,7 @@ pub struct MemSink {
     bytes: Vec<u8>,
     step: usize,
     stage: Stage,
-    failures: u64,
+    failures: FailureCount,
 }
 
 impl Model for MemSink {
@@ -43,7 +44,7 @@ impl MemSink {
             bytes: Vec::new(alloc),
             step,
             stage: Stage::Unbegun,
-            failures: 0,
+            failures: FailureCount::new(),
         }
     }
 
@@ -84,10 +85,10 @@ impl Sink for MemSink {
         ensures begun { OnOk result (self.new.stage ≡ Stage.Begun) }
         ensures unbegun { OnErr result (self.new.stage ≡ Stage.Unbegun) }
         ensures failed { CountsFailure self.old.failures self.new.failures result }
-        ensures full { 2 ^ 64 - 1 ≤ self.old.failures → IsErr result }
-        ensures only_full { OnErr result (2 ^ 64 - 1 ≤ self.old.failures) }
+        ensures full { IsLast self.old.failures → IsErr result }
+        ensures only_full { OnErr result (IsLast self.old.failures) }
     {
-        if self.failures == u64::MAX {
+        if self.failures.is_last() {
             return Err(SinkFailed);
         }
         self.stage = Stage::Begun;
@@ -103,14 +104,14 @@ impl Sink for MemSink {
         ensures bound { IfOk result (λ n. n ≤ length bytes.now) }
         ensures stage { self.new.stage ≡ self.old.stage }
         ensures failed { CountsFailure self.old.failures self.new.failures result }
-        ensures full { 2 ^ 64 - 1 ≤ self.old.failures → IsErr result }
+        ensures full { IsLast self.old.failures → IsErr result }
     {
-        if self.failures == u64::MAX {
+        if self.failures.is_last() {
             return Err(SinkFailed);
         }
         let n = bytes.len().min(self.step);
         if self.bytes.extend_from_slice(&bytes[..n]).is_err() {
-            self.failures += 1;
+            self.failures.raise();
             return Err(SinkFailed);
         }
         Ok(n)
@@ -122,10 +123,10 @@ impl Sink for MemSink {
         ensures finished { OnOk result (self.new.stage ≡ Stage.Finished) }
         ensures unfinished { OnErr result (self.new.stage ≡ Stage.Begun) }
         ensures failed { CountsFailure self.old.failures self.new.failures result }
-        ensures full { 2 ^ 64 - 1 ≤ self.old.failures → IsErr result }
-        ensures only_full { OnErr result (2 ^ 64 - 1 ≤ self.old.failures) }
+        ensures full { IsLast self.old.failures → IsErr result }
+        ensures only_full { OnErr result (IsLast self.old.failures) }
     {
-        if self.failures == u64::MAX {
+        if self.failures.is_last() {
             return Err(SinkFailed);
         }
         self.stage = Stage::Finished;

@@ -1,6 +1,7 @@
 ghost use Rattle.std.specs.Prelude.{◌≡◌};
 
 use super::{Sink, SinkFailed, Stage};
+use crate::failure_count::FailureCount;
 use std::io::Write;
 use std::marker::Model;
 
@@ -10,7 +11,7 @@ use std::marker::Model;
 pub struct WriteSink<W: Write> {
     writer: W,
     stage: Stage,
-    failures: u64,
+    failures: FailureCount,
 }
 
 impl<W: Write> Model for WriteSink<W> {
@@ -34,7 +35,7 @@ impl<W: Write> WriteSink<W> {
         WriteSink {
             writer,
             stage: Stage::Unbegun,
-            failures: 0,
+            failures: FailureCount::new(),
         }
     }
 
@@ -64,7 +65,7 @@ impl<W: Write> Sink for WriteSink<W> {
     ghost failures_stay = { λ s t xs g. g.failures_stay };
 
     fn begin(&mut self) -> Result<(), SinkFailed> {
-        if self.failures == u64::MAX {
+        if self.failures.is_last() {
             return Err(SinkFailed);
         }
         self.stage = Stage::Begun;
@@ -72,24 +73,24 @@ impl<W: Write> Sink for WriteSink<W> {
     }
 
     fn put(&mut self, bytes: &[u8]) -> Result<usize, SinkFailed> {
-        if self.failures == u64::MAX {
+        if self.failures.is_last() {
             return Err(SinkFailed);
         }
         match self.writer.write(bytes) {
             Ok(n) if n > 0 => Ok(n),
             _ => {
-                self.failures += 1;
+                self.failures.raise();
                 Err(SinkFailed)
             }
         }
     }
 
     fn finish(&mut self) -> Result<(), SinkFailed> {
-        if self.failures == u64::MAX {
+        if self.failures.is_last() {
             return Err(SinkFailed);
         }
         if self.writer.flush().is_err() {
-            self.failures += 1;
+            self.failures.raise();
             return Err(SinkFailed);
         }
         self.stage = Stage::Finished;

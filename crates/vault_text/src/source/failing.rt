@@ -1,9 +1,10 @@
-ghost use Rattle.std.specs.Prelude.{◌≡◌, ◌-◌, ◌^◌, ◌<◌, ◌≤◌, ◌↔◌, IsTrue, IsErr, IfOk, false};
+ghost use Rattle.std.specs.Prelude.{◌≡◌, ◌-◌, ◌<◌, ◌≤◌, ◌↔◌, IsTrue, IsErr, IfOk, false};
 ghost use Rattle.std.specs.Prelude.{length, min};
-ghost use Rattle.vault_text.specs.Failures.{CountsFailure};
+ghost use Rattle.vault_text.specs.Failures.{CountsFailure, IsLast};
 ghost use Rattle.vault_text.specs.Source.{given};
 
 use super::{MemSource, Source, SourceFailed};
+use crate::failure_count::FailureCount;
 use std::marker::Model;
 
 /// A source over bytes in memory that fails at each call after a number of them.
@@ -11,7 +12,7 @@ use std::marker::Model;
 pub struct FailingSource<'a> {
     memory: MemSource<'a>,
     calls: usize,
-    failures: u64,
+    failures: FailureCount,
 }
 
 impl<'a> Model for FailingSource<'a> {
@@ -38,7 +39,7 @@ impl<'a> FailingSource<'a> {
         FailingSource {
             memory: MemSource::new(bytes, step),
             calls,
-            failures: 0,
+            failures: FailureCount::new(),
         }
     }
 }
@@ -71,10 +72,10 @@ impl<'a> Source for FailingSource<'a> {
         ensures bound { IfOk result (λ n. n ≤ length buf.new) }
         ensures end { IfOk result (λ n. (n ≡ 0) ↔ IsTrue self.new.memory.ended) }
         ensures failed { CountsFailure self.old.failures self.new.failures result }
-        ensures full { 2 ^ 64 - 1 ≤ self.old.failures → IsErr result }
+        ensures full { IsLast self.old.failures → IsErr result }
     {
         if self.calls == 0 {
-            self.failures = self.failures.saturating_add(1);
+            self.failures.raise();
             return Err(SourceFailed);
         }
         self.calls -= 1;

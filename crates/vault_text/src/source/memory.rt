@@ -1,6 +1,6 @@
-ghost use Rattle.std.specs.Prelude.{◌≡◌, ◌-◌, ◌^◌, ◌<◌, ◌≤◌, ◌↔◌, IsTrue, IsErr, IfOk, false};
+ghost use Rattle.std.specs.Prelude.{◌≡◌, ◌<◌, ◌≤◌, ◌↔◌, IsTrue, IsErr, IfOk, false};
 ghost use Rattle.std.specs.Prelude.{length, min};
-ghost use Rattle.vault_text.specs.Failures.{CountsFailure};
+ghost use Rattle.vault_text.specs.Failures.{CountsFailure, IsLast};
 ghost use Rattle.vault_text.specs.Source.{given};
 
 use super::{Source, SourceFailed};
@@ -65,7 +65,7 @@ impl<'a> Source for MemSource<'a> {
         ensures bound { IfOk result (λ n. n ≤ length buf.new) }
         ensures end { IfOk result (λ n. (n ≡ 0) ↔ IsTrue self.new.ended) }
         ensures failed { CountsFailure 0 0 result }
-        ensures full { 2 ^ 64 - 1 ≤ 0 → IsErr result }
+        ensures full { IsLast 0 → IsErr result }
     {
         let n = buf.len().min(self.step).min(self.left.len());
         let (front, rest) = self.left.split_at(n);

@@ -1,6 +1,7 @@
 ghost use Rattle.std.specs.Prelude.{◌≡◌, false};
 
 use super::{Source, SourceFailed};
+use crate::failure_count::FailureCount;
 use std::io::Read;
 use std::marker::Model;
 
@@ -10,7 +11,7 @@ use std::marker::Model;
 pub struct ReadSource<R: Read> {
     reader: R,
     ended: bool,
-    failures: u64,
+    failures: FailureCount,
     length_hint: usize,
 }
 
@@ -41,7 +42,7 @@ impl<R: Read> ReadSource<R> {
         ReadSource {
             reader,
             ended: false,
-            failures: 0,
+            failures: FailureCount::new(),
             length_hint,
         }
     }
@@ -66,7 +67,7 @@ impl<R: Read> Source for ReadSource<R> {
     ghost failures_stay = { λ s t xs g. g.failures_stay };
 
     fn fill(&mut self, buf: &mut [u8]) -> Result<usize, SourceFailed> {
-        if self.failures == u64::MAX {
+        if self.failures.is_last() {
             return Err(SourceFailed);
         }
         if self.ended {
@@ -78,7 +79,7 @@ impl<R: Read> Source for ReadSource<R> {
                 Ok(n)
             }
             Err(_) => {
-                self.failures += 1;
+                self.failures.raise();
                 Err(SourceFailed)
             }
         }
