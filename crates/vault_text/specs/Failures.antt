@@ -17,3 +17,10 @@ HasRisen before after = after ≡ min (before + 1) last_count
 abbrev pub CountsFailure : {T E : Type 0} → ℕ → ℕ → Result T E → Type 0
 CountsFailure before after (Ok x) = after ≡ before
 CountsFailure before after (Err e) = HasRisen before after
+
+-- a source or a sink over memory that fails at each call after a number of them: the memory, how
+-- many calls it still answers, and its failures, those of the memory among them
+pub record FailingState (Memory : Type 0) : Type 0 where
+  pub memory : Memory
+  pub calls : ℕ
+  pub failures : ℕ

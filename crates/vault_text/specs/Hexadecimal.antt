@@ -1,15 +1,17 @@
 -- Hexadecimal text: two digits a byte, the high four bits first.
-use Rattle.std.specs.Prelude.{◌≡◌, ℕ, ◌/◌, Bool, false, ◌++◌, if◌then◌else◌, List, length, Option, None}
+use Rattle.std.specs.Prelude.{◌≡◌, ℕ, ◌/◌, Bool, false, ◌++◌, if◌then◌else◌, List, length}
+use Rattle.std.specs.Prelude.{Option, None}
 use Rattle.std.specs.Option.{option_map, option_to_list}
 use Rattle.std.specs.Result.{result_ok}
 use Rattle.hex.specs.Hex.{decode_of}
 
--- the bytes that an even number of digits of either case spells; none where the text is anything else
+-- the bytes that an even number of digits of either case spells; none where the text is anything
+-- else
 abbrev pub unhex : List ℕ → Option (List ℕ)
 unhex text = result_ok (decode_of text)
 
--- a decoder of text in pieces: the first digit of a byte whose second has not come yet, and whether there was a
--- byte that is no digit
+-- a decoder of text in pieces: the first digit of a byte whose second has not come yet, and whether
+-- there was a byte that is no digit
 pub record DecoderState : Type 0 where
   pub high : Option ℕ
   pub is_bad : Bool
@@ -28,4 +30,5 @@ byte_count decoder digits = length (option_to_list decoder.high ++ digits) / 2
 
 -- a decoder that takes these digits gives these bytes, whatever follows
 pub record Decodes (old : DecoderState) (digits bytes : List ℕ) (new : DecoderState) : Type 0 where
-  pub spelled : (more : List ℕ) → unhex_on old (digits ++ more) ≡ option_map (λ rest. bytes ++ rest) (unhex_on new more)
+  pub spelled : (more : List ℕ)
+      → unhex_on old (digits ++ more) ≡ option_map (λ rest. bytes ++ rest) (unhex_on new more)

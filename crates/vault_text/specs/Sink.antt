@@ -1,6 +1,8 @@
 -- What a contract sees of a sink of bytes.
-use Rattle.std.specs.Prelude.{◌≡◌, ℕ, ◌≤◌, List, [], take, Bool, true, false, Option, Some, Result, Ok, Err}
+use Rattle.std.specs.Prelude.{◌≡◌, ℕ, ◌≤◌, List, [], take, Bool, true, false, Option, Some}
+use Rattle.std.specs.Prelude.{Result, Ok, Err}
 use Rattle.std.specs.Io.KnownBytes.{Appends}
+use Rattle.vault_text.specs.Failures.{FailingState}
 use Rattle.vault_text.specs.declared.sink.Stage.{Stage}
 use Rattle.vault_text.specs.declared.sink.Stage.TheVariants.{Unbegun, Begun, Finished}
 
@@ -26,7 +28,8 @@ has_begun Unbegun = false
 has_begun Begun = true
 has_begun Finished = true
 
--- a sink over memory: its bytes, its stage, its failures, and how many bytes it takes per call at most
+-- a sink over memory: its bytes, its stage, its failures, and how many bytes it takes per call at
+-- most
 pub record MemoryState : Type 0 where
   pub held : List ℕ
   pub stage : Stage
@@ -40,17 +43,14 @@ state_of m = record { held = Some m.held; stage = m.stage; failures = m.failures
 abbrev pub MemoryTakes : MemoryState → List ℕ → MemoryState → Type 0
 MemoryTakes old taken new = Takes (state_of old) taken (state_of new) × (new.step ≡ old.step)
 
--- a sink over memory that fails at each call after a number of them: the memory, how many calls it still
--- answers, and its failures, those of the memory among them
-pub record FailingState : Type 0 where
-  pub memory : MemoryState
-  pub calls : ℕ
-  pub failures : ℕ
-
-abbrev pub failing_state_of : FailingState → SinkState
-failing_state_of f = record { held = Some f.memory.held; stage = f.memory.stage; failures = f.failures }
+-- the same where it fails after a number of calls
+abbrev pub failing_state_of : FailingState MemoryState → SinkState
+failing_state_of f =
+    record { held = Some f.memory.held; stage = f.memory.stage; failures = f.failures }
 
 -- between two states it took these bytes
-abbrev pub FailingTakes : FailingState → List ℕ → FailingState → Type 0
+abbrev pub FailingTakes : FailingState MemoryState → List ℕ
+    → FailingState MemoryState → Type 0
 FailingTakes old taken new =
-    Takes (failing_state_of old) taken (failing_state_of new) × (new.memory.step ≡ old.memory.step)
+    Takes (failing_state_of old) taken (failing_state_of new)
+    × (new.memory.step ≡ old.memory.step)

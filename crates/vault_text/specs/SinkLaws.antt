@@ -3,13 +3,16 @@ use Rattle.std.specs.Prelude.{ℕ, ◌++◌, List, [], Option, Some, None, refl}
 use Rattle.std.proofs.Common.{arith, sym, append_assoc, ◌∙◌}
 use Rattle.std.proofs.lemmas.List.{append-nil}
 use Rattle.std.specs.Io.KnownBytes.{Appends}
-use Rattle.vault_text.specs.Sink.{FailingState, FailingTakes, MemoryState, MemoryTakes, SinkState, Takes, failing_state_of, state_of}
+use Rattle.vault_text.specs.Failures.{FailingState}
+use Rattle.vault_text.specs.Sink.{FailingTakes, MemoryState, MemoryTakes, SinkState, Takes}
+use Rattle.vault_text.specs.Sink.{failing_state_of, state_of}
 
 Appends-none : (known : Option (List ℕ)) → Appends known known []
 Appends-none None = tt
 Appends-none (Some xs) = sym (append-nil xs)
 
-Appends-more : (a b c : Option (List ℕ)) (xs ys : List ℕ) → Appends a b xs → Appends b c ys → Appends a c (xs ++ ys)
+Appends-more : (a b c : Option (List ℕ)) (xs ys : List ℕ)
+    → Appends a b xs → Appends b c ys → Appends a c (xs ++ ys)
 Appends-more None b c xs ys p q = tt
 Appends-more (Some a) None c xs ys p q = absurd p
 Appends-more (Some a) (Some b) None xs ys p q = absurd q
@@ -20,7 +23,8 @@ pub Takes-none : (s : SinkState) → Takes s [] s
 Takes-none s = record { appended = Appends-none s.held; failures_stay = omega arith }
 
 -- what was taken first and what was taken then are taken one after the other
-pub Takes-more : (s t u : SinkState) (xs ys : List ℕ) → Takes s xs t → Takes t ys u → Takes s (xs ++ ys) u
+pub Takes-more : (s t u : SinkState) (xs ys : List ℕ)
+    → Takes s xs t → Takes t ys u → Takes s (xs ++ ys) u
 Takes-more s t u xs ys p q = record {
   appended = Appends-more s.held t.held u.held xs ys p.appended q.appended;
   failures_stay = let a = p.failures_stay in let b = q.failures_stay in omega arith;
@@ -30,13 +34,18 @@ Takes-more s t u xs ys p q = record {
 pub MemoryTakes-none : (s : MemoryState) → MemoryTakes s [] s
 MemoryTakes-none s = (Takes-none (state_of s), refl)
 
-pub MemoryTakes-more : (s t u : MemoryState) (xs ys : List ℕ) → MemoryTakes s xs t → MemoryTakes t ys u → MemoryTakes s (xs ++ ys) u
-MemoryTakes-more s t u xs ys p q = (Takes-more (state_of s) (state_of t) (state_of u) xs ys p.0 q.0, q.1 ∙ p.1)
+pub MemoryTakes-more : (s t u : MemoryState) (xs ys : List ℕ)
+    → MemoryTakes s xs t → MemoryTakes t ys u → MemoryTakes s (xs ++ ys) u
+MemoryTakes-more s t u xs ys p q =
+    (Takes-more (state_of s) (state_of t) (state_of u) xs ys p.0 q.0, q.1 ∙ p.1)
 
 -- over memory that fails after a number of calls
-pub FailingTakes-none : (s : FailingState) → FailingTakes s [] s
+pub FailingTakes-none : (s : FailingState MemoryState) → FailingTakes s [] s
 FailingTakes-none s = (Takes-none (failing_state_of s), refl)
 
-pub FailingTakes-more : (s t u : FailingState) (xs ys : List ℕ) → FailingTakes s xs t → FailingTakes t ys u → FailingTakes s (xs ++ ys) u
-FailingTakes-more s t u xs ys p q =
-    (Takes-more (failing_state_of s) (failing_state_of t) (failing_state_of u) xs ys p.0 q.0, q.1 ∙ p.1)
+pub FailingTakes-more : (s t u : FailingState MemoryState) (xs ys : List ℕ)
+    → FailingTakes s xs t → FailingTakes t ys u → FailingTakes s (xs ++ ys) u
+FailingTakes-more s t u xs ys p q = (
+  Takes-more (failing_state_of s) (failing_state_of t) (failing_state_of u) xs ys p.0 q.0,
+  q.1 ∙ p.1,
+)

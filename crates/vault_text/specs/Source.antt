@@ -1,13 +1,16 @@
 -- What a contract sees of a source of bytes.
-use Rattle.std.specs.Prelude.{◌≡◌, ℕ, ◌≤◌, List, [], take, Bool, IsTrue, Option, Some, Result, Ok, Err}
+use Rattle.std.specs.Prelude.{◌≡◌, ℕ, ◌≤◌, List, [], take, Bool, IsTrue, Option, Some}
+use Rattle.std.specs.Prelude.{Result, Ok, Err}
 use Rattle.std.specs.Io.KnownBytes.{Consumes, IsAtEnd}
+use Rattle.vault_text.specs.Failures.{FailingState}
 
 -- the bytes that a call gave, of a buffer that it filled from the front
 abbrev pub given : {E : Type 0} → Result ℕ E → List ℕ → List ℕ
 given (Ok n) buffer = take n buffer
 given (Err e) buffer = []
 
--- a source: the bytes that it has left, where they are known, whether it told its end, and its failures
+-- a source: the bytes that it has left, where they are known, whether it told its end, and its
+-- failures
 pub record SourceState : Type 0 where
   pub left : Option (List ℕ)
   pub ended : Bool
@@ -20,8 +23,8 @@ pub record Gives (old : SourceState) (given : List ℕ) (new : SourceState) : Ty
   pub end_is_real : (IsTrue old.ended → IsAtEnd old.left) → IsTrue new.ended → IsAtEnd new.left
   pub failures_stay : old.failures ≤ new.failures
 
--- a source over memory, which never fails: its bytes left, whether it told its end, and how many bytes it
--- gives per call at most
+-- a source over memory, which never fails: its bytes left, whether it told its end, and how many
+-- bytes it gives per call at most
 pub record MemoryState : Type 0 where
   pub left : List ℕ
   pub ended : Bool
@@ -34,17 +37,14 @@ state_of m = record { left = Some m.left; ended = m.ended; failures = 0 }
 abbrev pub MemoryGives : MemoryState → List ℕ → MemoryState → Type 0
 MemoryGives old given new = Gives (state_of old) given (state_of new) × (new.step ≡ old.step)
 
--- a source over memory that fails at each call after a number of them: the memory, how many calls it still
--- answers, and its failures
-pub record FailingState : Type 0 where
-  pub memory : MemoryState
-  pub calls : ℕ
-  pub failures : ℕ
-
-abbrev pub failing_state_of : FailingState → SourceState
-failing_state_of f = record { left = Some f.memory.left; ended = f.memory.ended; failures = f.failures }
+-- the same where it fails after a number of calls
+abbrev pub failing_state_of : FailingState MemoryState → SourceState
+failing_state_of f =
+    record { left = Some f.memory.left; ended = f.memory.ended; failures = f.failures }
 
 -- between two states it gave these bytes
-abbrev pub FailingGives : FailingState → List ℕ → FailingState → Type 0
+abbrev pub FailingGives : FailingState MemoryState → List ℕ
+    → FailingState MemoryState → Type 0
 FailingGives old given new =
-    Gives (failing_state_of old) given (failing_state_of new) × (new.memory.step ≡ old.memory.step)
+    Gives (failing_state_of old) given (failing_state_of new)
+    × (new.memory.step ≡ old.memory.step)

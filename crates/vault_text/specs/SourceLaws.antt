@@ -2,13 +2,16 @@
 use Rattle.std.specs.Prelude.{ℕ, ◌++◌, List, [], Option, Some, None, refl}
 use Rattle.std.proofs.Common.{arith, sym, append_assoc, ◌∙◌}
 use Rattle.std.specs.Io.KnownBytes.{Consumes}
-use Rattle.vault_text.specs.Source.{FailingGives, FailingState, Gives, MemoryGives, MemoryState, SourceState, failing_state_of, state_of}
+use Rattle.vault_text.specs.Failures.{FailingState}
+use Rattle.vault_text.specs.Source.{FailingGives, Gives, MemoryState, MemoryGives, SourceState}
+use Rattle.vault_text.specs.Source.{failing_state_of, state_of}
 
 Consumes-none : (known : Option (List ℕ)) → Consumes known known []
 Consumes-none None = tt
 Consumes-none (Some xs) = refl
 
-Consumes-more : (a b c : Option (List ℕ)) (xs ys : List ℕ) → Consumes a b xs → Consumes b c ys → Consumes a c (xs ++ ys)
+Consumes-more : (a b c : Option (List ℕ)) (xs ys : List ℕ)
+    → Consumes a b xs → Consumes b c ys → Consumes a c (xs ++ ys)
 Consumes-more None b c xs ys p q = tt
 Consumes-more (Some a) None c xs ys p q = absurd p
 Consumes-more (Some a) (Some b) None xs ys p q = absurd q
@@ -24,7 +27,8 @@ Gives-none s = record {
 }
 
 -- what was given first and what was given then are given one after the other
-pub Gives-more : (s t u : SourceState) (xs ys : List ℕ) → Gives s xs t → Gives t ys u → Gives s (xs ++ ys) u
+pub Gives-more : (s t u : SourceState) (xs ys : List ℕ)
+    → Gives s xs t → Gives t ys u → Gives s (xs ++ ys) u
 Gives-more s t u xs ys p q = record {
   consumed = Consumes-more s.left t.left u.left xs ys p.consumed q.consumed;
   nothing_after_end = λ e.
@@ -39,13 +43,18 @@ Gives-more s t u xs ys p q = record {
 pub MemoryGives-none : (s : MemoryState) → MemoryGives s [] s
 MemoryGives-none s = (Gives-none (state_of s), refl)
 
-pub MemoryGives-more : (s t u : MemoryState) (xs ys : List ℕ) → MemoryGives s xs t → MemoryGives t ys u → MemoryGives s (xs ++ ys) u
-MemoryGives-more s t u xs ys p q = (Gives-more (state_of s) (state_of t) (state_of u) xs ys p.0 q.0, q.1 ∙ p.1)
+pub MemoryGives-more : (s t u : MemoryState) (xs ys : List ℕ)
+    → MemoryGives s xs t → MemoryGives t ys u → MemoryGives s (xs ++ ys) u
+MemoryGives-more s t u xs ys p q =
+    (Gives-more (state_of s) (state_of t) (state_of u) xs ys p.0 q.0, q.1 ∙ p.1)
 
 -- over memory that fails after a number of calls
-pub FailingGives-none : (s : FailingState) → FailingGives s [] s
+pub FailingGives-none : (s : FailingState MemoryState) → FailingGives s [] s
 FailingGives-none s = (Gives-none (failing_state_of s), refl)
 
-pub FailingGives-more : (s t u : FailingState) (xs ys : List ℕ) → FailingGives s xs t → FailingGives t ys u → FailingGives s (xs ++ ys) u
-FailingGives-more s t u xs ys p q =
-    (Gives-more (failing_state_of s) (failing_state_of t) (failing_state_of u) xs ys p.0 q.0, q.1 ∙ p.1)
+pub FailingGives-more : (s t u : FailingState MemoryState) (xs ys : List ℕ)
+    → FailingGives s xs t → FailingGives t ys u → FailingGives s (xs ++ ys) u
+FailingGives-more s t u xs ys p q = (
+  Gives-more (failing_state_of s) (failing_state_of t) (failing_state_of u) xs ys p.0 q.0,
+  q.1 ∙ p.1,
+)

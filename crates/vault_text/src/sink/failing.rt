@@ -19,9 +19,10 @@ pub struct FailingSink {
 
 impl Model for FailingSink {
     ghost use Rattle.std.specs.Prelude.{◌≤◌};
-    ghost use Rattle.vault_text.specs.Sink.{FailingState};
+    ghost use Rattle.vault_text.specs.Failures.{FailingState};
+    ghost use Rattle.vault_text.specs.Sink.{MemoryState};
 
-    ghost Value = { FailingState };
+    ghost Value = { FailingState MemoryState };
 
     ghost view = { λ s. record { memory = s.memory; calls = s.calls; failures = s.failures } };
 

@@ -17,9 +17,10 @@ pub struct FailingSource<'a> {
 
 impl<'a> Model for FailingSource<'a> {
     ghost use Rattle.std.specs.Prelude.{◌≡◌, ◌<◌};
-    ghost use Rattle.vault_text.specs.Source.{FailingState};
+    ghost use Rattle.vault_text.specs.Failures.{FailingState};
+    ghost use Rattle.vault_text.specs.Source.{MemoryState};
 
-    ghost Value = { FailingState };
+    ghost Value = { FailingState MemoryState };
 
     ghost view = { λ s. record { memory = s.memory; calls = s.calls; failures = s.failures } };
 
