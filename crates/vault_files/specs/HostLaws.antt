@@ -2,7 +2,7 @@
 use Rattle.std.specs.Prelude.{◌≡◌, ℕ, ◌<◌, ◌≤◌, ◌++◌, List, [], length, true, nat_lt, refl, Ok, Err}
 use Rattle.std.proofs.Common.{arith, ap, ◌∙◌, rules, tests}
 use Rattle.std.proofs.lemmas.List.{take_all}
-use Rattle.vault_files.specs.File.{Answers, File}
+use Rattle.vault_files.specs.File.{Answers}
 use Rattle.vault_files.specs.File.File.{Whole, Broken}
 use Rattle.vault_files.specs.Host.{HostState, HostTakes}
 use Rattle.vault_files.specs.declared.fault.FileFault.TheVariants.{CannotRead}

@@ -6,7 +6,7 @@ use Rattle.std.proofs.lemmas.Bool.{cases_lt, false≢true}
 use Rattle.vault_text.specs.Failures.{HasRisen}
 use Rattle.vault_text.specs.Sink.{state_of}
 use Rattle.vault_text.specs.SinkLaws.{Takes-none, Takes-more}
-use Rattle.vault_files.specs.File.{Answers, File, front}
+use Rattle.vault_files.specs.File.{File, front}
 use Rattle.vault_files.specs.File.File.{Missing, Whole, Broken}
 use Rattle.vault_files.specs.Memory.{IsAtBreak, IsReaderOf, ReaderState, Reads, StoreState, StoreTakes}
 use Rattle.vault_files.specs.declared.fault.FileFault.TheVariants.{CannotRead}

@@ -1,8 +1,9 @@
 //! What a program asks of its files.
-ghost use Rattle.std.specs.Prelude.{◌≡◌, ◌≢◌, ℕ, ◌<◌, ◌≤◌, ◌⊎◌, List, Bool, IsTrue, length, take};
+ghost use Rattle.std.specs.Prelude.{◌≡◌, ◌≢◌, ℕ, ◌<◌, ◌≤◌, ◌⊎◌, ◌++◌, List, [], ◌∷◌, Bool, IsTrue};
+ghost use Rattle.std.specs.Prelude.{length, take};
 ghost use Rattle.std.specs.Prelude.{Ok, Err, IfOk, IfErr, OnOk, OnErr};
 ghost use Rattle.vault_text.specs.Failures.{HasRisen};
-ghost use Rattle.vault_files.specs.File.{Answers, File};
+ghost use Rattle.vault_files.specs.File.{Answers, File, UnlessMemory};
 ghost use Rattle.vault_files.specs.File.File.{Missing};
 ghost use Rattle.vault_files.specs.declared.fault.FileFault.TheVariants.{CannotRead};
 
@@ -23,16 +24,21 @@ pub trait FileSystem: Sink {
     // What was opened at a path.
     ghost opened: { Self → List ℕ → Self.Reader → Type 0 };
 
+    // Between two states these paths were opened, in this order.
+    ghost opens: { Self → List (List ℕ) → Self → Type 0 };
+
     // The same files, the output at this path.
     ghost aimed: { Self → List ℕ → Self → Type 0 };
 
     /// Opens a file for reading, before the output is begun. It answers `CannotOpen` where that
     /// fails, and `Memory` where there is no memory for it.
-    fn open(&self, path: &str) -> Result<Self::Reader, FileFault>
-        requires { Self.stage self.now ≡ Stage.Unbegun }
-        ensures opened { IfOk result (λ reader. opened self.now path.now reader) }
+    fn open(&mut self, path: &str) -> Result<Self::Reader, FileFault>
+        requires { Self.stage self.old ≡ Stage.Unbegun }
+        ensures opens { UnlessMemory result
+            (opens self.old (path.now ∷ []) self.new) (opens self.old [] self.new) }
+        ensures opened { IfOk result (λ reader. opened self.old path.now reader) }
         ensures missing { IfErr result (λ fault. fault ≢ FileFault.Memory →
-            (fault ≡ FileFault.CannotOpen) × meets self.now path.now Missing) };
+            (fault ≡ FileFault.CannotOpen) × meets self.old path.now Missing) };
 
     /// Chooses the path of the output. Nothing is created yet.
     fn aim(&mut self, alloc: Global, path: &str) -> Result<(), AllocError>
@@ -41,6 +47,25 @@ pub trait FileSystem: Sink {
         ensures unbegun { Self.stage self.new ≡ Stage.Unbegun }
         ensures failures { Self.failures self.new ≡ Self.failures self.old }
         ensures refused { OnErr result (self.new ≡ self.old) };
+
+    ghost opens_none: { (s : Self) → opens s [] s };
+
+    ghost opens_more: { (s t u : Self) (xs ys : List (List ℕ))
+        → opens s xs t → opens t ys u → opens s (xs ++ ys) u };
+
+    ghost opens_stage: { (s t : Self) (paths : List (List ℕ))
+        → opens s paths t → Self.stage t ≡ Self.stage s };
+
+    ghost opens_failures: { (s t : Self) (paths : List (List ℕ))
+        → opens s paths t → Self.failures t ≡ Self.failures s };
+
+    // What may be met behind opens could be met before them.
+    ghost opens_meets: { (s t : Self) (paths : List (List ℕ)) (path : List ℕ) (file : File)
+        → opens s paths t → meets t path file → meets s path file };
+
+    // What was opened behind them could be opened before.
+    ghost opens_opened: { (s t : Self) (paths : List (List ℕ)) (path : List ℕ) (r : Self.Reader)
+        → opens s paths t → opened t path r → opened s path r };
 
     // Something may be met at each path.
     ghost meets_some: { (s : Self) (path : List ℕ) → (file : File) × meets s path file };
@@ -59,13 +84,19 @@ pub trait FileSystem: Sink {
 
 /// Reads the front of a file, and answers how many bytes stand at the front of `buf`: fewer than it
 /// holds only where the file has no more. After a refusal `buf` holds any bytes.
-pub fn read_front<F: FileSystem>(files: &F, path: &str, buf: &mut [u8]) -> Result<usize, FileFault>
-    requires { F.stage files.now ≡ Stage.Unbegun }
+pub fn read_front<F: FileSystem>(
+    files: &mut F,
+    path: &str,
+    buf: &mut [u8],
+) -> Result<usize, FileFault>
+    requires { F.stage files.old ≡ Stage.Unbegun }
+    ensures opens { UnlessMemory result
+        (F.opens files.old (path.now ∷ []) files.new) (F.opens files.old [] files.new) }
     ensures bound { IfOk result (λ n. n ≤ length buf.new) }
     ensures front { IfOk result (λ n.
-        Answers (F.meets files.now path.now) (length buf.new) (Ok (take n buf.new))) }
+        Answers (F.meets files.old path.now) (length buf.new) (Ok (take n buf.new))) }
     ensures refused { IfErr result (λ fault. fault ≢ FileFault.Memory →
-        Answers (F.meets files.now path.now) (length buf.new) (Err fault)) }
+        Answers (F.meets files.old path.now) (length buf.new) (Err fault)) }
 {
     let mut reader = files.open(path)?;
     match fill_up(&mut reader, buf) {

@@ -142,7 +142,7 @@ impl<'a, R: Files> Sink for HostFiles<'a, R> {
 
 impl<'a, R: Files> FileSystem for HostFiles<'a, R> {
     ghost use Rattle.std.specs.Prelude.{◌≡◌, refl, Some};
-    ghost use Rattle.std.proofs.Common.{arith};
+    ghost use Rattle.std.proofs.Common.{◌∙◌, arith};
     ghost use Rattle.vault_files.specs.File.File.{Missing};
     ghost use Rattle.vault_files.specs.HostLaws.{front-any, break-any};
 
@@ -152,7 +152,21 @@ impl<'a, R: Files> FileSystem for HostFiles<'a, R> {
 
     ghost opened = { λ s path reader. Unit {0} };
 
+    ghost opens = { λ s paths t. t ≡ s };
+
     ghost aimed = { λ s path t. t ≡ record s { aim = Some path } };
+
+    ghost opens_none = { λ s. refl };
+
+    ghost opens_more = { λ s t u xs ys p q. q ∙ p };
+
+    ghost opens_stage = { λ s t paths same. rw same refl };
+
+    ghost opens_failures = { λ s t paths same. rw same refl };
+
+    ghost opens_meets = { λ s t paths path file same met. met };
+
+    ghost opens_opened = { λ s t paths path reader same opened. opened };
 
     ghost meets_some = { λ s path. (Missing, tt) };
 
@@ -161,7 +175,7 @@ impl<'a, R: Files> FileSystem for HostFiles<'a, R> {
     ghost break_met = { λ s path r t xs n opened gives short risen.
         break-any n (Prim.omega (arith, short)) };
 
-    fn open(&self, path: &str) -> Result<ReadSource<R::File>, FileFault> {
+    fn open(&mut self, path: &str) -> Result<ReadSource<R::File>, FileFault> {
         match fs::open(self.rt, path) {
             Ok(file) => {
                 let length = length_of(&file);
@@ -187,17 +201,17 @@ mod tests {
 
     #[test]
     fn reads_files_of_the_system(rt: HostRuntime) {
-        let files = HostFiles::new(&rt);
+        let mut files = HostFiles::new(&rt);
         let mut buf = [1; 4];
-        assert_eq!(rt; read_front(&files, "/dev/zero", &mut buf), Ok(4));
+        assert_eq!(rt; read_front(&mut files, "/dev/zero", &mut buf), Ok(4));
         assert_eq!(rt; buf, [0; 4]);
-        assert_eq!(rt; read_front(&files, "/dev/null", &mut buf), Ok(0));
+        assert_eq!(rt; read_front(&mut files, "/dev/null", &mut buf), Ok(0));
         assert_eq!(rt;
-            read_front(&files, "/", &mut buf),
+            read_front(&mut files, "/", &mut buf),
             Err(FileFault::CannotRead)
         );
         assert_eq!(rt;
-            read_front(&files, "", &mut buf),
+            read_front(&mut files, "", &mut buf),
             Err(FileFault::CannotOpen)
         );
     }

@@ -102,6 +102,7 @@ impl<'a> Sink for MemFiles<'a> {
 
 impl<'a> FileSystem for MemFiles<'a> {
     ghost use Rattle.std.specs.Prelude.{◌≡◌, refl, Some};
+    ghost use Rattle.std.proofs.Common.{◌∙◌};
     ghost use Rattle.vault_files.specs.Memory.{IsReaderOf, file_at};
     ghost use Rattle.vault_files.specs.MemoryLaws.{front-given, break-given};
 
@@ -111,7 +112,21 @@ impl<'a> FileSystem for MemFiles<'a> {
 
     ghost opened = { λ s path reader. IsReaderOf (file_at s.entries path) reader };
 
+    ghost opens = { λ s paths t. t ≡ s };
+
     ghost aimed = { λ s path t. t ≡ record s { aim = Some path } };
+
+    ghost opens_none = { λ s. refl };
+
+    ghost opens_more = { λ s t u xs ys p q. q ∙ p };
+
+    ghost opens_stage = { λ s t paths same. rw same refl };
+
+    ghost opens_failures = { λ s t paths same. rw same refl };
+
+    ghost opens_meets = { λ s t paths path file same met. rw (← same) met };
+
+    ghost opens_opened = { λ s t paths path reader same opened. rw (← same) opened };
 
     ghost meets_some = { λ s path. (file_at s.entries path, refl) };
 
@@ -127,7 +142,7 @@ impl<'a> FileSystem for MemFiles<'a> {
       same = break-given (file_at s.entries path) r t xs n opened gives short risen;
     } };
 
-    fn open(&self, path: &str) -> Result<MemFileReader<'a>, FileFault> {
+    fn open(&mut self, path: &str) -> Result<MemFileReader<'a>, FileFault> {
         match find(self.entries, path) {
             Some(entry) => Ok(entry.reader()),
             None => Err(FileFault::CannotOpen),
@@ -154,18 +169,18 @@ mod tests {
             MemFile::broken("two", b"abc"),
             MemFile::whole("one", b"later"),
         ];
-        let files = MemFiles::new(rt.alloc(), &entries);
+        let mut files = MemFiles::new(rt.alloc(), &entries);
         let mut buf = [0; 4];
-        assert_eq!(rt; read_front(&files, "one", &mut buf), Ok(3));
+        assert_eq!(rt; read_front(&mut files, "one", &mut buf), Ok(3));
         assert_eq!(rt; &buf[..3], b"abc".as_slice());
-        assert_eq!(rt; read_front(&files, "one", &mut buf[..2]), Ok(2));
+        assert_eq!(rt; read_front(&mut files, "one", &mut buf[..2]), Ok(2));
         assert_eq!(rt;
-            read_front(&files, "two", &mut buf),
+            read_front(&mut files, "two", &mut buf),
             Err(FileFault::CannotRead)
         );
-        assert_eq!(rt; read_front(&files, "two", &mut buf[..3]), Ok(3));
+        assert_eq!(rt; read_front(&mut files, "two", &mut buf[..3]), Ok(3));
         assert_eq!(rt;
-            read_front(&files, "none", &mut buf),
+            read_front(&mut files, "none", &mut buf),
             Err(FileFault::CannotOpen)
         );
     }
