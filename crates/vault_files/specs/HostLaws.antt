@@ -9,12 +9,13 @@ use Rattle.vault_files.specs.declared.fault.FileFault.TheVariants.{CannotRead}
 
 -- an output that was not asked took nothing
 pub HostTakes-none : (s : HostState) → HostTakes s [] s
-HostTakes-none s = record { aim = refl; failures_stay = omega arith }
+HostTakes-none s = record { aim = refl; access = refl; failures_stay = omega arith }
 
 -- what was taken first and what was taken then are taken one after the other
 pub HostTakes-more : (s t u : HostState) (xs ys : List ℕ) → HostTakes s xs t → HostTakes t ys u → HostTakes s (xs ++ ys) u
 HostTakes-more s t u xs ys p q = record {
   aim = q.aim ∙ p.aim;
+  access = q.access ∙ p.access;
   failures_stay = let a = p.failures_stay in let b = q.failures_stay in omega arith;
 }
 

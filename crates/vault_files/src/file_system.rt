@@ -7,6 +7,7 @@ ghost use Rattle.vault_files.specs.File.{Answers, File, UnlessMemory};
 ghost use Rattle.vault_files.specs.File.File.{Missing};
 ghost use Rattle.vault_files.specs.declared.fault.FileFault.TheVariants.{CannotRead};
 
+use crate::access::Access;
 use crate::fault::FileFault;
 use std::alloc::{AllocError, Global};
 use vault_text::{Sink, Source, SourceFailed, Stage, fill_up};
@@ -14,6 +15,7 @@ use vault_text::{Sink, Source, SourceFailed, Stage, fill_up};
 /// Where a program finds its files. As a sink it is one file of its own, the output, which `aim`
 /// chooses and `begin` creates, or cuts to nothing where it is there already.
 pub trait FileSystem: Sink {
+    ghost use Rattle.vault_files.specs.declared.access.Access.{Access};
     ghost use Rattle.vault_text.specs.declared.sink.Stage.{Stage};
 
     type Reader: Source + Drop;
@@ -27,8 +29,8 @@ pub trait FileSystem: Sink {
     // Between two states these paths were opened, in this order.
     ghost opens: { Self → List (List ℕ) → Self → Type 0 };
 
-    // The same files, the output at this path.
-    ghost aimed: { Self → List ℕ → Self → Type 0 };
+    // The same files, the output at this path, for those who may read it.
+    ghost aimed: { Self → List ℕ → Access → Self → Type 0 };
 
     /// Opens a file for reading, before the output is begun. It answers `CannotOpen` where that
     /// fails, and `Memory` where there is no memory for it.
@@ -40,10 +42,10 @@ pub trait FileSystem: Sink {
         ensures missing { IfErr result (λ fault. fault ≢ FileFault.Memory →
             (fault ≡ FileFault.CannotOpen) × meets self.old path.now Missing) };
 
-    /// Chooses the path of the output. Nothing is created yet.
-    fn aim(&mut self, alloc: Global, path: &str) -> Result<(), AllocError>
+    /// Chooses the path of the output, and who may read it. Nothing is created yet.
+    fn aim(&mut self, alloc: Global, path: &str, access: Access) -> Result<(), AllocError>
         requires { Self.stage self.old ≡ Stage.Unbegun }
-        ensures aimed { OnOk result (aimed self.old path.now self.new) }
+        ensures aimed { OnOk result (aimed self.old path.now access self.new) }
         ensures unbegun { Self.stage self.new ≡ Stage.Unbegun }
         ensures failures { Self.failures self.new ≡ Self.failures self.old }
         ensures refused { OnErr result (self.new ≡ self.old) };

@@ -1,25 +1,29 @@
 ghost use Rattle.std.specs.Prelude.{◌≡◌, None};
-ghost use Rattle.vault_files.specs.Host.{HostState};
+ghost use Rattle.vault_files.specs.Host.{new_host};
 
+use crate::access::Access;
 use crate::fault::FileFault;
 use crate::file_system::FileSystem;
 use std::alloc::{AllocError, Global};
-use std::fs::{Files, OpenFile, OpenOptions};
+use std::fs::{Files, OpenFile, OpenOptions, Permissions};
 use std::io::{ErrorKind, Write};
 use std::marker::Model;
-use std::os::unix::fs::OpenOptionsExt;
+use std::os::unix::fs::{OpenOptionsExt, PermissionsExt};
 use std::{fs, io};
 use vault_text::{ReadSource, Sink, SinkFailed, Stage};
 
 /// Readable and writable by its owner alone.
 const OWNER_ONLY: u32 = 0o600;
 
-/// The files of the system. An output that `begin` creates is readable and writable by its owner
-/// alone; one that is there already keeps its mode. Of their bytes no contract says anything.
+/// The files of the system. Of their bytes and modes no contract says anything. An output that
+/// `begin` creates has the mode 0600, less the umask. Of one that is there already the mode stays;
+/// but to `Access::OwnerOnly` a regular file gets the mode 0600 once it is cut to nothing and before
+/// its first byte, and where that fails `begin` does.
 #[derive(Drop)]
 pub struct HostFiles<'a, R: Files> {
     rt: &'a R,
     aim: Option<String>,
+    access: Access,
     output: Option<R::File>,
     stage: Stage,
     failures: u64,
@@ -34,6 +38,7 @@ impl<'a, R: Files> Model for HostFiles<'a, R> {
 
     ghost view = { λ s. record {
       aim = option_map string_bytes s.aim;
+      access = s.access;
       stage = s.stage;
       failures = s.failures;
     } };
@@ -41,11 +46,12 @@ impl<'a, R: Files> Model for HostFiles<'a, R> {
 
 impl<'a, R: Files> HostFiles<'a, R> {
     pub fn new(rt: &'a R) -> Self
-        ensures { result ≡ record { aim = None; stage = Stage.Unbegun; failures = 0 } }
+        ensures { result ≡ new_host }
     {
         HostFiles {
             rt,
             aim: None,
+            access: Access::Kept,
             output: None,
             stage: Stage::Unbegun,
             failures: 0,
@@ -54,11 +60,15 @@ impl<'a, R: Files> HostFiles<'a, R> {
 }
 
 /// Creates the file that is to be written, or cuts it to nothing where it is there already.
-fn create<R: Files>(rt: &R, path: &str) -> io::Result<R::File> {
+fn create<R: Files>(rt: &R, path: &str, access: Access) -> io::Result<R::File> {
     let mut options = OpenOptions::new();
     options.write(true).create(true).truncate(true);
     options.mode(OWNER_ONLY);
-    options.open(rt, path)
+    let file = options.open(rt, path)?;
+    if access == Access::OwnerOnly && file.metadata()?.is_file() {
+        file.set_permissions(Permissions::from_mode(OWNER_ONLY))?;
+    }
+    Ok(file)
 }
 
 /// How long an open file is, as the system tells; 0 where it does not, and for what is no file.
@@ -90,7 +100,7 @@ impl<'a, R: Files> Sink for HostFiles<'a, R> {
             return Err(SinkFailed);
         }
         let created = match &self.aim {
-            Some(path) => create(self.rt, path.as_str()).ok(),
+            Some(path) => create(self.rt, path.as_str(), self.access).ok(),
             None => None,
         };
         match created {
@@ -154,7 +164,7 @@ impl<'a, R: Files> FileSystem for HostFiles<'a, R> {
 
     ghost opens = { λ s paths t. t ≡ s };
 
-    ghost aimed = { λ s path t. t ≡ record s { aim = Some path } };
+    ghost aimed = { λ s path access t. t ≡ record s { aim = Some path; access = access } };
 
     ghost opens_none = { λ s. refl };
 
@@ -186,8 +196,9 @@ impl<'a, R: Files> FileSystem for HostFiles<'a, R> {
         }
     }
 
-    fn aim(&mut self, alloc: Global, path: &str) -> Result<(), AllocError> {
+    fn aim(&mut self, alloc: Global, path: &str, access: Access) -> Result<(), AllocError> {
         self.aim = Some(String::from_str(alloc, path)?);
+        self.access = access;
         Ok(())
     }
 }
@@ -216,6 +227,38 @@ mod tests {
         );
     }
 
+    fn mode_of(rt: &impl Files, path: &str) -> io::Result<u32> {
+        Ok(fs::metadata(rt, path)?.permissions().mode() & 0o7777)
+    }
+
+    // A file that is not there, two that are, and a device.
+    #[test]
+    fn sets_modes(rt: HostRuntime) -> Result<(), Fail> {
+        let path = "vault_files_output";
+        for access in [Access::Kept, Access::OwnerOnly] {
+            for before in [None, Some(0o644), Some(0o200)] {
+                if let Some(mode) = before {
+                    fs::write(&rt, path, b"old".as_slice())?;
+                    fs::set_permissions(&rt, path, Permissions::from_mode(mode))?;
+                }
+                let mut files = HostFiles::new(&rt);
+                files.aim(rt.alloc(), path, access)?;
+                files.begin()?;
+                let kept = before.filter(|_| access == Access::Kept);
+                let after = mode_of(&rt, path)?;
+                assert_eq!(rt; after, kept.unwrap_or(OWNER_ONLY), "{access:?} {before:?}");
+                assert_eq!(rt; fs::metadata(&rt, path)?.len(), 0);
+                fs::remove_file(&rt, path)?;
+            }
+            let before = mode_of(&rt, "/dev/null")?;
+            let mut files = HostFiles::new(&rt);
+            files.aim(rt.alloc(), "/dev/null", access)?;
+            files.begin()?;
+            assert_eq!(rt; mode_of(&rt, "/dev/null")?, before);
+        }
+        Ok(())
+    }
+
     #[test]
     fn counts_what_cannot_be_written(rt: HostRuntime) -> Result<(), Fail> {
         for (path, begins, takes) in [
@@ -224,7 +267,7 @@ mod tests {
             ("/dev/null", true, true),
         ] {
             let mut files = HostFiles::new(&rt);
-            files.aim(rt.alloc(), path)?;
+            files.aim(rt.alloc(), path, Access::OwnerOnly)?;
             assert_eq!(rt; files.begin().is_ok(), begins, "{path}");
             if begins {
                 assert_eq!(rt; put_all(&mut files, b"text").is_ok(), takes, "{path}");

@@ -5,6 +5,7 @@ ghost use Rattle.vault_files.specs.Memory.{bytes_of, file_at, new_store, stands_
 
 use super::entry::MemFile;
 use super::reader::MemFileReader;
+use crate::access::Access;
 use crate::fault::FileFault;
 use crate::file_system::FileSystem;
 use std::alloc::{AllocError, Global};
@@ -114,7 +115,7 @@ impl<'a> FileSystem for MemFiles<'a> {
 
     ghost opens = { λ s paths t. t ≡ s };
 
-    ghost aimed = { λ s path t. t ≡ record s { aim = Some path } };
+    ghost aimed = { λ s path access t. t ≡ record s { aim = Some path } };
 
     ghost opens_none = { λ s. refl };
 
@@ -149,7 +150,7 @@ impl<'a> FileSystem for MemFiles<'a> {
         }
     }
 
-    fn aim(&mut self, alloc: Global, path: &str) -> Result<(), AllocError> {
+    fn aim(&mut self, alloc: Global, path: &str, _access: Access) -> Result<(), AllocError> {
         self.aim = Some(String::from_str(alloc, path)?);
         Ok(())
     }
@@ -195,7 +196,7 @@ mod tests {
         let alloc = rt.alloc();
         let entries = [MemFile::whole("one", b"abc"), MemFile::whole("two", b"de")];
         let mut files = MemFiles::new(alloc, &entries);
-        files.aim(alloc, "one")?;
+        files.aim(alloc, "one", Access::Kept)?;
         assert!(rt; has(&files, "one", b"abc"));
         files.begin()?;
         assert!(rt; has(&files, "one", b""));
