@@ -14,10 +14,12 @@ pub data File : Type 0 where
 abbrev pub front : ℕ → File → Result (List ℕ) FileFault
 front limit Missing = Err CannotOpen
 front limit (Whole bytes) = Ok (take limit bytes)
-front limit (Broken bytes) = if nat_lt (length bytes) limit then Err CannotRead else Ok (take limit bytes)
+front limit (Broken bytes) =
+    if nat_lt (length bytes) limit then Err CannotRead else Ok (take limit bytes)
 
 -- the answer is that of a file that may be met
-pub record Answers (meets : File → Type 0) (limit : ℕ) (answer : Result (List ℕ) FileFault) : Type 0 where
+pub record Answers (meets : File → Type 0) (limit : ℕ)
+    (answer : Result (List ℕ) FileFault) : Type 0 where
   pub file : File
   pub met : meets file
   pub same : front limit file ≡ answer

@@ -1,5 +1,7 @@
 pub mod File
 pub mod Memory
-pub mod MemoryLaws
+pub mod Logged
 pub mod Host
-pub mod HostLaws
+pub mod SinkLaws
+pub mod SourceLaws
+pub mod FileSystemLaws

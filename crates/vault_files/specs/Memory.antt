@@ -1,6 +1,6 @@
 -- Files in memory.
-use Rattle.std.specs.Prelude.{◌≡◌, ℕ, ◌-◌, ◌^◌, ◌<◌, ◌≤◌, Bool, ◌&&◌, if◌then◌else◌, true, false, IsTrue}
-use Rattle.std.specs.Prelude.{List, [], ◌∷◌, ◌++◌, Option, Some, None}
+use Rattle.std.specs.Prelude.{◌≡◌, ℕ, ◌-◌, ◌^◌, ◌<◌, ◌≤◌, Bool, ◌&&◌, if◌then◌else◌}
+use Rattle.std.specs.Prelude.{true, false, IsTrue, List, [], ◌∷◌, ◌++◌, Option, Some, None}
 use Rattle.std.specs.Str.{bytes_eq}
 use Rattle.vault_text.specs.Sink.{MemoryState, Takes, has_begun, state_of}
 use Rattle.vault_text.specs.declared.sink.Stage.TheVariants.{Unbegun}
@@ -15,20 +15,26 @@ pub record Entry : Type 0 where
 -- the first file under a path
 abbrev pub file_at : List Entry → List ℕ → File
 file_at [] path = Missing
-file_at (entry ∷ entries) path = if bytes_eq entry.path path then entry.file else file_at entries path
+file_at (entry ∷ entries) path =
+    if bytes_eq entry.path path then entry.file else file_at entries path
 
--- a reader of a file: its bytes left, whether the file breaks behind them, whether it told its end, its failures
+-- a reader of a file: the bytes left, whether the file breaks behind them, whether its end was
+-- told, and its failures
 pub record ReaderState : Type 0 where
   pub left : List ℕ
   pub breaks : Bool
   pub ended : Bool
   pub failures : ℕ
 
+-- a reader that was not asked yet
+abbrev pub new_reader : List ℕ → Bool → ReaderState
+new_reader bytes breaks = record { left = bytes; breaks = breaks; ended = false; failures = 0 }
+
 -- a reader of the whole file
 abbrev pub IsReaderOf : File → ReaderState → Type 0
 IsReaderOf Missing reader = ⊥
-IsReaderOf (Whole bytes) reader = reader ≡ record { left = bytes; breaks = false; ended = false; failures = 0 }
-IsReaderOf (Broken bytes) reader = reader ≡ record { left = bytes; breaks = true; ended = false; failures = 0 }
+IsReaderOf (Whole bytes) reader = reader ≡ new_reader bytes false
+IsReaderOf (Broken bytes) reader = reader ≡ new_reader bytes true
 
 -- no byte is left, and the file ends there or breaks there
 abbrev pub IsAtEnd : ReaderState → Type 0

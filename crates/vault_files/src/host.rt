@@ -15,10 +15,10 @@ use vault_text::{ReadSource, Sink, SinkFailed, Stage};
 /// Readable and writable by its owner alone.
 const OWNER_ONLY: u32 = 0o600;
 
-/// The files of the system. Of their bytes and modes no contract says anything. An output that
-/// `begin` creates has the mode 0600, less the umask. Of one that is there already the mode stays;
-/// but to `Access::OwnerOnly` a regular file gets the mode 0600 once it is cut to nothing and before
-/// its first byte, and where that fails `begin` does.
+/// The files of the system. That they are those at the paths that are given, no contract says, and
+/// none speaks of modes. An output that `begin` creates has the mode 0600, less the umask; one that
+/// is there already keeps its mode. But under `Access::OwnerOnly` a regular file gets the mode 0600
+/// when it has been cut to nothing, before its first byte; where that fails, so does `begin`.
 #[derive(Drop)]
 pub struct HostFiles<'a, R: Files> {
     rt: &'a R,
@@ -30,8 +30,10 @@ pub struct HostFiles<'a, R: Files> {
 }
 
 impl<'a, R: Files> Model for HostFiles<'a, R> {
-    ghost use Rattle.std.specs.Option.{option_map};
+    ghost use Rattle.std.specs.Prelude.{None, if◌then◌else◌};
+    ghost use Rattle.std.specs.Option.{option_and_then, option_map};
     ghost use Rattle.std.specs.String.{string_bytes};
+    ghost use Rattle.vault_text.specs.Sink.{has_begun};
     ghost use Rattle.vault_files.specs.Host.{HostState};
 
     ghost Value = { HostState };
@@ -39,8 +41,12 @@ impl<'a, R: Files> Model for HostFiles<'a, R> {
     ghost view = { λ s. record {
       aim = option_map string_bytes s.aim;
       access = s.access;
-      stage = s.stage;
-      failures = s.failures;
+      output = record {
+        held = if has_begun s.stage
+            then option_and_then (λ file. R.File.Write.contents file) s.output else None;
+        stage = s.stage;
+        failures = s.failures;
+      };
     } };
 }
 
@@ -81,19 +87,19 @@ fn length_of<F: OpenFile>(file: &F) -> usize {
 
 impl<'a, R: Files> Sink for HostFiles<'a, R> {
     ghost use Rattle.vault_files.specs.Host.{HostTakes};
-    ghost use Rattle.vault_files.specs.HostLaws.{HostTakes-none, HostTakes-more};
+    ghost use Rattle.vault_files.specs.SinkLaws.{HostTakes-none, HostTakes-more};
 
     ghost takes = { HostTakes };
 
-    ghost stage = { λ s. s.stage };
+    ghost stage = { λ s. s.output.stage };
 
-    ghost failures = { λ s. s.failures };
+    ghost failures = { λ s. s.output.failures };
 
     ghost takes_none = { HostTakes-none };
 
     ghost takes_more = { HostTakes-more };
 
-    ghost failures_stay = { λ s t xs g. g.failures_stay };
+    ghost failures_stay = { λ s t xs g. g.output.failures_stay };
 
     fn begin(&mut self) -> Result<(), SinkFailed> {
         if self.failures == u64::MAX {
@@ -154,7 +160,7 @@ impl<'a, R: Files> FileSystem for HostFiles<'a, R> {
     ghost use Rattle.std.specs.Prelude.{◌≡◌, refl, Some};
     ghost use Rattle.std.proofs.Common.{◌∙◌, arith};
     ghost use Rattle.vault_files.specs.File.File.{Missing};
-    ghost use Rattle.vault_files.specs.HostLaws.{front-any, break-any};
+    ghost use Rattle.vault_files.specs.FileSystemLaws.{front-any, break-any};
 
     type Reader = ReadSource<R::File>;
 

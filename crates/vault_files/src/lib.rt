@@ -11,4 +11,4 @@ pub use access::Access;
 pub use fault::FileFault;
 pub use file_system::{FileSystem, read_front};
 pub use host::HostFiles;
-pub use memory::{MemFile, MemFileReader, MemFiles};
+pub use memory::{LoggedFiles, MemFile, MemFileReader, MemFiles};

@@ -1,8 +1,10 @@
 //! Files in memory, for tests and for who embeds the program.
 mod entry;
+mod logged;
 mod reader;
 mod store;
 
 pub use entry::MemFile;
+pub use logged::LoggedFiles;
 pub use reader::MemFileReader;
 pub use store::MemFiles;

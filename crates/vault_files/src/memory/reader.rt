@@ -25,7 +25,7 @@ impl<'a> Model for MemFileReader<'a> {
 
 impl<'a> Source for MemFileReader<'a> {
     ghost use Rattle.vault_files.specs.Memory.{Reads};
-    ghost use Rattle.vault_files.specs.MemoryLaws.{Reads-none, Reads-more};
+    ghost use Rattle.vault_files.specs.SourceLaws.{Reads-none, Reads-more};
 
     ghost gives = { Reads };
 

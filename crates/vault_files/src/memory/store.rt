@@ -74,7 +74,7 @@ fn find<'a>(entries: &'a [MemFile<'a>], path: &str) -> Option<&'a MemFile<'a>>
 
 impl<'a> Sink for MemFiles<'a> {
     ghost use Rattle.vault_files.specs.Memory.{StoreTakes};
-    ghost use Rattle.vault_files.specs.MemoryLaws.{StoreTakes-none, StoreTakes-more};
+    ghost use Rattle.vault_files.specs.SinkLaws.{StoreTakes-none, StoreTakes-more};
 
     ghost takes = { StoreTakes };
 
@@ -105,7 +105,7 @@ impl<'a> FileSystem for MemFiles<'a> {
     ghost use Rattle.std.specs.Prelude.{◌≡◌, refl, Some};
     ghost use Rattle.std.proofs.Common.{◌∙◌};
     ghost use Rattle.vault_files.specs.Memory.{IsReaderOf, file_at};
-    ghost use Rattle.vault_files.specs.MemoryLaws.{front-given, break-given};
+    ghost use Rattle.vault_files.specs.FileSystemLaws.{front-met, break-met};
 
     type Reader = MemFileReader<'a>;
 
@@ -131,17 +131,9 @@ impl<'a> FileSystem for MemFiles<'a> {
 
     ghost meets_some = { λ s path. (file_at s.entries path, refl) };
 
-    ghost front_met = { λ s path r t xs n opened gives fits end. record {
-      file = file_at s.entries path;
-      met = refl;
-      same = front-given (file_at s.entries path) r t xs n opened gives fits end;
-    } };
+    ghost front_met = { λ s path. front-met (file_at s.entries path) };
 
-    ghost break_met = { λ s path r t xs n opened gives short risen. record {
-      file = file_at s.entries path;
-      met = refl;
-      same = break-given (file_at s.entries path) r t xs n opened gives short risen;
-    } };
+    ghost break_met = { λ s path. break-met (file_at s.entries path) };
 
     fn open(&mut self, path: &str) -> Result<MemFileReader<'a>, FileFault> {
         match find(self.entries, path) {

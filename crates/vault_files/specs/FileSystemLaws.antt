@@ -1,0 +1,100 @@
+-- What the readers of files tell of them, and what was opened in two calls, one after the other.
+use Rattle.std.specs.Prelude.{◌≡◌, ℕ, ◌<◌, ◌≤◌, nat_lt, ◌⊎◌, List, [], ◌++◌, length, take}
+use Rattle.std.specs.Prelude.{Bool, true, false, IsTrue, refl, Ok, Err}
+use Rattle.std.proofs.Common.{inl, inr, arith, sym, ap, ◌∙◌, append_assoc, length-append}
+use Rattle.std.proofs.Common.{rules, tests}
+use Rattle.std.proofs.lemmas.List.{append-nil, take_all, take-append-le}
+use Rattle.std.proofs.lemmas.Bool.{false≢true}
+use Rattle.vault_text.specs.Failures.{HasRisen}
+use Rattle.vault_files.specs.File.{Answers, File, front}
+use Rattle.vault_files.specs.File.File.{Missing, Whole, Broken}
+use Rattle.vault_files.specs.Logged.{LoggedOpens, LoggedState}
+use Rattle.vault_files.specs.Memory.{IsAtEnd, IsReaderOf, ReaderState, Reads, new_reader}
+use Rattle.vault_files.specs.declared.fault.FileFault.TheVariants.{CannotRead}
+
+-- where any file may be met, what was read to its end is the front of one
+pub front-any : (xs : List ℕ) (n : ℕ) → length xs ≤ n → Answers (λ file. Unit {0}) n (Ok xs)
+front-any xs n fits = record { file = Whole xs; met = tt; same = ap Ok (take_all n xs fits) }
+
+-- and a failure that of one that breaks
+pub break-any : (n : ℕ) → 0 < n → Answers (λ file. Unit {0}) n (Err CannotRead)
+break-any n some =
+    let test : nat_lt 0 n ≡ true = search (rules, tests) in
+    record { file = Broken []; met = tt; same = rw test refl }
+
+-- the first bytes of a file that begins with those that were given
+take-given : (bytes xs rest : List ℕ) (n : ℕ) → bytes ≡ xs ++ rest → length xs ≤ n
+    → (rest ≡ []) ⊎ (length xs ≡ n) → take n bytes ≡ xs
+take-given bytes xs rest n e fits (inl none) =
+    rw (e, none, append-nil xs) (take_all n xs fits)
+take-given bytes xs rest n e fits (inr exact) =
+    rw e (take-append-le n xs rest (omega (arith, exact)) ∙ take_all n xs fits)
+
+-- a reader of a whole file tells the end only where it is
+tells-end : (bytes xs : List ℕ) (breaks : Bool) (r t : ReaderState)
+    → r ≡ new_reader bytes breaks → Reads r xs t → IsTrue t.ended → IsAtEnd t
+tells-end bytes xs breaks r t e g =
+    g.end_is_real (λ ended. let never : IsTrue false = rw e at ended in absurd (false≢true never))
+
+-- what a reader gave to its end, or up to a limit, is the front of its file
+front-given : (file : File) (r t : ReaderState) (xs : List ℕ) (n : ℕ)
+    → IsReaderOf file r → Reads r xs t → length xs ≤ n
+    → IsTrue t.ended ⊎ (length xs ≡ n) → front n file ≡ Ok xs
+front-given Missing r t xs n e g fits end = absurd e
+front-given (Whole bytes) r t xs n e g fits (inl ended) =
+    let given : bytes ≡ xs ++ t.left = sym (ap (λ s. s.left) e) ∙ g.consumed in
+    ap Ok (take-given bytes xs t.left n given fits (inl (tells-end bytes xs false r t e g ended).0))
+front-given (Whole bytes) r t xs n e g fits (inr exact) =
+    let given : bytes ≡ xs ++ t.left = sym (ap (λ s. s.left) e) ∙ g.consumed in
+    ap Ok (take-given bytes xs t.left n given fits (inr exact))
+front-given (Broken bytes) r t xs n e g fits (inl ended) =
+    let breaks : t.breaks ≡ true = g.breaks ∙ ap (λ s. s.breaks) e in
+    absurd (false≢true (sym (tells-end bytes xs true r t e g ended).1 ∙ breaks))
+front-given (Broken bytes) r t xs n e g fits (inr exact) =
+    let given : bytes ≡ xs ++ t.left = sym (ap (λ s. s.left) e) ∙ g.consumed in
+    let long : n ≤ length bytes = omega (arith, ap length given, length-append xs t.left, exact) in
+    let test : nat_lt (length bytes) n ≡ false = search (rules, tests) in
+    rw test (ap Ok (take-given bytes xs t.left n given fits (inr exact)))
+
+-- where it failed before that, its file breaks there
+break-given : (file : File) (r t : ReaderState) (xs : List ℕ) (n : ℕ)
+    → IsReaderOf file r → Reads r xs t → length xs < n
+    → HasRisen r.failures t.failures → front n file ≡ Err CannotRead
+break-given Missing r t xs n e g short risen = absurd e
+break-given (Whole bytes) r t xs n e g short risen =
+    let fresh : r.failures ≡ 0 = ap (λ s. s.failures) e in
+    let at = g.break_is_real (omega (arith, fresh, risen)) in
+    let whole : t.breaks ≡ false = g.breaks ∙ ap (λ s. s.breaks) e in
+    absurd (false≢true (sym whole ∙ at.1))
+break-given (Broken bytes) r t xs n e g short risen =
+    let fresh : r.failures ≡ 0 = ap (λ s. s.failures) e in
+    let at = g.break_is_real (omega (arith, fresh, risen)) in
+    let given : bytes ≡ xs ++ t.left = sym (ap (λ s. s.left) e) ∙ g.consumed in
+    let count : length bytes ≡ length xs =
+    omega (arith, ap length given, length-append xs t.left, ap length at.0) in
+    let test : nat_lt (length bytes) n ≡ true = search (rules, tests, count) in
+    rw test refl
+
+-- in memory, where one file is met, these are the answers of that file
+pub front-met : (file : File) (r t : ReaderState) (xs : List ℕ) (n : ℕ)
+    → IsReaderOf file r → Reads r xs t → length xs ≤ n
+    → IsTrue t.ended ⊎ (length xs ≡ n) → Answers (λ met. met ≡ file) n (Ok xs)
+front-met file r t xs n opened gives fits end =
+    record { file = file; met = refl; same = front-given file r t xs n opened gives fits end }
+
+pub break-met : (file : File) (r t : ReaderState) (xs : List ℕ) (n : ℕ)
+    → IsReaderOf file r → Reads r xs t → length xs < n
+    → HasRisen r.failures t.failures → Answers (λ met. met ≡ file) n (Err CannotRead)
+break-met file r t xs n opened gives short risen =
+    record { file = file; met = refl; same = break-given file r t xs n opened gives short risen }
+
+-- a log of no opens, and of opens behind opens
+pub LoggedOpens-none : (s : LoggedState) → LoggedOpens s [] s
+LoggedOpens-none s = record { files = refl; log = sym (append-nil s.log) }
+
+pub LoggedOpens-more : (s t u : LoggedState) (xs ys : List (List ℕ))
+    → LoggedOpens s xs t → LoggedOpens t ys u → LoggedOpens s (xs ++ ys) u
+LoggedOpens-more s t u xs ys p q = record {
+  files = q.files ∙ p.files;
+  log = rw (q.log, p.log) (append_assoc s.log xs ys);
+}
