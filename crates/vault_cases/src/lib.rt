@@ -22,8 +22,6 @@ mod failures;
 #[cfg(test)]
 mod hints;
 #[cfg(test)]
-mod logged_files;
-#[cfg(test)]
 mod opening;
 #[cfg(test)]
 mod password_files;

@@ -1,9 +1,9 @@
 //! Which files a run opens, and in which order.
-use crate::logged_files::LoggedFiles;
 use crate::support::line_of;
 use std::alloc::Global;
 use std::test::Fail;
 use vault_cli::{MemFile, Status, drive};
+use vault_files::LoggedFiles;
 use vault_text::{MemSink, MemSource};
 
 fn entries() -> [MemFile<'static>; 4] {
@@ -15,7 +15,7 @@ fn entries() -> [MemFile<'static>; 4] {
     ]
 }
 
-/// What a run left, and the paths that it opened.
+/// What a run left, and the paths that it opened, each with a space behind it.
 #[derive(Drop)]
 struct Opened {
     status: Status,
@@ -23,15 +23,15 @@ struct Opened {
     paths: String,
 }
 
-/// A run over these files, with no memory to open the one at the path `too_large`.
-fn run_over<'a>(
+/// A run over these files, with memory for `limit` opens.
+fn run_over(
     alloc: Global,
-    entries: &'a [MemFile<'a>],
+    entries: &[MemFile],
     words: &[&str],
-    too_large: &'a str,
+    limit: usize,
 ) -> Result<Opened, Fail> {
     let line = line_of(alloc, words)?;
-    let mut files = LoggedFiles::new(alloc, entries, too_large);
+    let mut files = LoggedFiles::new(alloc, entries, limit);
     let mut out = MemSink::new(alloc, 4_096);
     let mut err = MemSink::new(alloc, 4_096);
     let status = drive(
@@ -42,10 +42,15 @@ fn run_over<'a>(
         &mut out,
         &mut err,
     );
+    let mut paths = String::new(alloc);
+    for path in files.log() {
+        paths.push_str(path.as_str())?;
+        paths.push_str(" ")?;
+    }
     Ok(Opened {
         status,
         message: Vec::from_slice(alloc, err.bytes())?,
-        paths: files.into_log(),
+        paths,
     })
 }
 
@@ -89,7 +94,7 @@ fn opens_in_order(rt: HostRuntime) -> Result<(), Fail> {
         (&["rekey", "--vault-id=f"], "", Status::Refused),
     ];
     for (words, paths, status) in cases {
-        let opened = run_over(rt.alloc(), &entries(), words, "")?;
+        let opened = run_over(rt.alloc(), &entries(), words, usize::MAX)?;
         assert_eq!(rt; opened.status, status, "{words:?}");
         assert_eq!(rt; opened.paths.as_str(), paths, "{words:?}");
     }
@@ -112,7 +117,7 @@ fn opens_nothing_after_a_missing_file(rt: HostRuntime) -> Result<(), Fail> {
         (&["view", "--vault-id=f", "none"], "f none "),
     ];
     for (words, paths) in cases {
-        let opened = run_over(rt.alloc(), &entries(), words, "")?;
+        let opened = run_over(rt.alloc(), &entries(), words, usize::MAX)?;
         assert_eq!(rt; opened.status, Status::DeviceFailed, "{words:?}");
         assert_eq!(rt; opened.paths.as_str(), paths, "{words:?}");
     }
@@ -123,21 +128,21 @@ fn opens_nothing_after_a_missing_file(rt: HostRuntime) -> Result<(), Fail> {
 #[test]
 fn ends_where_memory_lacks_for_a_file(rt: HostRuntime) -> Result<(), Fail> {
     let cases = [
-        ("f", "f "),
-        ("g", "f g "),
-        ("salt", "f g salt "),
-        ("input", "f g salt input "),
+        (0, "f "),
+        (1, "f g "),
+        (2, "f g salt "),
+        (3, "f g salt input "),
     ];
-    for (path, paths) in cases {
+    for (limit, paths) in cases {
         for words in [ENCRYPT, REKEY] {
-            let opened = run_over(rt.alloc(), &entries(), words, path)?;
-            assert_eq!(rt; opened.status, Status::OutOfMemory, "{path}");
+            let opened = run_over(rt.alloc(), &entries(), words, limit)?;
+            assert_eq!(rt; opened.status, Status::OutOfMemory, "{limit}");
             assert_eq!(rt;
                 opened.message.as_slice(),
                 b"ERROR! out of memory\n".as_slice(),
-                "{path}"
+                "{limit}"
             );
-            assert_eq!(rt; opened.paths.as_str(), paths, "{path}");
+            assert_eq!(rt; opened.paths.as_str(), paths, "{limit}");
         }
     }
     Ok(())
