@@ -18,8 +18,10 @@ matplotlib.rcParams["svg.hashsalt"] = "ansible-vault"
 
 from matplotlib import pyplot
 
-NAMES = {"ours": "here", "theirs": "Ansible's tool"}
+NAMES = {"ours": "this tool", "theirs": "Ansible's tool"}
 UNITS = [(1 << 20, "MiB"), (1 << 10, "KiB"), (1, "B")]
+# Where ticks of a logarithmic axis may stand.
+TICKS = [digit * 10**power for power in range(6) for digit in (1, 2, 5)]
 
 
 def size_name(size):
@@ -27,25 +29,38 @@ def size_name(size):
     return f"{size // unit} {name}"
 
 
-def draw(axes, points, quantity, title):
+def ticks_around(values):
+    """The ticks from the last one below all values to the first one above them."""
+    low = max((tick for tick in TICKS if tick < min(values)), default=TICKS[0])
+    high = min((tick for tick in TICKS if tick > max(values)), default=TICKS[-1])
+    return [tick for tick in TICKS if low <= tick <= high]
+
+
+def draw(axes, points, quantity, title, unit):
     for tool, name in NAMES.items():
         mine = [point for point in points if point["tool"] == tool]
         if mine:
             axes.plot([point["size"] for point in mine], [point[quantity] for point in mine], marker="o", label=name)
     sizes = sorted({point["size"] for point in points})
+    ticks = ticks_around([point[quantity] for point in points])
     axes.set_xscale("log", base=2)
     axes.set_yscale("log")
     axes.set_xticks(sizes, [size_name(size) for size in sizes], rotation=45)
+    axes.set_yticks(ticks, [f"{tick:,}" for tick in ticks])
+    axes.set_ylim(ticks[0], ticks[-1])
+    axes.minorticks_off()
     axes.set_title(title)
-    axes.grid(True, which="both", alpha=0.3)
+    axes.set_xlabel("size of the plaintext")
+    axes.set_ylabel(unit)
+    axes.grid(True, alpha=0.3)
     axes.legend()
 
 
 def main():
     points = json.load(sys.stdin)
-    figure, (times, memory) = pyplot.subplots(1, 2, figsize=(10, 4.5))
-    draw(times, points, "milliseconds", "view: milliseconds")
-    draw(memory, points, "memory", "view: peak memory in MiB")
+    figure, (times, memory) = pyplot.subplots(1, 2, figsize=(10, 4.8))
+    draw(times, points, "milliseconds", "Time of view", "milliseconds")
+    draw(memory, points, "memory", "Memory of view, at most", "MiB")
     figure.tight_layout()
     figure.savefig(sys.argv[1], metadata={"Date": None})
 
