@@ -34,6 +34,19 @@ def refused_words(cases: Cases) -> None:
             cases.no_command_line(f"{command} has no {option}", [command, option, "x"], option.encode())
 
 
+# What Ansible's tool has and this one has not, by itself and behind each command.
+LEFT_OUT = [["create"], ["edit"]]
+LEFT_OUT_OPTIONS = ["--ask-vault-password", "--ask-vault-pass", "-J", "--vault-pass-file=x", "--vault-pass=x", "-v"]
+LEFT_OUT_BEHIND = {"rekey": ["--encrypt-vault-id=x"], "encrypt_string": ["--prompt", "-p", "--show-input"]}
+
+
+def left_out(cases: Cases) -> None:
+    runs = LEFT_OUT + [[command, option] for command in OPTIONS for option in LEFT_OUT_OPTIONS]
+    runs += [[command, option] for command, options in LEFT_OUT_BEHIND.items() for option in options]
+    for words in runs:
+        cases.no_command_line(f"left out: {words}", words, words[-1].partition("=")[0].encode())
+
+
 def valued(cases: Cases, command: str, option: str) -> None:
     """An option without its value, with one that it doesn't take, and given twice."""
     if option in FLAGS:
@@ -56,5 +69,6 @@ def endless_pipe(cases: Cases) -> None:
 GROUPS = [
     texts,
     refused_words,
+    left_out,
     endless_pipe,
 ]
