@@ -1,128 +1,134 @@
--- A run whose output goes to standard output or to a path, told of both.
-use Rattle.std.proofs.Common.{◌≡◌, ℕ, inl, inr, List, Bool, Option, Some, None, ap, refl, subst, ◌∙◌}
+-- An ending over one output, told of another.
+use Rattle.std.proofs.Common.{◌≡◌, ℕ, inl, inr, List, [], Option, Some, None, take, arith, ap, subst, ◌∙◌}
 use Rattle.std.specs.Prelude.{MatchOption}
-use Rattle.vault_text.specs.declared.limits.TheConstants.{PLAINTEXT_LIMIT}
-use Rattle.vault_text.specs.declared.sink.Stage.{Stage}
-use Rattle.vault_text.specs.declared.sink.Stage.TheVariants.{Finished, Unbegun}
-use Rattle.vault_cli.specs.Ending.{IsUntouched, IsFinished, Sends, Wrote}
-use Rattle.vault_cli.specs.Fitting.{RunsWithin}
-use Rattle.vault_cli.specs.Request.{Request}
+use Rattle.vault_text.specs.declared.sink.Sink.{Ghosts as SinkTerms}
+use Rattle.vault_text.specs.declared.sink.Stage.TheVariants.{Unbegun}
+use Rattle.vault_files.specs.declared.file_system.FileSystem.{Ghosts as StoreTerms}
+use Rattle.vault_core.specs.declared.fault.Fault.TheVariants.{Memory}
+use Rattle.vault_cli.specs.Call.{SinkCall, SourceCall, StoreCall, sink}
+use Rattle.vault_cli.specs.Ending.{Ends, Finishes, IsAnswered, LacksMemory, Output, to_path, to_sink}
+use Rattle.vault_cli.specs.Line.{line_of}
+use Rattle.vault_cli.specs.Outcome.{Outcome}
+use Rattle.vault_cli.specs.Reports.{Says}
 use Rattle.vault_cli.specs.declared.status.Status.{Status}
+use Rattle.vault_cli.specs.declared.status.Status.TheVariants.{OutOfMemory}
 
-module _ {F S K E : Type 0} (aimed : F → List ℕ → F → Type 0)
-    (file_takes : F → List ℕ → F → Type 0) (file_stage : F → Stage) (file_failures : F → ℕ)
-    (takes : K → List ℕ → K → Type 0) (stage : K → Stage) (write_failures : K → ℕ)
-    (says : E → List ℕ → E → Type 0) (result : Status) (err new_err : E)
-    (gives : S → List ℕ → S → Type 0) (ended : S → Bool) (read_failures : S → ℕ)
-    (request : Request) (contents : List (List ℕ)) (salt : List ℕ) (src new_src : S) where
-  -- an output that was made to take what there is, or was left alone
-  written-out : (files : F) (out new_out : K) (output : Option (List ℕ)) → file_stage files ≡ Unbegun
-      → MatchOption output (new_out ≡ out) (λ bytes. takes out bytes new_out × (stage new_out ≡ Finished))
-      → MatchOption output (IsUntouched aimed file_takes file_stage file_failures takes stage write_failures None files files out new_out)
-      (λ bytes. Wrote aimed file_takes file_stage file_failures takes stage write_failures None files files out new_out bytes
-      × IsFinished aimed file_takes file_stage file_failures takes stage write_failures None files files out new_out)
-  written-out files out new_out None fresh h = (h, fresh, inl refl)
-  written-out files out new_out (Some bytes) fresh h = ((h.0, refl), h.1)
+-- what became of the one output tells what became of the other
+pub record Tells (there here : Output) : Type 0 where
+  pub untouched : there.untouched → here.untouched
+  pub wrote : (bytes : List ℕ) → there.wrote bytes → here.wrote bytes
+  pub finished : there.finished → here.finished
+  pub failed : there.failed → here.failed
+  pub unfailed : there.unfailed → here.unfailed
 
-  -- that of a path
-  written-file : (path : List ℕ) (files chosen new_files : F) (out : K) (output : Option (List ℕ)) → file_stage chosen ≡ Unbegun → aimed files path chosen
-      → MatchOption output (new_files ≡ chosen) (λ bytes. file_takes chosen bytes new_files × (file_stage new_files ≡ Finished))
-      → MatchOption output (IsUntouched aimed file_takes file_stage file_failures takes stage write_failures (Some path) files new_files out out)
-      (λ bytes. Wrote aimed file_takes file_stage file_failures takes stage write_failures (Some path) files new_files out out bytes
-      × IsFinished aimed file_takes file_stage file_failures takes stage write_failures (Some path) files new_files out out)
-  written-file path files chosen new_files out None fresh at h = (refl, ap file_stage h ∙ fresh, inr (rw h at))
-  written-file path files chosen new_files out (Some bytes) fresh at h = ((refl, (chosen, at, h.0)), h.1)
+module _ {E : Type 0} (there here : Output) (tells : Tells there here) (err : SinkCall E) (result : Status) where
+  told-output : (output : Option (List ℕ)) → MatchOption output there.untouched (λ bytes. there.wrote bytes × there.finished)
+      → MatchOption output here.untouched (λ bytes. here.wrote bytes × here.finished)
+  told-output None h = tells.untouched h
+  told-output (Some bytes) h = (tells.wrote bytes h.0, tells.finished h.1)
 
-  -- a run to standard output, and one to a path
-  to-out : (files : F) (out new_out : K) → file_stage files ≡ Unbegun
-      → RunsWithin gives ended read_failures takes stage write_failures says PLAINTEXT_LIMIT request contents salt result src new_src out new_out err new_err
-      → Sends aimed file_takes file_stage file_failures takes stage write_failures None files files out new_out
-      says result err new_err gives ended read_failures request contents salt src new_src
-  to-out files out new_out fresh (input, given, (fits, ends)) = (
+  told-finishes : (answer : Outcome) → Finishes there err result answer → Finishes here err result answer
+  told-finishes answer (inl a) = inl (record {
+    status = a.status;
+    unfailed = tells.unfailed a.unfailed;
+    output = told-output answer.output a.output;
+    line = a.line;
+  })
+  told-finishes answer (inr w) = inr (record {
+    status = w.status;
+    failed = tells.failed w.failed;
+    output = let (bytes, is, (n, took)) = w.output in (bytes, is, (n, tells.wrote (take n bytes) took));
+    line = w.line;
+  })
+
+  told-memory : LacksMemory there err result → LacksMemory here err result
+  told-memory m = record { status = m.status; unfailed = tells.unfailed m.unfailed; output = tells.untouched m.output; line = m.line }
+
+  pub told-ends : {S : Type 0} (src : SourceCall S) (asked : Option ℕ) (answers : List ℕ → Outcome)
+      → Ends there err result src asked answers → Ends here err result src asked answers
+  told-ends src None answers (unread, inl m) = (unread, inl (told-memory m))
+  told-ends src None answers (unread, inr done) = (unread, inr (told-finishes (answers []) done))
+  told-ends src (Some limit) answers (input, (given, fits, inl m)) = (input, (given, fits, inl (told-memory m)))
+  told-ends src (Some limit) answers (input, (given, fits, inr (inl (u, short)))) = (
     input,
-    given,
-    fits,
-    elim ends [
-      | inl memory ↦ inl (record { status = memory.status; failures = (ap write_failures memory.output, refl); output = (memory.output, fresh, inl refl); line = memory.line })
-      | inr (inl a) ↦ inr (inl (
-        record { status = a.status.0; failures = (a.failures, refl); output = written-out files out new_out _ fresh a.output; line = a.line },
-        (a.read.failures, a.read.whole),
-      ))
-      | inr (inr (inl u)) ↦ inr (inr (inl (
-        record { status = u.status; failed = u.failed.1; failures = (ap write_failures u.output, refl); output = (u.output, fresh, inl refl); line = u.line },
-        (u.failed.0, u.bound),
-      )))
-      | inr (inr (inr w)) ↦ inr (inr (inr (
-        record {
-          status = w.status;
-          failed = w.failed;
-          output = let (bytes, is, (n, took)) = w.output in (bytes, is, (n, (took, refl)));
-          line = w.line;
-        },
-        (w.read.failures, w.read.whole),
-      )))
-    ],
-  )
-
-  to-file : (path : List ℕ) (files chosen new_files : F) (out : K) → file_stage chosen ≡ Unbegun → aimed files path chosen → file_failures chosen ≡ file_failures files
-      → RunsWithin gives ended read_failures file_takes file_stage file_failures says PLAINTEXT_LIMIT request contents salt result src new_src chosen new_files err new_err
-      → Sends aimed file_takes file_stage file_failures takes stage write_failures (Some path) files new_files out out
-      says result err new_err gives ended read_failures request contents salt src new_src
-  to-file path files chosen new_files out fresh at stay (input, given, (fits, ends)) = (
-    input,
-    given,
-    fits,
-    elim ends [
-      | inl memory ↦ inl (record {
-        status = memory.status;
-        failures = (refl, ap file_failures memory.output ∙ stay);
-        output = (refl, ap file_stage memory.output ∙ fresh, inr (rw memory.output at));
-        line = memory.line;
-      })
-      | inr (inl a) ↦ inr (inl (
-        record {
-          status = a.status.0;
-          failures = (refl, a.failures ∙ stay);
-          output = written-file path files chosen new_files out _ fresh at a.output;
-          line = a.line;
-        },
-        (a.read.failures, a.read.whole),
-      ))
-      | inr (inr (inl u)) ↦ inr (inr (inl (
+    (
+      given,
+      fits,
+      inr (inl (
         record {
           status = u.status;
-          failed = u.failed.1;
-          failures = (refl, ap file_failures u.output ∙ stay);
-          output = (refl, ap file_stage u.output ∙ fresh, inr (rw u.output at));
+          failed = u.failed;
+          unfailed = tells.unfailed u.unfailed;
+          output = tells.untouched u.output;
           line = u.line;
         },
-        (u.failed.0, u.bound),
-      )))
-      | inr (inr (inr w)) ↦ inr (inr (inr (
-        record {
-          status = w.status;
-          failed = rw stay at w.failed;
-          output = let (bytes, is, (n, took)) = w.output in (bytes, is, (n, (refl, (chosen, at, took))));
-          line = w.line;
-        },
-        (w.read.failures, w.read.whole),
-      )))
-    ],
+        short,
+      )),
+    ),
   )
+  told-ends src (Some limit) answers (input, (given, fits, inr (inr (all, done)))) =
+      (input, (given, fits, inr (inr (all, told-finishes (answers input) done))))
 
-  pub sends-out : (path : Option (List ℕ)) (files : F) (out new_out : K) → file_stage files ≡ Unbegun → None ≡ path
-      → RunsWithin gives ended read_failures takes stage write_failures says PLAINTEXT_LIMIT request contents salt result src new_src out new_out err new_err
-      → Sends aimed file_takes file_stage file_failures takes stage write_failures path files files out new_out
-      says result err new_err gives ended read_failures request contents salt src new_src
-  sends-out path files out new_out fresh e runs =
-      subst (λ (p : Option (List ℕ)). Sends aimed file_takes file_stage file_failures takes stage write_failures p files files out new_out
-      says result err new_err gives ended read_failures request contents salt src new_src) e (to-out files out new_out fresh runs)
+-- what proof files know of a store, as a call over it
+abbrev pub store_between : {F R : Type 0} → SinkTerms F → StoreTerms F R → F → F → StoreCall F R
+store_between output terms old new = record { output = output; terms = terms; old = old; new = new }
 
-  pub sends-file : (path : Option (List ℕ)) (chosen_path : List ℕ) (files chosen new_files : F) (out : K) → file_stage chosen ≡ Unbegun → Some chosen_path ≡ path
-      → aimed files chosen_path chosen → file_failures chosen ≡ file_failures files
-      → RunsWithin gives ended read_failures file_takes file_stage file_failures says PLAINTEXT_LIMIT request contents salt result src new_src chosen new_files err new_err
-      → Sends aimed file_takes file_stage file_failures takes stage write_failures path files new_files out out
-      says result err new_err gives ended read_failures request contents salt src new_src
-  sends-file path chosen_path files chosen new_files out fresh e at stay runs =
-      subst (λ (p : Option (List ℕ)). Sends aimed file_takes file_stage file_failures takes stage write_failures p files new_files out out
-      says result err new_err gives ended read_failures request contents salt src new_src) e (to-file chosen_path files chosen new_files out fresh at stay runs)
+-- nothing was written
+module _ {F R K : Type 0} (files : StoreCall F R) (out : SinkCall K)
+    (fresh : files.stage files.old ≡ Unbegun) (same_files : files.new ≡ files.old) (same_out : out.new ≡ out.old) where
+  pub path-untouched : (path : Option (List ℕ)) → (to_path path files out).untouched
+  path-untouched None = (same_out, same_files)
+  path-untouched (Some path) = (same_out, ap files.stage same_files ∙ fresh, inl same_files)
+
+  pub path-unfailed : (path : Option (List ℕ)) → (to_path path files out).unfailed
+  path-unfailed None = ap out.failures same_out
+  path-unfailed (Some path) = ap files.failures same_files
+
+  module _ {E : Type 0} (err : SinkCall E) (result : Status) (path : Option (List ℕ)) where
+    pub alone-answered : (answer : Outcome) → answer.output ≡ None → result ≡ answer.status → Says err answer.line
+        → IsAnswered (to_path path files out) err result answer
+    alone-answered answer none status line = record {
+      status = status;
+      unfailed = path-unfailed path;
+      output = rw none (path-untouched path);
+      line = line;
+    }
+
+    -- there was no memory
+    pub alone-memory : result ≡ OutOfMemory → Says err (line_of Memory) → LacksMemory (to_path path files out) err result
+    alone-memory status line = record { status = status; unfailed = path-unfailed path; output = path-untouched path; line = line }
+
+pub ends-memory : {E S : Type 0} (out : Output) (err : SinkCall E) (result : Status) (src : SourceCall S) (asked : Option ℕ)
+    (answers : List ℕ → Outcome) → src.new ≡ src.old → src.gives src.old [] src.new → LacksMemory out err result → Ends out err result src asked answers
+ends-memory out err result src None answers unread none memory = (unread, inl memory)
+ends-memory out err result src (Some limit) answers unread none memory = ([], (none, omega arith, inl memory))
+
+module _ {F R K E S : Type 0} (files : StoreCall F R) (out : SinkCall K) (err : SinkCall E) (result : Status) (src : SourceCall S)
+    (asked : Option ℕ) (answers : List ℕ → Outcome) where
+  -- a run whose output is standard output
+  pub ends-out : (path : Option (List ℕ)) → None ≡ path → files.new ≡ files.old
+      → Ends (to_sink out) err result src asked answers → Ends (to_path path files out) err result src asked answers
+  ends-out path is kept ends =
+      subst (λ (p : Option (List ℕ)). Ends (to_path p files out) err result src asked answers) is
+      (told-ends (to_sink out) (to_path None files out) (record {
+        untouched = λ same. (same, kept);
+        wrote = λ bytes took. (took, kept);
+        finished = λ h. h;
+        failed = λ h. h;
+        unfailed = λ h. h;
+      }) err result src asked answers ends)
+
+  -- one whose output is the file at a path that was chosen
+  pub ends-file : (path : Option (List ℕ)) (chosen_path : List ℕ) (chosen : F) → Some chosen_path ≡ path
+      → files.aimed files.old chosen_path chosen → files.stage chosen ≡ Unbegun → files.failures chosen ≡ files.failures files.old
+      → out.new ≡ out.old
+      → Ends (to_sink (sink files.output chosen files.new)) err result src asked answers → Ends (to_path path files out) err result src asked answers
+  ends-file path chosen_path chosen is at fresh stay alone ends =
+      subst (λ (p : Option (List ℕ)). Ends (to_path p files out) err result src asked answers) is
+      (told-ends (to_sink (sink files.output chosen files.new)) (to_path (Some chosen_path) files out) (record {
+        untouched = λ same. (alone, ap files.stage same ∙ fresh, inr (rw same at));
+        wrote = λ bytes took. (alone, (chosen, at, took));
+        finished = λ h. h;
+        failed = λ h. rw stay at h;
+        unfailed = λ h. h ∙ stay;
+      }) err result src asked answers ends)

@@ -1,12 +1,10 @@
 -- An error of the parser, by its kind.
-use Rattle.std.proofs.Common.{◌≡◌, ◌⊎◌, inl, inr, ℕ, List, [], refl, sym, ◌∙◌}
+use Rattle.std.proofs.Common.{◌≡◌, ◌⊎◌, inl, inr, [], refl, sym, ◌∙◌}
 use Rattle.clap.specs.Words.{IsAmong, Kinds}
 use Rattle.clap.specs.declared.error.kind.ErrorKind.{ErrorKind}
 use Rattle.clap.specs.declared.error.kind.ErrorKind.TheVariants.{DisplayHelp, DisplayVersion, OutOfMemory}
-use Rattle.vault_text.specs.declared.sink.Stage.{Stage}
-use Rattle.vault_cli.specs.Explained.{Explains, ExplainsOneOf, IsHelp}
-use Rattle.vault_cli.specs.Fitting.{NoMemory}
-use Rattle.vault_cli.specs.Reports.{Reports}
+use Rattle.vault_cli.specs.Call.{SinkCall}
+use Rattle.vault_cli.specs.Explained.{Explains, ExplainsOneOf, HasNoMemory, IsHelp}
 use Rattle.vault_cli.specs.declared.status.Status.{Status}
 
 -- help, the version, or neither
@@ -20,20 +18,15 @@ no-help : (kind : ErrorKind) → kind ≡ OutOfMemory → IsHelp kind → ⊥
 no-help kind memory (inl help) = let wrong : OutOfMemory ≡ DisplayHelp = sym memory ∙ help in absurd cc
 no-help kind memory (inr version) = let wrong : OutOfMemory ≡ DisplayVersion = sym memory ∙ version in absurd cc
 
-module _ {K E : Type 0} (takes : K → List ℕ → K → Type 0) (stage : K → Stage) (failures : K → ℕ)
-    (err_takes : E → List ℕ → E → Type 0) (err_stage : E → Stage) (err_failures : E → ℕ)
-    (result : Status) (out new_out : K) (err new_err : E) where
+module _ {K E : Type 0} (out : SinkCall K) (err : SinkCall E) (result : Status) where
   pub explains-one : (kinds : Kinds) (kind : ErrorKind) → (kind ≡ OutOfMemory) ⊎ IsAmong kind kinds
-      → Explains takes stage failures err_takes err_stage err_failures result out new_out err new_err kind
-      → ExplainsOneOf takes stage failures err_takes err_stage err_failures result out new_out err new_err kinds
+      → Explains out err result kind → ExplainsOneOf out err result kinds
   explains-one kinds kind has (inl memory) = inl memory
   explains-one kinds kind (inr among) (inr explained) = inr (kind, among, explained)
   explains-one kinds kind (inl memory) (inr (inl (help, shown))) = absurd (no-help kind memory help)
   explains-one kinds kind (inl memory) (inr (inr (mistake, rejects))) = absurd (mistake.2 memory)
 
   -- where there is no kind of error there was no memory
-  pub explains-memory : (kinds : Kinds) → kinds ≡ []
-      → ExplainsOneOf takes stage failures err_takes err_stage err_failures result out new_out err new_err kinds
-      → NoMemory (Reports err_takes err_stage err_failures) result out new_out err new_err
+  pub explains-memory : (kinds : Kinds) → kinds ≡ [] → ExplainsOneOf out err result kinds → HasNoMemory out err result
   explains-memory kinds none (inl memory) = memory
   explains-memory kinds none (inr (kind, among, explained)) = absurd (rw none at among)

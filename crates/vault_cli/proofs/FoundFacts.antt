@@ -10,7 +10,8 @@ use Rattle.vault_core.specs.declared.fault.Role.{Role}
 use Rattle.vault_core.specs.declared.fault.Role.TheVariants.{Secret}
 use Rattle.vault_core.specs.declared.limits.TheConstants.{PASSWORD_FILE_LIMIT}
 use Rattle.vault_files.specs.File.{File, Met}
-use Rattle.vault_cli.specs.Found.{ContentsMet, FrontMet, contents_of, front_in}
+use Rattle.vault_cli.specs.Found.{contents_of, front_in}
+use Rattle.vault_cli.specs.Gathered.{ContentsMet, FrontMet}
 use Rattle.vault_cli.specs.Request.{SecretFile}
 
 -- contents in front of those that are still found

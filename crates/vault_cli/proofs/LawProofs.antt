@@ -1,6 +1,6 @@
 -- The laws of the outcomes.
 use Rattle.std.proofs.Common.{◌≡◌, ◌≢◌, ℕ, ◌*◌, ◌≤◌, List, [], ◌∷◌, length, Result, Ok, Err, inl, inr, refl, sym, ap, ◌∙◌, arith}
-use Rattle.vault_text.specs.Steps.{◌>>=◌}
+use Rattle.std.specs.Prelude.{Option, unwrap_or}
 use Rattle.vault_core.specs.Decryption.{decryption}
 use Rattle.vault_core.specs.Encryption.{encryption}
 use Rattle.vault_core.specs.Form.{Envelope}
@@ -9,14 +9,14 @@ use Rattle.vault_core.specs.Rekeying.{rekeying}
 use Rattle.vault_core.specs.Secrets.{Secret, SecretList}
 use Rattle.vault_core.specs.declared.fault.Fault.{Fault}
 use Rattle.vault_cli.specs.Laws.{EncryptThenDecrypt, Opens, RekeyKeepsThePlaintext, ShortTexts}
-use Rattle.vault_cli.specs.Outcome.{Outcome, answered, input_limit, outcome_within, performed, room_limit, task_limit, text_of_request}
+use Rattle.vault_cli.specs.Outcome.{Outcome, answered, input_limit, outcome_within, performed, ready_by, room_limit, task_limit, text_of_request}
 use Rattle.vault_cli.specs.Request.{Request}
 use Rattle.vault_cli.specs.Task.{Task, Seal, Open, Reseal, prepared}
 use Rattle.vault_core.specs.declared.label_rule.LabelRule.TheVariants.{Hint}
 use Rattle.vault_cli.specs.declared.command_name.CommandName.{CommandName}
 use Rattle.vault_cli.specs.declared.command_name.CommandName.TheVariants as command
 use Rattle.vault_cli.proofs.LawFacts.{answered-some, sound-prepared, text-input}
-use Rattle.vault_cli.proofs.OutcomeFacts.{outcome-performed}
+use Rattle.vault_cli.proofs.OutcomeFacts.{outcome-performed, ready-text}
 use Rattle.vault_cli.proofs.TaskFacts.{limit-prepared}
 
 -- what a request that opens answers
@@ -102,16 +102,17 @@ module _ (law : ShortInputs) (smaller larger : ℕ) (text : List ℕ) (more : sm
   room-of_task (Open secrets) name same short = envelope-room smaller text name short
   room-of_task (Reseal secrets new salt) name same short = envelope-room smaller text name short
 
-short-tasks : (larger smaller : ℕ) (text : List ℕ) (found : Result Task Fault)
-    → ((task : Task) → found ≡ Ok task → performed larger task text ≡ performed smaller task text)
-    → (found >>= (λ task. performed larger task text)) ≡ (found >>= (λ task. performed smaller task text))
-short-tasks larger smaller text (Ok task) h = h task refl
-short-tasks larger smaller text (Err fault) h = refl
+short-tasks : (larger smaller : ℕ) (string : Option (List ℕ)) (input : List ℕ) (found : Result Task Fault)
+    → ((task : Task) → found ≡ Ok task → performed larger task (unwrap_or string input) ≡ performed smaller task (unwrap_or string input))
+    → ready_by larger found string (Ok input) ≡ ready_by smaller found string (Ok input)
+short-tasks larger smaller string input (Ok task) h =
+    ready-text larger task string input ∙ h task refl ∙ sym (ready-text smaller task string input)
+short-tasks larger smaller string input (Err fault) h = refl
 
 pub short_texts : ShortInputs → ShortTexts
 unfolding outcome_within
 short_texts law smaller larger request contents salt input short more =
     let text = text_of_request request input in
-    ap answered (short-tasks larger smaller text (prepared request contents salt) (λ task found.
+    ap answered (short-tasks larger smaller request.string input (prepared request contents salt) (λ task found.
     short-performed law smaller larger text more task
     (room-of_task law smaller larger text more task request.command (limit-prepared smaller request contents salt task found) short)))

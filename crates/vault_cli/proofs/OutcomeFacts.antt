@@ -1,10 +1,16 @@
 -- The outcome of a request by what is prepared, and when its input is asked for.
-use Rattle.std.proofs.Common.{◌≡◌, ℕ, Bool, true, false, not, List, Ok, Err, refl}
-use Rattle.std.specs.Prelude.{IsTrue, is_some}
+use Rattle.std.proofs.Common.{◌≡◌, ℕ, List, Option, Some, None, Ok, Err, ap, refl}
+use Rattle.std.specs.Prelude.{unwrap_or}
 use Rattle.vault_core.specs.declared.fault.Fault.{Fault}
-use Rattle.vault_cli.specs.Outcome.{answered, asks_for_input, outcome_within, performed, refused, text_of_request}
+use Rattle.vault_cli.specs.Outcome.{answered, input_asked, outcome_within, performed, ready_by, refused, text_of_request}
 use Rattle.vault_cli.specs.Request.{Request}
 use Rattle.vault_cli.specs.Task.{Task, prepared}
+
+-- a task is performed on the STRING, or else on the input
+pub ready-text : (limit : ℕ) (task : Task) (string : Option (List ℕ)) (input : List ℕ)
+    → ready_by limit (Ok task) string (Ok input) ≡ performed limit task (unwrap_or string input)
+ready-text limit task None input = refl
+ready-text limit task (Some string) input = refl
 
 module _ (request : Request) (contents : List (List ℕ)) (salt : List ℕ) where
   -- steps 1 to 3 refuse
@@ -13,23 +19,11 @@ module _ (request : Request) (contents : List (List ℕ)) (salt : List ℕ) wher
   unfolding outcome_within
   outcome-refused limit input fault e = rw e refl
 
-  pub asks-refused : (fault : Fault) → prepared request contents salt ≡ Err fault → asks_for_input request contents salt ≡ false
-  asks-refused fault e = rw e refl
+  pub asks-refused : (limit : ℕ) (fault : Fault) → prepared request contents salt ≡ Err fault → input_asked limit request contents salt ≡ None
+  asks-refused limit fault e = rw e refl
 
   -- steps 1 to 3 give a task
   pub outcome-performed : (limit : ℕ) (input : List ℕ) (task : Task) → prepared request contents salt ≡ Ok task
       → outcome_within limit request contents salt input ≡ answered (performed limit task (text_of_request request input))
   unfolding outcome_within
-  outcome-performed limit input task e = rw e refl
-
-  pub asks-performed : (task : Task) → prepared request contents salt ≡ Ok task → asks_for_input request contents salt ≡ not (is_some request.string)
-  asks-performed task e = rw e refl
-
--- what is not so
-pub not-true : (b : Bool) → IsTrue (not b) → b ≡ false
-not-true true h = absurd cc
-not-true false h = refl
-
-pub not-false : (b : Bool) → not b ≡ false → IsTrue b
-not-false true h = refl
-not-false false h = absurd cc
+  outcome-performed limit input task e = rw e (ap answered (ready-text limit task request.string input))

@@ -13,13 +13,13 @@ use Rattle.vault_files.specs.File.{File}
 use Rattle.vault_files.specs.File.File.{Missing, Whole, Broken}
 use Rattle.vault_cli.specs.CommandLine.{vault_app}
 use Rattle.vault_cli.specs.Found.{contents_of}
-use Rattle.vault_cli.specs.Outcome.{refused}
-use Rattle.vault_cli.specs.Program.{Answer, program, ready_of}
+use Rattle.vault_cli.specs.Outcome.{Outcome, refused}
+use Rattle.vault_cli.specs.Program.{asked_by, output_path, program, task_over}
 use Rattle.vault_cli.specs.Refusal.{refusal}
 use Rattle.vault_cli.specs.Task.{prepared, secrets_of}
 
 -- what the words behind the program's name are answered
-abbrev answer : List Text → List File → Option File → Option File → List ℕ → Answer
+abbrev answer : List Text → List File → Option File → Option File → List ℕ → Outcome
 answer words secrets salt input stdin =
     program (codes "ansible-vault" ∷ words) (record { secrets = secrets; salt = salt; input = input }) stdin
 
@@ -28,51 +28,60 @@ password = Whole (codes "password")
 
 -- neither the password file nor the input is there
 no_secret : answer (codes "view" ∷ codes "--vault-id=p" ∷ codes "f" ∷ []) (Missing ∷ []) None (Some Missing) []
-    ≡ record { outcome = refused (CannotOpen Secret); path = None }
-unfolding clap_on_literals vault_app refusal ready_of contents_of
+    ≡ refused (CannotOpen Secret)
+unfolding clap_on_literals vault_app refusal task_over contents_of
 no_secret = refl
 
 -- of two password files the first that cannot be read counts
 broken_secret : answer (codes "decrypt" ∷ codes "--vault-id=p" ∷ codes "--vault-id=q" ∷ []) (Broken (codes "pass") ∷ Missing ∷ []) None None []
-    ≡ record { outcome = refused (Read Secret); path = None }
-unfolding clap_on_literals vault_app refusal ready_of contents_of
+    ≡ refused (Read Secret)
+unfolding clap_on_literals vault_app refusal task_over contents_of
 broken_secret = refl
 
 -- the salt file is not there, and neither is the input
 no_salt : answer (codes "encrypt" ∷ codes "--vault-id=p" ∷ codes "--salt-file=s" ∷ codes "--output=o" ∷ codes "f" ∷ [])
     (password ∷ []) (Some Missing) (Some Missing) []
-    ≡ record { outcome = refused (CannotOpen Salt); path = Some (codes "o") }
-unfolding clap_on_literals vault_app refusal ready_of contents_of
+    ≡ refused (CannotOpen Salt)
+unfolding clap_on_literals vault_app refusal task_over contents_of
 no_salt = refl
 
 -- the input is not there, and there is no password
 no_input : answer (codes "decrypt" ∷ codes "--output=o" ∷ codes "f" ∷ []) [] None (Some Missing) []
-    ≡ record { outcome = refused (CannotOpen Input); path = Some (codes "o") }
-unfolding clap_on_literals vault_app refusal ready_of contents_of
+    ≡ refused (CannotOpen Input)
+unfolding clap_on_literals vault_app refusal task_over contents_of
 no_input = refl
 
 -- the input breaks
 broken_input : answer (codes "rekey" ∷ codes "--vault-id=p" ∷ codes "--new-vault-id=q" ∷ codes "--salt=abc" ∷ codes "--output=-" ∷ codes "f" ∷ [])
     (password ∷ password ∷ []) None (Some (Broken (codes "$ANSIBLE_VAULT"))) []
-    ≡ record { outcome = refused (Read Input); path = None }
-unfolding clap_on_literals vault_app refusal ready_of contents_of prepared secrets_of password_of
+    ≡ refused (Read Input)
+unfolding clap_on_literals vault_app refusal task_over contents_of prepared secrets_of password_of
 broken_input = refl
 
 -- the salt is short
 short_salt : answer (codes "encrypt_string" ∷ codes "--vault-id=p" ∷ codes "--salt-file=s" ∷ codes "text" ∷ [])
     (password ∷ []) (Some (Whole (replicate 31 0))) None []
-    ≡ record { outcome = refused SaltShort; path = None }
-unfolding clap_on_literals vault_app refusal ready_of contents_of prepared secrets_of password_of choice
+    ≡ refused SaltShort
+unfolding clap_on_literals vault_app refusal task_over contents_of prepared secrets_of password_of choice
 short_salt = refl
 
 -- standard input is an envelope already
 already_sealed : answer (codes "encrypt" ∷ codes "--vault-id=p" ∷ codes "--salt=abc" ∷ []) (password ∷ []) None None (codes "$ANSIBLE_VAULT;1.1;AES256")
-    ≡ record { outcome = refused AlreadyVault; path = None }
-unfolding clap_on_literals vault_app refusal ready_of contents_of prepared secrets_of password_of choice encryption
+    ≡ refused AlreadyVault
+unfolding clap_on_literals vault_app refusal task_over contents_of prepared secrets_of password_of choice encryption
 already_sealed = refl
 
 -- the input is no envelope
 no_envelope : answer (codes "view" ∷ codes "--vault-id=p" ∷ codes "f" ∷ []) (password ∷ []) None (Some (Whole (codes "text"))) []
-    ≡ record { outcome = refused NotVault; path = None }
-unfolding clap_on_literals vault_app refusal ready_of contents_of prepared secrets_of password_of decryption read_within
+    ≡ refused NotVault
+unfolding clap_on_literals vault_app refusal task_over contents_of prepared secrets_of password_of decryption read_within
 no_envelope = refl
+
+-- the output goes to its path, and `-` is standard output
+chosen_path : output_path (asked_by (codes "ansible-vault" ∷ codes "decrypt" ∷ codes "--output=o" ∷ codes "f" ∷ [])) ≡ Some (codes "o")
+unfolding clap_on_literals vault_app refusal
+chosen_path = refl
+
+dash : output_path (asked_by (codes "ansible-vault" ∷ codes "decrypt" ∷ codes "--output=-" ∷ codes "f" ∷ [])) ≡ None
+unfolding clap_on_literals vault_app refusal
+dash = refl

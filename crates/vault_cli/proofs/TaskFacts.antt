@@ -59,13 +59,13 @@ performed-too_long limit (Open secrets) input long = decryption-too_long limit s
 performed-too_long limit (Reseal secrets new salt) input long = rekeying-too_long limit secrets new salt input (search (rules, tests))
 
 -- how much the task takes that was found
-record HasLimit (limit amount : ℕ) (r : Result Task Fault) : Type 0 where
-  is : (task : Task) → r ≡ Ok task → task_limit limit task ≡ amount
+pub record HasLimit (limit amount : ℕ) (r : Result Task Fault) : Type 0 where
+  pub is : (task : Task) → r ≡ Ok task → task_limit limit task ≡ amount
 
 limit-ok : (limit : ℕ) (task : Task) → HasLimit limit (task_limit limit task) (Ok task)
 limit-ok limit task = record { is = λ other e. let same : task ≡ other = cc in rw same refl }
 
-limit-next : {A : Type 0} (limit amount : ℕ) (r : Result A Fault) (f : A → Result Task Fault) → ((x : A) → HasLimit limit amount (f x)) → HasLimit limit amount (r >>= f)
+pub limit-next : {A : Type 0} (limit amount : ℕ) (r : Result A Fault) (f : A → Result Task Fault) → ((x : A) → HasLimit limit amount (f x)) → HasLimit limit amount (r >>= f)
 limit-next limit amount (Ok x) f h = h x
 limit-next limit amount (Err fault) f h = record { is = λ task e. absurd cc }
 

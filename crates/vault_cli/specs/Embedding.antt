@@ -1,78 +1,96 @@
 -- How the program ends over files, an input and sinks in memory: what each holds afterwards.
-use Rattle.std.specs.Prelude.{◌≡◌, ◌⊎◌, ℕ, if◌then◌else◌, List, [], ◌∷◌, ◌++◌, take, Option, Some, None}
+use Rattle.std.specs.Prelude.{◌≡◌, ◌⊎◌, ℕ, ◌+◌, ◌≤◌, if◌then◌else◌, List, [], ◌∷◌, ◌++◌, take, drop}
+use Rattle.std.specs.Prelude.{Option, Some, None}
 use Rattle.vault_text.specs.Failures.{HasRisen}
 use Rattle.vault_text.specs.Sink.{MemoryState}
+use Rattle.vault_text.specs.Source as source
 use Rattle.vault_text.specs.declared.sink.Stage.TheVariants.{Finished}
 use Rattle.vault_files.specs.File.{File}
 use Rattle.vault_files.specs.File.File.{Whole}
 use Rattle.vault_files.specs.Memory.{StoreState, file_at, is_aimed_at, stands_at}
 use Rattle.vault_core.specs.declared.fault.Fault.TheVariants.{Memory, Write}
 use Rattle.vault_cli.specs.Line.{line_of}
-use Rattle.vault_cli.specs.Program.{Answer}
+use Rattle.vault_cli.specs.Outcome.{Outcome}
 use Rattle.vault_cli.specs.declared.status.Status.{Status}
 use Rattle.vault_cli.specs.declared.status.Status.TheVariants.{DeviceFailed, OutOfMemory}
 
+-- what was in memory before a call, and what is after it
+pub record Change (T : Type 0) : Type 0 where
+  pub old : T
+  pub new : T
+
+abbrev pub change : {T : Type 0} → T → T → Change T
+change old new = record { old = old; new = new }
+
 -- a sink holds these bytes behind what it held, and was finished
-abbrev pub Holds : MemoryState → List ℕ → MemoryState → Type 0
-Holds sink bytes new_sink = (new_sink.held ≡ sink.held ++ bytes) × (new_sink.stage ≡ Finished)
+abbrev pub Holds : Change MemoryState → List ℕ → Type 0
+Holds sink bytes = (sink.new.held ≡ sink.old.held ++ bytes) × (sink.new.stage ≡ Finished)
 
 -- a growth was refused: it holds the first of them
-abbrev pub HoldsFront : MemoryState → List ℕ → MemoryState → Type 0
-HoldsFront sink bytes new_sink =
-    HasRisen sink.failures new_sink.failures × ((n : ℕ) × (new_sink.held ≡ sink.held ++ take n bytes))
+abbrev pub HoldsFront : Change MemoryState → List ℕ → Type 0
+HoldsFront sink bytes =
+    HasRisen sink.old.failures sink.new.failures
+    × ((n : ℕ) × (sink.new.held ≡ sink.old.held ++ take n bytes))
 
 -- a line, or nothing to say, for which the sink is left alone
-abbrev pub Told : MemoryState → List ℕ → MemoryState → Type 0
-Told err [] new_err = new_err ≡ err
-Told err (byte ∷ line) new_err = Holds err (byte ∷ line) new_err ⊎ HoldsFront err (byte ∷ line) new_err
+abbrev pub Told : Change MemoryState → List ℕ → Type 0
+Told err [] = err.new ≡ err.old
+Told err (byte ∷ line) = Holds err (byte ∷ line) ⊎ HoldsFront err (byte ∷ line)
 
 -- standard output, where the output goes to a path or there, and there is one or none
-abbrev pub Received : Option (List ℕ) → Option (List ℕ) → MemoryState → MemoryState → Type 0
-Received (Some path) output out new_out = new_out ≡ out
-Received None None out new_out = new_out ≡ out
-Received None (Some bytes) out new_out = Holds out bytes new_out
+abbrev pub Received : Option (List ℕ) → Option (List ℕ) → Change MemoryState → Type 0
+Received (Some path) output out = out.new ≡ out.old
+Received None None out = out.new ≡ out.old
+Received None (Some bytes) out = Holds out bytes
+
+-- so much of the input was taken, where it was asked for up to a limit, or it was left alone
+abbrev pub Taken : Option ℕ → Change source.MemoryState → Type 0
+Taken None src = src.new ≡ src.old
+Taken (Some limit) src =
+    (n : ℕ) × (n ≤ limit + 1) × (src.new.left ≡ drop n src.old.left)
 
 -- what stands at a path, where the output goes to a path or to standard output, and there is one or none
 abbrev pub stands_after : (List ℕ → File) → Option (List ℕ) → Option (List ℕ) → List ℕ → File
 stands_after before aim None path = before path
 stands_after before aim (Some bytes) path = if is_aimed_at aim path then Whole bytes else before path
 
-module _ (result : Status) (files new_files : StoreState) (out new_out err new_err : MemoryState) where
+module _ (result : Status) (files : Change StoreState) (out err : Change MemoryState) where
   -- at each path stands this
   abbrev pub Stands : (List ℕ → File) → Type 0
-  Stands after = (path : List ℕ) → stands_at new_files path ≡ after path
+  Stands after = (path : List ℕ) → stands_at files.new path ≡ after path
 
   -- what stood at each path still does
   abbrev pub IsKept : Type 0
-  IsKept = Stands (file_at files.entries)
+  IsKept = Stands (file_at files.old.entries)
 
-  -- it ended with the answer
-  pub record EndsAs (answer : Answer) : Type 0 where
-    pub status : result ≡ answer.outcome.status
-    pub stands : Stands (stands_after (file_at files.entries) answer.path answer.outcome.output)
-    pub output : Received answer.path answer.outcome.output out new_out
-    pub line : Told err answer.outcome.line new_err
+  -- it ended with the answer, whose output goes to a path or to standard output
+  pub record EndsAs (aim : Option (List ℕ)) (answer : Outcome) : Type 0 where
+    pub status : result ≡ answer.status
+    pub stands : Stands (stands_after (file_at files.old.entries) aim answer.output)
+    pub output : Received aim answer.output out
+    pub line : Told err answer.line
 
   -- there was no memory to work in
   pub record RunsOut : Type 0 where
     pub status : result ≡ OutOfMemory
     pub stands : IsKept
-    pub output : new_out ≡ out
-    pub line : Told err (line_of Memory) new_err
+    pub output : out.new ≡ out.old
+    pub line : Told err (line_of Memory)
 
   -- a growth of the output was refused: the first of these bytes were written, or it was not begun
   abbrev pub IsCut : Option (List ℕ) → List ℕ → Type 0
-  IsCut None bytes = HoldsFront out bytes new_out × IsKept
+  IsCut None bytes = HoldsFront out bytes × IsKept
   IsCut (Some aim) bytes =
-      HasRisen files.output.failures new_files.output.failures × (new_out ≡ out)
-      × (IsKept ⊎ ((n : ℕ) × Stands (stands_after (file_at files.entries) (Some aim) (Some (take n bytes)))))
+      HasRisen files.old.output.failures files.new.output.failures × (out.new ≡ out.old)
+      × (IsKept
+      ⊎ ((n : ℕ) × Stands (stands_after (file_at files.old.entries) (Some aim) (Some (take n bytes)))))
 
   -- it ended with so much of the answer
-  pub record EndsShort (answer : Answer) : Type 0 where
+  pub record EndsShort (aim : Option (List ℕ)) (answer : Outcome) : Type 0 where
     pub status : result ≡ DeviceFailed
-    pub cut : (bytes : List ℕ) × (answer.outcome.output ≡ Some bytes) × IsCut answer.path bytes
-    pub line : Told err (line_of Write) new_err
+    pub cut : (bytes : List ℕ) × (answer.output ≡ Some bytes) × IsCut aim bytes
+    pub line : Told err (line_of Write)
 
   -- one of the three
-  abbrev pub Embeds : Answer → Type 0
-  Embeds answer = EndsAs answer ⊎ (RunsOut ⊎ EndsShort answer)
+  abbrev pub Embeds : Option (List ℕ) → Outcome → Type 0
+  Embeds aim answer = EndsAs aim answer ⊎ (RunsOut ⊎ EndsShort aim answer)

@@ -1,91 +1,108 @@
--- How a run ends whose output goes to a path or to standard output: it answers, its source fails, its output does, or
--- there is no memory.
-use Rattle.std.specs.Prelude.{◌≡◌, ◌⊎◌, ℕ, ◌+◌, ◌≤◌, Bool, IsTrue, List, length, take, Option, Some, MatchOption}
+-- How a run ends: with an answer, with a source or an output that failed, or without memory.
+use Rattle.std.specs.Prelude.{◌≡◌, ◌⊎◌, ℕ, ◌+◌, ◌≤◌, List, [], length, take, Option, Some, None, MatchOption}
 use Rattle.vault_text.specs.Failures.{HasRisen}
-use Rattle.vault_text.specs.declared.limits.TheConstants.{PLAINTEXT_LIMIT}
-use Rattle.vault_text.specs.declared.sink.Stage.{Stage}
 use Rattle.vault_text.specs.declared.sink.Stage.TheVariants.{Finished, Unbegun}
 use Rattle.vault_core.specs.Input.{IsWhole}
 use Rattle.vault_core.specs.declared.fault.Fault.TheVariants.{Memory, Read, Write}
 use Rattle.vault_core.specs.declared.fault.Role.TheVariants.{Input}
+use Rattle.vault_cli.specs.Call.{SinkCall, SourceCall, StoreCall}
 use Rattle.vault_cli.specs.Line.{line_of}
-use Rattle.vault_cli.specs.Outcome.{Outcome, asks_for_input, input_limit, outcome}
-use Rattle.vault_cli.specs.Request.{Request}
+use Rattle.vault_cli.specs.Outcome.{Outcome}
+use Rattle.vault_cli.specs.Reports.{Says}
 use Rattle.vault_cli.specs.declared.status.Status.{Status}
 use Rattle.vault_cli.specs.declared.status.Status.TheVariants.{DeviceFailed, OutOfMemory}
 
--- the source did not fail, and gave the whole input where it was asked
-abbrev pub IsReadOf : {S : Type 0} → (S → Bool) → (S → ℕ) → Bool → ℕ → List ℕ → S → S → Type 0
-IsReadOf ended failures asked limit input src new_src =
-    (failures new_src ≡ failures src) × (IsTrue asked → IsWhole limit (ended new_src) input)
+-- what became of an output: it was left alone, it took these bytes, it was then finished, it failed
+-- or did not
+pub record Output : Type 1 where
+  pub untouched : Type 0
+  pub wrote : List ℕ → Type 0
+  pub finished : Type 0
+  pub failed : Type 0
+  pub unfailed : Type 0
 
--- of a store of files what it is when its output is at a path, what that took, its stage and how often it failed; of
--- standard output what it took, its stage and how often it failed. Then the path of the output, where it has one
-module _ {F K : Type 0} (aimed : F → List ℕ → F → Type 0)
-    (file_takes : F → List ℕ → F → Type 0) (file_stage : F → Stage) (file_failures : F → ℕ)
-    (takes : K → List ℕ → K → Type 0) (stage : K → Stage) (write_failures : K → ℕ)
-    (path : Option (List ℕ)) (files new_files : F) (out new_out : K) where
-  -- nothing was written and no file created: at most the path was chosen
-  abbrev pub IsUntouched : Type 0
-  IsUntouched = (new_out ≡ out) × (file_stage new_files ≡ Unbegun)
-      × ((new_files ≡ files) ⊎ MatchOption path ⊥ (λ p. aimed files p new_files))
+-- of a sink
+abbrev pub to_sink : {K : Type 0} → SinkCall K → Output
+to_sink out = record {
+  untouched = out.new ≡ out.old;
+  wrote = λ bytes. out.takes out.old bytes out.new;
+  finished = out.stage out.new ≡ Finished;
+  failed = HasRisen (out.failures out.old) (out.failures out.new);
+  unfailed = out.failures out.new ≡ out.failures out.old;
+}
 
-  -- the output took these bytes, and no other did
-  abbrev pub Wrote : List ℕ → Type 0
-  Wrote bytes = MatchOption path (takes out bytes new_out × (new_files ≡ files))
-      (λ p. (new_out ≡ out) × ((chosen : F) × aimed files p chosen × file_takes chosen bytes new_files))
+-- of the file at a path, where there is one, or else of a sink: the other is left alone. A path may
+-- be chosen where nothing is written, but no file is created there
+abbrev pub to_path : {F R K : Type 0} → Option (List ℕ) → StoreCall F R → SinkCall K → Output
+to_path None files out = record {
+  untouched = (out.new ≡ out.old) × (files.new ≡ files.old);
+  wrote = λ bytes. out.takes out.old bytes out.new × (files.new ≡ files.old);
+  finished = out.stage out.new ≡ Finished;
+  failed = HasRisen (out.failures out.old) (out.failures out.new);
+  unfailed = out.failures out.new ≡ out.failures out.old;
+}
+to_path {F = F} (Some path) files out = record {
+  untouched = (out.new ≡ out.old) × (files.stage files.new ≡ Unbegun)
+      × ((files.new ≡ files.old) ⊎ files.aimed files.old path files.new);
+  wrote = λ bytes. (out.new ≡ out.old)
+      × ((chosen : F) × files.aimed files.old path chosen × files.takes chosen bytes files.new);
+  finished = files.stage files.new ≡ Finished;
+  failed = HasRisen (files.failures files.old) (files.failures files.new);
+  unfailed = files.failures files.new ≡ files.failures files.old;
+}
 
-  -- after which it was finished
-  abbrev pub IsFinished : Type 0
-  IsFinished = MatchOption path (stage new_out ≡ Finished) (λ _. file_stage new_files ≡ Finished)
+module _ {E : Type 0} (out : Output) (err : SinkCall E) (result : Status) where
+  -- it answered: status, output and line are the answer's
+  pub record IsAnswered (answer : Outcome) : Type 0 where
+    pub status : result ≡ answer.status
+    pub unfailed : out.unfailed
+    pub output : MatchOption answer.output out.untouched (λ bytes. out.wrote bytes × out.finished)
+    pub line : Says err answer.line
 
-  -- the output failed
-  abbrev pub HasFailed : Type 0
-  HasFailed = MatchOption path (HasRisen (write_failures out) (write_failures new_out))
-      (λ _. HasRisen (file_failures files) (file_failures new_files))
+  -- the output failed: it has taken a prefix of the answer's
+  pub record OutputFails (answer : Outcome) : Type 0 where
+    pub status : result ≡ DeviceFailed
+    pub failed : out.failed
+    pub output : (bytes : List ℕ) × (answer.output ≡ Some bytes) × ((n : ℕ) × out.wrote (take n bytes))
+    pub line : Says err (line_of Write)
 
-  -- how often the output failed is as before
-  abbrev pub HasNotFailed : Type 0
-  HasNotFailed = (write_failures new_out ≡ write_failures out) × (file_failures new_files ≡ file_failures files)
+  -- one of the two
+  abbrev pub Finishes : Outcome → Type 0
+  Finishes answer = IsAnswered answer ⊎ OutputFails answer
 
-  module _ {E : Type 0} (says : E → List ℕ → E → Type 0) (result : Status) (err new_err : E) where
-    -- no device failed: status, output and line are the answer's
-    pub record IsAnswered (answer : Outcome) : Type 0 where
-      pub status : result ≡ answer.status
-      pub failures : HasNotFailed
-      pub output : MatchOption answer.output IsUntouched (λ bytes. Wrote bytes × IsFinished)
-      pub line : says err answer.line new_err
+  -- the source failed
+  pub record SourceFails {S : Type 0} (src : SourceCall S) : Type 0 where
+    pub status : result ≡ DeviceFailed
+    pub failed : HasRisen (src.failures src.old) (src.failures src.new)
+    pub unfailed : out.unfailed
+    pub output : out.untouched
+    pub line : Says err (line_of (Read Input))
 
-    -- the source failed
-    pub record SourceFails {S : Type 0} (read_failures : S → ℕ) (src new_src : S) : Type 0 where
-      pub status : result ≡ DeviceFailed
-      pub failed : HasRisen (read_failures src) (read_failures new_src)
-      pub failures : HasNotFailed
-      pub output : IsUntouched
-      pub line : says err (line_of (Read Input)) new_err
+  -- there was no memory, which may be so in every run
+  pub record LacksMemory : Type 0 where
+    pub status : result ≡ OutOfMemory
+    pub unfailed : out.unfailed
+    pub output : out.untouched
+    pub line : Says err (line_of Memory)
 
-    -- the output failed: it has taken a prefix of the answer's
-    pub record OutputFails (answer : Outcome) : Type 0 where
-      pub status : result ≡ DeviceFailed
-      pub failed : HasFailed
-      pub output : (bytes : List ℕ) × (answer.output ≡ Some bytes) × ((n : ℕ) × Wrote (take n bytes))
-      pub line : says err (line_of Write) new_err
+  module _ {S : Type 0} (src : SourceCall S) where
+    -- the source did not fail, and gave so much as is taken and one byte more, or all
+    abbrev pub IsRead : ℕ → List ℕ → Type 0
+    IsRead limit input =
+        (src.failures src.new ≡ src.failures src.old) × IsWhole limit (src.ended src.new) input
 
-    -- there was no memory
-    pub record LacksMemory : Type 0 where
-      pub status : result ≡ OutOfMemory
-      pub failures : HasNotFailed
-      pub output : IsUntouched
-      pub line : says err (line_of Memory) new_err
+    -- the source was not asked for the input, and is left alone
+    abbrev pub EndsUnasked : Outcome → Type 0
+    EndsUnasked answer = (src.new ≡ src.old) × (LacksMemory ⊎ Finishes answer)
 
-    -- a run of a request ended so on what the source gave
-    abbrev pub Sends : {S : Type 0} → (S → List ℕ → S → Type 0) → (S → Bool) → (S → ℕ)
-        → Request → List (List ℕ) → List ℕ → S → S → Type 0
-    Sends gives ended read_failures request contents salt src new_src =
-        let asked = asks_for_input request contents salt in
-        let limit = input_limit PLAINTEXT_LIMIT request.command in
-        (input : List ℕ) × gives src input new_src × (length input ≤ limit + 1)
+    -- it was asked for an input up to the limit and one byte, and gave this
+    abbrev pub EndsAsked : ℕ → List ℕ → Outcome → Type 0
+    EndsAsked limit input answer =
+        src.gives src.old input src.new × (length input ≤ limit + 1)
         × (LacksMemory
-        ⊎ ((IsAnswered (outcome request contents salt input) × IsReadOf ended read_failures asked limit input src new_src)
-        ⊎ ((SourceFails read_failures src new_src × (IsTrue asked × (length input ≤ limit)))
-        ⊎ (OutputFails (outcome request contents salt input) × IsReadOf ended read_failures asked limit input src new_src))))
+        ⊎ ((SourceFails src × (length input ≤ limit)) ⊎ (IsRead limit input × Finishes answer)))
+
+    -- so much of the source was asked for, or none, and the answer is that to what it gave
+    abbrev pub Ends : Option ℕ → (List ℕ → Outcome) → Type 0
+    Ends None answers = EndsUnasked (answers [])
+    Ends (Some limit) answers = (input : List ℕ) × EndsAsked limit input (answers input)

@@ -1,5 +1,6 @@
 pub mod Status
 pub mod Line
+pub mod Call
 pub mod Reports
 pub mod VaultId
 pub mod CommandName
@@ -11,13 +12,12 @@ pub mod CommandLine
 pub mod Task
 pub mod StoredTask
 pub mod Outcome
-pub mod Run
 pub mod Found
-pub mod Fitting
 pub mod Reading
 pub mod Ending
 pub mod Program
 pub mod Drive
+pub mod Gathered
 pub mod Explained
 pub mod Embedding
 pub mod Laws

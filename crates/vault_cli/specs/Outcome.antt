@@ -1,6 +1,6 @@
 -- What a run of a request answers, as a function of the request, the password files, the salt and
 -- the input: five steps, of which the first that refuses decides. Steps 1 to 3 stand with the tasks.
-use Rattle.std.specs.Prelude.{ℕ, ◌*◌, ◌&&◌, not, Bool, List, [], Option, Some, None, is_ok, is_some, unwrap_or, Result, Ok, Err}
+use Rattle.std.specs.Prelude.{ℕ, ◌*◌, List, [], Option, Some, None, unwrap_or, Result, Ok, Err}
 use Rattle.vault_text.specs.Limits.{envelope_limit}
 use Rattle.vault_text.specs.declared.limits.TheConstants.{PLAINTEXT_LIMIT}
 use Rattle.vault_core.specs.Decryption.{decryption}
@@ -57,10 +57,17 @@ task_limit limit (Reseal secrets new salt) = envelope_limit limit
 abbrev pub text_of_request : Request → List ℕ → List ℕ
 text_of_request request input = unwrap_or request.string input
 
--- the input is asked for where steps 1 to 3 do not refuse, and there is no STRING
-abbrev pub asks_for_input : Request → List (List ℕ) → List ℕ → Bool
-asks_for_input request contents salt =
-    is_ok (prepared request contents salt) && not (is_some request.string)
+-- the STRING where there is one, or else the input, unless that cannot be read
+abbrev pub text_or : Option (List ℕ) → Result (List ℕ) Fault → Result (List ℕ) Fault
+text_or (Some string) input = Ok string
+text_or None input = input
+
+-- the input is asked for where steps 1 to 3 do not refuse, and there is no STRING: up to the limit and
+-- one byte more
+abbrev pub asked_for : Result Task Fault → Option (List ℕ) → ℕ → Option ℕ
+asked_for (Err fault) string limit = None
+asked_for (Ok task) (Some string) limit = None
+asked_for (Ok task) None limit = Some limit
 
 -- steps 4 and 5: the length of the text, and what becomes of it
 abbrev pub performed : ℕ → Task → List ℕ → Result Ready Fault
@@ -68,11 +75,22 @@ performed limit (Seal secrets place form salt) text = encryption limit secrets p
 performed limit (Open secrets) text = decryption limit secrets text
 performed limit (Reseal secrets new salt) text = rekeying limit secrets new salt text
 
--- all five steps, where so much plaintext is encrypted
+-- all five steps, where so much plaintext is encrypted: the task that steps 1 to 3 prepare, and the
+-- text that it is performed on
+abbrev pub ready_by : ℕ → Result Task Fault → Option (List ℕ) → Result (List ℕ) Fault → Result Ready Fault
+ready_by limit prepares string input = do
+  task ← prepares
+  text ← text_or string input
+  performed limit task text
+
+-- how much of the input a request asks for
+abbrev pub input_asked : ℕ → Request → List (List ℕ) → List ℕ → Option ℕ
+input_asked limit request contents salt =
+    asked_for (prepared request contents salt) request.string (input_limit limit request.command)
+
 unfoldable pub outcome_within : ℕ → Request → List (List ℕ) → List ℕ → List ℕ → Outcome
-outcome_within limit request contents salt input = answered (do
-  task ← prepared request contents salt
-  performed limit task (text_of_request request input))
+outcome_within limit request contents salt input =
+    answered (ready_by limit (prepared request contents salt) request.string (Ok input))
 
 abbrev pub outcome : Request → List (List ℕ) → List ℕ → List ℕ → Outcome
 outcome request contents salt input = outcome_within PLAINTEXT_LIMIT request contents salt input

@@ -1,19 +1,19 @@
 //! The program over files in memory.
-ghost use Rattle.std.specs.Prelude.{◌≡◌, ◌≢◌, ◌+◌, ◌≤◌, ℕ, [], drop, false, map};
+ghost use Rattle.std.specs.Prelude.{◌≡◌, ◌≢◌, [], false, map};
 ghost use Rattle.std.specs.String.{string_bytes};
 ghost use Rattle.clap.specs.Words.{fault_of};
-ghost use Rattle.vault_text.specs.Sink.{MemoryTakes};
 ghost use Rattle.vault_files.specs.Memory.{file_at};
 ghost use Rattle.vault_cli.specs.CommandLine.{vault_app};
-ghost use Rattle.vault_cli.specs.Embedding.{Embeds};
+ghost use Rattle.vault_cli.specs.Call.{sink};
+ghost use Rattle.vault_cli.specs.Embedding.{Embeds, Taken, change};
 ghost use Rattle.vault_cli.specs.Explained.{ExplainsOneOf};
-ghost use Rattle.vault_cli.specs.Program.{asked_by, files_in, program, stdin_limit};
+ghost use Rattle.vault_cli.specs.Program.{asked_by, files_in, output_path, program, stdin_asked};
 
 use crate::program::drive;
 use crate::status::Status;
 use std::alloc::Global;
 use vault_files::MemFiles;
-use vault_text::{MemSink, MemSource, Stage};
+use vault_text::{MemSink, MemSource, Sink, Stage};
 
 /// All that the program does, as `drive`, over files, an input and sinks in memory. The files that
 /// it meets are those that stand at the paths of its words, so that the words, the files and the
@@ -37,17 +37,17 @@ pub fn drive_in_memory(
     ensures answered { let texts = map string_bytes words.now in
         let found = files_in (file_at files.old.entries) (asked_by texts) in
         fault_of vault_app texts ≡ []
-        → Embeds result files.old files.new out.old out.new err.old err.new
-        (program texts found src.old.left) }
-    ensures taken { let texts = map string_bytes words.now in
-        fault_of vault_app texts ≡ []
-        → (n : ℕ) × (n ≤ stdin_limit (asked_by texts) + 1) × (src.new.left ≡ drop n src.old.left) }
+        → Embeds result (change files.old files.new) (change out.old out.new)
+        (change err.old err.new) (output_path (asked_by texts)) (program texts found src.old.left) }
+    ensures taken { let asks = asked_by (map string_bytes words.now) in
+        fault_of vault_app (map string_bytes words.now) ≡ []
+        → Taken (stdin_asked asks (files_in (file_at files.old.entries) asks))
+        (change src.old src.new) }
 
     // Others are explained, and neither a file nor the input is asked for.
     ensures explained { let kinds = fault_of vault_app (map string_bytes words.now) in
-        kinds ≢ [] → ExplainsOneOf MemoryTakes (λ s. s.stage) (λ s. s.failures)
-        MemoryTakes (λ s. s.stage) (λ s. s.failures)
-        result out.old out.new err.old err.new kinds }
+        kinds ≢ [] → ExplainsOneOf (sink ⟦<MemSink as Sink>⟧ out.old out.new)
+        (sink ⟦<MemSink as Sink>⟧ err.old err.new) result kinds }
     ensures unasked { fault_of vault_app (map string_bytes words.now) ≢ []
         → (files.new ≡ files.old) × (src.new ≡ src.old) }
 {

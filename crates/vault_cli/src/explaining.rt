@@ -5,6 +5,7 @@ ghost use Rattle.std.specs.declared.io.ErrorKind.TheVariants.{OutOfMemory};
 ghost use Rattle.clap.specs.Values.{kind_of};
 ghost use Rattle.vault_core.specs.declared.fault.Fault.TheVariants.{Memory};
 ghost use Rattle.vault_text.specs.Failures.{CountsFailure};
+ghost use Rattle.vault_cli.specs.Call.{sink};
 ghost use Rattle.vault_cli.specs.Explained.{Explains};
 ghost use Rattle.vault_cli.specs.Line.{line_of, not_text_line};
 ghost use Rattle.vault_cli.specs.Reports.{Reports};
@@ -24,10 +25,10 @@ pub fn reject_words<E: Sink>(error: &io::Error, err: &mut E) -> Status
     requires { E.stage err.old ≡ Stage.Unbegun }
     ensures memory { error_kind error.now ≡ OutOfMemory
         → (result ≡ Status.OutOfMemory)
-        × Reports E.takes E.stage E.failures err.old (line_of Memory) err.new }
+        × Reports (sink E.Sink err.old err.new) (line_of Memory) }
     ensures no_text { error_kind error.now ≢ OutOfMemory
         → (result ≡ Status.ParseFault)
-        × Reports E.takes E.stage E.failures err.old not_text_line err.new }
+        × Reports (sink E.Sink err.old err.new) not_text_line }
 {
     if matches!(error.kind(), io::ErrorKind::OutOfMemory) {
         return report(Fault::Memory, err);
@@ -45,8 +46,8 @@ pub(crate) fn explain<K: Sink, E: Sink>(
 ) -> Status
     requires out_unbegun { K.stage out.old ≡ Stage.Unbegun }
     requires err_unbegun { E.stage err.old ≡ Stage.Unbegun }
-    ensures explains { Explains K.takes K.stage K.failures E.takes E.stage E.failures
-        result out.old out.new err.old err.new (kind_of error.now) }
+    ensures explains { Explains (sink K.Sink out.old out.new) (sink E.Sink err.old err.new)
+        result (kind_of error.now) }
 {
     if matches!(error.kind(), ErrorKind::OutOfMemory) {
         return report(Fault::Memory, err);

@@ -4,10 +4,11 @@ ghost use Rattle.std.specs.Prelude.{map, unwrap_or, is_some, IsTrue};
 ghost use Rattle.vault_core.specs.Input.{IsWhole};
 ghost use Rattle.vault_text.specs.Limits.{IsWorkLength, limit_of};
 ghost use Rattle.vault_text.specs.declared.limits.TheConstants.{PLAINTEXT_LIMIT};
-ghost use Rattle.vault_cli.specs.Fitting.{RunsWithin};
-ghost use Rattle.vault_cli.specs.Outcome.{asks_for_input, performed, task_limit, text_of_request};
+ghost use Rattle.vault_cli.specs.Call.{sink, source};
+ghost use Rattle.vault_cli.specs.Ending.{Ends, to_sink};
+ghost use Rattle.vault_cli.specs.Outcome.{input_asked, outcome, performed, task_limit};
+ghost use Rattle.vault_cli.specs.Outcome.{text_of_request};
 ghost use Rattle.vault_cli.specs.Reading.{UnlessOutOfMemory};
-ghost use Rattle.vault_cli.specs.Reports.{Says};
 ghost use Rattle.vault_cli.specs.Request.{files_of};
 ghost use Rattle.vault_cli.specs.StoredTask.{task_in};
 ghost use Rattle.vault_cli.specs.Task.{HasPlace};
@@ -75,12 +76,11 @@ pub(crate) fn run_fitting<S: Source, K: Sink, E: Sink>(
     requires files { length secret_files.now ≡ length (files_of request.now) }
     requires out_unbegun { K.stage out.old ≡ Stage.Unbegun }
     requires err_unbegun { E.stage err.old ≡ Stage.Unbegun }
-    ensures runs { RunsWithin S.gives S.ended S.failures K.takes K.stage K.failures
-        (Says E.takes E.stage E.failures)
-        PLAINTEXT_LIMIT request.now (map (λ file. file.items) secret_files.now) salt.now
-        result src.old src.new out.old out.new err.old err.new }
-    ensures unread { let contents = map (λ file. file.items) secret_files.now in
-        asks_for_input request.now contents salt.now ≡ false → src.new ≡ src.old }
+    ensures ends { let contents = map (λ file. file.items) secret_files.now in
+        Ends (to_sink (sink K.Sink out.old out.new)) (sink E.Sink err.old err.new) result
+        (source S.Source src.old src.new)
+        (input_asked PLAINTEXT_LIMIT request.now contents salt.now)
+        (outcome request.now contents salt.now) }
 {
     let task = match prepare(request, secret_files, salt) {
         Ok(task) => task,

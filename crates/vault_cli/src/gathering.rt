@@ -2,8 +2,8 @@
 ghost use Rattle.std.specs.Prelude.{◌≡◌, ◌≢◌, Ok, Err, IfOk, IfErr, length, map, vec_len};
 ghost use Rattle.vault_core.specs.declared.fault.Fault.TheVariants.{CannotOpen};
 ghost use Rattle.vault_core.specs.declared.fault.Role.TheVariants.{Input};
-ghost use Rattle.vault_cli.specs.Found.{ContentsMet, FrontMet, IsMissing, IsOpened, SaltMet};
 ghost use Rattle.vault_cli.specs.Found.{fault_in, secret_paths};
+ghost use Rattle.vault_cli.specs.Gathered.{ContentsMet, FrontMet, IsMissing, IsOpened, SaltMet};
 ghost use Rattle.vault_cli.specs.Request.{files_of};
 
 use crate::limits::SEALING_SALT_LENGTH;

@@ -2,13 +2,16 @@
 ghost use Rattle.std.specs.Prelude.{◌≡◌, ◌≢◌, [], Ok, Some, IfErr, IfOk, length, map, vec_len};
 ghost use Rattle.std.specs.String.{string_bytes};
 ghost use Rattle.clap.specs.Words.{fault_of, subcommand_rows_of};
+ghost use Rattle.vault_text.specs.declared.limits.TheConstants.{PLAINTEXT_LIMIT};
+ghost use Rattle.vault_cli.specs.Call.{sink, source, store};
 ghost use Rattle.vault_cli.specs.CommandLine.{vault_app};
 ghost use Rattle.vault_cli.specs.Drive.{Drives};
-ghost use Rattle.vault_cli.specs.Ending.{Sends};
+ghost use Rattle.vault_cli.specs.Ending.{Ends, to_path};
 ghost use Rattle.vault_cli.specs.Explained.{ExplainsOneOf};
-ghost use Rattle.vault_cli.specs.Found.{ContentsMet, IsOpened, SaltMet, secret_paths};
-ghost use Rattle.vault_cli.specs.Program.{RefusedBy, answer_to, asked_by, program};
-ghost use Rattle.vault_cli.specs.Reports.{Says};
+ghost use Rattle.vault_cli.specs.Found.{secret_paths};
+ghost use Rattle.vault_cli.specs.Gathered.{ContentsMet, IsOpened, RefusedBy, SaltMet};
+ghost use Rattle.vault_cli.specs.Outcome.{input_asked, outcome};
+ghost use Rattle.vault_cli.specs.Program.{answer_to, asked_by, program};
 ghost use Rattle.vault_cli.specs.Request.{files_of};
 ghost use Rattle.vault_cli.specs.Settled.{asked};
 
@@ -45,15 +48,14 @@ pub fn drive<F: FileSystem, S: Source, K: Sink, E: Sink>(
     // Words that parse are answered as the program says.
     ensures answered { let texts = map string_bytes words.now in
         fault_of vault_app texts ≡ []
-        → Drives F.meets F.aimed F.takes F.stage F.failures S.gives S.ended S.failures
-        K.takes K.stage K.failures (Says E.takes E.stage E.failures)
-        (asked_by texts) (program texts)
-        result files.old files.new src.old src.new out.old out.new err.old err.new }
+        → Drives (store F.FileSystem files.old files.new) (source S.Source src.old src.new)
+        (sink K.Sink out.old out.new) (sink E.Sink err.old err.new) result
+        (asked_by texts) (program texts) }
 
     // Others are explained, and neither a file nor the input is asked for.
     ensures explained { let kinds = fault_of vault_app (map string_bytes words.now) in
-        kinds ≢ [] → ExplainsOneOf K.takes K.stage K.failures E.takes E.stage E.failures
-        result out.old out.new err.old err.new kinds }
+        kinds ≢ [] → ExplainsOneOf (sink K.Sink out.old out.new) (sink E.Sink err.old err.new)
+        result kinds }
     ensures unasked { fault_of vault_app (map string_bytes words.now) ≢ []
         → (files.new ≡ files.old) × (src.new ≡ src.old) }
 {
@@ -76,9 +78,9 @@ fn carry_out<F: FileSystem, S: Source, K: Sink, E: Sink>(
     requires out_unbegun { K.stage out.old ≡ Stage.Unbegun }
     requires err_unbegun { E.stage err.old ≡ Stage.Unbegun }
     ensures drives { let asked = asked (subcommand_rows_of matches.now) in
-        Drives F.meets F.aimed F.takes F.stage F.failures S.gives S.ended S.failures
-        K.takes K.stage K.failures (Says E.takes E.stage E.failures) asked (answer_to asked)
-        result files.old files.new src.old src.new out.old out.new err.old err.new }
+        Drives (store F.FileSystem files.old files.new) (source S.Source src.old src.new)
+        (sink K.Sink out.old out.new) (sink E.Sink err.old err.new) result
+        asked (answer_to asked) }
 {
     if !has_command(matches) {
         return Status::ParseFault;
@@ -139,9 +141,9 @@ fn answer<F: FileSystem, S: Source, K: Sink, E: Sink>(
     requires out_unbegun { K.stage out.old ≡ Stage.Unbegun }
     requires err_unbegun { E.stage err.old ≡ Stage.Unbegun }
     ensures drives { let asked = Some (Ok request.now) in
-        Drives F.meets F.aimed F.takes F.stage F.failures S.gives S.ended S.failures
-        K.takes K.stage K.failures (Says E.takes E.stage E.failures) asked (answer_to asked)
-        result files.old files.new src.old src.new out.old out.new err.old err.new }
+        Drives (store F.FileSystem files.old files.new) (source S.Source src.old src.new)
+        (sink K.Sink out.old out.new) (sink E.Sink err.old err.new) result
+        asked (answer_to asked) }
 {
     let found = match gather(files, alloc, request) {
         Ok(found) => found,
@@ -184,10 +186,12 @@ fn send<F: FileSystem, S: Source, K: Sink, E: Sink>(
     requires files_unbegun { F.stage files.old ≡ Stage.Unbegun }
     requires out_unbegun { K.stage out.old ≡ Stage.Unbegun }
     requires err_unbegun { E.stage err.old ≡ Stage.Unbegun }
-    ensures sends { Sends F.aimed F.takes F.stage F.failures K.takes K.stage K.failures
-        request.now.output files.old files.new out.old out.new
-        (Says E.takes E.stage E.failures) result err.old err.new S.gives S.ended S.failures
-        request.now (map (λ file. file.items) secret_files.now) salt.now src.old src.new }
+    ensures ends { let contents = map (λ file. file.items) secret_files.now in
+        let files = store F.FileSystem files.old files.new in
+        Ends (to_path request.now.output files (sink K.Sink out.old out.new))
+        (sink E.Sink err.old err.new) result (source S.Source src.old src.new)
+        (input_asked PLAINTEXT_LIMIT request.now contents salt.now)
+        (outcome request.now contents salt.now) }
 {
     let Some(path) = request.output() else {
         return run_fitting(alloc, request, secret_files, salt, src, out, err);

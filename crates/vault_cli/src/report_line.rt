@@ -1,6 +1,7 @@
 //! The one line on standard error that says why a run was refused.
 ghost use Rattle.std.specs.Prelude.{◌≡◌, ◌++◌, ◌∷◌, [], ℕ, take, OnOk, codes};
 ghost use Rattle.vault_text.specs.Failures.{CountsFailure};
+ghost use Rattle.vault_cli.specs.Call.{sink};
 ghost use Rattle.vault_cli.specs.Line.{line_of};
 ghost use Rattle.vault_cli.specs.Status.{status_of};
 ghost use Rattle.vault_cli.specs.Reports.{Reports};
@@ -14,7 +15,7 @@ use vault_text::{Sink, SinkFailed, Stage, put_all};
 pub fn report<E: Sink>(fault: Fault, err: &mut E) -> Status
     requires { E.stage err.old ≡ Stage.Unbegun }
     ensures status { result ≡ status_of fault }
-    ensures line { Reports E.takes E.stage E.failures err.old (line_of fault) err.new }
+    ensures line { Reports (sink E.Sink err.old err.new) (line_of fault) }
 {
     let _ = put_line(fault, err);
     status_of(fault)

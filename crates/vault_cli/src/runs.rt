@@ -5,12 +5,13 @@ ghost use Rattle.vault_text.specs.Failures.{HasRisen};
 ghost use Rattle.vault_core.specs.Input.{IsWhole, UnlessUnreadable};
 ghost use Rattle.vault_text.specs.Limits.{IsWorkLength, limit_of};
 ghost use Rattle.vault_core.specs.declared.fault.Fault.TheVariants.{Write};
+ghost use Rattle.vault_cli.specs.Call.{sink, source};
+ghost use Rattle.vault_cli.specs.Ending.{Ends, to_sink};
 ghost use Rattle.vault_cli.specs.Line.{line_of};
-ghost use Rattle.vault_cli.specs.Outcome.{asks_for_input, input_limit, outcome_within};
+ghost use Rattle.vault_cli.specs.Outcome.{input_asked, outcome_within};
 ghost use Rattle.vault_cli.specs.Outcome.{performed, task_limit, text_of_request};
-ghost use Rattle.vault_cli.specs.Reports.{Reports, Says};
+ghost use Rattle.vault_cli.specs.Reports.{Reports};
 ghost use Rattle.vault_cli.specs.Request.{files_of};
-ghost use Rattle.vault_cli.specs.Run.{Ends};
 ghost use Rattle.vault_cli.specs.StoredTask.{task_in};
 ghost use Rattle.vault_cli.specs.Task.{HasPlace};
 
@@ -57,7 +58,7 @@ pub(crate) fn deliver<K: Sink, E: Sink>(ready: Ready<'_>, out: &mut K, err: &mut
     ensures intact { result ≢ Status.DeviceFailed → K.failures out.new ≡ K.failures out.old }
     ensures failed { result ≡ Status.DeviceFailed
         → HasRisen (K.failures out.old) (K.failures out.new)
-        × Reports E.takes E.stage E.failures err.old (line_of Write) err.new }
+        × Reports (sink E.Sink err.old err.new) (line_of Write) }
     ensures prefix { (n : ℕ) × K.takes out.old (take n ready.entry.output) out.new }
 {
     match ready.write_to(out) {
@@ -85,21 +86,14 @@ pub fn run<'r, S: Source, K: Sink, E: Sink>(
     requires out_unbegun { K.stage out.old ≡ Stage.Unbegun }
     requires err_unbegun { E.stage err.old ≡ Stage.Unbegun }
 
-    // What the source gave decides all, unless a device fails.
+    // What the source gave decides all, unless a device fails; it is left alone where the passwords,
+    // the secret or the salt are refused, and where there is a STRING.
     ensures ends { let contents = map (λ file. file.items) secret_files.now in
         let limit = limit_of (length work.old) in
-        let bound = input_limit limit request.now.command in
-        (input : List ℕ) × S.gives src.old input src.new × (length input ≤ bound + 1)
-        × Ends S.ended S.failures K.takes K.stage K.failures (Says E.takes E.stage E.failures)
-        (asks_for_input request.now contents salt.now) bound input
-        (outcome_within limit request.now contents salt.now input)
-        result src.old src.new out.old out.new err.old err.new }
+        Ends (to_sink (sink K.Sink out.old out.new)) (sink E.Sink err.old err.new) result
+        (source S.Source src.old src.new) (input_asked limit request.now contents salt.now)
+        (outcome_within limit request.now contents salt.now) }
     ensures memory_suffices { result ≢ Status.OutOfMemory }
-
-    // The source is left alone where the passwords, the secret or the salt are refused, and where
-    // there is a STRING.
-    ensures unread { let contents = map (λ file. file.items) secret_files.now in
-        asks_for_input request.now contents salt.now ≡ false → src.new ≡ src.old }
 {
     let task = match prepare(request, secret_files, salt) {
         Ok(task) => task,

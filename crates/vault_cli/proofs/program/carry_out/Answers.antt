@@ -3,28 +3,27 @@ use Rattle.std.specs.Box.{box_value}
 use Rattle.clap.specs.Words.{found_of, rows_of, subcommand_rows_of}
 use Rattle.clap.specs.declared.parser.matches.ArgMatches.{out-ArgMatches}
 use Rattle.clap.specs.declared.parser.matches.SubCommand.{out-SubCommand}
-use Rattle.vault_cli.specs.Reports.{Says}
+use Rattle.vault_cli.specs.Call.{sink, source}
 use Rattle.vault_cli.specs.Settled.{asked}
 use Rattle.vault_cli.proofs.DriveFacts.{command-asked, drives-nothing, drives-settled, drives-unsettled}
+use Rattle.vault_cli.proofs.EndingFacts.{store_between}
 use Rattle.vault_cli.proofs.program.carry_out.Goals as goal
 
 pub returns-then-not-has_command : goal.returns-then-not-has_command
 returns-then-not-has_command g c = record {
-  drives = drives-nothing g.F.FileSystem.meets g.F.FileSystem.aimed g.F.Sink.takes g.F.Sink.stage g.F.Sink.failures
-      g.S.Source.gives g.S.Source.ended g.S.Source.failures g.K.Sink.takes g.K.Sink.stage g.K.Sink.failures
-      (Says g.E.Sink.takes g.E.Sink.stage g.E.Sink.failures) _ c.args.files.now c.args.files.now
-      c.args.src.now c.args.src.now c.args.out.now c.args.out.now c.args.err.now c.args.err.now
-      c.requires.files_unbegun refl refl refl (g.met.S.Source.gives_none c.args.src.now) (asked (subcommand_rows_of c.args.matches.now))
+  drives = drives-nothing (store_between g.F.Sink g.F.FileSystem c.args.files.now c.args.files.now)
+      (source g.S.Source c.args.src.now c.args.src.now) (sink g.K.Sink c.args.out.now c.args.out.now)
+      (sink g.E.Sink c.args.err.now c.args.err.now) _ c.requires.files_unbegun refl refl refl
+      (asked (subcommand_rows_of c.args.matches.now))
       (sym (command-asked (λ b. (out-SubCommand (box_value b)).name.now) (λ b. rows_of (found_of (out-SubCommand (box_value b)).matches))
       (out-ArgMatches c.args.matches.now).subcommand) ∙ sym c.if-not-has_command.ensures) refl refl;
 }
 
 pub returns-in-Ok : goal.returns-in-Ok
 returns-in-Ok g c = record {
-  drives = drives-settled g.F.FileSystem.meets g.F.FileSystem.aimed g.F.Sink.takes g.F.Sink.stage g.F.Sink.failures
-      g.S.Source.gives g.S.Source.ended g.S.Source.failures g.K.Sink.takes g.K.Sink.stage g.K.Sink.failures
-      (Says g.E.Sink.takes g.E.Sink.stage g.E.Sink.failures) c.answer.result c.args.files.now c.answer.new.files
-      c.args.src.now c.answer.new.src c.args.out.now c.answer.new.out c.args.err.now c.answer.new.err
+  drives = drives-settled (store_between g.F.Sink g.F.FileSystem c.args.files.now c.answer.new.files)
+      (source g.S.Source c.args.src.now c.answer.new.src) (sink g.K.Sink c.args.out.now c.answer.new.out)
+      (sink g.E.Sink c.args.err.now c.answer.new.err) c.answer.result
       (asked (subcommand_rows_of c.args.matches.now)) c.in-Ok.request
       (sym (command-asked (λ b. (out-SubCommand (box_value b)).name.now) (λ b. rows_of (found_of (out-SubCommand (box_value b)).matches))
       (out-ArgMatches c.args.matches.now).subcommand) ∙ sym c.if-not-has_command.ensures)
@@ -33,11 +32,10 @@ returns-in-Ok g c = record {
 
 pub returns-in-Err : goal.returns-in-Err
 returns-in-Err g c = record {
-  drives = drives-unsettled g.F.FileSystem.meets g.F.FileSystem.aimed g.F.Sink.takes g.F.Sink.stage g.F.Sink.failures
-      g.S.Source.gives g.S.Source.ended g.S.Source.failures g.K.Sink.takes g.K.Sink.stage g.K.Sink.failures
-      (Says g.E.Sink.takes g.E.Sink.stage g.E.Sink.failures) c.report.result c.args.files.now c.args.files.now
-      c.args.src.now c.args.src.now c.args.out.now c.args.out.now c.args.err.now c.report.new.err
-      c.requires.files_unbegun refl refl refl (g.met.S.Source.gives_none c.args.src.now) (g.met.F.FileSystem.meets_some c.args.files.now)
+  drives = drives-unsettled (store_between g.F.Sink g.F.FileSystem c.args.files.now c.args.files.now)
+      (source g.S.Source c.args.src.now c.args.src.now) (sink g.K.Sink c.args.out.now c.args.out.now)
+      (sink g.E.Sink c.args.err.now c.report.new.err) c.report.result c.requires.files_unbegun refl refl refl
+      (g.met.S.Source.gives_none c.args.src.now) (g.met.F.FileSystem.meets_some c.args.files.now)
       (asked (subcommand_rows_of c.args.matches.now)) c.in-Err.fault
       (sym (command-asked (λ b. (out-SubCommand (box_value b)).name.now) (λ b. rows_of (found_of (out-SubCommand (box_value b)).matches))
       (out-ArgMatches c.args.matches.now).subcommand) ∙ sym c.if-not-has_command.ensures)

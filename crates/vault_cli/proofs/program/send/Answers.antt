@@ -1,42 +1,49 @@
-use Rattle.std.proofs.Common.{arith, map, inl, [], refl, sym, ap, ◌∙◌}
+use Rattle.std.proofs.Common.{◌∙◌, ap, map, refl, sym}
 use Rattle.std.specs.Option.{option_map}
-use Rattle.vault_cli.specs.Reports.{Says}
+use Rattle.vault_text.specs.declared.limits.TheConstants.{PLAINTEXT_LIMIT}
+use Rattle.vault_cli.specs.Call.{sink, source}
+use Rattle.vault_cli.specs.Ending.{to_path}
+use Rattle.vault_cli.specs.Outcome.{input_asked, outcome}
 use Rattle.vault_cli.specs.Status.{status_of}
-use Rattle.vault_cli.proofs.EndingFacts.{sends-file, sends-out}
+use Rattle.vault_cli.proofs.EndingFacts.{alone-memory, ends-file, ends-memory, ends-out, store_between}
 use Rattle.vault_cli.proofs.program.send.Goals as goal
 
 pub returns-in_default : goal.returns-in_default
-returns-in_default g c = record {
-  sends = sends-out g.F.FileSystem.aimed g.F.Sink.takes g.F.Sink.stage g.F.Sink.failures
-      g.K.Sink.takes g.K.Sink.stage g.K.Sink.failures (Says g.E.Sink.takes g.E.Sink.stage g.E.Sink.failures)
-      c.run_fitting.result c.args.err.now c.run_fitting.new.err g.S.Source.gives g.S.Source.ended g.S.Source.failures
-      c.args.request.now (map (λ file. file.items) c.args.secret_files.now) c.args.salt.now c.args.src.now c.run_fitting.new.src
-      c.args.request.now.output c.args.files.now c.args.out.now c.run_fitting.new.out
-      c.requires.files_unbegun (sym (ap (option_map (λ path. path.now)) c.in_default.is) ∙ c.output.ensures) c.run_fitting.ensures.runs;
-}
+returns-in_default g c =
+    let request = c.args.request.now in
+    let contents = map (λ file. file.items) c.args.secret_files.now in
+    record {
+      ends = ends-out (store_between g.F.Sink g.F.FileSystem c.args.files.now c.args.files.now)
+          (sink g.K.Sink c.args.out.now c.run_fitting.new.out) (sink g.E.Sink c.args.err.now c.run_fitting.new.err)
+          c.run_fitting.result (source g.S.Source c.args.src.now c.run_fitting.new.src)
+          (input_asked PLAINTEXT_LIMIT request contents c.args.salt.now) (outcome request contents c.args.salt.now) request.output
+          (sym (ap (option_map (λ path. path.now)) c.in_default.is) ∙ c.output.ensures) refl c.run_fitting.ensures.ends;
+    }
 
 pub returns-in-Ok : goal.returns-in-Ok
-returns-in-Ok g c = record {
-  sends = sends-file g.F.FileSystem.aimed g.F.Sink.takes g.F.Sink.stage g.F.Sink.failures
-      g.K.Sink.takes g.K.Sink.stage g.K.Sink.failures (Says g.E.Sink.takes g.E.Sink.stage g.E.Sink.failures)
-      c.run_fitting-in-Ok.result c.args.err.now c.run_fitting-in-Ok.new.err g.S.Source.gives g.S.Source.ended g.S.Source.failures
-      c.args.request.now (map (λ file. file.items) c.args.secret_files.now) c.args.salt.now c.args.src.now c.run_fitting-in-Ok.new.src
-      c.args.request.now.output c.in-Some.path.now c.args.files.now c.aim.new.self c.run_fitting-in-Ok.new.out c.args.out.now
-      c.in-Ok.ensures.unbegun (sym (ap (option_map (λ path. path.now)) c.in-Some.is) ∙ c.output.ensures)
-      c.in-Ok.ensures.aimed c.in-Ok.ensures.failures c.run_fitting-in-Ok.ensures.runs;
-}
+returns-in-Ok g c =
+    let request = c.args.request.now in
+    let contents = map (λ file. file.items) c.args.secret_files.now in
+    record {
+      ends = ends-file (store_between g.F.Sink g.F.FileSystem c.args.files.now c.run_fitting-in-Ok.new.out)
+          (sink g.K.Sink c.args.out.now c.args.out.now) (sink g.E.Sink c.args.err.now c.run_fitting-in-Ok.new.err)
+          c.run_fitting-in-Ok.result (source g.S.Source c.args.src.now c.run_fitting-in-Ok.new.src)
+          (input_asked PLAINTEXT_LIMIT request contents c.args.salt.now) (outcome request contents c.args.salt.now) request.output
+          c.in-Some.path.now c.aim.new.self (sym (ap (option_map (λ path. path.now)) c.in-Some.is) ∙ c.output.ensures)
+          c.in-Ok.ensures.aimed c.in-Ok.ensures.unbegun c.in-Ok.ensures.failures refl c.run_fitting-in-Ok.ensures.ends;
+    }
 
 pub returns-in-Err : goal.returns-in-Err
-returns-in-Err g c = record {
-  sends = (
-    [],
-    g.met.S.Source.gives_none c.args.src.now,
-    omega arith,
-    inl (record {
-      status = c.report.ensures.status ∙ ap status_of c.from.ensures;
-      failures = (refl, c.in-Err.ensures.failures);
-      output = (refl, c.in-Err.ensures.unbegun, inl c.in-Err.ensures.refused);
-      line = rw c.from.ensures at c.report.ensures.line;
-    }),
-  );
-}
+returns-in-Err g c =
+    let request = c.args.request.now in
+    let contents = map (λ file. file.items) c.args.secret_files.now in
+    let files = store_between g.F.Sink g.F.FileSystem c.args.files.now c.aim.new.self in
+    let out = sink g.K.Sink c.args.out.now c.args.out.now in
+    let err = sink g.E.Sink c.args.err.now c.report.new.err in
+    record {
+      ends = ends-memory (to_path request.output files out) err c.report.result (source g.S.Source c.args.src.now c.args.src.now)
+          (input_asked PLAINTEXT_LIMIT request contents c.args.salt.now) (outcome request contents c.args.salt.now)
+          refl (g.met.S.Source.gives_none c.args.src.now)
+          (alone-memory files out c.requires.files_unbegun c.in-Err.ensures.refused refl err c.report.result request.output
+          (c.report.ensures.status ∙ ap status_of c.from.ensures) (rw c.from.ensures at c.report.ensures.line));
+    }

@@ -1,0 +1,55 @@
+-- Calls over a device: what its trait says of it, and the device before and after.
+use Rattle.std.specs.Prelude.{ℕ, List}
+use Rattle.vault_text.specs.declared.sink.Sink.{Ghosts as SinkTerms}
+use Rattle.vault_text.specs.declared.sink.Stage.{Stage}
+use Rattle.vault_text.specs.declared.source.Source.{Ghosts as SourceTerms}
+use Rattle.vault_files.specs.File.{File}
+use Rattle.vault_files.specs.declared.file_system.FileSystem.{Ghosts as StoreTerms}
+
+-- over a source
+pub record SourceCall (S : Type 0) : Type 1 where
+  pub terms : SourceTerms S
+  pub open terms use *
+  pub old : S
+  pub new : S
+
+-- over a sink
+pub record SinkCall (K : Type 0) : Type 1 where
+  pub terms : SinkTerms K
+  pub open terms use *
+  pub old : K
+  pub new : K
+
+-- over a store of files, which is the sink of its output
+pub record StoreCall (F R : Type 0) : Type 1 where
+  pub output : SinkTerms F
+  pub open output use *
+  pub terms : StoreTerms F R
+  pub open terms use *
+  pub old : F
+  pub new : F
+
+abbrev pub source : {S : Type 0} → SourceTerms S → S → S → SourceCall S
+source terms old new = record { terms = terms; old = old; new = new }
+
+abbrev pub sink : {K : Type 0} → SinkTerms K → K → K → SinkCall K
+sink terms old new = record { terms = terms; old = old; new = new }
+
+-- what a clause knows of a store: the terms of a sink, then its own
+abbrev pub StoreMembers : Type 0 → Type 0 → Type 1
+StoreMembers F R = record {
+  takes : F → List ℕ → F → Type 0;
+  stage : F → Stage;
+  failures : F → ℕ;
+  meets : F → List ℕ → File → Type 0;
+  opened : F → List ℕ → R → Type 0;
+  aimed : F → List ℕ → F → Type 0;
+}
+
+abbrev pub store : {F R : Type 0} → StoreMembers F R → F → F → StoreCall F R
+store members old new = record {
+  output = record { takes = members.takes; stage = members.stage; failures = members.failures };
+  terms = record { meets = members.meets; opened = members.opened; aimed = members.aimed };
+  old = old;
+  new = new;
+}

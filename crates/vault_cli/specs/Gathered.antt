@@ -1,0 +1,42 @@
+-- What gathering the files of a request answers, of files that may be met at its paths.
+use Rattle.std.specs.Prelude.{◌≡◌, ℕ, List, [], Option, Some, None, Result, Ok, Err}
+use Rattle.vault_core.specs.declared.fault.Fault.{Fault}
+use Rattle.vault_core.specs.declared.fault.Role.{Role}
+use Rattle.vault_core.specs.declared.fault.Role.TheVariants.{Salt}
+use Rattle.vault_files.specs.File.{File, Met}
+use Rattle.vault_files.specs.File.File.{Missing}
+use Rattle.vault_cli.specs.Drive.{AllMet}
+use Rattle.vault_cli.specs.Found.{contents_of, front_in}
+use Rattle.vault_cli.specs.Program.{Files, task_over}
+use Rattle.vault_cli.specs.Request.{Request}
+use Rattle.vault_cli.specs.declared.limits.TheConstants.{SEALING_SALT_LENGTH}
+
+-- a file that may be met gives this answer
+abbrev pub FrontMet : (File → Type 0) → Role → ℕ → Result (List ℕ) Fault → Type 0
+FrontMet meets role limit answer = (file : File) × meets file × (front_in role limit file ≡ answer)
+
+-- password files that may be met at the paths give this answer
+abbrev pub ContentsMet : (List ℕ → File → Type 0) → List (List ℕ) → Result (List (List ℕ)) Fault → Type 0
+ContentsMet meets paths answer = (files : List File) × Met meets paths files × (contents_of files ≡ answer)
+
+-- the salt file that may be met at a path, where there is one, gives this answer
+abbrev pub SaltMet : (List ℕ → File → Type 0) → Option (List ℕ) → Result (List ℕ) Fault → Type 0
+SaltMet meets None answer = answer ≡ Ok []
+SaltMet meets (Some path) answer = FrontMet (meets path) Salt SEALING_SALT_LENGTH answer
+
+-- a file was opened at a path, where there is one
+abbrev pub IsOpened : {R : Type 0} → (List ℕ → R → Type 0) → Option (List ℕ) → Option R → Type 0
+IsOpened opened None None = Unit {0}
+IsOpened opened None (Some reader) = ⊥
+IsOpened opened (Some path) None = ⊥
+IsOpened opened (Some path) (Some reader) = opened path reader
+
+-- there is a path, and no file that can be opened there
+abbrev pub IsMissing : (List ℕ → File → Type 0) → Option (List ℕ) → Type 0
+IsMissing meets None = ⊥
+IsMissing meets (Some path) = meets path Missing
+
+-- files that may be met at the paths of a request refuse it
+abbrev pub RefusedBy : (List ℕ → File → Type 0) → Request → Fault → Type 0
+RefusedBy meets request fault =
+    (files : Files) × AllMet meets (Some (Ok request)) files × (task_over request files ≡ Err fault)
