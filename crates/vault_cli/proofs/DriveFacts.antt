@@ -1,5 +1,5 @@
 -- From what was sent, and from the files that were met, to how the program ends.
-use Rattle.std.proofs.Common.{◌≡◌, ◌≢◌, ℕ, ◌+◌, ◌<◌, ◌≤◌, ◌⊎◌, inl, inr, List, [], true, false, Option, Some, None, Result, Ok, Err, IsTrue, length, arith, refl, sym, ap, ◌∙◌, subst}
+use Rattle.std.proofs.Common.{◌≡◌, ℕ, ◌+◌, ◌<◌, ◌≤◌, ◌⊎◌, inl, inr, List, [], true, false, Option, Some, None, Result, Ok, Err, IsTrue, length, arith, refl, sym, ap, ◌∙◌, subst}
 use Rattle.std.specs.Prelude.{IfSome, is_some, option_and_then}
 use Rattle.std.specs.Option.{option_map}
 use Rattle.std.specs.Result.{result_map_both}
@@ -13,15 +13,16 @@ use Rattle.vault_files.specs.declared.fault.FileFault.TheVariants.{CannotRead}
 use Rattle.vault_core.specs.declared.fault.Fault.{Fault}
 use Rattle.vault_core.specs.declared.fault.Fault.TheVariants.{Memory, Read}
 use Rattle.vault_core.specs.declared.fault.Role.TheVariants.{Input}
-use Rattle.vault_cli.specs.Call.{SinkCall, SourceCall, StoreCall}
-use Rattle.vault_cli.specs.CommandName.{command_of}
-use Rattle.vault_cli.specs.Drive.{AllMet, Drives, OneMet}
-use Rattle.vault_cli.specs.Ending.{Ends, EndsUnasked, Finishes, LacksMemory, to_path}
-use Rattle.vault_cli.specs.Found.{fault_in, secret_paths}
+use Rattle.vault_cli.specs.Call.{SinkCall, SourceCall, StoreCall, files_from}
+use Rattle.vault_cli.specs.CommandName.{command_of, output_access}
+use Rattle.vault_cli.specs.Drive.{AllMet, Drives, EndsOver, OneMet}
+use Rattle.vault_cli.specs.Ending.{Ends, EndsUnasked, Finishes, LacksMemory, Output, to_path}
+use Rattle.vault_cli.specs.Found.{asked_paths, fault_in, secret_paths}
 use Rattle.vault_cli.specs.Gathered.{ContentsMet, IsOpened, RefusedBy, SaltMet}
 use Rattle.vault_cli.specs.Line.{line_of}
 use Rattle.vault_cli.specs.Outcome.{Outcome, answered, asked_for, input_asked, input_limit, outcome, outcome_within, ready_by, refused}
-use Rattle.vault_cli.specs.Program.{Files, answer_to, input_in, opening_of, output_path, task_over, unless_file}
+use Rattle.vault_cli.specs.Opened.{opened_of}
+use Rattle.vault_cli.specs.Program.{Files, access_of, answer_to, input_in, opening_of, output_path, task_over, unless_file}
 use Rattle.vault_cli.specs.Reports.{Says}
 use Rattle.vault_cli.specs.Request.{Request}
 use Rattle.vault_cli.specs.Settled.{Settles, asked}
@@ -31,12 +32,8 @@ use Rattle.vault_cli.specs.declared.status.Status.{Status}
 use Rattle.vault_cli.specs.declared.status.Status.TheVariants.{OutOfMemory, ParseFault}
 use Rattle.vault_cli.proofs.EndingFacts.{alone-answered, alone-memory, ends-memory}
 use Rattle.vault_cli.proofs.FoundFacts.{Met-some}
-use Rattle.vault_cli.proofs.ProgramFacts.{one-some, opening-broken, opening-read, salt-found, task-found}
+use Rattle.vault_cli.proofs.ProgramFacts.{one-some, opened-all, opening-broken, opening-read, salt-found, task-found}
 use Rattle.vault_cli.proofs.SettlingFacts.{pair_of}
-
-pub memory-or : (fault : Fault) → (fault ≡ Memory) ⊎ (fault ≡ Memory → ⊥)
-memory-or Memory = inl refl
-memory-or fault = inr (λ e. absurd cc)
 
 -- files for each request
 pub some-met : (meets : List ℕ → File → Type 0) → ((path : List ℕ) → (file : File) × meets path file)
@@ -61,11 +58,17 @@ module _ (meets : List ℕ → File → Type 0) (request : Request) (contents : 
   -- with an input file that may be met there and can be opened, or none, they prepare what the request does
   pub found-with : (input : Option File) → OneMet meets request.input input → opening_of input ≡ Ok tt
       → (found : Files) × AllMet meets (Some (Ok request)) found × (found.input ≡ input) × (task_over request found ≡ prepared request contents salt)
+      × (opened_of (Some (Ok request)) found ≡ asked_paths request)
   found-with input met opening =
       let (secrets, secrets_met, gave) = read in
       let (salt_file, salt_met, has_salt) = salt-found meets request.salt_path (Ok salt) salted in
-      let found : Files = record { secrets = secrets; salt = salt_file; input = input } in
-      (found, (secrets_met, salt_met, met), refl, task-found request found contents salt gave has_salt opening)
+      let found : Files = record { secrets = secrets; salt = salt_file; input = input } in (
+        found,
+        (secrets_met, salt_met, met),
+        refl,
+        task-found request found contents salt gave has_salt opening,
+        opened-all meets request found contents secrets_met gave salt has_salt,
+      )
 
 -- what a reader of a file gave
 module _ {R : Type 0} (meets : List ℕ → File → Type 0) (opened : List ℕ → R → Type 0) (reader : SourceCall R) where
@@ -110,163 +113,162 @@ module _ {F R S K E : Type 0} (files : StoreCall F R) (src : SourceCall S) (out 
 
   module _ (request : Request) (contents : List (List ℕ)) (salt : List ℕ)
       (read : ContentsMet (files.meets files.old) (secret_paths request) (Ok contents))
-      (salted : SaltMet (files.meets files.old) request.salt_path (Ok salt)) where
-    abbrev SentFrom : {T : Type 0} → SourceCall T → Type 0
-    SentFrom from = Ends (to_path request.output files out) err result from
-        (input_asked PLAINTEXT_LIMIT request contents salt) (outcome request contents salt)
+      (salted : SaltMet (files.meets files.old) request.salt_path (Ok salt))
+      (opened : F) (went : files.opens files.old (asked_paths request) opened) where
+    abbrev SentTo : Output
+    SentTo = to_path request.output (output_access request.command) (files_from opened files) out
 
-    -- of standard input
-    pub drives-stdin : (opened : List ℕ → R → Type 0) → IsOpened opened request.input None → SentFrom src → AskedDrives (Some (Ok request))
-    unfolding outcome_within
-    drives-stdin opened at ends =
-        let (found, met, none, same) = found-with (files.meets files.old) request contents salt read salted None
-        (unopened (files.meets files.old) opened request.input at) refl in (
+    abbrev SentFrom : {T : Type 0} → SourceCall T → Type 0
+    SentFrom from = Ends SentTo err result from (input_asked PLAINTEXT_LIMIT request contents salt) (outcome request contents salt)
+
+    -- over this input file and this task
+    abbrev EndsWith : Option File → Result Task Fault → Type 0
+    EndsWith input task = Ends SentTo err result src
+        (unless_file input (asked_for task request.string (input_limit PLAINTEXT_LIMIT request.command)))
+        (λ stdin. answered (ready_by PLAINTEXT_LIMIT task request.string (input_in (input_limit PLAINTEXT_LIMIT request.command + 1) input stdin)))
+
+    drives-with : (input : Option File) → OneMet (files.meets files.old) request.input input → opening_of input ≡ Ok tt
+        → EndsWith input (prepared request contents salt) → AskedDrives (Some (Ok request))
+    drives-with input input_met opening ends =
+        let (found, met, is, same, all) = found-with (files.meets files.old) request contents salt read salted input input_met opening in (
           found,
           met,
-          subst (λ (input : Option File). Ends (to_path request.output files out) err result src
-              (unless_file input (asked_for (task_over request found) request.string (input_limit PLAINTEXT_LIMIT request.command)))
-              (λ stdin. answered (ready_by PLAINTEXT_LIMIT (task_over request found) request.string
-              (input_in (input_limit PLAINTEXT_LIMIT request.command + 1) input stdin)))) (sym none)
-              (subst (λ (task : Result Task Fault). Ends (to_path request.output files out) err result src
-              (asked_for task request.string (input_limit PLAINTEXT_LIMIT request.command))
-              (λ stdin. answered (ready_by PLAINTEXT_LIMIT task request.string (Ok stdin)))) (sym same) ends),
+          (
+            opened,
+            (
+              inl (subst (λ (paths : List (List ℕ)). files.opens files.old paths opened) (sym all) went),
+              subst (λ (file : Option File). EndsWith file (task_over request found)) (sym is)
+                  (subst (λ (task : Result Task Fault). EndsWith input task) (sym same) ends),
+            ),
+          ),
         )
 
+    -- of standard input
+    pub drives-stdin : (reads : List ℕ → R → Type 0) → IsOpened reads request.input None → SentFrom src → AskedDrives (Some (Ok request))
+    unfolding outcome_within
+    drives-stdin reads at ends = drives-with None (unopened (files.meets files.old) reads request.input at) refl ends
+
     -- or of a file, for which standard input is left alone
-    module _ (kept : src.new ≡ src.old) where
-      file-drives : (file : File) → OneMet (files.meets files.old) request.input (Some file) → opening_of (Some file) ≡ Ok tt
-          → LacksMemory (to_path request.output files out) err result
-          ⊎ Finishes (to_path request.output files out) err result
-          (answered (ready_by PLAINTEXT_LIMIT (prepared request contents salt) request.string
-          (input_in (input_limit PLAINTEXT_LIMIT request.command + 1) (Some file) [])))
-          → AskedDrives (Some (Ok request))
-      file-drives file file_met opening ends =
-          let (found, met, is, same) = found-with (files.meets files.old) request contents salt read salted (Some file) file_met opening in (
-            found,
+    module _ (kept : src.new ≡ src.old) (reads : List ℕ → R → Type 0) (reader : SourceCall R) (at : IsOpened reads request.input (Some reader.old))
+        (none : reader.gives reader.old [] reader.old)
+        (front_law : FrontLaw (files.meets files.old) reads reader) (break_law : BreakLaw (files.meets files.old) reads reader) where
+      -- the file that was met, and the answer to it
+      abbrev FileEnds : Result Task Fault → Option (List ℕ) → Type 0
+      FileEnds prepares string = (file : File) × OneMet (files.meets files.old) request.input (Some file) × (opening_of (Some file) ≡ Ok tt)
+          × (LacksMemory SentTo err result
+          ⊎ Finishes SentTo err result
+          (answered (ready_by PLAINTEXT_LIMIT prepares string (input_in (input_limit PLAINTEXT_LIMIT request.command + 1) (Some file) []))))
+
+      abbrev FileSent : Result Task Fault → Option (List ℕ) → Type 0
+      FileSent prepares string = Ends SentTo err result reader
+          (asked_for prepares string (input_limit PLAINTEXT_LIMIT request.command))
+          (λ input. answered (ready_by PLAINTEXT_LIMIT prepares string (Ok input)))
+
+      file-ends : (prepares : Result Task Fault) (string : Option (List ℕ)) → FileSent prepares string → FileEnds prepares string
+      file-ends (Err fault) string (unread, ends) =
+          let (file, met, opening, same) = input-read (files.meets files.old) reads reader front_law request.input reader.old [] 0 at none (omega arith) (inr refl) in
+          (file, met, opening, ends)
+      file-ends (Ok task) (Some string) (unread, ends) =
+          let (file, met, opening, same) = input-read (files.meets files.old) reads reader front_law request.input reader.old [] 0 at none (omega arith) (inr refl) in
+          (file, met, opening, ends)
+      file-ends (Ok task) None (input, (given, fits, inl memory)) =
+          let (file, met, opening, same) = input-read (files.meets files.old) reads reader front_law request.input reader.old [] 0 at none (omega arith) (inr refl) in
+          (file, met, opening, inl memory)
+      file-ends (Ok task) None (input, (given, fits, inr (inl (u, short)))) =
+          let (file, met, opening, same) = input-broken (files.meets files.old) reads reader break_law request.input reader.new input
+          (input_limit PLAINTEXT_LIMIT request.command + 1) at given (omega (arith, short)) u.failed in (
+            file,
             met,
-            subst (λ (input : Option File). Ends (to_path request.output files out) err result src
-                (unless_file input (asked_for (task_over request found) request.string (input_limit PLAINTEXT_LIMIT request.command)))
-                (λ stdin. answered (ready_by PLAINTEXT_LIMIT (task_over request found) request.string
-                (input_in (input_limit PLAINTEXT_LIMIT request.command + 1) input stdin)))) (sym is) (
-                  kept,
-                  subst (λ (task : Result Task Fault). LacksMemory (to_path request.output files out) err result
-                      ⊎ Finishes (to_path request.output files out) err result
-                      (answered (ready_by PLAINTEXT_LIMIT task request.string
-                      (input_in (input_limit PLAINTEXT_LIMIT request.command + 1) (Some file) [])))) (sym same) ends,
-                ),
+            opening,
+            inr (subst (λ (text : Result (List ℕ) Fault). Finishes SentTo err result (answered (ready_by PLAINTEXT_LIMIT (Ok task) None text)))
+                (sym (same [])) (inl (record { status = u.status; unfailed = u.unfailed; output = u.output; line = u.line }))),
+          )
+      file-ends (Ok task) None (input, (given, fits, inr (inr ((stay, whole), done)))) =
+          let (file, met, opening, same) = input-read (files.meets files.old) reads reader front_law request.input reader.new input
+          (input_limit PLAINTEXT_LIMIT request.command + 1) at given fits whole in (
+            file,
+            met,
+            opening,
+            inr (subst (λ (text : Result (List ℕ) Fault). Finishes SentTo err result (answered (ready_by PLAINTEXT_LIMIT (Ok task) None text)))
+                (sym (same [])) done),
           )
 
-      module _ (opened : List ℕ → R → Type 0) (reader : SourceCall R) (at : IsOpened opened request.input (Some reader.old))
-          (none : reader.gives reader.old [] reader.old)
-          (front_law : FrontLaw (files.meets files.old) opened reader) (break_law : BreakLaw (files.meets files.old) opened reader) where
-        -- the file that was met, and the answer to it
-        abbrev FileEnds : Result Task Fault → Option (List ℕ) → Type 0
-        FileEnds prepares string = (file : File) × OneMet (files.meets files.old) request.input (Some file) × (opening_of (Some file) ≡ Ok tt)
-            × (LacksMemory (to_path request.output files out) err result
-            ⊎ Finishes (to_path request.output files out) err result
-            (answered (ready_by PLAINTEXT_LIMIT prepares string (input_in (input_limit PLAINTEXT_LIMIT request.command + 1) (Some file) []))))
-
-        abbrev FileSent : Result Task Fault → Option (List ℕ) → Type 0
-        FileSent prepares string = Ends (to_path request.output files out) err result reader
-            (asked_for prepares string (input_limit PLAINTEXT_LIMIT request.command))
-            (λ input. answered (ready_by PLAINTEXT_LIMIT prepares string (Ok input)))
-
-        file-ends : (prepares : Result Task Fault) (string : Option (List ℕ)) → FileSent prepares string → FileEnds prepares string
-        file-ends (Err fault) string (unread, ends) =
-            let (file, met, opening, same) = input-read (files.meets files.old) opened reader front_law request.input reader.old [] 0 at none (omega arith) (inr refl) in
-            (file, met, opening, ends)
-        file-ends (Ok task) (Some string) (unread, ends) =
-            let (file, met, opening, same) = input-read (files.meets files.old) opened reader front_law request.input reader.old [] 0 at none (omega arith) (inr refl) in
-            (file, met, opening, ends)
-        file-ends (Ok task) None (input, (given, fits, inl memory)) =
-            let (file, met, opening, same) = input-read (files.meets files.old) opened reader front_law request.input reader.old [] 0 at none (omega arith) (inr refl) in
-            (file, met, opening, inl memory)
-        file-ends (Ok task) None (input, (given, fits, inr (inl (u, short)))) =
-            let (file, met, opening, same) = input-broken (files.meets files.old) opened reader break_law request.input reader.new input
-            (input_limit PLAINTEXT_LIMIT request.command + 1) at given (omega (arith, short)) u.failed in (
-              file,
-              met,
-              opening,
-              inr (subst (λ (text : Result (List ℕ) Fault). Finishes (to_path request.output files out) err result
-                  (answered (ready_by PLAINTEXT_LIMIT (Ok task) None text))) (sym (same []))
-                  (inl (record { status = u.status; unfailed = u.unfailed; output = u.output; line = u.line }))),
-            )
-        file-ends (Ok task) None (input, (given, fits, inr (inr ((stay, whole), done)))) =
-            let (file, met, opening, same) = input-read (files.meets files.old) opened reader front_law request.input reader.new input
-            (input_limit PLAINTEXT_LIMIT request.command + 1) at given fits whole in (
-              file,
-              met,
-              opening,
-              inr (subst (λ (text : Result (List ℕ) Fault). Finishes (to_path request.output files out) err result
-                  (answered (ready_by PLAINTEXT_LIMIT (Ok task) None text))) (sym (same [])) done),
-            )
-
-        pub drives-file : SentFrom reader → AskedDrives (Some (Ok request))
-        unfolding outcome_within
-        drives-file sent =
-            let (file, met, opening, ends) = file-ends (prepared request contents salt) request.string sent in
-            file-drives file met opening ends
+      pub drives-file : SentFrom reader → AskedDrives (Some (Ok request))
+      unfolding outcome_within
+      drives-file sent =
+          let (file, met, opening, ends) = file-ends (prepared request contents salt) request.string sent in
+          drives-with (Some file) met opening (kept, ends)
 
   -- ---- what was answered before the output was chosen
 
-  module _ (fresh : files.stage files.old ≡ Unbegun) (same_files : files.new ≡ files.old) (same_out : out.new ≡ out.old) (kept : src.new ≡ src.old) where
+  module _ (opened : F) (fresh : files.stage opened ≡ Unbegun) (same_files : files.new ≡ opened) (same_out : out.new ≡ out.old) (kept : src.new ≡ src.old) where
     answered-alone : (asks : Option (Result Request Fault)) (answer : Outcome) → answer.output ≡ None → result ≡ answer.status → Says err answer.line
-        → EndsUnasked (to_path (output_path asks) files out) err result src answer
+        → EndsUnasked (to_path (output_path asks) (access_of asks) (files_from opened files) out) err result src answer
     answered-alone asks answer none status line =
-        (kept, inr (inl (alone-answered files out fresh same_files same_out err result (output_path asks) answer none status line)))
+        (kept, inr (inl (alone-answered (files_from opened files) out (access_of asks) fresh same_files same_out err result (output_path asks) answer none status line)))
 
-    -- there was no memory for what was asked
-    pub drives-no_memory : src.gives src.old [] src.new → ((path : List ℕ) → (file : File) × files.meets files.old path file)
-        → (asks : Option (Result Request Fault)) → result ≡ OutOfMemory → Says err (line_of Memory) → AskedDrives asks
-    drives-no_memory none some asks status line =
-        let (found, met) = some-met (files.meets files.old) some asks in (
-          found,
-          met,
-          ends-memory (to_path (output_path asks) files out) err result src _ (answer_to asks found) kept none
-              (alone-memory files out fresh same_files same_out err result (output_path asks) status line),
-        )
+    memory-alone : src.gives src.old [] src.new → (asks : Option (Result Request Fault)) (found : Files) → result ≡ OutOfMemory → Says err (line_of Memory)
+        → EndsOver files src out err result asks (answer_to asks) found opened
+    memory-alone none asks found status line =
+        ends-memory (to_path (output_path asks) (access_of asks) (files_from opened files) out) err result src _ (answer_to asks found) kept none
+        (alone-memory (files_from opened files) out (access_of asks) fresh same_files same_out err result (output_path asks) status line)
 
-    -- the files refuse it
-    pub drives-refused : src.gives src.old [] src.new → ((path : List ℕ) → (file : File) × files.meets files.old path file)
-        → (request : Request) (fault : Fault) → (fault ≢ Memory → RefusedBy (files.meets files.old) request fault)
+    -- the files refuse it, or there was no memory for them
+    pub drives-refused : src.gives src.old [] src.new → (request : Request) (fault : Fault)
+        → RefusedBy (files.meets files.old) (λ paths. files.opens files.old paths opened) request fault
         → result ≡ status_of fault → Says err (line_of fault) → AskedDrives (Some (Ok request))
-    drives-refused none some request fault refuses status line =
-        elim (memory-or fault) [
-          | inl memory ↦ drives-no_memory none some (Some (Ok request)) (status ∙ ap status_of memory) (rw memory at line)
-          | inr other ↦
-              let (found, met, refused_so) = refuses other in (
-                found,
-                met,
-                subst (λ (task : Result Task Fault). Ends (to_path request.output files out) err result src
-                    (unless_file found.input (asked_for task request.string (input_limit PLAINTEXT_LIMIT request.command)))
-                    (λ stdin. answered (ready_by PLAINTEXT_LIMIT task request.string
-                    (input_in (input_limit PLAINTEXT_LIMIT request.command + 1) found.input stdin)))) (sym refused_so)
-                    (subst (λ (limit : Option ℕ). Ends (to_path request.output files out) err result src limit (λ _. refused fault))
-                    (sym (unless_file-none found.input)) (answered-alone (Some (Ok request)) (refused fault) refl status line)),
-              )
-        ]
+    drives-refused none request fault (found, met, inr (memory, went)) status line =
+        let out_of : result ≡ OutOfMemory = status ∙ ap status_of memory in
+        (found, met, (opened, (inr (out_of, went), memory-alone none (Some (Ok request)) found out_of (rw memory at line))))
+    drives-refused none request fault (found, met, inl (refused_so, went)) status line = (
+      found,
+      met,
+      (
+        opened,
+        (
+          inl went,
+          subst (λ (task : Result Task Fault). Ends (to_path request.output (output_access request.command) (files_from opened files) out) err result src
+              (unless_file found.input (asked_for task request.string (input_limit PLAINTEXT_LIMIT request.command)))
+              (λ stdin. answered (ready_by PLAINTEXT_LIMIT task request.string
+              (input_in (input_limit PLAINTEXT_LIMIT request.command + 1) found.input stdin)))) (sym refused_so)
+              (subst (λ (limit : Option ℕ). Ends (to_path request.output (output_access request.command) (files_from opened files) out) err result src
+              limit (λ _. refused fault))
+              (sym (unless_file-none found.input)) (answered-alone (Some (Ok request)) (refused fault) refl status line)),
+        ),
+      ),
+    )
 
-    -- nothing was asked
-    pub drives-nothing : (asks : Option (Result Request Fault)) → is_some asks ≡ false → result ≡ ParseFault → Says err [] → AskedDrives asks
-    drives-nothing (Some settled) none status line = absurd (false≢true (sym none))
-    drives-nothing None none status line =
-        (record { secrets = []; salt = None; input = None }, tt, answered-alone None _ refl status line)
+    -- ---- and before any file was opened
 
-    -- the options are refused, or there was no memory for the request
-    pub drives-unsettled : src.gives src.old [] src.new → ((path : List ℕ) → (file : File) × files.meets files.old path file)
-        → (asks : Option (Result Request Fault)) (fault : Fault) → is_some asks ≡ true → IfSome asks (λ settled. Settles settled (Err fault))
-        → result ≡ status_of fault → Says err (line_of fault) → AskedDrives asks
-    drives-unsettled none some None fault is settles status line = absurd (false≢true is)
-    drives-unsettled none some (Some (Ok request)) fault is (inl e) status line = absurd cc
-    drives-unsettled none some (Some (Ok request)) fault is (inr e) status line =
-        let memory : fault ≡ Memory = cc in
-        drives-no_memory none some (Some (Ok request)) (status ∙ ap status_of memory) (rw memory at line)
-    drives-unsettled none some (Some (Err other)) fault is settles status line =
-        let same : fault ≡ other = cc in (
-          record { secrets = []; salt = None; input = None },
-          tt,
-          answered-alone (Some (Err other)) (refused other) refl (status ∙ ap status_of same) (rw same at line),
-        )
+    module _ (unopened : files.opens files.old [] opened) where
+      -- there was no memory for what was asked
+      pub drives-no_memory : src.gives src.old [] src.new → ((path : List ℕ) → (file : File) × files.meets files.old path file)
+          → (asks : Option (Result Request Fault)) → result ≡ OutOfMemory → Says err (line_of Memory) → AskedDrives asks
+      drives-no_memory none some asks status line =
+          let (found, met) = some-met (files.meets files.old) some asks in
+          (found, met, (opened, (inr (status, (0, unopened)), memory-alone none asks found status line)))
+
+      -- nothing was asked
+      pub drives-nothing : (asks : Option (Result Request Fault)) → is_some asks ≡ false → result ≡ ParseFault → Says err [] → AskedDrives asks
+      drives-nothing (Some settled) none status line = absurd (false≢true (sym none))
+      drives-nothing None none status line =
+          (record { secrets = []; salt = None; input = None }, tt, (opened, (inl unopened, answered-alone None _ refl status line)))
+
+      -- the options are refused, or there was no memory for the request
+      pub drives-unsettled : src.gives src.old [] src.new → ((path : List ℕ) → (file : File) × files.meets files.old path file)
+          → (asks : Option (Result Request Fault)) (fault : Fault) → is_some asks ≡ true → IfSome asks (λ settled. Settles settled (Err fault))
+          → result ≡ status_of fault → Says err (line_of fault) → AskedDrives asks
+      drives-unsettled none some None fault is settles status line = absurd (false≢true is)
+      drives-unsettled none some (Some (Ok request)) fault is (inl e) status line = absurd cc
+      drives-unsettled none some (Some (Ok request)) fault is (inr e) status line =
+          let memory : fault ≡ Memory = cc in
+          drives-no_memory none some (Some (Ok request)) (status ∙ ap status_of memory) (rw memory at line)
+      drives-unsettled none some (Some (Err other)) fault is settles status line =
+          let same : fault ≡ other = cc in (
+            record { secrets = []; salt = None; input = None },
+            tt,
+            (opened, (inl unopened, answered-alone (Some (Err other)) (refused other) refl (status ∙ ap status_of same) (rw same at line))),
+          )
 
   -- ---- a request that was settled
 

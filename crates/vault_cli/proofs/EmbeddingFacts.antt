@@ -9,11 +9,13 @@ use Rattle.vault_text.specs.Source as source
 use Rattle.vault_text.specs.declared.sink.Stage.{Stage}
 use Rattle.vault_text.specs.declared.sink.Stage.TheVariants.{Unbegun, Begun, Finished}
 use Rattle.vault_files.specs.File.{File}
+use Rattle.vault_files.specs.Logged.{LoggedOpens, LoggedState, LoggedTakes}
 use Rattle.vault_files.specs.Memory.{IsReaderOf, ReaderState, StoreState, StoreTakes, file_at, stands_at}
+use Rattle.vault_files.specs.declared.access.Access.{Access}
 use Rattle.vault_core.specs.declared.fault.Fault.TheVariants.{Memory, Write}
 use Rattle.vault_cli.specs.Call.{SinkCall, SourceCall, StoreCall}
 use Rattle.vault_cli.specs.Embedding.{Embeds, HoldsFront, Holds, IsCut, IsKept, Received, Stands, Taken, Told, change, stands_after}
-use Rattle.vault_cli.specs.Ending.{Ends, Finishes, LacksMemory, to_path}
+use Rattle.vault_cli.specs.Ending.{Ends, Finishes, LacksMemory, Output, to_path}
 use Rattle.vault_cli.specs.Line.{line_of}
 use Rattle.vault_cli.specs.Outcome.{Outcome}
 use Rattle.vault_cli.specs.Reports.{Reports, Says}
@@ -21,13 +23,14 @@ use Rattle.vault_cli.specs.declared.status.Status.{Status}
 use Rattle.vault_cli.proofs.FrontFacts.{IsOfFront}
 
 -- calls over a store, a source and a sink in memory
-abbrev pub memory_store : StoreState → StoreState → StoreCall StoreState ReaderState
+abbrev pub memory_store : LoggedState → LoggedState → StoreCall LoggedState ReaderState
 memory_store old new = record {
-  output = record { takes = StoreTakes; stage = λ s. s.output.stage; failures = λ s. s.output.failures };
+  output = record { takes = LoggedTakes; stage = λ s. s.files.output.stage; failures = λ s. s.files.output.failures };
   terms = record {
-    meets = λ s path file. file ≡ file_at s.entries path;
-    opened = λ s path reader. IsReaderOf (file_at s.entries path) reader;
-    aimed = λ s path t. t ≡ record s { aim = Some path };
+    meets = λ s path file. file ≡ file_at s.files.entries path;
+    opened = λ s path reader. IsReaderOf (file_at s.files.entries path) reader;
+    opens = LoggedOpens;
+    aimed = λ s path access t. t ≡ record s { files = record s.files { aim = Some path } };
   };
   old = old;
   new = new;
@@ -72,22 +75,25 @@ written-stands files new_files aim bytes path empty took begun =
     let held : new_files.output.held ≡ bytes = took.output.appended ∙ ap (λ l. l ++ bytes) empty in
     rw (begun, took.aim, held, took.entries) refl
 
-module _ (result : Status) (files new_files : StoreState) (out new_out err new_err : MemoryState)
-    (unbegun : files.output.stage ≡ Unbegun) (empty : files.output.held ≡ []) where
+module _ (result : Status) (files new_files : LoggedState) (out new_out err new_err : MemoryState)
+    (unbegun : files.files.output.stage ≡ Unbegun) (empty : files.files.output.held ≡ []) (access : Access) where
   abbrev StandsSo : (List ℕ → File) → Type 0
-  StandsSo after = Stands result (change files new_files) (change out new_out) (change err new_err) after
+  StandsSo after = Stands result (change files.files new_files.files) (change out new_out) (change err new_err) after
 
   abbrev KeptSo : Type 0
-  KeptSo = IsKept result (change files new_files) (change out new_out) (change err new_err)
+  KeptSo = IsKept result (change files.files new_files.files) (change out new_out) (change err new_err)
+
+  abbrev OutputAt : Option (List ℕ) → Output
+  OutputAt path = to_path path access (memory_store files new_files) (memory_sink out new_out)
 
   -- nothing was written
-  kept : (path : Option (List ℕ)) → (to_path path (memory_store files new_files) (memory_sink out new_out)).untouched → KeptSo
-  kept None (same_out, same) p = ap (λ s. stands_at s p) same ∙ unbegun-stands files p unbegun
-  kept (Some aim) (same_out, fresh, inl same) p = ap (λ s. stands_at s p) same ∙ unbegun-stands files p unbegun
+  kept : (path : Option (List ℕ)) → (OutputAt path).untouched → KeptSo
+  kept None (same_out, same) p = ap (λ (s : LoggedState). stands_at s.files p) same ∙ unbegun-stands files.files p unbegun
+  kept (Some aim) (same_out, fresh, inl same) p = ap (λ (s : LoggedState). stands_at s.files p) same ∙ unbegun-stands files.files p unbegun
   kept (Some aim) (same_out, fresh, inr chosen) p =
-      unbegun-stands new_files p fresh ∙ ap (λ (s : StoreState). file_at s.entries p) chosen
+      unbegun-stands new_files.files p fresh ∙ ap (λ (s : LoggedState). file_at s.files.entries p) chosen
 
-  left-alone : (path : Option (List ℕ)) → (to_path path (memory_store files new_files) (memory_sink out new_out)).untouched → new_out ≡ out
+  left-alone : (path : Option (List ℕ)) → (OutputAt path).untouched → new_out ≡ out
   left-alone None untouched = untouched.0
   left-alone (Some aim) untouched = untouched.0
 
@@ -96,50 +102,61 @@ module _ (result : Status) (files new_files : StoreState) (out new_out err new_e
   received-none (Some p) same = same
 
   -- what was written stands at its path, or is held
-  wrote : (path : Option (List ℕ)) (bytes : List ℕ)
-      → (to_path path (memory_store files new_files) (memory_sink out new_out)).wrote bytes
-      → (to_path path (memory_store files new_files) (memory_sink out new_out)).finished
-      → StandsSo (stands_after (file_at files.entries) path (Some bytes)) × Received path (Some bytes) (change out new_out)
+  wrote : (path : Option (List ℕ)) (bytes : List ℕ) → (OutputAt path).wrote bytes → (OutputAt path).finished
+      → StandsSo (stands_after (file_at files.files.entries) path (Some bytes)) × Received path (Some bytes) (change out new_out)
   wrote None bytes (took, same) finished =
-      (λ p. ap (λ s. stands_at s p) same ∙ unbegun-stands files p unbegun, (took.0.appended, finished))
+      (λ p. ap (λ (s : LoggedState). stands_at s.files p) same ∙ unbegun-stands files.files p unbegun, (took.0.appended, finished))
   wrote (Some aim) bytes (same_out, (chosen, at, took)) finished =
-      let begun : has_begun new_files.output.stage ≡ true = rw finished refl in
-      (λ p. written-stands files new_files aim bytes p empty (subst (λ (s : StoreState). StoreTakes s bytes new_files) at took) begun, same_out)
+      let begun : has_begun new_files.files.output.stage ≡ true = rw finished refl in
+      let into = subst (λ (s : LoggedState). LoggedTakes s bytes new_files) at took in
+      (λ p. written-stands files.files new_files.files aim bytes p empty into.files begun, same_out)
 
   written : (path output : Option (List ℕ))
-      → MatchOption output (to_path path (memory_store files new_files) (memory_sink out new_out)).untouched
-      (λ bytes. (to_path path (memory_store files new_files) (memory_sink out new_out)).wrote bytes
-      × (to_path path (memory_store files new_files) (memory_sink out new_out)).finished)
-      → StandsSo (stands_after (file_at files.entries) path output) × Received path output (change out new_out)
+      → MatchOption output (OutputAt path).untouched (λ bytes. (OutputAt path).wrote bytes × (OutputAt path).finished)
+      → StandsSo (stands_after (file_at files.files.entries) path output) × Received path output (change out new_out)
   written path None untouched = (kept path untouched, received-none path (left-alone path untouched))
   written path (Some bytes) (took, finished) = wrote path bytes took finished
 
   -- so is the front of it, where the output failed
-  cut-at : (aim bytes : List ℕ) (n : ℕ) (stage : Stage) → new_files.output.stage ≡ stage → StoreTakes (record files { aim = Some aim }) (take n bytes) new_files
-      → KeptSo ⊎ ((m : ℕ) × StandsSo (stands_after (file_at files.entries) (Some aim) (Some (take m bytes))))
-  cut-at aim bytes n Unbegun is took = inl (λ p. unbegun-stands new_files p is ∙ ap (λ entries. file_at entries p) took.entries)
+  cut-at : (aim bytes : List ℕ) (n : ℕ) (stage : Stage) → new_files.files.output.stage ≡ stage
+      → StoreTakes (record files.files { aim = Some aim }) (take n bytes) new_files.files
+      → KeptSo ⊎ ((m : ℕ) × StandsSo (stands_after (file_at files.files.entries) (Some aim) (Some (take m bytes))))
+  cut-at aim bytes n Unbegun is took = inl (λ p. unbegun-stands new_files.files p is ∙ ap (λ entries. file_at entries p) took.entries)
   cut-at aim bytes n Begun is took =
-      let begun : has_begun new_files.output.stage ≡ true = rw is refl in
-      inr (n, λ p. written-stands files new_files aim (take n bytes) p empty took begun)
+      let begun : has_begun new_files.files.output.stage ≡ true = rw is refl in
+      inr (n, λ p. written-stands files.files new_files.files aim (take n bytes) p empty took begun)
   cut-at aim bytes n Finished is took =
-      let begun : has_begun new_files.output.stage ≡ true = rw is refl in
-      inr (n, λ p. written-stands files new_files aim (take n bytes) p empty took begun)
+      let begun : has_begun new_files.files.output.stage ≡ true = rw is refl in
+      inr (n, λ p. written-stands files.files new_files.files aim (take n bytes) p empty took begun)
 
-  cut-to : (path : Option (List ℕ)) (bytes : List ℕ) (n : ℕ)
-      → (to_path path (memory_store files new_files) (memory_sink out new_out)).failed
-      → (to_path path (memory_store files new_files) (memory_sink out new_out)).wrote (take n bytes)
-      → IsCut result (change files new_files) (change out new_out) (change err new_err) path bytes
+  cut-to : (path : Option (List ℕ)) (bytes : List ℕ) (n : ℕ) → (OutputAt path).failed → (OutputAt path).wrote (take n bytes)
+      → IsCut result (change files.files new_files.files) (change out new_out) (change err new_err) path bytes
   cut-to None bytes n failed (took, same) =
-      ((failed, (n, took.0.appended)), λ p. ap (λ s. stands_at s p) same ∙ unbegun-stands files p unbegun)
+      ((failed, (n, took.0.appended)), λ p. ap (λ (s : LoggedState). stands_at s.files p) same ∙ unbegun-stands files.files p unbegun)
   cut-to (Some aim) bytes n failed (same_out, (chosen, at, took)) =
-      (failed, same_out, cut-at aim bytes n new_files.output.stage refl (subst (λ (s : StoreState). StoreTakes s (take n bytes) new_files) at took))
+      let into = subst (λ (s : LoggedState). LoggedTakes s (take n bytes) new_files) at took in
+      (failed, same_out, cut-at aim bytes n new_files.files.output.stage refl into.files)
+
+  -- the log stays
+  log-untouched : (path : Option (List ℕ)) → (OutputAt path).untouched → new_files.log ≡ files.log
+  log-untouched None (same_out, same) = ap (λ (s : LoggedState). s.log) same
+  log-untouched (Some aim) (same_out, fresh, inl same) = ap (λ (s : LoggedState). s.log) same
+  log-untouched (Some aim) (same_out, fresh, inr chosen) = ap (λ (s : LoggedState). s.log) chosen
+
+  log-wrote : (path : Option (List ℕ)) (bytes : List ℕ) → (OutputAt path).wrote bytes → new_files.log ≡ files.log
+  log-wrote None bytes (took, same) = ap (λ (s : LoggedState). s.log) same
+  log-wrote (Some aim) bytes (same_out, (chosen, at, took)) = took.log ∙ ap (λ (s : LoggedState). s.log) at
+
+  log-written : (path output : Option (List ℕ))
+      → MatchOption output (OutputAt path).untouched (λ bytes. (OutputAt path).wrote bytes × (OutputAt path).finished) → new_files.log ≡ files.log
+  log-written path None untouched = log-untouched path untouched
+  log-written path (Some bytes) (took, finished) = log-wrote path bytes took
 
   module _ (path : Option (List ℕ)) where
     abbrev EmbedsSo : Outcome → Type 0
-    EmbedsSo answer = Embeds result (change files new_files) (change out new_out) (change err new_err) path answer
+    EmbedsSo answer = Embeds result (change files.files new_files.files) (change out new_out) (change err new_err) path answer
 
-    embeds-memory : (answer : Outcome) → LacksMemory (to_path path (memory_store files new_files) (memory_sink out new_out)) (memory_sink err new_err) result
-        → EmbedsSo answer
+    embeds-memory : (answer : Outcome) → LacksMemory (OutputAt path) (memory_sink err new_err) result → EmbedsSo answer
     embeds-memory answer memory = inr (inl (record {
       status = memory.status;
       stands = kept path memory.output;
@@ -147,8 +164,7 @@ module _ (result : Status) (files new_files : StoreState) (out new_out err new_e
       line = told err new_err (line_of Memory) memory.line;
     }))
 
-    embeds-done : (answer : Outcome) → Finishes (to_path path (memory_store files new_files) (memory_sink out new_out)) (memory_sink err new_err) result answer
-        → EmbedsSo answer
+    embeds-done : (answer : Outcome) → Finishes (OutputAt path) (memory_sink err new_err) result answer → EmbedsSo answer
     embeds-done answer (inl done) =
         let (stands, received) = written path answer.output done.output in
         inl (record { status = done.status; stands = stands; output = received; line = told err new_err answer.line done.line })
@@ -158,10 +174,22 @@ module _ (result : Status) (files new_files : StoreState) (out new_out err new_e
       line = told err new_err (line_of Write) fails.line;
     }))
 
+    log-done : (answer : Outcome) → Finishes (OutputAt path) (memory_sink err new_err) result answer → new_files.log ≡ files.log
+    log-done answer (inl done) = log-written path answer.output done.output
+    log-done answer (inr fails) = let (bytes, is, (n, took)) = fails.output in log-wrote path (take n bytes) took
+
+    pub log-kept : (src new_src : source.MemoryState) (asked : Option ℕ) (answers : List ℕ → Outcome)
+        → Ends (OutputAt path) (memory_sink err new_err) result (memory_source src new_src) asked answers → new_files.log ≡ files.log
+    log-kept src new_src None answers (unread, inl memory) = log-untouched path memory.output
+    log-kept src new_src None answers (unread, inr done) = log-done (answers []) done
+    log-kept src new_src (Some limit) answers (input, (given, fits, inl memory)) = log-untouched path memory.output
+    log-kept src new_src (Some limit) answers (input, (given, fits, inr (inl (unread, short)))) = log-untouched path unread.output
+    log-kept src new_src (Some limit) answers (input, (given, fits, inr (inr (all, done)))) = log-done (answers input) done
+
     module _ (src new_src : source.MemoryState) (not_ended : src.ended ≡ false) where
       -- the answer to what was given is the answer to all that was there
       pub embeds : (asked : Option ℕ) (answers : List ℕ → Outcome) → IsOfFront asked answers
-          → Ends (to_path path (memory_store files new_files) (memory_sink out new_out)) (memory_sink err new_err) result (memory_source src new_src) asked answers
+          → Ends (OutputAt path) (memory_sink err new_err) result (memory_source src new_src) asked answers
           → EmbedsSo (answers src.left)
       embeds None answers same (unread, inl memory) = embeds-memory (answers src.left) memory
       embeds None answers same (unread, inr done) = subst EmbedsSo (same src.left) (embeds-done (answers []) done)
@@ -175,7 +203,7 @@ module _ (result : Status) (files new_files : StoreState) (out new_out err new_e
 
       -- so much of the input was taken
       pub taken : (asked : Option ℕ) (answers : List ℕ → Outcome)
-          → Ends (to_path path (memory_store files new_files) (memory_sink out new_out)) (memory_sink err new_err) result (memory_source src new_src) asked answers
+          → Ends (OutputAt path) (memory_sink err new_err) result (memory_source src new_src) asked answers
           → Taken asked (change src new_src)
       taken None answers (unread, ends) = unread
       taken (Some limit) answers (input, (given, fits, ends)) =

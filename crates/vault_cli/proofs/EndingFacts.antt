@@ -3,6 +3,7 @@ use Rattle.std.proofs.Common.{◌≡◌, ℕ, inl, inr, List, [], Option, Some, 
 use Rattle.std.specs.Prelude.{MatchOption}
 use Rattle.vault_text.specs.declared.sink.Sink.{Ghosts as SinkTerms}
 use Rattle.vault_text.specs.declared.sink.Stage.TheVariants.{Unbegun}
+use Rattle.vault_files.specs.declared.access.Access.{Access}
 use Rattle.vault_files.specs.declared.file_system.FileSystem.{Ghosts as StoreTerms}
 use Rattle.vault_core.specs.declared.fault.Fault.TheVariants.{Memory}
 use Rattle.vault_cli.specs.Call.{SinkCall, SourceCall, StoreCall, sink}
@@ -75,18 +76,18 @@ store_between output terms old new = record { output = output; terms = terms; ol
 
 -- nothing was written
 module _ {F R K : Type 0} (files : StoreCall F R) (out : SinkCall K)
-    (fresh : files.stage files.old ≡ Unbegun) (same_files : files.new ≡ files.old) (same_out : out.new ≡ out.old) where
-  pub path-untouched : (path : Option (List ℕ)) → (to_path path files out).untouched
+    (access : Access) (fresh : files.stage files.old ≡ Unbegun) (same_files : files.new ≡ files.old) (same_out : out.new ≡ out.old) where
+  pub path-untouched : (path : Option (List ℕ)) → (to_path path access files out).untouched
   path-untouched None = (same_out, same_files)
   path-untouched (Some path) = (same_out, ap files.stage same_files ∙ fresh, inl same_files)
 
-  pub path-unfailed : (path : Option (List ℕ)) → (to_path path files out).unfailed
+  pub path-unfailed : (path : Option (List ℕ)) → (to_path path access files out).unfailed
   path-unfailed None = ap out.failures same_out
   path-unfailed (Some path) = ap files.failures same_files
 
   module _ {E : Type 0} (err : SinkCall E) (result : Status) (path : Option (List ℕ)) where
     pub alone-answered : (answer : Outcome) → answer.output ≡ None → result ≡ answer.status → Says err answer.line
-        → IsAnswered (to_path path files out) err result answer
+        → IsAnswered (to_path path access files out) err result answer
     alone-answered answer none status line = record {
       status = status;
       unfailed = path-unfailed path;
@@ -95,7 +96,7 @@ module _ {F R K : Type 0} (files : StoreCall F R) (out : SinkCall K)
     }
 
     -- there was no memory
-    pub alone-memory : result ≡ OutOfMemory → Says err (line_of Memory) → LacksMemory (to_path path files out) err result
+    pub alone-memory : result ≡ OutOfMemory → Says err (line_of Memory) → LacksMemory (to_path path access files out) err result
     alone-memory status line = record { status = status; unfailed = path-unfailed path; output = path-untouched path; line = line }
 
 pub ends-memory : {E S : Type 0} (out : Output) (err : SinkCall E) (result : Status) (src : SourceCall S) (asked : Option ℕ)
@@ -103,14 +104,14 @@ pub ends-memory : {E S : Type 0} (out : Output) (err : SinkCall E) (result : Sta
 ends-memory out err result src None answers unread none memory = (unread, inl memory)
 ends-memory out err result src (Some limit) answers unread none memory = ([], (none, omega arith, inl memory))
 
-module _ {F R K E S : Type 0} (files : StoreCall F R) (out : SinkCall K) (err : SinkCall E) (result : Status) (src : SourceCall S)
+module _ {F R K E S : Type 0} (access : Access) (files : StoreCall F R) (out : SinkCall K) (err : SinkCall E) (result : Status) (src : SourceCall S)
     (asked : Option ℕ) (answers : List ℕ → Outcome) where
   -- a run whose output is standard output
   pub ends-out : (path : Option (List ℕ)) → None ≡ path → files.new ≡ files.old
-      → Ends (to_sink out) err result src asked answers → Ends (to_path path files out) err result src asked answers
+      → Ends (to_sink out) err result src asked answers → Ends (to_path path access files out) err result src asked answers
   ends-out path is kept ends =
-      subst (λ (p : Option (List ℕ)). Ends (to_path p files out) err result src asked answers) is
-      (told-ends (to_sink out) (to_path None files out) (record {
+      subst (λ (p : Option (List ℕ)). Ends (to_path p access files out) err result src asked answers) is
+      (told-ends (to_sink out) (to_path None access files out) (record {
         untouched = λ same. (same, kept);
         wrote = λ bytes took. (took, kept);
         finished = λ h. h;
@@ -120,12 +121,12 @@ module _ {F R K E S : Type 0} (files : StoreCall F R) (out : SinkCall K) (err : 
 
   -- one whose output is the file at a path that was chosen
   pub ends-file : (path : Option (List ℕ)) (chosen_path : List ℕ) (chosen : F) → Some chosen_path ≡ path
-      → files.aimed files.old chosen_path chosen → files.stage chosen ≡ Unbegun → files.failures chosen ≡ files.failures files.old
+      → files.aimed files.old chosen_path access chosen → files.stage chosen ≡ Unbegun → files.failures chosen ≡ files.failures files.old
       → out.new ≡ out.old
-      → Ends (to_sink (sink files.output chosen files.new)) err result src asked answers → Ends (to_path path files out) err result src asked answers
+      → Ends (to_sink (sink files.output chosen files.new)) err result src asked answers → Ends (to_path path access files out) err result src asked answers
   ends-file path chosen_path chosen is at fresh stay alone ends =
-      subst (λ (p : Option (List ℕ)). Ends (to_path p files out) err result src asked answers) is
-      (told-ends (to_sink (sink files.output chosen files.new)) (to_path (Some chosen_path) files out) (record {
+      subst (λ (p : Option (List ℕ)). Ends (to_path p access files out) err result src asked answers) is
+      (told-ends (to_sink (sink files.output chosen files.new)) (to_path (Some chosen_path) access files out) (record {
         untouched = λ same. (alone, ap files.stage same ∙ fresh, inr (rw same at));
         wrote = λ bytes took. (alone, (chosen, at, took));
         finished = λ h. h;

@@ -4,7 +4,7 @@ use Rattle.std.specs.Option.{option_map}
 use Rattle.vault_files.specs.File.{File, Met}
 use Rattle.vault_core.specs.declared.fault.Fault.{Fault}
 use Rattle.vault_cli.specs.Call.{SinkCall, SourceCall, StoreCall}
-use Rattle.vault_cli.specs.Drive.{AllMet, DrivesOver, OneMet}
+use Rattle.vault_cli.specs.Drive.{AllMet, IsDriven, OneMet}
 use Rattle.vault_cli.specs.Found.{secret_paths}
 use Rattle.vault_cli.specs.Program.{Files, answer_to, files_in}
 use Rattle.vault_cli.specs.Request.{Request}
@@ -28,12 +28,12 @@ one-in at (Some path) (Some file) met = ap Some met
 
 -- where one file stands at each path, the files that are met are those
 module _ {F R S K E : Type 0} (files : StoreCall F R) (src : SourceCall S) (out : SinkCall K) (err : SinkCall E) (result : Status)
-    (at : List ℕ → File) where
+    (at : List ℕ → File) (opened : F) where
   pub drives-in : (asks : Option (Result Request Fault)) (found : Files) → AllMet (λ path file. file ≡ at path) asks found
-      → DrivesOver files src out err result asks (answer_to asks) found → DrivesOver files src out err result asks (answer_to asks) (files_in at asks)
+      → IsDriven files src out err result asks (answer_to asks) found opened → IsDriven files src out err result asks (answer_to asks) (files_in at asks) opened
   drives-in None found met ends = ends
   drives-in (Some (Err fault)) found met ends = ends
   drives-in (Some (Ok request)) found met ends =
       let same : found ≡ files_in at (Some (Ok request)) =
       rw (← all-in at (secret_paths request) found.secrets met.0, ← one-in at request.salt_path found.salt met.1, ← one-in at request.input found.input met.2) refl in
-      subst (λ (f : Files). DrivesOver files src out err result (Some (Ok request)) (answer_to (Some (Ok request))) f) same ends
+      subst (λ (f : Files). IsDriven files src out err result (Some (Ok request)) (answer_to (Some (Ok request))) f opened) same ends

@@ -1,16 +1,23 @@
--- The steps of the program, by what each answers.
-use Rattle.std.proofs.Common.{◌≡◌, ℕ, List, Option, Some, None, Result, Ok, Err, refl, sym}
-use Rattle.vault_files.specs.File.{File}
+-- The steps of the program, by what each answers and opens.
+use Rattle.std.proofs.Common.{◌≡◌, ◌≢◌, ℕ, ◌+◌, List, [], ◌∷◌, ◌++◌, Option, Some, None, Result, Ok, Err, inl, inr, refl, subst, sym, ap, append_assoc, ◌∙◌}
+use Rattle.std.specs.Prelude.{option_to_list}
+use Rattle.std.proofs.lemmas.List.{append-nil}
+use Rattle.vault_text.specs.Steps.{◌>>=◌}
+use Rattle.vault_files.specs.File.{File, Met}
 use Rattle.vault_files.specs.File.File.{Missing, Whole, Broken}
 use Rattle.vault_core.specs.declared.fault.Fault.{Fault}
-use Rattle.vault_core.specs.declared.fault.Fault.TheVariants.{CannotOpen, Read}
-use Rattle.vault_core.specs.declared.fault.Role.TheVariants.{Input}
+use Rattle.vault_core.specs.declared.fault.Fault.TheVariants.{CannotOpen, Memory, Read}
+use Rattle.vault_core.specs.declared.fault.Role.TheVariants.{Input, Secret}
+use Rattle.vault_core.specs.declared.limits.TheConstants.{PASSWORD_FILE_LIMIT}
 use Rattle.vault_cli.specs.Drive.{OneMet}
-use Rattle.vault_cli.specs.Found.{contents_of, secret_paths}
-use Rattle.vault_cli.specs.Gathered.{ContentsMet, IsMissing, RefusedBy, SaltMet}
+use Rattle.vault_cli.specs.Found.{asked_paths, contents_of, front_in, secret_paths}
+use Rattle.vault_cli.specs.Gathered.{ContentsMet, IsMissing, IsOpened, RefusedBy, SaltMet, SecretsRefuse}
+use Rattle.vault_cli.specs.Opened.{behind, opened_of, secrets_opened}
 use Rattle.vault_cli.specs.Program.{Files, input_in, opening_of, salt_in, task_over}
 use Rattle.vault_cli.specs.Request.{Request}
 use Rattle.vault_cli.specs.Task.{prepared}
+use Rattle.vault_cli.proofs.FoundFacts.{memory-or}
+use Rattle.vault_cli.proofs.Pieces.{TakesPrefix, prefix_behind, prefix_longer}
 
 -- a file that gave bytes can be opened
 pub opening-read : (file : File) (n : ℕ) (stdin given : List ℕ) → input_in n (Some file) stdin ≡ Ok given → opening_of (Some file) ≡ Ok tt
@@ -62,27 +69,152 @@ module _ (meets : List ℕ → File → Type 0) where
   missing-found None e = absurd e
   missing-found (Some path) met = (Some Missing, met, refl)
 
-  -- a request that the files that were met refuse
-  module _ (some : (path : List ℕ) → (file : File) × meets path file) (request : Request) (fault : Fault) where
-    pub refused-secrets : ContentsMet meets (secret_paths request) (Err fault) → RefusedBy meets request fault
-    refused-secrets (files, met, same) =
-        let salt = one-some some request.salt_path in
-        let input = one-some some request.input in
-        let found : Files = record { secrets = files; salt = salt.0; input = input.0 } in
-        (found, (met, salt.1, input.1), task-no_contents request found fault same)
+  pub salt-back : (later : List ℕ → File → Type 0) → ((path : List ℕ) (file : File) → later path file → meets path file)
+      → (path : Option (List ℕ)) (answer : Result (List ℕ) Fault) → SaltMet later path answer → SaltMet meets path answer
+  salt-back later back None answer e = e
+  salt-back later back (Some path) answer (file, met, same) = (file, back path file met, same)
 
-    pub refused-salt : (contents : List (List ℕ)) → ContentsMet meets (secret_paths request) (Ok contents)
-        → SaltMet meets request.salt_path (Err fault) → RefusedBy meets request fault
-    refused-salt contents (files, met, same) unsalted =
-        let (salt, salt_met, no_salt) = salt-found request.salt_path (Err fault) unsalted in
-        let input = one-some some request.input in
-        let found : Files = record { secrets = files; salt = salt; input = input.0 } in
-        (found, (met, salt_met, input.1), task-no_salt request found contents fault same no_salt)
+  pub missing-back : (later : List ℕ → File → Type 0) → ((path : List ℕ) (file : File) → later path file → meets path file)
+      → (path : Option (List ℕ)) → IsMissing later path → IsMissing meets path
+  missing-back later back None e = e
+  missing-back later back (Some path) met = back path Missing met
 
-    pub refused-input : (contents : List (List ℕ)) (salt : List ℕ) → ContentsMet meets (secret_paths request) (Ok contents)
-        → SaltMet meets request.salt_path (Ok salt) → (fault ≡ CannotOpen Input) × IsMissing meets request.input → RefusedBy meets request fault
-    refused-input contents salt (files, met, same) salted (is, missing) =
-        let (salt_file, salt_met, has_salt) = salt-found request.salt_path (Ok salt) salted in
-        let (input, input_met, no_input) = missing-found request.input missing in
-        let found : Files = record { secrets = files; salt = salt_file; input = input } in
-        (found, (met, salt_met, input_met), rw is (task-no_input request found contents salt same has_salt (CannotOpen Input) no_input))
+-- ---- which paths are opened
+
+-- all password files gave their bytes
+all-behind : (r : Result (List ℕ) Fault) (rest : Result (List (List ℕ)) Fault) (contents : List (List ℕ)) (opened paths : List (List ℕ))
+    → (r >>= λ bytes. rest >>= λ contents. Ok (bytes ∷ contents)) ≡ Ok contents
+    → ((others : List (List ℕ)) → rest ≡ Ok others → opened ≡ paths) → behind r opened ≡ paths
+all-behind (Ok bytes) (Ok others) contents opened paths e h = h others refl
+all-behind (Ok bytes) (Err fault) contents opened paths e h = absurd cc
+all-behind (Err fault) rest contents opened paths e h = absurd cc
+
+opened-secrets : (meets : List ℕ → File → Type 0) (paths : List (List ℕ)) (files : List File) (contents : List (List ℕ))
+    → Met meets paths files → contents_of files ≡ Ok contents → secrets_opened paths files ≡ paths
+unfolding secrets_opened contents_of
+opened-secrets meets [] files contents met e = refl
+opened-secrets meets (path ∷ paths) [] contents met e = absurd met
+opened-secrets meets (path ∷ paths) (file ∷ files) contents met e =
+    ap (λ (ps : List (List ℕ)). path ∷ ps)
+    (all-behind (front_in Secret (PASSWORD_FILE_LIMIT + 1) file) (contents_of files) contents (secrets_opened paths files) paths e
+    (λ others is. opened-secrets meets paths files others met.1 is))
+
+module _ (meets : List ℕ → File → Type 0) (request : Request) (files : Files) (contents : List (List ℕ))
+    (met : Met meets (secret_paths request) files.secrets) (read : contents_of files.secrets ≡ Ok contents) where
+  -- all password files, the salt file, and what is behind it
+  opened-behind : opened_of (Some (Ok request)) files
+      ≡ (secret_paths request ++ option_to_list request.salt_path) ++ behind (salt_in files.salt) (option_to_list request.input)
+  opened-behind =
+      rw (opened-secrets meets (secret_paths request) files.secrets contents met read, read)
+      (sym (append_assoc (secret_paths request) (option_to_list request.salt_path) (behind (salt_in files.salt) (option_to_list request.input))))
+
+  -- all that is asked for
+  pub opened-all : (salt : List ℕ) → salt_in files.salt ≡ Ok salt → opened_of (Some (Ok request)) files ≡ asked_paths request
+  opened-all salt salted =
+      opened-behind ∙ rw salted refl
+
+-- ---- a request that the files that were met refuse
+
+module _ {F : Type 0} (meets : F → List ℕ → File → Type 0) (opens : F → List (List ℕ) → F → Type 0)
+    (more : (s t u : F) (xs ys : List (List ℕ)) → opens s xs t → opens t ys u → opens s (xs ++ ys) u)
+    (back : (s t : F) (paths : List (List ℕ)) (path : List ℕ) (file : File) → opens s paths t → meets t path file → meets s path file)
+    (old : F) (some : (path : List ℕ) → (file : File) × meets old path file) (request : Request) (fault : Fault) (new : F) where
+  abbrev RefusedSo : Type 0
+  RefusedSo = RefusedBy (meets old) (λ paths. opens old paths new) request fault
+
+  abbrev Went : List (List ℕ) → Type 0
+  Went paths = opens old paths new
+
+  pub refused-secrets : SecretsRefuse (meets old) (λ paths. opens old paths new) (secret_paths request) fault → RefusedSo
+  refused-secrets (files, met, cases) =
+      let salt = one-some (meets old) some request.salt_path in
+      let input = one-some (meets old) some request.input in
+      let found : Files = record { secrets = files; salt = salt.0; input = input.0 } in (
+        found,
+        (met, salt.1, input.1),
+        elim cases [
+          | inl (same, went) ↦
+              let none : opened_of (Some (Ok request)) found ≡ secrets_opened (secret_paths request) files = rw same (append-nil (secrets_opened (secret_paths request) files)) in
+              inl (task-no_contents request found fault same, subst Went (sym none) went)
+          | inr (memory, went) ↦ inr (memory, prefix_longer opens old new (secrets_opened (secret_paths request) files) _ went)
+        ],
+      )
+
+  pub refused-salt : (contents : List (List ℕ)) (middle : F) → ContentsMet (meets old) (secret_paths request) (Ok contents)
+      → opens old (secret_paths request) middle
+      → (fault ≢ Memory → opens middle (option_to_list request.salt_path) new) → TakesPrefix opens middle (option_to_list request.salt_path) new
+      → (fault ≢ Memory → SaltMet (meets middle) request.salt_path (Err fault)) → RefusedSo
+  refused-salt contents middle (files, met, same) first went front unsalted =
+      let input = one-some (meets old) some request.input in
+      elim (memory-or fault) [
+        | inl memory ↦
+            let salt = one-some (meets old) some request.salt_path in
+            let found : Files = record { secrets = files; salt = salt.0; input = input.0 } in (
+              found,
+              (met, salt.1, input.1),
+              inr (
+                memory,
+                subst (λ (ps : List (List ℕ)). TakesPrefix opens old ps new) (sym (opened-behind (meets old) request found contents met same))
+                    (prefix_longer opens old new (secret_paths request ++ option_to_list request.salt_path) _
+                    (prefix_behind opens more old middle new (secret_paths request) (option_to_list request.salt_path) first front)),
+              ),
+            )
+        | inr other ↦
+            let (salt, salt_met, no_salt) = salt-found (meets old) request.salt_path (Err fault)
+            (salt-back (meets old) (meets middle) (λ path file. back old middle (secret_paths request) path file first) request.salt_path (Err fault) (unsalted other)) in
+            let found : Files = record { secrets = files; salt = salt; input = input.0 } in
+            let all : opened_of (Some (Ok request)) found ≡ secret_paths request ++ option_to_list request.salt_path =
+            opened-behind (meets old) request found contents met same ∙ rw no_salt (append-nil (secret_paths request ++ option_to_list request.salt_path)) in (
+              found,
+              (met, salt_met, input.1),
+              inl (
+                task-no_salt request found contents fault same no_salt,
+                subst Went (sym all) (more old middle new (secret_paths request) (option_to_list request.salt_path) first (went other)),
+              ),
+            )
+      ]
+
+  pub refused-input : (contents : List (List ℕ)) (salt : List ℕ) (middle last : F) → ContentsMet (meets old) (secret_paths request) (Ok contents)
+      → opens old (secret_paths request) middle → SaltMet (meets middle) request.salt_path (Ok salt) → opens middle (option_to_list request.salt_path) last
+      → (fault ≢ Memory → opens last (option_to_list request.input) new) → TakesPrefix opens last (option_to_list request.input) new
+      → (fault ≢ Memory → (fault ≡ CannotOpen Input) × IsMissing (meets last) request.input) → RefusedSo
+  refused-input contents salt middle last (files, met, same) first salted second went front missing =
+      let both = more old middle last (secret_paths request) (option_to_list request.salt_path) first second in
+      let (salt_file, salt_met, has_salt) = salt-found (meets old) request.salt_path (Ok salt)
+      (salt-back (meets old) (meets middle) (λ path file. back old middle (secret_paths request) path file first) request.salt_path (Ok salt) salted) in
+      elim (memory-or fault) [
+        | inl memory ↦
+            let input = one-some (meets old) some request.input in
+            let found : Files = record { secrets = files; salt = salt_file; input = input.0 } in
+            let all = opened-behind (meets old) request found contents met same in (
+              found,
+              (met, salt_met, input.1),
+              inr (
+                memory,
+                subst (λ (ps : List (List ℕ)). TakesPrefix opens old ps new) (sym (all ∙ rw has_salt refl))
+                    (prefix_behind opens more old last new (secret_paths request ++ option_to_list request.salt_path) (option_to_list request.input) both front),
+              ),
+            )
+        | inr other ↦
+            let (is, gone) = missing other in
+            let (input, input_met, no_input) = missing-found (meets old) request.input
+            (missing-back (meets old) (meets last) (λ path file. back old last (secret_paths request ++ option_to_list request.salt_path) path file both) request.input gone) in
+            let found : Files = record { secrets = files; salt = salt_file; input = input } in
+            let all = opened-behind (meets old) request found contents met same in (
+              found,
+              (met, salt_met, input_met),
+              inl (
+                rw is (task-no_input request found contents salt same has_salt (CannotOpen Input) no_input),
+                subst Went (sym (all ∙ rw has_salt refl))
+                    (more old last new (secret_paths request ++ option_to_list request.salt_path) (option_to_list request.input) both (went other)),
+              ),
+            )
+      ]
+
+-- what was opened behind opens could be opened before
+pub opened-back : {R : Type 0} (opened later : List ℕ → R → Type 0) → ((path : List ℕ) (r : R) → later path r → opened path r)
+    → (path : Option (List ℕ)) (reader : Option R) → IsOpened later path reader → IsOpened opened path reader
+opened-back opened later back None None at = tt
+opened-back opened later back None (Some r) at = absurd at
+opened-back opened later back (Some path) None at = absurd at
+opened-back opened later back (Some path) (Some r) at = back path r at

@@ -4,6 +4,7 @@ use Rattle.vault_text.specs.declared.sink.Sink.{Ghosts as SinkTerms}
 use Rattle.vault_text.specs.declared.sink.Stage.{Stage}
 use Rattle.vault_text.specs.declared.source.Source.{Ghosts as SourceTerms}
 use Rattle.vault_files.specs.File.{File}
+use Rattle.vault_files.specs.declared.access.Access.{Access}
 use Rattle.vault_files.specs.declared.file_system.FileSystem.{Ghosts as StoreTerms}
 
 -- over a source
@@ -43,13 +44,23 @@ StoreMembers F R = record {
   failures : F → ℕ;
   meets : F → List ℕ → File → Type 0;
   opened : F → List ℕ → R → Type 0;
-  aimed : F → List ℕ → F → Type 0;
+  opens : F → List (List ℕ) → F → Type 0;
+  aimed : F → List ℕ → Access → F → Type 0;
 }
 
 abbrev pub store : {F R : Type 0} → StoreMembers F R → F → F → StoreCall F R
 store members old new = record {
   output = record { takes = members.takes; stage = members.stage; failures = members.failures };
-  terms = record { meets = members.meets; opened = members.opened; aimed = members.aimed };
+  terms = record {
+    meets = members.meets;
+    opened = members.opened;
+    opens = members.opens;
+    aimed = members.aimed;
+  };
   old = old;
   new = new;
 }
+
+-- the call from a later state of the store on
+abbrev pub files_from : {F R : Type 0} → F → StoreCall F R → StoreCall F R
+files_from opened files = record files { old = opened }

@@ -1,6 +1,8 @@
 -- The commands, and what each does.
 use Rattle.std.specs.Prelude.{◌||◌, ℕ, Bool, true, false, if◌then◌else◌, List, codes, Option, Some, None}
 use Rattle.std.specs.Str.{bytes_eq}
+use Rattle.vault_files.specs.declared.access.Access.{Access}
+use Rattle.vault_files.specs.declared.access.Access.TheVariants.{Kept, OwnerOnly}
 use Rattle.vault_cli.specs.declared.command_name.CommandName.{CommandName}
 use Rattle.vault_cli.specs.declared.command_name.CommandName.TheVariants.{Encrypt, Decrypt, View, Rekey, EncryptString}
 
@@ -33,6 +35,12 @@ seals command = encrypts command || rekeys command
 abbrev pub takes_string : CommandName → Bool
 takes_string EncryptString = true
 takes_string _ = false
+
+-- who may read an output that stands there already: plaintext is for its owner
+abbrev pub output_access : CommandName → Access
+output_access Decrypt = OwnerOnly
+output_access View = OwnerOnly
+output_access _ = Kept
 
 -- the output of `view` is never a file
 abbrev pub has_output : CommandName → Bool

@@ -49,6 +49,12 @@ Taken None src = src.new ≡ src.old
 Taken (Some limit) src =
     (n : ℕ) × (n ≤ limit + 1) × (src.new.left ≡ drop n src.old.left)
 
+-- these paths stand behind a log, or, where there was no memory, the first of them
+abbrev pub Logs : Status → Change (List (List ℕ)) → List (List ℕ) → Type 0
+Logs result log paths =
+    (log.new ≡ log.old ++ paths)
+    ⊎ ((result ≡ OutOfMemory) × ((n : ℕ) × (log.new ≡ log.old ++ take n paths)))
+
 -- what stands at a path, where the output goes to a path or to standard output, and there is one or none
 abbrev pub stands_after : (List ℕ → File) → Option (List ℕ) → Option (List ℕ) → List ℕ → File
 stands_after before aim None path = before path

@@ -2,6 +2,7 @@
 use Rattle.std.specs.Prelude.{◌≡◌, ◌⊎◌, ℕ, ◌+◌, ◌≤◌, List, [], length, take, Option, Some, None, MatchOption}
 use Rattle.vault_text.specs.Failures.{HasRisen}
 use Rattle.vault_text.specs.declared.sink.Stage.TheVariants.{Finished, Unbegun}
+use Rattle.vault_files.specs.declared.access.Access.{Access}
 use Rattle.vault_core.specs.Input.{IsWhole}
 use Rattle.vault_core.specs.declared.fault.Fault.TheVariants.{Memory, Read, Write}
 use Rattle.vault_core.specs.declared.fault.Role.TheVariants.{Input}
@@ -33,19 +34,20 @@ to_sink out = record {
 
 -- of the file at a path, where there is one, or else of a sink: the other is left alone. A path may
 -- be chosen where nothing is written, but no file is created there
-abbrev pub to_path : {F R K : Type 0} → Option (List ℕ) → StoreCall F R → SinkCall K → Output
-to_path None files out = record {
+abbrev pub to_path : {F R K : Type 0}
+    → Option (List ℕ) → Access → StoreCall F R → SinkCall K → Output
+to_path None access files out = record {
   untouched = (out.new ≡ out.old) × (files.new ≡ files.old);
   wrote = λ bytes. out.takes out.old bytes out.new × (files.new ≡ files.old);
   finished = out.stage out.new ≡ Finished;
   failed = HasRisen (out.failures out.old) (out.failures out.new);
   unfailed = out.failures out.new ≡ out.failures out.old;
 }
-to_path {F = F} (Some path) files out = record {
+to_path {F = F} (Some path) access files out = record {
   untouched = (out.new ≡ out.old) × (files.stage files.new ≡ Unbegun)
-      × ((files.new ≡ files.old) ⊎ files.aimed files.old path files.new);
+      × ((files.new ≡ files.old) ⊎ files.aimed files.old path access files.new);
   wrote = λ bytes. (out.new ≡ out.old)
-      × ((chosen : F) × files.aimed files.old path chosen × files.takes chosen bytes files.new);
+      × ((chosen : F) × files.aimed files.old path access chosen × files.takes chosen bytes files.new);
   finished = files.stage files.new ≡ Finished;
   failed = HasRisen (files.failures files.old) (files.failures files.new);
   unfailed = files.failures files.new ≡ files.failures files.old;

@@ -1,5 +1,5 @@
 -- What the files of a request hold, as far as they are read.
-use Rattle.std.specs.Prelude.{ℕ, ◌+◌, List, [], ◌∷◌, map, Result, Ok}
+use Rattle.std.specs.Prelude.{ℕ, ◌+◌, List, [], ◌∷◌, ◌++◌, map, option_to_list, Result, Ok}
 use Rattle.std.specs.Result.{result_map_both}
 use Rattle.vault_core.specs.declared.fault.Fault.{Fault}
 use Rattle.vault_core.specs.declared.fault.Fault.TheVariants.{CannotOpen, Memory, Read}
@@ -25,6 +25,11 @@ front_in role limit file = result_map_both (λ bytes. bytes) (fault_in role) (fr
 -- the paths of the password files, in order
 abbrev pub secret_paths : Request → List (List ℕ)
 secret_paths request = map (λ file. file.path) (files_of request)
+
+-- all paths that a request asks for: its password files, in order, its salt file and its input file
+abbrev pub asked_paths : Request → List (List ℕ)
+asked_paths request =
+    secret_paths request ++ option_to_list request.salt_path ++ option_to_list request.input
 
 -- the contents of password files, each up to one byte more than is taken, or the fault of the first that gives none
 unfoldable pub contents_of : List File → Result (List (List ℕ)) Fault

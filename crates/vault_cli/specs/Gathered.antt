@@ -1,12 +1,14 @@
 -- What gathering the files of a request answers, of files that may be met at its paths.
-use Rattle.std.specs.Prelude.{◌≡◌, ℕ, List, [], Option, Some, None, Result, Ok, Err}
+use Rattle.std.specs.Prelude.{◌≡◌, ◌⊎◌, ℕ, List, [], take, Option, Some, None, Result, Ok, Err}
 use Rattle.vault_core.specs.declared.fault.Fault.{Fault}
+use Rattle.vault_core.specs.declared.fault.Fault.TheVariants.{Memory}
 use Rattle.vault_core.specs.declared.fault.Role.{Role}
 use Rattle.vault_core.specs.declared.fault.Role.TheVariants.{Salt}
 use Rattle.vault_files.specs.File.{File, Met}
 use Rattle.vault_files.specs.File.File.{Missing}
 use Rattle.vault_cli.specs.Drive.{AllMet}
 use Rattle.vault_cli.specs.Found.{contents_of, front_in}
+use Rattle.vault_cli.specs.Opened.{opened_of, secrets_opened}
 use Rattle.vault_cli.specs.Program.{Files, task_over}
 use Rattle.vault_cli.specs.Request.{Request}
 use Rattle.vault_cli.specs.declared.limits.TheConstants.{SEALING_SALT_LENGTH}
@@ -36,7 +38,19 @@ abbrev pub IsMissing : (List ℕ → File → Type 0) → Option (List ℕ) → 
 IsMissing meets None = ⊥
 IsMissing meets (Some path) = meets path Missing
 
--- files that may be met at the paths of a request refuse it
-abbrev pub RefusedBy : (List ℕ → File → Type 0) → Request → Fault → Type 0
-RefusedBy meets request fault =
-    (files : Files) × AllMet meets (Some (Ok request)) files × (task_over request files ≡ Err fault)
+-- no memory: the first of these paths were opened
+abbrev pub LacksMemory : (List (List ℕ) → Type 0) → Fault → List (List ℕ) → Type 0
+LacksMemory opens fault paths = (fault ≡ Memory) × ((n : ℕ) × opens (take n paths))
+
+-- password files that may be met at the paths refuse, and the paths up to the first that does were
+-- opened, or there was no memory
+abbrev pub SecretsRefuse : (List ℕ → File → Type 0) → (List (List ℕ) → Type 0) → List (List ℕ) → Fault → Type 0
+SecretsRefuse meets opens paths fault = (files : List File) × Met meets paths files
+    × (((contents_of files ≡ Err fault) × opens (secrets_opened paths files))
+    ⊎ LacksMemory opens fault (secrets_opened paths files))
+
+-- so do files that may be met at the paths of a request
+abbrev pub RefusedBy : (List ℕ → File → Type 0) → (List (List ℕ) → Type 0) → Request → Fault → Type 0
+RefusedBy meets opens request fault = (files : Files) × AllMet meets (Some (Ok request)) files
+    × (((task_over request files ≡ Err fault) × opens (opened_of (Some (Ok request)) files))
+    ⊎ LacksMemory opens fault (opened_of (Some (Ok request)) files))

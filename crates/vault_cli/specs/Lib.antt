@@ -16,6 +16,7 @@ pub mod Found
 pub mod Reading
 pub mod Ending
 pub mod Program
+pub mod Opened
 pub mod Drive
 pub mod Gathered
 pub mod Explained

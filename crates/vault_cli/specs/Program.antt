@@ -4,6 +4,8 @@ use Rattle.std.specs.Option.{option_map}
 use Rattle.clap.specs.Words.{Text, subcommand_of}
 use Rattle.vault_files.specs.File.{File}
 use Rattle.vault_files.specs.File.File.{Missing, Whole, Broken}
+use Rattle.vault_files.specs.declared.access.Access.{Access}
+use Rattle.vault_files.specs.declared.access.Access.TheVariants.{Kept}
 use Rattle.vault_text.specs.Steps.{◌>>=◌}
 use Rattle.vault_text.specs.declared.limits.TheConstants.{PLAINTEXT_LIMIT}
 use Rattle.vault_core.specs.Ready.{Ready}
@@ -11,6 +13,7 @@ use Rattle.vault_core.specs.declared.fault.Fault.{Fault}
 use Rattle.vault_core.specs.declared.fault.Fault.TheVariants.{CannotOpen}
 use Rattle.vault_core.specs.declared.fault.Role.TheVariants.{Input, Salt}
 use Rattle.vault_cli.specs.CommandLine.{vault_app}
+use Rattle.vault_cli.specs.CommandName.{output_access}
 use Rattle.vault_cli.specs.Found.{contents_of, front_in, secret_paths}
 use Rattle.vault_cli.specs.Outcome.{Outcome, answered, asked_for, input_limit, ready_by, refused}
 use Rattle.vault_cli.specs.Request.{Request}
@@ -77,6 +80,12 @@ abbrev pub output_path : Option (Result Request Fault) → Option (List ℕ)
 output_path None = None
 output_path (Some (Err fault)) = None
 output_path (Some (Ok request)) = request.output
+
+-- who may read what stands there already
+abbrev pub access_of : Option (Result Request Fault) → Access
+access_of None = Kept
+access_of (Some (Err fault)) = Kept
+access_of (Some (Ok request)) = output_access request.command
 
 -- so much of standard input, where there is no FILE
 abbrev pub unless_file : Option File → Option ℕ → Option ℕ

@@ -1,7 +1,9 @@
 //! The commands.
 ghost use Rattle.std.specs.Prelude.{◌≡◌};
 ghost use Rattle.vault_cli.specs.CommandName.{encrypts, has_output, command_of, rekeys, seals};
-ghost use Rattle.vault_cli.specs.CommandName.{takes_string};
+ghost use Rattle.vault_cli.specs.CommandName.{output_access, takes_string};
+
+use vault_files::Access;
 
 /// What is to be done.
 #[derive(Clone, Copy, Debug, PartialEq, Eq)]
@@ -54,6 +56,16 @@ impl CommandName {
         ensures { result ≡ takes_string self }
     {
         matches!(self, CommandName::EncryptString)
+    }
+
+    /// Who may read an output that stands there already: plaintext is for its owner.
+    pub(crate) fn output_access(self) -> Access
+        ensures { result ≡ output_access self }
+    {
+        match self {
+            CommandName::Decrypt | CommandName::View => Access::OwnerOnly,
+            _ => Access::Kept,
+        }
     }
 
     /// Whether the output may be a file.

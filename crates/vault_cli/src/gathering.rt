@@ -1,9 +1,11 @@
 //! What a request needs of its files before its input is read.
-ghost use Rattle.std.specs.Prelude.{◌≡◌, ◌≢◌, Ok, Err, IfOk, IfErr, length, map, vec_len};
-ghost use Rattle.vault_core.specs.declared.fault.Fault.TheVariants.{CannotOpen};
+ghost use Rattle.std.specs.Prelude.{◌≡◌, ◌≢◌, ℕ, [], ◌∷◌, length, map, option_to_list, take};
+ghost use Rattle.std.specs.Prelude.{Ok, Err, IfOk, IfErr, OnOk, vec_len};
+ghost use Rattle.vault_core.specs.declared.fault.Fault.TheVariants.{CannotOpen, Memory};
 ghost use Rattle.vault_core.specs.declared.fault.Role.TheVariants.{Input};
 ghost use Rattle.vault_cli.specs.Found.{fault_in, secret_paths};
 ghost use Rattle.vault_cli.specs.Gathered.{ContentsMet, FrontMet, IsMissing, IsOpened, SaltMet};
+ghost use Rattle.vault_cli.specs.Gathered.{SecretsRefuse};
 ghost use Rattle.vault_cli.specs.Request.{files_of};
 
 use crate::limits::SEALING_SALT_LENGTH;
@@ -26,17 +28,19 @@ fn fault_in(role: Role, fault: FileFault) -> Fault
 
 /// The first bytes of a file, as many as `buf` has room for.
 fn front_of<F: FileSystem>(
-    files: &F,
+    files: &mut F,
     alloc: Global,
     role: Role,
     path: &str,
     buf: &mut [u8],
 ) -> Result<Vec<u8>, Fault>
-    requires { F.stage files.now ≡ Stage.Unbegun }
+    requires { F.stage files.old ≡ Stage.Unbegun }
+    ensures opens { result ≢ Err Memory → F.opens files.old (path.now ∷ []) files.new }
+    ensures no_other { (n : ℕ) × F.opens files.old (take n (path.now ∷ [])) files.new }
     ensures read { IfOk result (λ bytes.
-        FrontMet (F.meets files.now path.now) role (length buf.new) (Ok bytes.items)) }
-    ensures refused { IfErr result (λ fault. fault ≢ Fault.Memory →
-        FrontMet (F.meets files.now path.now) role (length buf.new) (Err fault)) }
+        FrontMet (F.meets files.old path.now) role (length buf.new) (Ok bytes.items)) }
+    ensures refused { IfErr result (λ fault. fault ≢ Memory →
+        FrontMet (F.meets files.old path.now) role (length buf.new) (Err fault)) }
 {
     match read_front(files, path, buf) {
         Ok(n) => Ok(Vec::from_slice(alloc, &buf[..n])?),
@@ -46,17 +50,20 @@ fn front_of<F: FileSystem>(
 
 /// The contents of the password files, in their order, each up to one byte more than is taken.
 pub(crate) fn read_secret_files<F: FileSystem>(
-    files: &F,
+    files: &mut F,
     alloc: Global,
     request: &Request,
 ) -> Result<Vec<Vec<u8>>, Fault>
-    requires { F.stage files.now ≡ Stage.Unbegun }
+    requires { F.stage files.old ≡ Stage.Unbegun }
     ensures count { IfOk result (λ contents. vec_len contents ≡ length (files_of request.now)) }
     ensures read { IfOk result (λ contents.
-        ContentsMet (F.meets files.now) (secret_paths request.now)
+        ContentsMet (F.meets files.old) (secret_paths request.now)
         (Ok (map (λ file. file.items) contents.items))) }
-    ensures refused { IfErr result (λ fault. fault ≢ Fault.Memory →
-        ContentsMet (F.meets files.now) (secret_paths request.now) (Err fault)) }
+    ensures opens { OnOk result (F.opens files.old (secret_paths request.now) files.new) }
+    ensures refused { IfErr result (λ fault.
+        SecretsRefuse (F.meets files.old) (λ paths. F.opens files.old paths files.new)
+        (secret_paths request.now) fault) }
+    ensures unbegun { F.stage files.new ≡ Stage.Unbegun }
 {
     let mut contents = Vec::new(alloc);
     let mut buf = [0; PASSWORD_FILE_LIMIT + 1];
@@ -71,15 +78,19 @@ pub(crate) fn read_secret_files<F: FileSystem>(
 
 /// The salt of a request: the first 32 bytes of its salt file, or none where it names no file.
 pub(crate) fn read_salt<F: FileSystem>(
-    files: &F,
+    files: &mut F,
     alloc: Global,
     request: &Request,
 ) -> Result<Vec<u8>, Fault>
-    requires { F.stage files.now ≡ Stage.Unbegun }
+    requires { F.stage files.old ≡ Stage.Unbegun }
+    ensures opens { result ≢ Err Memory
+        → F.opens files.old (option_to_list request.now.salt_path) files.new }
+    ensures no_other { (n : ℕ)
+        × F.opens files.old (take n (option_to_list request.now.salt_path)) files.new }
     ensures read { IfOk result (λ salt.
-        SaltMet (F.meets files.now) request.now.salt_path (Ok salt.items)) }
-    ensures refused { IfErr result (λ fault. fault ≢ Fault.Memory →
-        SaltMet (F.meets files.now) request.now.salt_path (Err fault)) }
+        SaltMet (F.meets files.old) request.now.salt_path (Ok salt.items)) }
+    ensures refused { IfErr result (λ fault. fault ≢ Memory →
+        SaltMet (F.meets files.old) request.now.salt_path (Err fault)) }
 {
     let mut buf = [0; SEALING_SALT_LENGTH];
     match request.salt_path() {
@@ -90,13 +101,17 @@ pub(crate) fn read_salt<F: FileSystem>(
 
 /// The input file of a request, opened, where it names one.
 pub(crate) fn open_input<F: FileSystem>(
-    files: &F,
+    files: &mut F,
     request: &Request,
 ) -> Result<Option<F::Reader>, Fault>
-    requires { F.stage files.now ≡ Stage.Unbegun }
-    ensures opened { IfOk result (λ input. IsOpened (F.opened files.now) request.now.input input) }
-    ensures refused { IfErr result (λ fault. fault ≢ Fault.Memory →
-        (fault ≡ CannotOpen Input) × IsMissing (F.meets files.now) request.now.input) }
+    requires { F.stage files.old ≡ Stage.Unbegun }
+    ensures opens { result ≢ Err Memory
+        → F.opens files.old (option_to_list request.now.input) files.new }
+    ensures no_other { (n : ℕ)
+        × F.opens files.old (take n (option_to_list request.now.input)) files.new }
+    ensures opened { IfOk result (λ input. IsOpened (F.opened files.old) request.now.input input) }
+    ensures refused { IfErr result (λ fault. fault ≢ Memory →
+        (fault ≡ CannotOpen Input) × IsMissing (F.meets files.old) request.now.input) }
 {
     let Some(path) = request.input() else {
         return Ok(None);

@@ -38,5 +38,5 @@ pub use runs::run;
 pub use settling::{has_command, settle};
 pub use status::Status;
 pub use vault_core::{Fault, LabelRule, Role, SECRET_COUNT_LIMIT};
-pub use vault_files::{FileSystem, HostFiles, MemFile, MemFiles};
+pub use vault_files::{FileSystem, HostFiles, LoggedFiles, MemFile, MemFiles};
 pub use vault_text::{MemSink, MemSource, ReadSource, WriteSink};

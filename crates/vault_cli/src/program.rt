@@ -1,14 +1,15 @@
 //! What the program does with its arguments, its files and its standard streams.
-ghost use Rattle.std.specs.Prelude.{◌≡◌, ◌≢◌, [], Ok, Some, IfErr, IfOk, length, map, vec_len};
+ghost use Rattle.std.specs.Prelude.{◌≡◌, ◌≢◌, [], Ok, Some, IfErr, IfOk, OnOk, length, map, vec_len};
 ghost use Rattle.std.specs.String.{string_bytes};
 ghost use Rattle.clap.specs.Words.{fault_of, subcommand_rows_of};
 ghost use Rattle.vault_text.specs.declared.limits.TheConstants.{PLAINTEXT_LIMIT};
 ghost use Rattle.vault_cli.specs.Call.{sink, source, store};
 ghost use Rattle.vault_cli.specs.CommandLine.{vault_app};
+ghost use Rattle.vault_cli.specs.CommandName.{output_access};
 ghost use Rattle.vault_cli.specs.Drive.{Drives};
 ghost use Rattle.vault_cli.specs.Ending.{Ends, to_path};
 ghost use Rattle.vault_cli.specs.Explained.{ExplainsOneOf};
-ghost use Rattle.vault_cli.specs.Found.{secret_paths};
+ghost use Rattle.vault_cli.specs.Found.{asked_paths, secret_paths};
 ghost use Rattle.vault_cli.specs.Gathered.{ContentsMet, IsOpened, RefusedBy, SaltMet};
 ghost use Rattle.vault_cli.specs.Outcome.{input_asked, outcome};
 ghost use Rattle.vault_cli.specs.Program.{answer_to, asked_by, program};
@@ -101,22 +102,25 @@ struct Gathered<R: Source + Drop> {
 }
 
 fn gather<F: FileSystem>(
-    files: &F,
+    files: &mut F,
     alloc: Global,
     request: &Request,
 ) -> Result<Gathered<F::Reader>, Fault>
-    requires { F.stage files.now ≡ Stage.Unbegun }
+    requires { F.stage files.old ≡ Stage.Unbegun }
     ensures count { IfOk result (λ found.
         vec_len found.secret_files ≡ length (files_of request.now)) }
     ensures secrets { IfOk result (λ found.
-        ContentsMet (F.meets files.now) (secret_paths request.now)
+        ContentsMet (F.meets files.old) (secret_paths request.now)
         (Ok (map (λ file. file.items) found.secret_files.items))) }
     ensures salt { IfOk result (λ found.
-        SaltMet (F.meets files.now) request.now.salt_path (Ok found.salt.items)) }
+        SaltMet (F.meets files.old) request.now.salt_path (Ok found.salt.items)) }
     ensures input { IfOk result (λ found.
-        IsOpened (F.opened files.now) request.now.input found.input) }
-    ensures refused { IfErr result (λ fault. fault ≢ Fault.Memory →
-        RefusedBy (F.meets files.now) request.now fault) }
+        IsOpened (F.opened files.old) request.now.input found.input) }
+    ensures opens { OnOk result (F.opens files.old (asked_paths request.now) files.new) }
+    ensures refused { IfErr result (λ fault.
+        RefusedBy (F.meets files.old) (λ paths. F.opens files.old paths files.new)
+        request.now fault) }
+    ensures unbegun { F.stage files.new ≡ Stage.Unbegun }
 {
     let secret_files = read_secret_files(files, alloc, request)?;
     let salt = read_salt(files, alloc, request)?;
@@ -188,7 +192,8 @@ fn send<F: FileSystem, S: Source, K: Sink, E: Sink>(
     requires err_unbegun { E.stage err.old ≡ Stage.Unbegun }
     ensures ends { let contents = map (λ file. file.items) secret_files.now in
         let files = store F.FileSystem files.old files.new in
-        Ends (to_path request.now.output files (sink K.Sink out.old out.new))
+        Ends (to_path request.now.output (output_access request.now.command)
+        files (sink K.Sink out.old out.new))
         (sink E.Sink err.old err.new) result (source S.Source src.old src.new)
         (input_asked PLAINTEXT_LIMIT request.now contents salt.now)
         (outcome request.now contents salt.now) }
@@ -196,7 +201,7 @@ fn send<F: FileSystem, S: Source, K: Sink, E: Sink>(
     let Some(path) = request.output() else {
         return run_fitting(alloc, request, secret_files, salt, src, out, err);
     };
-    match files.aim(alloc, path) {
+    match files.aim(alloc, path, request.command().output_access()) {
         Ok(()) => run_fitting(alloc, request, secret_files, salt, src, files, err),
         Err(error) => report(Fault::from(error), err),
     }

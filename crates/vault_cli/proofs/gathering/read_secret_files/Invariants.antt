@@ -1,4 +1,5 @@
-use Rattle.std.proofs.Common.{◌≡◌, map, vec_len}
+use Rattle.std.proofs.Common.{◌≡◌, map, take, vec_len}
+use Rattle.vault_text.specs.declared.sink.Stage.TheVariants.{Unbegun}
 use Rattle.vault_cli.specs.Found.{secret_paths}
 use Rattle.vault_cli.proofs.FoundFacts.{GivesFront}
 use Rattle.vault_cli.proofs.gathering.read_secret_files.Given as goal
@@ -6,4 +7,6 @@ use Rattle.vault_cli.proofs.gathering.read_secret_files.Given as goal
 abbrev pub invariant-loop-i : goal.invariant-loop-i
 invariant-loop-i g l =
     (vec_len l.contents ≡ l.i)
-    × GivesFront (g.F.FileSystem.meets l.files) (secret_paths l.request) l.i (map (λ file. file.items) l.contents.items)
+    × GivesFront (g.F.FileSystem.meets l.initial.files) (secret_paths l.request) l.i (map (λ file. file.items) l.contents.items)
+    × g.F.FileSystem.opens l.initial.files (take l.i (secret_paths l.request)) l.files
+    × (g.F.Sink.stage l.files ≡ Unbegun)

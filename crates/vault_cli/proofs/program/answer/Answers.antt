@@ -6,10 +6,10 @@ use Rattle.vault_cli.proofs.program.answer.Goals as goal
 
 pub returns-in-Err : goal.returns-in-Err
 returns-in-Err g c = record {
-  drives = drives-refused (store_between g.F.Sink g.F.FileSystem c.args.files.now c.args.files.now)
+  drives = drives-refused (store_between g.F.Sink g.F.FileSystem c.args.files.now c.gather.new.files)
       (source g.S.Source c.args.src.now c.args.src.now) (sink g.K.Sink c.args.out.now c.args.out.now)
-      (sink g.E.Sink c.args.err.now c.report.new.err) c.report.result c.requires.files_unbegun refl refl refl
-      (g.met.S.Source.gives_none c.args.src.now) (g.met.F.FileSystem.meets_some c.args.files.now)
+      (sink g.E.Sink c.args.err.now c.report.new.err) c.report.result c.gather.new.files c.in-Err.ensures.unbegun refl refl refl
+      (g.met.S.Source.gives_none c.args.src.now)
       c.args.request.now c.in-Err.fault c.in-Err.ensures.refused c.report.ensures.status c.report.ensures.line;
 }
 
@@ -20,6 +20,7 @@ returns-in-Some g c = record {
       (sink g.E.Sink c.args.err.now c.send.new.err) c.send.result c.args.request.now
       (map (λ file. file.items) c.as_slice-secret_files.result.now) c.as_slice-salt.result.now
       (rw c.as_slice-secret_files.ensures.value c.in-Ok.ensures.secrets) (rw c.as_slice-salt.ensures.value c.in-Ok.ensures.salt)
+      c.gather.new.files c.in-Ok.ensures.opens
       refl (g.F.FileSystem.opened c.args.files.now) (source g.F.Reader.Source c.in-Some.reader c.send.new.src)
       (rw c.in-Some.is at c.in-Ok.ensures.input) (g.met.F.Reader.Source.gives_none c.in-Some.reader)
       (g.met.F.FileSystem.front_met c.args.files.now) (g.met.F.FileSystem.break_met c.args.files.now) c.send.ensures.ends;
@@ -32,5 +33,6 @@ returns g c = record {
       (sink g.E.Sink c.args.err.now c.send-in-None.new.err) c.send-in-None.result c.args.request.now
       (map (λ file. file.items) c.as_slice-secret_files.result.now) c.as_slice-salt.result.now
       (rw c.as_slice-secret_files.ensures.value c.in-Ok.ensures.secrets) (rw c.as_slice-salt.ensures.value c.in-Ok.ensures.salt)
+      c.gather.new.files c.in-Ok.ensures.opens
       (g.F.FileSystem.opened c.args.files.now) (rw c.in-None.is at c.in-Ok.ensures.input) c.send-in-None.ensures.ends;
 }

@@ -13,7 +13,8 @@ pub returns-then-not-has_command : goal.returns-then-not-has_command
 returns-then-not-has_command g c = record {
   drives = drives-nothing (store_between g.F.Sink g.F.FileSystem c.args.files.now c.args.files.now)
       (source g.S.Source c.args.src.now c.args.src.now) (sink g.K.Sink c.args.out.now c.args.out.now)
-      (sink g.E.Sink c.args.err.now c.args.err.now) _ c.requires.files_unbegun refl refl refl
+      (sink g.E.Sink c.args.err.now c.args.err.now) _ c.args.files.now c.requires.files_unbegun refl refl refl
+      (g.met.F.FileSystem.opens_none c.args.files.now)
       (asked (subcommand_rows_of c.args.matches.now))
       (sym (command-asked (λ b. (out-SubCommand (box_value b)).name.now) (λ b. rows_of (found_of (out-SubCommand (box_value b)).matches))
       (out-ArgMatches c.args.matches.now).subcommand) ∙ sym c.if-not-has_command.ensures) refl refl;
@@ -34,7 +35,8 @@ pub returns-in-Err : goal.returns-in-Err
 returns-in-Err g c = record {
   drives = drives-unsettled (store_between g.F.Sink g.F.FileSystem c.args.files.now c.args.files.now)
       (source g.S.Source c.args.src.now c.args.src.now) (sink g.K.Sink c.args.out.now c.args.out.now)
-      (sink g.E.Sink c.args.err.now c.report.new.err) c.report.result c.requires.files_unbegun refl refl refl
+      (sink g.E.Sink c.args.err.now c.report.new.err) c.report.result c.args.files.now c.requires.files_unbegun refl refl refl
+      (g.met.F.FileSystem.opens_none c.args.files.now)
       (g.met.S.Source.gives_none c.args.src.now) (g.met.F.FileSystem.meets_some c.args.files.now)
       (asked (subcommand_rows_of c.args.matches.now)) c.in-Err.fault
       (sym (command-asked (λ b. (out-SubCommand (box_value b)).name.now) (λ b. rows_of (found_of (out-SubCommand (box_value b)).matches))

@@ -1,0 +1,31 @@
+-- Which paths are opened: each that is asked for, in order, up to the first that refuses.
+use Rattle.std.specs.Prelude.{ℕ, ◌+◌, List, [], ◌∷◌, ◌++◌, option_to_list, Option, Some, None}
+use Rattle.std.specs.Prelude.{Result, Ok, Err}
+use Rattle.vault_files.specs.File.{File}
+use Rattle.vault_core.specs.declared.fault.Fault.{Fault}
+use Rattle.vault_core.specs.declared.fault.Role.TheVariants.{Secret}
+use Rattle.vault_core.specs.declared.limits.TheConstants.{PASSWORD_FILE_LIMIT}
+use Rattle.vault_cli.specs.Found.{contents_of, front_in, secret_paths}
+use Rattle.vault_cli.specs.Program.{Files, salt_in}
+use Rattle.vault_cli.specs.Request.{Request}
+
+-- none behind a step that refuses
+abbrev pub behind : {T : Type 0} → Result T Fault → List (List ℕ) → List (List ℕ)
+behind (Ok value) paths = paths
+behind (Err fault) paths = []
+
+-- of password files
+unfoldable pub secrets_opened : List (List ℕ) → List File → List (List ℕ)
+secrets_opened [] files = []
+secrets_opened (path ∷ paths) [] = []
+secrets_opened (path ∷ paths) (file ∷ files) =
+    path ∷ behind (front_in Secret (PASSWORD_FILE_LIMIT + 1) file) (secrets_opened paths files)
+
+-- of all files of a request: none where no request was made of the words
+abbrev pub opened_of : Option (Result Request Fault) → Files → List (List ℕ)
+opened_of None files = []
+opened_of (Some (Err fault)) files = []
+opened_of (Some (Ok request)) files =
+    secrets_opened (secret_paths request) files.secrets
+    ++ behind (contents_of files.secrets) (option_to_list request.salt_path
+    ++ behind (salt_in files.salt) (option_to_list request.input))
