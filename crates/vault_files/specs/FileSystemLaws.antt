@@ -6,8 +6,8 @@ use Rattle.std.proofs.Common.{rules, tests}
 use Rattle.std.proofs.lemmas.List.{append-nil, take_all, take-append-le}
 use Rattle.std.proofs.lemmas.Bool.{false≢true}
 use Rattle.vault_text.specs.Failures.{HasRisen}
-use Rattle.vault_files.specs.File.{Answers, File, front}
-use Rattle.vault_files.specs.File.File.{Missing, Whole, Broken}
+use Rattle.vault_files.specs.File.{Answers, Finding, front}
+use Rattle.vault_files.specs.File.Finding.{Missing, Whole, Broken}
 use Rattle.vault_files.specs.Logged.{LoggedOpens, LoggedState}
 use Rattle.vault_files.specs.Memory.{IsAtEnd, IsReaderOf, ReaderState, Reads, new_reader}
 use Rattle.vault_files.specs.declared.fault.FileFault.TheVariants.{CannotRead}
@@ -37,7 +37,7 @@ tells-end bytes xs breaks r t e g =
     g.end_is_real (λ ended. let never : IsTrue false = rw e at ended in absurd (false≢true never))
 
 -- what a reader gave to its end, or up to a limit, is the front of its file
-front-given : (file : File) (r t : ReaderState) (xs : List ℕ) (n : ℕ)
+front-given : (file : Finding) (r t : ReaderState) (xs : List ℕ) (n : ℕ)
     → IsReaderOf file r → Reads r xs t → length xs ≤ n
     → IsTrue t.ended ⊎ (length xs ≡ n) → front n file ≡ Ok xs
 front-given Missing r t xs n e g fits end = absurd e
@@ -57,7 +57,7 @@ front-given (Broken bytes) r t xs n e g fits (inr exact) =
     rw test (ap Ok (take-given bytes xs t.left n given fits (inr exact)))
 
 -- where it failed before that, its file breaks there
-break-given : (file : File) (r t : ReaderState) (xs : List ℕ) (n : ℕ)
+break-given : (file : Finding) (r t : ReaderState) (xs : List ℕ) (n : ℕ)
     → IsReaderOf file r → Reads r xs t → length xs < n
     → HasRisen r.failures t.failures → front n file ≡ Err CannotRead
 break-given Missing r t xs n e g short risen = absurd e
@@ -76,13 +76,13 @@ break-given (Broken bytes) r t xs n e g short risen =
     rw test refl
 
 -- in memory, where one file is met, these are the answers of that file
-pub front-met : (file : File) (r t : ReaderState) (xs : List ℕ) (n : ℕ)
+pub front-met : (file : Finding) (r t : ReaderState) (xs : List ℕ) (n : ℕ)
     → IsReaderOf file r → Reads r xs t → length xs ≤ n
     → IsTrue t.ended ⊎ (length xs ≡ n) → Answers (λ met. met ≡ file) n (Ok xs)
 front-met file r t xs n opened gives fits end =
     record { file = file; met = refl; same = front-given file r t xs n opened gives fits end }
 
-pub break-met : (file : File) (r t : ReaderState) (xs : List ℕ) (n : ℕ)
+pub break-met : (file : Finding) (r t : ReaderState) (xs : List ℕ) (n : ℕ)
     → IsReaderOf file r → Reads r xs t → length xs < n
     → HasRisen r.failures t.failures → Answers (λ met. met ≡ file) n (Err CannotRead)
 break-met file r t xs n opened gives short risen =

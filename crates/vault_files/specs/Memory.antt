@@ -4,16 +4,16 @@ use Rattle.std.specs.Prelude.{true, false, IsTrue, List, [], ◌∷◌, ◌++◌
 use Rattle.std.specs.Str.{bytes_eq}
 use Rattle.vault_text.specs.Sink.{MemoryState, Takes, has_begun, state_of}
 use Rattle.vault_text.specs.declared.sink.Stage.TheVariants.{Unbegun}
-use Rattle.vault_files.specs.File.{File}
-use Rattle.vault_files.specs.File.File.{Missing, Whole, Broken}
+use Rattle.vault_files.specs.File.{Finding}
+use Rattle.vault_files.specs.File.Finding.{Missing, Whole, Broken}
 
 -- a file in memory, under its path
 pub record Entry : Type 0 where
   pub path : List ℕ
-  pub file : File
+  pub file : Finding
 
 -- the first file under a path
-abbrev pub file_at : List Entry → List ℕ → File
+abbrev pub file_at : List Entry → List ℕ → Finding
 file_at [] path = Missing
 file_at (entry ∷ entries) path =
     if bytes_eq entry.path path then entry.file else file_at entries path
@@ -31,7 +31,7 @@ abbrev pub new_reader : List ℕ → Bool → ReaderState
 new_reader bytes breaks = record { left = bytes; breaks = breaks; ended = false; failures = 0 }
 
 -- a reader of the whole file
-abbrev pub IsReaderOf : File → ReaderState → Type 0
+abbrev pub IsReaderOf : Finding → ReaderState → Type 0
 IsReaderOf Missing reader = ⊥
 IsReaderOf (Whole bytes) reader = reader ≡ new_reader bytes false
 IsReaderOf (Broken bytes) reader = reader ≡ new_reader bytes true
@@ -77,13 +77,13 @@ is_aimed_at None path = false
 is_aimed_at (Some aim) path = bytes_eq aim path
 
 -- what stands at a path: the output, once it was begun there, else the file that stood there before
-abbrev pub stands_at : StoreState → List ℕ → File
+abbrev pub stands_at : StoreState → List ℕ → Finding
 stands_at store path =
     if has_begun store.output.stage && is_aimed_at store.aim path then Whole store.output.held
     else file_at store.entries path
 
 -- the bytes of a file, up to where it breaks
-abbrev pub bytes_of : File → Option (List ℕ)
+abbrev pub bytes_of : Finding → Option (List ℕ)
 bytes_of Missing = None
 bytes_of (Whole bytes) = Some bytes
 bytes_of (Broken bytes) = Some bytes

@@ -3,8 +3,8 @@ ghost use Rattle.std.specs.Prelude.{◌≡◌, ◌≢◌, ℕ, ◌<◌, ◌≤�
 ghost use Rattle.std.specs.Prelude.{length, take};
 ghost use Rattle.std.specs.Prelude.{Ok, Err, IfOk, IfErr, OnOk, OnErr};
 ghost use Rattle.vault_text.specs.Failures.{HasRisen};
-ghost use Rattle.vault_files.specs.File.{Answers, File, UnlessMemory};
-ghost use Rattle.vault_files.specs.File.File.{Missing};
+ghost use Rattle.vault_files.specs.File.{Answers, Finding, UnlessMemory};
+ghost use Rattle.vault_files.specs.File.Finding.{Missing};
 ghost use Rattle.vault_files.specs.declared.fault.FileFault.TheVariants.{CannotRead};
 
 use crate::access::Access;
@@ -21,7 +21,7 @@ pub trait FileSystem: Sink {
     type Reader: Source + Drop;
 
     // What may be met at a path.
-    ghost meets: { Self → List ℕ → File → Type 0 };
+    ghost meets: { Self → List ℕ → Finding → Type 0 };
 
     // What was opened at a path.
     ghost opened: { Self → List ℕ → Self.Reader → Type 0 };
@@ -62,7 +62,7 @@ pub trait FileSystem: Sink {
         → opens s paths t → Self.failures t ≡ Self.failures s };
 
     // What may be met behind opens could be met before them.
-    ghost opens_meets: { (s t : Self) (paths : List (List ℕ)) (path : List ℕ) (file : File)
+    ghost opens_meets: { (s t : Self) (paths : List (List ℕ)) (path : List ℕ) (file : Finding)
         → opens s paths t → meets t path file → meets s path file };
 
     // What was opened behind them could be opened before.
@@ -70,7 +70,7 @@ pub trait FileSystem: Sink {
         → opens s paths t → opened t path r → opened s path r };
 
     // Something may be met at each path.
-    ghost meets_some: { (s : Self) (path : List ℕ) → (file : File) × meets s path file };
+    ghost meets_some: { (s : Self) (path : List ℕ) → (file : Finding) × meets s path file };
 
     // What a reader gave to its end, or up to a limit, is the front of a file that may be met.
     ghost front_met: { (s : Self) (path : List ℕ) (r t : Self.Reader) (xs : List ℕ) (n : ℕ)

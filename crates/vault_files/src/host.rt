@@ -159,7 +159,7 @@ impl<'a, R: Files> Sink for HostFiles<'a, R> {
 impl<'a, R: Files> FileSystem for HostFiles<'a, R> {
     ghost use Rattle.std.specs.Prelude.{◌≡◌, refl, Some};
     ghost use Rattle.std.proofs.Common.{◌∙◌, arith};
-    ghost use Rattle.vault_files.specs.File.File.{Missing};
+    ghost use Rattle.vault_files.specs.File.Finding.{Missing};
     ghost use Rattle.vault_files.specs.FileSystemLaws.{front-any, break-any};
 
     type Reader = ReadSource<R::File>;

@@ -1,5 +1,5 @@
 ghost use Rattle.std.specs.Prelude.{◌≡◌};
-ghost use Rattle.vault_files.specs.File.File.{Broken, Whole};
+ghost use Rattle.vault_files.specs.File.Finding.{Broken, Whole};
 ghost use Rattle.vault_files.specs.Memory.{IsReaderOf};
 
 use super::reader::MemFileReader;
@@ -15,7 +15,7 @@ pub struct MemFile<'a> {
 
 impl<'a> Model for MemFile<'a> {
     ghost use Rattle.std.specs.Prelude.{if◌then◌else◌};
-    ghost use Rattle.vault_files.specs.File.File.{Broken, Whole};
+    ghost use Rattle.vault_files.specs.File.Finding.{Broken, Whole};
     ghost use Rattle.vault_files.specs.Memory.{Entry};
 
     ghost Value = { Entry };
