@@ -233,38 +233,6 @@ mod tests {
         );
     }
 
-    fn mode_of(rt: &impl Files, path: &str) -> io::Result<u32> {
-        Ok(fs::metadata(rt, path)?.permissions().mode() & 0o7777)
-    }
-
-    // A file that is not there, two that are, and a device.
-    #[test]
-    fn sets_modes(rt: HostRuntime) -> Result<(), Fail> {
-        let path = "vault_files_output";
-        for access in [Access::Kept, Access::OwnerOnly] {
-            for before in [None, Some(0o644), Some(0o200)] {
-                if let Some(mode) = before {
-                    fs::write(&rt, path, b"old".as_slice())?;
-                    fs::set_permissions(&rt, path, Permissions::from_mode(mode))?;
-                }
-                let mut files = HostFiles::new(&rt);
-                files.aim(rt.alloc(), path, access)?;
-                files.begin()?;
-                let kept = before.filter(|_| access == Access::Kept);
-                let after = mode_of(&rt, path)?;
-                assert_eq!(rt; after, kept.unwrap_or(OWNER_ONLY), "{access:?} {before:?}");
-                assert_eq!(rt; fs::metadata(&rt, path)?.len(), 0);
-                fs::remove_file(&rt, path)?;
-            }
-            let before = mode_of(&rt, "/dev/null")?;
-            let mut files = HostFiles::new(&rt);
-            files.aim(rt.alloc(), "/dev/null", access)?;
-            files.begin()?;
-            assert_eq!(rt; mode_of(&rt, "/dev/null")?, before);
-        }
-        Ok(())
-    }
-
     #[test]
     fn counts_what_cannot_be_written(rt: HostRuntime) -> Result<(), Fail> {
         for (path, begins, takes) in [
@@ -273,7 +241,7 @@ mod tests {
             ("/dev/null", true, true),
         ] {
             let mut files = HostFiles::new(&rt);
-            files.aim(rt.alloc(), path, Access::OwnerOnly)?;
+            files.aim(rt.alloc(), path, Access::Kept)?;
             assert_eq!(rt; files.begin().is_ok(), begins, "{path}");
             if begins {
                 assert_eq!(rt; put_all(&mut files, b"text").is_ok(), takes, "{path}");
