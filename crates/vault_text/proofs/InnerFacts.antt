@@ -9,7 +9,7 @@ use Rattle.std.proofs.lemmas.List.Sums.{sum_by-cons}
 use Rattle.vault_text.specs.Steps.{◌>>=◌}
 use Rattle.vault_text.specs.Hexadecimal.{DecoderState, unhex_on, Decodes}
 use Rattle.vault_text.specs.InnerText.{Parts, cut, is_line_feed}
-use Rattle.vault_text.specs.InnerReader.{PartState, InnerState, GivesDigits, IsGiven, TakesDigits, next_part, part_on, payload_of, payload_on, rest_of_parts, with_digits}
+use Rattle.vault_text.specs.InnerReader.{InnerState, GivesDigits, IsGiven, TakesDigits, next_part, part_on, payload_of, payload_on, rest_of_parts, with_digits}
 use Rattle.vault_text.specs.declared.limits.TheConstants.{TAG_LENGTH}
 use Rattle.vault_text.specs.declared.fault.TextFault.{TextFault}
 use Rattle.vault_text.specs.declared.fault.TextFault.TheVariants.{BadPayload, CipherTooLong}
