@@ -30,7 +30,7 @@ pub struct HostFiles<'a, R: Files> {
 }
 
 impl<'a, R: Files> Model for HostFiles<'a, R> {
-    ghost use Rattle.std.specs.Prelude.{None, if◌then◌else◌};
+    ghost use Rattle.std.specs.Prelude.{◌≡◌, is_some};
     ghost use Rattle.std.specs.Option.{option_and_then, option_map};
     ghost use Rattle.std.specs.String.{string_bytes};
     ghost use Rattle.vault_text.specs.Sink.{has_begun};
@@ -42,12 +42,13 @@ impl<'a, R: Files> Model for HostFiles<'a, R> {
       aim = option_map string_bytes s.aim;
       access = s.access;
       output = record {
-        held = if has_begun s.stage
-            then option_and_then (λ file. R.File.Write.contents file) s.output else None;
+        held = option_and_then (λ file. R.File.Write.contents file) s.output;
         stage = s.stage;
         failures = s.failures;
       };
     } };
+
+    ghost invariant = { λ s. has_begun s.stage ≡ is_some s.output };
 }
 
 impl<'a, R: Files> HostFiles<'a, R> {
