@@ -8,7 +8,7 @@ use Rattle.clap.specs.Walk.{Row}
 use Rattle.vault_text.specs.Failures.{HasRisen}
 use Rattle.vault_text.specs.declared.limits.TheConstants.{PLAINTEXT_LIMIT}
 use Rattle.vault_text.specs.declared.sink.Stage.TheVariants.{Unbegun}
-use Rattle.vault_files.specs.File.{Answers, File}
+use Rattle.vault_files.specs.File.{Answers, Finding}
 use Rattle.vault_files.specs.declared.fault.FileFault.TheVariants.{CannotRead}
 use Rattle.vault_core.specs.declared.fault.Fault.{Fault}
 use Rattle.vault_core.specs.declared.fault.Fault.TheVariants.{Memory, Read}
@@ -36,7 +36,7 @@ use Rattle.vault_cli.proofs.ProgramFacts.{one-some, opened-all, opening-broken, 
 use Rattle.vault_cli.proofs.SettlingFacts.{pair_of}
 
 -- files for each request
-pub some-met : (meets : List ℕ → File → Type 0) → ((path : List ℕ) → (file : File) × meets path file)
+pub some-met : (meets : List ℕ → Finding → Type 0) → ((path : List ℕ) → (file : Finding) × meets path file)
     → (asks : Option (Result Request Fault)) → (found : Files) × AllMet meets asks found
 some-met meets some None = (record { secrets = []; salt = None; input = None }, tt)
 some-met meets some (Some (Err fault)) = (record { secrets = []; salt = None; input = None }, tt)
@@ -47,16 +47,16 @@ some-met meets some (Some (Ok request)) =
     (record { secrets = secrets.0; salt = salt.0; input = input.0 }, (secrets.1, salt.1, input.1))
 
 -- no standard input is asked for beside a file
-unless_file-none : (file : Option File) → unless_file file None ≡ None
+unless_file-none : (file : Option Finding) → unless_file file None ≡ None
 unless_file-none None = refl
 unless_file-none (Some file) = refl
 
 -- ---- the files of a request
 
-module _ (meets : List ℕ → File → Type 0) (request : Request) (contents : List (List ℕ)) (salt : List ℕ)
+module _ (meets : List ℕ → Finding → Type 0) (request : Request) (contents : List (List ℕ)) (salt : List ℕ)
     (read : ContentsMet meets (secret_paths request) (Ok contents)) (salted : SaltMet meets request.salt_path (Ok salt)) where
   -- with an input file that may be met there and can be opened, or none, they prepare what the request does
-  pub found-with : (input : Option File) → OneMet meets request.input input → opening_of input ≡ Ok tt
+  pub found-with : (input : Option Finding) → OneMet meets request.input input → opening_of input ≡ Ok tt
       → (found : Files) × AllMet meets (Some (Ok request)) found × (found.input ≡ input) × (task_over request found ≡ prepared request contents salt)
       × (opened_of (Some (Ok request)) found ≡ asked_paths request)
   found-with input met opening =
@@ -71,7 +71,7 @@ module _ (meets : List ℕ → File → Type 0) (request : Request) (contents : 
       )
 
 -- what a reader of a file gave
-module _ {R : Type 0} (meets : List ℕ → File → Type 0) (opened : List ℕ → R → Type 0) (reader : SourceCall R) where
+module _ {R : Type 0} (meets : List ℕ → Finding → Type 0) (opened : List ℕ → R → Type 0) (reader : SourceCall R) where
   abbrev pub FrontLaw : Type 0
   FrontLaw = (path : List ℕ) (r t : R) (xs : List ℕ) (n : ℕ) → opened path r → reader.gives r xs t → length xs ≤ n
       → IsTrue (reader.ended t) ⊎ (length xs ≡ n) → Answers (meets path) n (Ok xs)
@@ -82,7 +82,7 @@ module _ {R : Type 0} (meets : List ℕ → File → Type 0) (opened : List ℕ 
 
   -- a file that gives this, for each standard input
   abbrev InputMet : Option (List ℕ) → ℕ → Result (List ℕ) Fault → Type 0
-  InputMet path n answer = (file : File) × OneMet meets path (Some file) × (opening_of (Some file) ≡ Ok tt)
+  InputMet path n answer = (file : Finding) × OneMet meets path (Some file) × (opening_of (Some file) ≡ Ok tt)
       × ((stdin : List ℕ) → input_in n (Some file) stdin ≡ answer)
 
   input-read : FrontLaw → (path : Option (List ℕ)) (t : R) (xs : List ℕ) (n : ℕ) → IsOpened opened path (Some reader.old)
@@ -101,7 +101,7 @@ module _ {R : Type 0} (meets : List ℕ → File → Type 0) (opened : List ℕ 
       let same : (stdin : List ℕ) → input_in n (Some a.file) stdin ≡ Err (Read Input) = λ stdin. ap (result_map_both (λ bytes. bytes) (fault_in Input)) a.same in
       (a.file, a.met, opening-broken a.file n [] (same []), same)
 
-unopened : {R : Type 0} (meets : List ℕ → File → Type 0) (opened : List ℕ → R → Type 0) (path : Option (List ℕ)) → IsOpened opened path None → OneMet meets path None
+unopened : {R : Type 0} (meets : List ℕ → Finding → Type 0) (opened : List ℕ → R → Type 0) (path : Option (List ℕ)) → IsOpened opened path None → OneMet meets path None
 unopened meets opened None at = tt
 unopened meets opened (Some path) at = absurd at
 
@@ -122,12 +122,12 @@ module _ {F R S K E : Type 0} (files : StoreCall F R) (src : SourceCall S) (out 
     SentFrom from = Ends SentTo err result from (input_asked PLAINTEXT_LIMIT request contents salt) (outcome request contents salt)
 
     -- over this input file and this task
-    abbrev EndsWith : Option File → Result Task Fault → Type 0
+    abbrev EndsWith : Option Finding → Result Task Fault → Type 0
     EndsWith input task = Ends SentTo err result src
         (unless_file input (asked_for task request.string (input_limit PLAINTEXT_LIMIT request.command)))
         (λ stdin. answered (ready_by PLAINTEXT_LIMIT task request.string (input_in (input_limit PLAINTEXT_LIMIT request.command + 1) input stdin)))
 
-    drives-with : (input : Option File) → OneMet (files.meets files.old) request.input input → opening_of input ≡ Ok tt
+    drives-with : (input : Option Finding) → OneMet (files.meets files.old) request.input input → opening_of input ≡ Ok tt
         → EndsWith input (prepared request contents salt) → AskedDrives (Some (Ok request))
     drives-with input input_met opening ends =
         let (found, met, is, same, all) = found-with (files.meets files.old) request contents salt read salted input input_met opening in (
@@ -137,7 +137,7 @@ module _ {F R S K E : Type 0} (files : StoreCall F R) (src : SourceCall S) (out 
             opened,
             (
               inl (subst (λ (paths : List (List ℕ)). files.opens files.old paths opened) (sym all) went),
-              subst (λ (file : Option File). EndsWith file (task_over request found)) (sym is)
+              subst (λ (file : Option Finding). EndsWith file (task_over request found)) (sym is)
                   (subst (λ (task : Result Task Fault). EndsWith input task) (sym same) ends),
             ),
           ),
@@ -154,7 +154,7 @@ module _ {F R S K E : Type 0} (files : StoreCall F R) (src : SourceCall S) (out 
         (front_law : FrontLaw (files.meets files.old) reads reader) (break_law : BreakLaw (files.meets files.old) reads reader) where
       -- the file that was met, and the answer to it
       abbrev FileEnds : Result Task Fault → Option (List ℕ) → Type 0
-      FileEnds prepares string = (file : File) × OneMet (files.meets files.old) request.input (Some file) × (opening_of (Some file) ≡ Ok tt)
+      FileEnds prepares string = (file : Finding) × OneMet (files.meets files.old) request.input (Some file) × (opening_of (Some file) ≡ Ok tt)
           × (LacksMemory SentTo err result
           ⊎ Finishes SentTo err result
           (answered (ready_by PLAINTEXT_LIMIT prepares string (input_in (input_limit PLAINTEXT_LIMIT request.command + 1) (Some file) []))))
@@ -242,7 +242,7 @@ module _ {F R S K E : Type 0} (files : StoreCall F R) (src : SourceCall S) (out 
 
     module _ (unopened : files.opens files.old [] opened) where
       -- there was no memory for what was asked
-      pub drives-no_memory : src.gives src.old [] src.new → ((path : List ℕ) → (file : File) × files.meets files.old path file)
+      pub drives-no_memory : src.gives src.old [] src.new → ((path : List ℕ) → (file : Finding) × files.meets files.old path file)
           → (asks : Option (Result Request Fault)) → result ≡ OutOfMemory → Says err (line_of Memory) → AskedDrives asks
       drives-no_memory none some asks status line =
           let (found, met) = some-met (files.meets files.old) some asks in
@@ -255,7 +255,7 @@ module _ {F R S K E : Type 0} (files : StoreCall F R) (src : SourceCall S) (out 
           (record { secrets = []; salt = None; input = None }, tt, (opened, (inl unopened, answered-alone None _ refl status line)))
 
       -- the options are refused, or there was no memory for the request
-      pub drives-unsettled : src.gives src.old [] src.new → ((path : List ℕ) → (file : File) × files.meets files.old path file)
+      pub drives-unsettled : src.gives src.old [] src.new → ((path : List ℕ) → (file : Finding) × files.meets files.old path file)
           → (asks : Option (Result Request Fault)) (fault : Fault) → is_some asks ≡ true → IfSome asks (λ settled. Settles settled (Err fault))
           → result ≡ status_of fault → Says err (line_of fault) → AskedDrives asks
       drives-unsettled none some None fault is settles status line = absurd (false≢true is)

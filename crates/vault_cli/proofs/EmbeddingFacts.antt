@@ -8,7 +8,7 @@ use Rattle.vault_text.specs.Sink.{MemoryState, MemoryTakes, has_begun}
 use Rattle.vault_text.specs.Source as source
 use Rattle.vault_text.specs.declared.sink.Stage.{Stage}
 use Rattle.vault_text.specs.declared.sink.Stage.TheVariants.{Unbegun, Begun, Finished}
-use Rattle.vault_files.specs.File.{File}
+use Rattle.vault_files.specs.File.{Finding}
 use Rattle.vault_files.specs.Logged.{LoggedOpens, LoggedState, LoggedTakes}
 use Rattle.vault_files.specs.Memory.{IsReaderOf, ReaderState, StoreState, StoreTakes, file_at, stands_at}
 use Rattle.vault_files.specs.declared.access.Access.{Access}
@@ -77,7 +77,7 @@ written-stands files new_files aim bytes path empty took begun =
 
 module _ (result : Status) (files new_files : LoggedState) (out new_out err new_err : MemoryState)
     (unbegun : files.files.output.stage ≡ Unbegun) (empty : files.files.output.held ≡ []) (access : Access) where
-  abbrev StandsSo : (List ℕ → File) → Type 0
+  abbrev StandsSo : (List ℕ → Finding) → Type 0
   StandsSo after = Stands result (change files.files new_files.files) (change out new_out) (change err new_err) after
 
   abbrev KeptSo : Type 0

@@ -10,7 +10,7 @@ use Rattle.vault_core.specs.declared.fault.Fault.TheVariants.{Memory}
 use Rattle.vault_core.specs.declared.fault.Role.{Role}
 use Rattle.vault_core.specs.declared.fault.Role.TheVariants.{Secret}
 use Rattle.vault_core.specs.declared.limits.TheConstants.{PASSWORD_FILE_LIMIT}
-use Rattle.vault_files.specs.File.{File, Met}
+use Rattle.vault_files.specs.File.{Finding, Met}
 use Rattle.vault_cli.specs.Found.{contents_of, front_in}
 use Rattle.vault_cli.specs.Gathered.{ContentsMet, FrontMet, SecretsRefuse}
 use Rattle.vault_cli.specs.Opened.{behind, secrets_opened}
@@ -31,7 +31,7 @@ with_contents-more : (front : List (List ℕ)) (bytes : List ℕ) (rest : Result
 with_contents-more front bytes (Ok rest) = ap Ok (sym (append_assoc front (bytes ∷ []) rest))
 with_contents-more front bytes (Err fault) = refl
 
-contents_of-first : (file : File) (files : List File) → contents_of (file ∷ files)
+contents_of-first : (file : Finding) (files : List Finding) → contents_of (file ∷ files)
     ≡ (front_in Secret (PASSWORD_FILE_LIMIT + 1) file >>= λ bytes. contents_of files >>= λ contents. Ok (bytes ∷ contents))
 unfolding contents_of
 contents_of-first file files = refl
@@ -40,33 +40,33 @@ contents_of-none : contents_of [] ≡ Ok []
 unfolding contents_of
 contents_of-none = refl
 
-secrets_opened-first : (path : List ℕ) (paths : List (List ℕ)) (file : File) (files : List File)
+secrets_opened-first : (path : List ℕ) (paths : List (List ℕ)) (file : Finding) (files : List Finding)
     → secrets_opened (path ∷ paths) (file ∷ files) ≡ path ∷ behind (front_in Secret (PASSWORD_FILE_LIMIT + 1) file) (secrets_opened paths files)
 unfolding secrets_opened
 secrets_opened-first path paths file files = refl
 
 -- these paths are opened of these files, whatever stands behind them
-abbrev pub Opens : List (List ℕ) → List File → Type 0
-Opens paths files = (later : List (List ℕ)) (more : List File) → secrets_opened (paths ++ later) (files ++ more) ≡ paths ++ secrets_opened later more
+abbrev pub Opens : List (List ℕ) → List Finding → Type 0
+Opens paths files = (later : List (List ℕ)) (more : List Finding) → secrets_opened (paths ++ later) (files ++ more) ≡ paths ++ secrets_opened later more
 
 -- the files give these contents, whatever files stand behind them
-abbrev pub Gives : List File → List (List ℕ) → Type 0
-Gives files contents = (more : List File) → contents_of (files ++ more) ≡ with_contents contents (contents_of more)
+abbrev pub Gives : List Finding → List (List ℕ) → Type 0
+Gives files contents = (more : List Finding) → contents_of (files ++ more) ≡ with_contents contents (contents_of more)
 
-module _ (meets : List ℕ → File → Type 0) where
-  Met-append : (ps qs : List (List ℕ)) (fs gs : List File) → Met meets ps fs → Met meets qs gs → Met meets (ps ++ qs) (fs ++ gs)
+module _ (meets : List ℕ → Finding → Type 0) where
+  Met-append : (ps qs : List (List ℕ)) (fs gs : List Finding) → Met meets ps fs → Met meets qs gs → Met meets (ps ++ qs) (fs ++ gs)
   Met-append [] qs [] gs p q = q
   Met-append [] qs (f ∷ fs) gs p q = absurd p
   Met-append (x ∷ ps) qs [] gs p q = absurd p
   Met-append (x ∷ ps) qs (f ∷ fs) gs p q = (p.0, Met-append ps qs fs gs p.1 q)
 
-  pub Met-some : ((path : List ℕ) → (file : File) × meets path file) → (paths : List (List ℕ)) → (files : List File) × Met meets paths files
+  pub Met-some : ((path : List ℕ) → (file : Finding) × meets path file) → (paths : List (List ℕ)) → (files : List Finding) × Met meets paths files
   Met-some some [] = ([], tt)
   Met-some some (path ∷ paths) = ((some path).0 ∷ (Met-some some paths).0, ((some path).1, (Met-some some paths).1))
 
   -- the files met so far, their contents, and what is opened behind them
   abbrev pub GivesFront : List (List ℕ) → ℕ → List (List ℕ) → Type 0
-  GivesFront paths i contents = (files : List File) × Met meets (take i paths) files × Gives files contents × Opens (take i paths) files
+  GivesFront paths i contents = (files : List Finding) × Met meets (take i paths) files × Gives files contents × Opens (take i paths) files
 
   pub GivesFront-none : (paths : List (List ℕ)) → GivesFront paths 0 []
   GivesFront-none paths = ([], tt, λ more. with_contents-none (contents_of more), λ later more. refl)
@@ -75,7 +75,7 @@ module _ (meets : List ℕ → File → Type 0) where
   pub GivesFront-more : (paths : List (List ℕ)) (i : ℕ) (contents : List (List ℕ)) (path bytes : List ℕ)
       → take (i + 1) paths ≡ take i paths ++ path ∷ []
       → GivesFront paths i contents
-      → (file : File) × meets path file × (front_in Secret (PASSWORD_FILE_LIMIT + 1) file ≡ Ok bytes)
+      → (file : Finding) × meets path file × (front_in Secret (PASSWORD_FILE_LIMIT + 1) file ≡ Ok bytes)
       → GivesFront paths (i + 1) (contents ++ bytes ∷ [])
   GivesFront-more paths i contents path bytes at (files, met, given, opened) (file, found, same) = (
     files ++ file ∷ [],
@@ -86,7 +86,7 @@ module _ (meets : List ℕ → File → Type 0) where
         ∙ ap (with_contents contents) (contents_of-first file more ∙ ap (λ r. r >>= λ bytes. contents_of more >>= λ contents. Ok (bytes ∷ contents)) same)
         ∙ with_contents-more contents bytes (contents_of more),
     rw at (λ later more.
-        ap (λ (fs : List File). secrets_opened ((take i paths ++ path ∷ []) ++ later) fs) (append_assoc files (file ∷ []) more)
+        ap (λ (fs : List Finding). secrets_opened ((take i paths ++ path ∷ []) ++ later) fs) (append_assoc files (file ∷ []) more)
         ∙ ap (λ (ps : List (List ℕ)). secrets_opened ps (files ++ file ∷ more)) (append_assoc (take i paths) (path ∷ []) later)
         ∙ opened (path ∷ later) (file ∷ more)
         ∙ ap (λ (ps : List (List ℕ)). take i paths ++ ps) (secrets_opened-first path later file more ∙ ap (λ r. path ∷ behind r (secrets_opened later more)) same)
@@ -103,10 +103,10 @@ module _ (meets : List ℕ → File → Type 0) where
   )
 
   -- the paths behind the index, at which some files may be met
-  module _ {F : Type 0} (opens : F → List (List ℕ) → F → Type 0) (old new : F) (some : (path : List ℕ) → (file : File) × meets path file)
+  module _ {F : Type 0} (opens : F → List (List ℕ) → F → Type 0) (old new : F) (some : (path : List ℕ) → (file : Finding) × meets path file)
       (paths : List (List ℕ)) (i : ℕ) (contents : List (List ℕ)) (path : List ℕ)
       (at : paths ≡ take i paths ++ path ∷ drop (i + 1) paths) (front : GivesFront paths i contents) where
-    with-file : (file : File) → meets path file → (files : List File) × Met meets paths files
+    with-file : (file : Finding) → meets path file → (files : List Finding) × Met meets paths files
         × (contents_of files ≡ with_contents contents (contents_of (file ∷ (Met-some some (drop (i + 1) paths)).0)))
         × (secrets_opened paths files ≡ take i paths ++ secrets_opened (path ∷ drop (i + 1) paths) (file ∷ (Met-some some (drop (i + 1) paths)).0))
     with-file file found =
@@ -120,7 +120,7 @@ module _ (meets : List ℕ → File → Type 0) where
         )
 
     -- a file that gives no bytes refuses all
-    pub secrets-refuse : (fault : Fault) → (file : File) × meets path file × (front_in Secret (PASSWORD_FILE_LIMIT + 1) file ≡ Err fault)
+    pub secrets-refuse : (fault : Fault) → (file : Finding) × meets path file × (front_in Secret (PASSWORD_FILE_LIMIT + 1) file ≡ Err fault)
         → opens old (take i paths ++ path ∷ []) new → SecretsRefuse meets (λ opened. opens old opened new) paths fault
     secrets-refuse fault (file, found, same) went =
         let others = Met-some some (drop (i + 1) paths) in
@@ -184,12 +184,12 @@ pub length-paths : (files : List SecretFile) → length (map (λ file. file.path
 length-paths files = length-map files (λ (file : SecretFile). file.path)
 
 -- the room of a buffer is the limit
-pub at_limit : (meets : File → Type 0) (role : Role) (room limit : ℕ) (answer : Result (List ℕ) Fault) → room ≡ limit
+pub at_limit : (meets : Finding → Type 0) (role : Role) (room limit : ℕ) (answer : Result (List ℕ) Fault) → room ≡ limit
     → FrontMet meets role room answer → FrontMet meets role limit answer
 at_limit meets role room limit answer e (file, found, same) = (file, found, ap (λ (n : ℕ). front_in role n file) (sym e) ∙ same)
 
 -- what may be met later could be met before
-pub FrontMet-back : (meets later : File → Type 0) → ((file : File) → later file → meets file)
+pub FrontMet-back : (meets later : Finding → Type 0) → ((file : Finding) → later file → meets file)
     → (role : Role) (limit : ℕ) (answer : Result (List ℕ) Fault) → FrontMet later role limit answer → FrontMet meets role limit answer
 FrontMet-back meets later back role limit answer (file, found, same) = (file, back file found, same)
 

@@ -1,7 +1,7 @@
 -- The answer to the front of standard input that is asked for is the answer to all of it.
 use Rattle.std.proofs.Common.{◌≡◌, ℕ, ◌++◌, List, [], Bool, Option, Some, None, Result, Ok, Err, IsTrue, ap, refl}
 use Rattle.vault_text.specs.declared.limits.TheConstants.{PLAINTEXT_LIMIT}
-use Rattle.vault_files.specs.File.{File}
+use Rattle.vault_files.specs.File.{Finding}
 use Rattle.vault_core.specs.Input.{IsWhole}
 use Rattle.vault_core.specs.declared.fault.Fault.{Fault}
 use Rattle.vault_cli.specs.Found.{contents_of}
@@ -34,7 +34,7 @@ task-front limit amount (Ok task) (Some string) has = λ input. refl
 task-front limit amount (Ok task) None has = λ ended text front left parts last whole.
     ap answered (performed-front limit task ended text front left parts last (rw (has.is task refl) whole))
 
-file-front : (request : Request) (secrets : List File) (salt input : Option File)
+file-front : (request : Request) (secrets : List Finding) (salt input : Option Finding)
     → IsOfFront (stdin_asked (Some (Ok request)) (record { secrets = secrets; salt = salt; input = input }))
     (answer_to (Some (Ok request)) (record { secrets = secrets; salt = salt; input = input }))
 file-front request secrets salt (Some file) = λ input. refl

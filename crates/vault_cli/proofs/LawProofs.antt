@@ -81,12 +81,6 @@ module _ (law : ShortInputs) (smaller larger : ℕ) (text : List ℕ) (more : sm
   short-performed (Open secrets) short = ((law smaller larger text more [] 0 Envelope secrets no_secret []).1 short).0
   short-performed (Reseal secrets new salt) short = ((law smaller larger text more [] 0 Envelope secrets new salt).1 short).1
 
-  -- every task has room for a text that is no longer than the limit
-  pub string-performed : (task : Task) → length text ≤ smaller → performed larger task text ≡ performed smaller task text
-  string-performed (Seal secrets place form salt) short = short-performed (Seal secrets place form salt) short
-  string-performed (Open secrets) short = short-performed (Open secrets) (omega (arith, short))
-  string-performed (Reseal secrets new salt) short = short-performed (Reseal secrets new salt) (omega (arith, short))
-
   -- a task takes as much as its command, and has as much room
   room-of_task : (task : Task) (name : CommandName) → task_limit smaller task ≡ input_limit smaller name
       → length text ≤ room_limit smaller name → length text ≤ task_room smaller task

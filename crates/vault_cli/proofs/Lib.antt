@@ -22,4 +22,3 @@ pub mod SettledFacts
 pub mod SettlingFacts
 pub mod TaskFacts
 pub mod RunFacts
-pub mod ReadingFacts

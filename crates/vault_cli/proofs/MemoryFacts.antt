@@ -1,7 +1,7 @@
 -- Files of which one stands at each path.
 use Rattle.std.proofs.Common.{◌∷◌, ◌≡◌, ℕ, List, [], Option, Some, None, Result, Ok, Err, map, refl, ap, subst}
 use Rattle.std.specs.Option.{option_map}
-use Rattle.vault_files.specs.File.{File, Met}
+use Rattle.vault_files.specs.File.{Finding, Met}
 use Rattle.vault_core.specs.declared.fault.Fault.{Fault}
 use Rattle.vault_cli.specs.Call.{SinkCall, SourceCall, StoreCall}
 use Rattle.vault_cli.specs.Drive.{AllMet, IsDriven, OneMet}
@@ -11,7 +11,7 @@ use Rattle.vault_cli.specs.Request.{Request}
 use Rattle.vault_cli.specs.declared.status.Status.{Status}
 
 -- files that are each the one at its path
-all-in : (at : List ℕ → File) (paths : List (List ℕ)) (files : List File) → Met (λ path file. file ≡ at path) paths files → files ≡ map at paths
+all-in : (at : List ℕ → Finding) (paths : List (List ℕ)) (files : List Finding) → Met (λ path file. file ≡ at path) paths files → files ≡ map at paths
 all-in at [] [] met = refl
 all-in at [] (file ∷ files) met = absurd met
 all-in at (path ∷ paths) [] met = absurd met
@@ -20,7 +20,7 @@ all-in at (path ∷ paths) (file ∷ files) met =
     let others : files ≡ map at paths = all-in at paths files met.1 in
     rw (first, others) refl
 
-one-in : (at : List ℕ → File) (path : Option (List ℕ)) (file : Option File) → OneMet (λ path file. file ≡ at path) path file → file ≡ option_map at path
+one-in : (at : List ℕ → Finding) (path : Option (List ℕ)) (file : Option Finding) → OneMet (λ path file. file ≡ at path) path file → file ≡ option_map at path
 one-in at None None met = refl
 one-in at None (Some file) met = absurd met
 one-in at (Some path) None met = absurd met
@@ -28,7 +28,7 @@ one-in at (Some path) (Some file) met = ap Some met
 
 -- where one file stands at each path, the files that are met are those
 module _ {F R S K E : Type 0} (files : StoreCall F R) (src : SourceCall S) (out : SinkCall K) (err : SinkCall E) (result : Status)
-    (at : List ℕ → File) (opened : F) where
+    (at : List ℕ → Finding) (opened : F) where
   pub drives-in : (asks : Option (Result Request Fault)) (found : Files) → AllMet (λ path file. file ≡ at path) asks found
       → IsDriven files src out err result asks (answer_to asks) found opened → IsDriven files src out err result asks (answer_to asks) (files_in at asks) opened
   drives-in None found met ends = ends

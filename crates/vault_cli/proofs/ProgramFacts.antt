@@ -3,8 +3,8 @@ use Rattle.std.proofs.Common.{◌≡◌, ◌≢◌, ℕ, ◌+◌, List, [], ◌�
 use Rattle.std.specs.Prelude.{option_to_list}
 use Rattle.std.proofs.lemmas.List.{append-nil}
 use Rattle.vault_text.specs.Steps.{◌>>=◌}
-use Rattle.vault_files.specs.File.{File, Met}
-use Rattle.vault_files.specs.File.File.{Missing, Whole, Broken}
+use Rattle.vault_files.specs.File.{Finding, Met}
+use Rattle.vault_files.specs.File.Finding.{Missing, Whole, Broken}
 use Rattle.vault_core.specs.declared.fault.Fault.{Fault}
 use Rattle.vault_core.specs.declared.fault.Fault.TheVariants.{CannotOpen, Memory, Read}
 use Rattle.vault_core.specs.declared.fault.Role.TheVariants.{Input, Secret}
@@ -20,13 +20,13 @@ use Rattle.vault_cli.proofs.FoundFacts.{memory-or}
 use Rattle.vault_cli.proofs.Pieces.{TakesPrefix, prefix_behind, prefix_longer}
 
 -- a file that gave bytes can be opened
-pub opening-read : (file : File) (n : ℕ) (stdin given : List ℕ) → input_in n (Some file) stdin ≡ Ok given → opening_of (Some file) ≡ Ok tt
+pub opening-read : (file : Finding) (n : ℕ) (stdin given : List ℕ) → input_in n (Some file) stdin ≡ Ok given → opening_of (Some file) ≡ Ok tt
 opening-read Missing n stdin given e = absurd cc
 opening-read (Whole bytes) n stdin given e = refl
 opening-read (Broken bytes) n stdin given e = refl
 
 -- and one that breaks
-pub opening-broken : (file : File) (n : ℕ) (stdin : List ℕ) → input_in n (Some file) stdin ≡ Err (Read Input) → opening_of (Some file) ≡ Ok tt
+pub opening-broken : (file : Finding) (n : ℕ) (stdin : List ℕ) → input_in n (Some file) stdin ≡ Err (Read Input) → opening_of (Some file) ≡ Ok tt
 opening-broken Missing n stdin e = let other : CannotOpen Input ≡ Read Input = cc in absurd cc
 opening-broken (Whole bytes) n stdin e = refl
 opening-broken (Broken bytes) n stdin e = refl
@@ -53,28 +53,28 @@ module _ (request : Request) (files : Files) where
     unfolding task_over
     task-found e = rw (read, salted, e) refl
 
-module _ (meets : List ℕ → File → Type 0) where
-  pub one-some : ((path : List ℕ) → (file : File) × meets path file) → (path : Option (List ℕ)) → (file : Option File) × OneMet meets path file
+module _ (meets : List ℕ → Finding → Type 0) where
+  pub one-some : ((path : List ℕ) → (file : Finding) × meets path file) → (path : Option (List ℕ)) → (file : Option Finding) × OneMet meets path file
   one-some some None = (None, tt)
   one-some some (Some path) = (Some (some path).0, (some path).1)
 
   -- the salt file that was met
   pub salt-found : (path : Option (List ℕ)) (answer : Result (List ℕ) Fault) → SaltMet meets path answer
-      → (file : Option File) × OneMet meets path file × (salt_in file ≡ answer)
+      → (file : Option Finding) × OneMet meets path file × (salt_in file ≡ answer)
   salt-found None answer e = (None, tt, sym e)
   salt-found (Some path) answer (file, met, same) = (Some file, met, same)
 
   missing-found : (path : Option (List ℕ)) → IsMissing meets path
-      → (file : Option File) × OneMet meets path file × (opening_of file ≡ Err (CannotOpen Input))
+      → (file : Option Finding) × OneMet meets path file × (opening_of file ≡ Err (CannotOpen Input))
   missing-found None e = absurd e
   missing-found (Some path) met = (Some Missing, met, refl)
 
-  pub salt-back : (later : List ℕ → File → Type 0) → ((path : List ℕ) (file : File) → later path file → meets path file)
+  pub salt-back : (later : List ℕ → Finding → Type 0) → ((path : List ℕ) (file : Finding) → later path file → meets path file)
       → (path : Option (List ℕ)) (answer : Result (List ℕ) Fault) → SaltMet later path answer → SaltMet meets path answer
   salt-back later back None answer e = e
   salt-back later back (Some path) answer (file, met, same) = (file, back path file met, same)
 
-  pub missing-back : (later : List ℕ → File → Type 0) → ((path : List ℕ) (file : File) → later path file → meets path file)
+  pub missing-back : (later : List ℕ → Finding → Type 0) → ((path : List ℕ) (file : Finding) → later path file → meets path file)
       → (path : Option (List ℕ)) → IsMissing later path → IsMissing meets path
   missing-back later back None e = e
   missing-back later back (Some path) met = back path Missing met
@@ -89,7 +89,7 @@ all-behind (Ok bytes) (Ok others) contents opened paths e h = h others refl
 all-behind (Ok bytes) (Err fault) contents opened paths e h = absurd cc
 all-behind (Err fault) rest contents opened paths e h = absurd cc
 
-opened-secrets : (meets : List ℕ → File → Type 0) (paths : List (List ℕ)) (files : List File) (contents : List (List ℕ))
+opened-secrets : (meets : List ℕ → Finding → Type 0) (paths : List (List ℕ)) (files : List Finding) (contents : List (List ℕ))
     → Met meets paths files → contents_of files ≡ Ok contents → secrets_opened paths files ≡ paths
 unfolding secrets_opened contents_of
 opened-secrets meets [] files contents met e = refl
@@ -99,7 +99,7 @@ opened-secrets meets (path ∷ paths) (file ∷ files) contents met e =
     (all-behind (front_in Secret (PASSWORD_FILE_LIMIT + 1) file) (contents_of files) contents (secrets_opened paths files) paths e
     (λ others is. opened-secrets meets paths files others met.1 is))
 
-module _ (meets : List ℕ → File → Type 0) (request : Request) (files : Files) (contents : List (List ℕ))
+module _ (meets : List ℕ → Finding → Type 0) (request : Request) (files : Files) (contents : List (List ℕ))
     (met : Met meets (secret_paths request) files.secrets) (read : contents_of files.secrets ≡ Ok contents) where
   -- all password files, the salt file, and what is behind it
   opened-behind : opened_of (Some (Ok request)) files
@@ -115,10 +115,10 @@ module _ (meets : List ℕ → File → Type 0) (request : Request) (files : Fil
 
 -- ---- a request that the files that were met refuse
 
-module _ {F : Type 0} (meets : F → List ℕ → File → Type 0) (opens : F → List (List ℕ) → F → Type 0)
+module _ {F : Type 0} (meets : F → List ℕ → Finding → Type 0) (opens : F → List (List ℕ) → F → Type 0)
     (more : (s t u : F) (xs ys : List (List ℕ)) → opens s xs t → opens t ys u → opens s (xs ++ ys) u)
-    (back : (s t : F) (paths : List (List ℕ)) (path : List ℕ) (file : File) → opens s paths t → meets t path file → meets s path file)
-    (old : F) (some : (path : List ℕ) → (file : File) × meets old path file) (request : Request) (fault : Fault) (new : F) where
+    (back : (s t : F) (paths : List (List ℕ)) (path : List ℕ) (file : Finding) → opens s paths t → meets t path file → meets s path file)
+    (old : F) (some : (path : List ℕ) → (file : Finding) × meets old path file) (request : Request) (fault : Fault) (new : F) where
   abbrev RefusedSo : Type 0
   RefusedSo = RefusedBy (meets old) (λ paths. opens old paths new) request fault
 

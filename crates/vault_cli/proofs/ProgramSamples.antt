@@ -9,8 +9,8 @@ use Rattle.vault_core.specs.Encryption.{encryption}
 use Rattle.vault_core.specs.Password.{password_of}
 use Rattle.vault_core.specs.declared.fault.Fault.TheVariants.{AlreadyVault, CannotOpen, NotVault, Read, SaltShort}
 use Rattle.vault_core.specs.declared.fault.Role.TheVariants.{Input, Salt, Secret}
-use Rattle.vault_files.specs.File.{File}
-use Rattle.vault_files.specs.File.File.{Missing, Whole, Broken}
+use Rattle.vault_files.specs.File.{Finding}
+use Rattle.vault_files.specs.File.Finding.{Missing, Whole, Broken}
 use Rattle.vault_cli.specs.CommandLine.{vault_app}
 use Rattle.vault_cli.specs.Found.{contents_of}
 use Rattle.vault_cli.specs.Outcome.{Outcome, refused}
@@ -19,11 +19,11 @@ use Rattle.vault_cli.specs.Refusal.{refusal}
 use Rattle.vault_cli.specs.Task.{prepared, secrets_of}
 
 -- what the words behind the program's name are answered
-abbrev answer : List Text → List File → Option File → Option File → List ℕ → Outcome
+abbrev answer : List Text → List Finding → Option Finding → Option Finding → List ℕ → Outcome
 answer words secrets salt input stdin =
     program (codes "ansible-vault" ∷ words) (record { secrets = secrets; salt = salt; input = input }) stdin
 
-abbrev password : File
+abbrev password : Finding
 password = Whole (codes "password")
 
 -- neither the password file nor the input is there

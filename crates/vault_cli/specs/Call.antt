@@ -3,7 +3,7 @@ use Rattle.std.specs.Prelude.{ℕ, List}
 use Rattle.vault_text.specs.declared.sink.Sink.{Ghosts as SinkTerms}
 use Rattle.vault_text.specs.declared.sink.Stage.{Stage}
 use Rattle.vault_text.specs.declared.source.Source.{Ghosts as SourceTerms}
-use Rattle.vault_files.specs.File.{File}
+use Rattle.vault_files.specs.File.{Finding}
 use Rattle.vault_files.specs.declared.access.Access.{Access}
 use Rattle.vault_files.specs.declared.file_system.FileSystem.{Ghosts as StoreTerms}
 
@@ -42,7 +42,7 @@ StoreMembers F R = record {
   takes : F → List ℕ → F → Type 0;
   stage : F → Stage;
   failures : F → ℕ;
-  meets : F → List ℕ → File → Type 0;
+  meets : F → List ℕ → Finding → Type 0;
   opened : F → List ℕ → R → Type 0;
   opens : F → List (List ℕ) → F → Type 0;
   aimed : F → List ℕ → Access → F → Type 0;

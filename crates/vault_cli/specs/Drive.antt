@@ -1,6 +1,6 @@
 -- How the program ends over its files and its standard streams.
 use Rattle.std.specs.Prelude.{◌≡◌, ◌⊎◌, ℕ, List, take, Option, Some, None, Result, Ok, Err}
-use Rattle.vault_files.specs.File.{File, Met}
+use Rattle.vault_files.specs.File.{Finding, Met}
 use Rattle.vault_core.specs.declared.fault.Fault.{Fault}
 use Rattle.vault_cli.specs.Call.{SinkCall, SourceCall, StoreCall, files_from}
 use Rattle.vault_cli.specs.Ending.{Ends, to_path}
@@ -13,14 +13,14 @@ use Rattle.vault_cli.specs.declared.status.Status.{Status}
 use Rattle.vault_cli.specs.declared.status.Status.TheVariants.{OutOfMemory}
 
 -- a file that may be met at a path, where there is one
-abbrev pub OneMet : (List ℕ → File → Type 0) → Option (List ℕ) → Option File → Type 0
+abbrev pub OneMet : (List ℕ → Finding → Type 0) → Option (List ℕ) → Option Finding → Type 0
 OneMet meets None None = Unit {0}
 OneMet meets None (Some file) = ⊥
 OneMet meets (Some path) None = ⊥
 OneMet meets (Some path) (Some file) = meets path file
 
 -- files that may be met at the paths of what was asked
-abbrev pub AllMet : (List ℕ → File → Type 0) → Option (Result Request Fault) → Files → Type 0
+abbrev pub AllMet : (List ℕ → Finding → Type 0) → Option (Result Request Fault) → Files → Type 0
 AllMet meets None files = Unit {0}
 AllMet meets (Some (Err fault)) files = Unit {0}
 AllMet meets (Some (Ok request)) files =

@@ -5,8 +5,8 @@ use Rattle.vault_text.specs.Failures.{HasRisen}
 use Rattle.vault_text.specs.Sink.{MemoryState}
 use Rattle.vault_text.specs.Source as source
 use Rattle.vault_text.specs.declared.sink.Stage.TheVariants.{Finished}
-use Rattle.vault_files.specs.File.{File}
-use Rattle.vault_files.specs.File.File.{Whole}
+use Rattle.vault_files.specs.File.{Finding}
+use Rattle.vault_files.specs.File.Finding.{Whole}
 use Rattle.vault_files.specs.Memory.{StoreState, file_at, is_aimed_at, stands_at}
 use Rattle.vault_core.specs.declared.fault.Fault.TheVariants.{Memory, Write}
 use Rattle.vault_cli.specs.Line.{line_of}
@@ -56,13 +56,13 @@ Logs result log paths =
     ⊎ ((result ≡ OutOfMemory) × ((n : ℕ) × (log.new ≡ log.old ++ take n paths)))
 
 -- what stands at a path, where the output goes to a path or to standard output, and there is one or none
-abbrev pub stands_after : (List ℕ → File) → Option (List ℕ) → Option (List ℕ) → List ℕ → File
+abbrev pub stands_after : (List ℕ → Finding) → Option (List ℕ) → Option (List ℕ) → List ℕ → Finding
 stands_after before aim None path = before path
 stands_after before aim (Some bytes) path = if is_aimed_at aim path then Whole bytes else before path
 
 module _ (result : Status) (files : Change StoreState) (out err : Change MemoryState) where
   -- at each path stands this
-  abbrev pub Stands : (List ℕ → File) → Type 0
+  abbrev pub Stands : (List ℕ → Finding) → Type 0
   Stands after = (path : List ℕ) → stands_at files.new path ≡ after path
 
   -- what stood at each path still does

@@ -6,7 +6,7 @@ use Rattle.vault_core.specs.declared.fault.Fault.TheVariants.{CannotOpen, Memory
 use Rattle.vault_core.specs.declared.fault.Role.{Role}
 use Rattle.vault_core.specs.declared.fault.Role.TheVariants.{Secret}
 use Rattle.vault_core.specs.declared.limits.TheConstants.{PASSWORD_FILE_LIMIT}
-use Rattle.vault_files.specs.File.{File, front}
+use Rattle.vault_files.specs.File.{Finding, front}
 use Rattle.vault_files.specs.declared.fault.FileFault.{FileFault}
 use Rattle.vault_files.specs.declared.fault.FileFault.TheVariants as file
 use Rattle.vault_text.specs.Steps.{◌>>=◌}
@@ -19,7 +19,7 @@ fault_in role file.CannotRead = Read role
 fault_in role file.Memory = Memory
 
 -- the first bytes of a file in its role
-abbrev pub front_in : Role → ℕ → File → Result (List ℕ) Fault
+abbrev pub front_in : Role → ℕ → Finding → Result (List ℕ) Fault
 front_in role limit file = result_map_both (λ bytes. bytes) (fault_in role) (front limit file)
 
 -- the paths of the password files, in order
@@ -32,7 +32,7 @@ asked_paths request =
     secret_paths request ++ option_to_list request.salt_path ++ option_to_list request.input
 
 -- the contents of password files, each up to one byte more than is taken, or the fault of the first that gives none
-unfoldable pub contents_of : List File → Result (List (List ℕ)) Fault
+unfoldable pub contents_of : List Finding → Result (List (List ℕ)) Fault
 contents_of [] = Ok []
 contents_of (file ∷ files) = do
   bytes ← front_in Secret (PASSWORD_FILE_LIMIT + 1) file

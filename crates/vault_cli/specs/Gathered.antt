@@ -4,8 +4,8 @@ use Rattle.vault_core.specs.declared.fault.Fault.{Fault}
 use Rattle.vault_core.specs.declared.fault.Fault.TheVariants.{Memory}
 use Rattle.vault_core.specs.declared.fault.Role.{Role}
 use Rattle.vault_core.specs.declared.fault.Role.TheVariants.{Salt}
-use Rattle.vault_files.specs.File.{File, Met}
-use Rattle.vault_files.specs.File.File.{Missing}
+use Rattle.vault_files.specs.File.{Finding, Met}
+use Rattle.vault_files.specs.File.Finding.{Missing}
 use Rattle.vault_cli.specs.Drive.{AllMet}
 use Rattle.vault_cli.specs.Found.{contents_of, front_in}
 use Rattle.vault_cli.specs.Opened.{opened_of, secrets_opened}
@@ -14,15 +14,15 @@ use Rattle.vault_cli.specs.Request.{Request}
 use Rattle.vault_cli.specs.declared.limits.TheConstants.{SEALING_SALT_LENGTH}
 
 -- a file that may be met gives this answer
-abbrev pub FrontMet : (File → Type 0) → Role → ℕ → Result (List ℕ) Fault → Type 0
-FrontMet meets role limit answer = (file : File) × meets file × (front_in role limit file ≡ answer)
+abbrev pub FrontMet : (Finding → Type 0) → Role → ℕ → Result (List ℕ) Fault → Type 0
+FrontMet meets role limit answer = (file : Finding) × meets file × (front_in role limit file ≡ answer)
 
 -- password files that may be met at the paths give this answer
-abbrev pub ContentsMet : (List ℕ → File → Type 0) → List (List ℕ) → Result (List (List ℕ)) Fault → Type 0
-ContentsMet meets paths answer = (files : List File) × Met meets paths files × (contents_of files ≡ answer)
+abbrev pub ContentsMet : (List ℕ → Finding → Type 0) → List (List ℕ) → Result (List (List ℕ)) Fault → Type 0
+ContentsMet meets paths answer = (files : List Finding) × Met meets paths files × (contents_of files ≡ answer)
 
 -- the salt file that may be met at a path, where there is one, gives this answer
-abbrev pub SaltMet : (List ℕ → File → Type 0) → Option (List ℕ) → Result (List ℕ) Fault → Type 0
+abbrev pub SaltMet : (List ℕ → Finding → Type 0) → Option (List ℕ) → Result (List ℕ) Fault → Type 0
 SaltMet meets None answer = answer ≡ Ok []
 SaltMet meets (Some path) answer = FrontMet (meets path) Salt SEALING_SALT_LENGTH answer
 
@@ -34,7 +34,7 @@ IsOpened opened (Some path) None = ⊥
 IsOpened opened (Some path) (Some reader) = opened path reader
 
 -- there is a path, and no file that can be opened there
-abbrev pub IsMissing : (List ℕ → File → Type 0) → Option (List ℕ) → Type 0
+abbrev pub IsMissing : (List ℕ → Finding → Type 0) → Option (List ℕ) → Type 0
 IsMissing meets None = ⊥
 IsMissing meets (Some path) = meets path Missing
 
@@ -44,13 +44,13 @@ LacksMemory opens fault paths = (fault ≡ Memory) × ((n : ℕ) × opens (take 
 
 -- password files that may be met at the paths refuse, and the paths up to the first that does were
 -- opened, or there was no memory
-abbrev pub SecretsRefuse : (List ℕ → File → Type 0) → (List (List ℕ) → Type 0) → List (List ℕ) → Fault → Type 0
-SecretsRefuse meets opens paths fault = (files : List File) × Met meets paths files
+abbrev pub SecretsRefuse : (List ℕ → Finding → Type 0) → (List (List ℕ) → Type 0) → List (List ℕ) → Fault → Type 0
+SecretsRefuse meets opens paths fault = (files : List Finding) × Met meets paths files
     × (((contents_of files ≡ Err fault) × opens (secrets_opened paths files))
     ⊎ LacksMemory opens fault (secrets_opened paths files))
 
 -- so do files that may be met at the paths of a request
-abbrev pub RefusedBy : (List ℕ → File → Type 0) → (List (List ℕ) → Type 0) → Request → Fault → Type 0
+abbrev pub RefusedBy : (List ℕ → Finding → Type 0) → (List (List ℕ) → Type 0) → Request → Fault → Type 0
 RefusedBy meets opens request fault = (files : Files) × AllMet meets (Some (Ok request)) files
     × (((task_over request files ≡ Err fault) × opens (opened_of (Some (Ok request)) files))
     ⊎ LacksMemory opens fault (opened_of (Some (Ok request)) files))

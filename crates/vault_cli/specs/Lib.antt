@@ -13,7 +13,6 @@ pub mod Task
 pub mod StoredTask
 pub mod Outcome
 pub mod Found
-pub mod Reading
 pub mod Ending
 pub mod Program
 pub mod Opened

@@ -1,7 +1,7 @@
 -- Which paths are opened: each that is asked for, in order, up to the first that refuses.
 use Rattle.std.specs.Prelude.{ℕ, ◌+◌, List, [], ◌∷◌, ◌++◌, option_to_list, Option, Some, None}
 use Rattle.std.specs.Prelude.{Result, Ok, Err}
-use Rattle.vault_files.specs.File.{File}
+use Rattle.vault_files.specs.File.{Finding}
 use Rattle.vault_core.specs.declared.fault.Fault.{Fault}
 use Rattle.vault_core.specs.declared.fault.Role.TheVariants.{Secret}
 use Rattle.vault_core.specs.declared.limits.TheConstants.{PASSWORD_FILE_LIMIT}
@@ -15,7 +15,7 @@ behind (Ok value) paths = paths
 behind (Err fault) paths = []
 
 -- of password files
-unfoldable pub secrets_opened : List (List ℕ) → List File → List (List ℕ)
+unfoldable pub secrets_opened : List (List ℕ) → List Finding → List (List ℕ)
 secrets_opened [] files = []
 secrets_opened (path ∷ paths) [] = []
 secrets_opened (path ∷ paths) (file ∷ files) =

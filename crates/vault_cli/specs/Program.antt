@@ -2,8 +2,8 @@
 use Rattle.std.specs.Prelude.{ℕ, ◌+◌, List, [], map, Option, Some, None, Result, Ok, Err}
 use Rattle.std.specs.Option.{option_map}
 use Rattle.clap.specs.Words.{Text, subcommand_of}
-use Rattle.vault_files.specs.File.{File}
-use Rattle.vault_files.specs.File.File.{Missing, Whole, Broken}
+use Rattle.vault_files.specs.File.{Finding}
+use Rattle.vault_files.specs.File.Finding.{Missing, Whole, Broken}
 use Rattle.vault_files.specs.declared.access.Access.{Access}
 use Rattle.vault_files.specs.declared.access.Access.TheVariants.{Kept}
 use Rattle.vault_text.specs.Steps.{◌>>=◌}
@@ -24,17 +24,17 @@ use Rattle.vault_cli.specs.declared.status.Status.TheVariants.{ParseFault}
 
 -- the files that a request names, as they are met: its password files, in order, its salt file and its input file
 pub record Files : Type 0 where
-  pub secrets : List File
-  pub salt : Option File
-  pub input : Option File
+  pub secrets : List Finding
+  pub salt : Option Finding
+  pub input : Option Finding
 
 -- the salt: the first bytes of the salt file
-abbrev pub salt_in : Option File → Result (List ℕ) Fault
+abbrev pub salt_in : Option Finding → Result (List ℕ) Fault
 salt_in None = Ok []
 salt_in (Some file) = front_in Salt SEALING_SALT_LENGTH file
 
 -- whether the input file can be opened
-abbrev pub opening_of : Option File → Result (Unit {0}) Fault
+abbrev pub opening_of : Option Finding → Result (Unit {0}) Fault
 opening_of None = Ok tt
 opening_of (Some Missing) = Err (CannotOpen Input)
 opening_of (Some (Whole bytes)) = Ok tt
@@ -50,7 +50,7 @@ task_over request files = do
   prepared request contents salt
 
 -- so many bytes of the input file, or else standard input
-abbrev pub input_in : ℕ → Option File → List ℕ → Result (List ℕ) Fault
+abbrev pub input_in : ℕ → Option Finding → List ℕ → Result (List ℕ) Fault
 input_in limit None stdin = Ok stdin
 input_in limit (Some file) stdin = front_in Input limit file
 
@@ -88,7 +88,7 @@ access_of (Some (Err fault)) = Kept
 access_of (Some (Ok request)) = output_access request.command
 
 -- so much of standard input, where there is no FILE
-abbrev pub unless_file : Option File → Option ℕ → Option ℕ
+abbrev pub unless_file : Option Finding → Option ℕ → Option ℕ
 unless_file None limit = limit
 unless_file (Some file) limit = None
 
@@ -101,7 +101,7 @@ stdin_asked (Some (Ok request)) files =
     (asked_for (task_over request files) request.string (input_limit PLAINTEXT_LIMIT request.command))
 
 -- the files that stand at the paths of what was asked
-abbrev pub files_in : (List ℕ → File) → Option (Result Request Fault) → Files
+abbrev pub files_in : (List ℕ → Finding) → Option (Result Request Fault) → Files
 files_in at None = record { secrets = []; salt = None; input = None }
 files_in at (Some (Err fault)) = record { secrets = []; salt = None; input = None }
 files_in at (Some (Ok request)) = record {

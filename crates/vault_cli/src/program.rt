@@ -2,7 +2,7 @@
 ghost use Rattle.std.specs.Prelude.{◌≡◌, ◌≢◌, [], Ok, Some, IfErr, IfOk, OnOk, length, map, vec_len};
 ghost use Rattle.std.specs.String.{string_bytes};
 ghost use Rattle.clap.specs.Words.{fault_of, subcommand_rows_of};
-ghost use Rattle.vault_text.specs.declared.limits.TheConstants.{PLAINTEXT_LIMIT};
+ghost use Rattle.vault_text.specs.declared.limits.TheConstants.{CIPHERTEXT_LIMIT, PLAINTEXT_LIMIT};
 ghost use Rattle.vault_cli.specs.Call.{sink, source, store};
 ghost use Rattle.vault_cli.specs.CommandLine.{vault_app};
 ghost use Rattle.vault_cli.specs.CommandName.{output_access};
@@ -17,18 +17,18 @@ ghost use Rattle.vault_cli.specs.Request.{files_of};
 ghost use Rattle.vault_cli.specs.Settled.{asked};
 
 use crate::explaining::explain;
-use crate::fitting::run_fitting;
 use crate::gathering::{open_input, read_salt, read_secret_files};
 use crate::parsing::parse;
 use crate::report_line::report;
 use crate::request::Request;
+use crate::runs::run_in;
 use crate::settling::{has_command, settle};
 use crate::status::Status;
 use clap::ArgMatches;
 use std::alloc::Global;
 use vault_core::Fault;
 use vault_files::FileSystem;
-use vault_text::{Sink, Source, Stage};
+use vault_text::{CIPHERTEXT_LIMIT, Sink, Source, Stage, TextMemory};
 
 /// All that the program does: parses the words, of which the first is the program's name, settles
 /// the request, reads its password files and its salt file, opens its input file, and runs it. The
@@ -132,7 +132,8 @@ fn gather<F: FileSystem>(
     })
 }
 
-/// Answers a request over its files, its input and its output.
+/// Answers a request over its files, its input and its output, in memory for the longest text,
+/// which is reserved before any file is opened.
 fn answer<F: FileSystem, S: Source, K: Sink, E: Sink>(
     files: &mut F,
     alloc: Global,
@@ -149,6 +150,10 @@ fn answer<F: FileSystem, S: Source, K: Sink, E: Sink>(
         (sink K.Sink out.old out.new) (sink E.Sink err.old err.new) result
         asked (answer_to asked) }
 {
+    let mut room = match Vec::with_capacity(alloc, CIPHERTEXT_LIMIT) {
+        Ok(room) => room,
+        Err(error) => return report(Fault::from(error), err),
+    };
     let found = match gather(files, alloc, request) {
         Ok(found) => found,
         Err(fault) => return report(fault, err),
@@ -160,49 +165,61 @@ fn answer<F: FileSystem, S: Source, K: Sink, E: Sink>(
     } = found;
     let secret_files = secret_files.as_slice();
     let salt = salt.as_slice();
+    let prepared = Prepared {
+        request,
+        secret_files,
+        salt,
+    };
+    let memory = TextMemory::reserved(&mut room, CIPHERTEXT_LIMIT);
     match input {
-        Some(mut reader) => send(
-            files,
-            alloc,
-            request,
-            secret_files,
-            salt,
-            &mut reader,
-            out,
-            err,
-        ),
-        None => send(files, alloc, request, secret_files, salt, src, out, err),
+        Some(mut reader) => send(files, alloc, prepared, memory, &mut reader, out, err),
+        None => send(files, alloc, prepared, memory, src, out, err),
     }
+}
+
+/// What a run needs beside its memory, its input and its sinks.
+#[derive(Clone, Copy)]
+struct Prepared<'a> {
+    request: &'a Request,
+    secret_files: &'a [Vec<u8>],
+    salt: &'a [u8],
 }
 
 /// Runs a request, and sends its output where the request says.
 fn send<F: FileSystem, S: Source, K: Sink, E: Sink>(
     files: &mut F,
     alloc: Global,
-    request: &Request,
-    secret_files: &[Vec<u8>],
-    salt: &[u8],
+    prepared: Prepared<'_>,
+    memory: TextMemory<'_>,
     src: &mut S,
     out: &mut K,
     err: &mut E,
 ) -> Status
-    requires files { length secret_files.now ≡ length (files_of request.now) }
+    requires files { length prepared.secret_files.now ≡ length (files_of prepared.request.now) }
+    requires empty { memory.bytes ≡ [] }
+    requires room { memory.limit ≡ CIPHERTEXT_LIMIT }
     requires files_unbegun { F.stage files.old ≡ Stage.Unbegun }
     requires out_unbegun { K.stage out.old ≡ Stage.Unbegun }
     requires err_unbegun { E.stage err.old ≡ Stage.Unbegun }
-    ensures ends { let contents = map (λ file. file.items) secret_files.now in
+    ensures ends { let request = prepared.entry.request.now in
+        let contents = map (λ file. file.items) prepared.entry.secret_files.now in
+        let salt = prepared.entry.salt.now in
         let files = store F.FileSystem files.old files.new in
-        Ends (to_path request.now.output (output_access request.now.command)
-        files (sink K.Sink out.old out.new))
+        let out = sink K.Sink out.old out.new in
+        Ends (to_path request.output (output_access request.command) files out)
         (sink E.Sink err.old err.new) result (source S.Source src.old src.new)
-        (input_asked PLAINTEXT_LIMIT request.now contents salt.now)
-        (outcome request.now contents salt.now) }
+        (input_asked PLAINTEXT_LIMIT request contents salt) (outcome request contents salt) }
 {
+    let Prepared {
+        request,
+        secret_files,
+        salt,
+    } = prepared;
     let Some(path) = request.output() else {
-        return run_fitting(alloc, request, secret_files, salt, src, out, err);
+        return run_in(request, secret_files, salt, memory, src, out, err);
     };
     match files.aim(alloc, path, request.command().output_access()) {
-        Ok(()) => run_fitting(alloc, request, secret_files, salt, src, files, err),
+        Ok(()) => run_in(request, secret_files, salt, memory, src, files, err),
         Err(error) => report(Fault::from(error), err),
     }
 }

@@ -1,5 +1,5 @@
 //! The whole run of a request.
-ghost use Rattle.std.specs.Prelude.{◌≡◌, ◌≢◌, ◌+◌, ◌≤◌, ◌⊎◌, ℕ, List, false, is_some, length};
+ghost use Rattle.std.specs.Prelude.{◌≡◌, ◌≢◌, ◌+◌, ◌≤◌, ◌⊎◌, ℕ, List, [], false, is_some, length};
 ghost use Rattle.std.specs.Prelude.{map, take, IsTrue};
 ghost use Rattle.vault_text.specs.Failures.{HasRisen};
 ghost use Rattle.vault_core.specs.Input.{IsWhole, UnlessUnreadable};
@@ -20,18 +20,19 @@ use crate::request::Request;
 use crate::status::Status;
 use crate::task::{Task, prepare};
 use vault_core::{Fault, Ready};
-use vault_text::{MemSource, Sink, Source, Stage};
+use vault_text::{MemSource, Sink, Source, Stage, TextMemory};
 
 /// Performs the task on the STRING of the request, or else on what the source gives.
-pub(crate) fn perform<'a, S: Source>(
+fn perform<'a, S: Source>(
     task: &'a Task<'_>,
     request: &Request,
-    work: &'a mut [u8],
+    memory: TextMemory<'a>,
     src: &mut S,
 ) -> Result<Ready<'a>, Fault>
-    requires work { IsWorkLength (length work.old) }
+    requires empty { memory.bytes ≡ [] }
+    requires room { IsWorkLength memory.limit }
     requires chosen { HasPlace (task_in task.now) }
-    ensures answer { let limit = limit_of (length work.old) in
+    ensures answer { let limit = limit_of memory.entry.limit in
         let bound = task_limit limit (task_in task.now) in
         (input : List ℕ) × S.gives src.old input src.new × (length input ≤ bound + 1)
         × UnlessUnreadable (S.failures src.old) (S.failures src.new) result
@@ -42,13 +43,13 @@ pub(crate) fn perform<'a, S: Source>(
     ensures unread { IsTrue (is_some request.now.string) → src.new ≡ src.old }
 {
     match request.string() {
-        Some(string) => task.perform(&mut MemSource::new(string.as_bytes(), usize::MAX), work),
-        None => task.perform(src, work),
+        Some(string) => task.perform(&mut MemSource::new(string.as_bytes(), usize::MAX), memory),
+        None => task.perform(src, memory),
     }
 }
 
 /// Writes what is ready, and reports where the output fails.
-pub(crate) fn deliver<K: Sink, E: Sink>(ready: Ready<'_>, out: &mut K, err: &mut E) -> Status
+fn deliver<K: Sink, E: Sink>(ready: Ready<'_>, out: &mut K, err: &mut E) -> Status
     requires out_unbegun { K.stage out.old ≡ Stage.Unbegun }
     requires err_unbegun { E.stage err.old ≡ Stage.Unbegun }
     ensures status { (result ≡ Status.Success) ⊎ (result ≡ Status.DeviceFailed) }
@@ -95,11 +96,44 @@ pub fn run<'r, S: Source, K: Sink, E: Sink>(
         (outcome_within limit request.now contents salt.now) }
     ensures memory_suffices { result ≢ Status.OutOfMemory }
 {
+    run_in(
+        request,
+        secret_files,
+        salt,
+        TextMemory::lent(work),
+        src,
+        out,
+        err,
+    )
+}
+
+/// Does what `run` does, in memory that holds no text.
+pub(crate) fn run_in<'r, S: Source, K: Sink, E: Sink>(
+    request: &'r Request,
+    secret_files: &'r [Vec<u8>],
+    salt: &[u8],
+    memory: TextMemory<'_>,
+    src: &mut S,
+    out: &mut K,
+    err: &mut E,
+) -> Status
+    requires files { length secret_files.now ≡ length (files_of request.now) }
+    requires empty { memory.bytes ≡ [] }
+    requires room { IsWorkLength memory.limit }
+    requires out_unbegun { K.stage out.old ≡ Stage.Unbegun }
+    requires err_unbegun { E.stage err.old ≡ Stage.Unbegun }
+    ensures ends { let contents = map (λ file. file.items) secret_files.now in
+        let limit = limit_of memory.entry.limit in
+        Ends (to_sink (sink K.Sink out.old out.new)) (sink E.Sink err.old err.new) result
+        (source S.Source src.old src.new) (input_asked limit request.now contents salt.now)
+        (outcome_within limit request.now contents salt.now) }
+    ensures memory_suffices { result ≢ Status.OutOfMemory }
+{
     let task = match prepare(request, secret_files, salt) {
         Ok(task) => task,
         Err(fault) => return report(fault, err),
     };
-    match perform(&task, request, work, src) {
+    match perform(&task, request, memory, src) {
         Ok(ready) => deliver(ready, out, err),
         Err(fault) => report(fault, err),
     }

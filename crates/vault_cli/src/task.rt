@@ -1,11 +1,9 @@
 //! What is prepared of a request before its input is read.
-ghost use Rattle.std.specs.Prelude.{◌≡◌, ℕ, ◌+◌, ◌≤◌, List, length, map, IfOk, MatchResult};
+ghost use Rattle.std.specs.Prelude.{◌≡◌, ℕ, ◌+◌, ◌≤◌, List, [], length, map, IfOk, MatchResult};
 ghost use Rattle.vault_core.specs.Form.{form_of};
 ghost use Rattle.vault_core.specs.Input.{IsWhole, UnlessUnreadable};
 ghost use Rattle.vault_text.specs.Limits.{IsWorkLength, limit_of};
-ghost use Rattle.vault_text.specs.declared.limits.TheConstants.{PLAINTEXT_LIMIT};
 ghost use Rattle.vault_cli.specs.Outcome.{performed, task_limit};
-ghost use Rattle.vault_cli.specs.Reading.{UnlessOutOfMemory};
 ghost use Rattle.vault_cli.specs.Request.{files_of};
 ghost use Rattle.vault_cli.specs.StoredTask.{task_in};
 ghost use Rattle.vault_cli.specs.Task.{HasPlace, prepared, reseal_of, salt_of, seal_of};
@@ -13,15 +11,12 @@ ghost use Rattle.vault_cli.specs.Task.{HasPlace, prepared, reseal_of, salt_of, s
 use crate::command_name::CommandName;
 use crate::limits::SEALING_SALT_LENGTH;
 use crate::passwords::{NewSecret, new_secret_of, secrets_of};
-use crate::reading::{Plaintext, read_envelope, read_plaintext};
 use crate::request::Request;
-use crate::text_memory::TextMemory;
 use vault_core::{
-    Fault, Form, Ready, Secrets, decrypt_payload, encrypt_plaintext, prepare_decrypt,
-    prepare_encrypt, prepare_rekey, rekey_payload,
+    Fault, Form, Ready, Secrets, prepare_decrypt_in, prepare_encrypt_in, prepare_rekey_in,
 };
 use vault_kdf::Meter;
-use vault_text::{Salt, Source};
+use vault_text::{Salt, Source, TextMemory};
 
 /// What is to be done with the input, once passwords, secret and salt are found.
 #[derive(Drop)]
@@ -134,15 +129,16 @@ fn salt_of(request: &Request, salt: &[u8]) -> Result<Salt, Fault>
 }
 
 impl<'p> Task<'p> {
-    /// Reads the input, and does with it what is to be done.
+    /// Reads the input into the memory, and does with it there what is to be done.
     pub(crate) fn perform<'a, S: Source>(
         &'a self,
         src: &mut S,
-        work: &'a mut [u8],
+        memory: TextMemory<'a>,
     ) -> Result<Ready<'a>, Fault>
-        requires room { IsWorkLength (length work.old) }
+        requires empty { memory.bytes ≡ [] }
+        requires room { IsWorkLength memory.limit }
         requires chosen { HasPlace (task_in self.now) }
-        ensures answer { let limit = limit_of (length work.old) in
+        ensures answer { let limit = limit_of memory.entry.limit in
             let bound = task_limit limit (task_in self.now) in
             (input : List ℕ) × S.gives src.old input src.new × (length input ≤ bound + 1)
             × UnlessUnreadable (S.failures src.old) (S.failures src.new) result
@@ -157,53 +153,18 @@ impl<'p> Task<'p> {
                 place,
                 form,
                 salt,
-            } => prepare_encrypt(src, work, secrets, *place, *form, salt, &mut meter),
-            Task::Open { secrets } => prepare_decrypt(src, work, secrets, &mut meter),
+            } => prepare_encrypt_in(src, memory, secrets, *place, *form, salt, &mut meter),
+            Task::Open { secrets } => prepare_decrypt_in(src, memory, secrets, &mut meter),
             Task::Reseal { secrets, new, salt } => {
-                prepare_rekey(
+                prepare_rekey_in(
                     src,
-                    work,
+                    memory,
                     secrets,
                     new.label,
                     new.password,
                     salt,
                     &mut meter,
                 )
-            }
-        }
-    }
-
-    /// Reads the input in memory that grows with it, and does with it what is to be done.
-    pub(crate) fn perform_growing<'a, S: Source>(
-        &'a self,
-        src: &mut S,
-        memory: &'a mut TextMemory,
-    ) -> Result<Ready<'a>, Fault>
-        requires chosen { HasPlace (task_in self.now) }
-        ensures answer { let bound = task_limit PLAINTEXT_LIMIT (task_in self.now) in
-            (input : List ℕ) × S.gives src.old input src.new × (length input ≤ bound + 1)
-            × UnlessOutOfMemory (S.failures src.old) (S.failures src.new) result
-            (length input ≤ bound)
-            (IsWhole bound (S.ended src.new) input
-            × (result ≡ performed PLAINTEXT_LIMIT (task_in self.now) input)) }
-    {
-        let mut meter = Meter::new();
-        match self {
-            Task::Seal {
-                secrets,
-                place,
-                form,
-                salt,
-            } => {
-                let Plaintext { work, len } = read_plaintext(src, memory)?;
-                encrypt_plaintext(work, len, secrets, *place, *form, salt, &mut meter)
-            }
-            Task::Open { secrets } => {
-                decrypt_payload(read_envelope(src, memory)?, secrets, &mut meter)
-            }
-            Task::Reseal { secrets, new, salt } => {
-                let payload = read_envelope(src, memory)?;
-                rekey_payload(payload, secrets, new.label, new.password, salt, &mut meter)
             }
         }
     }

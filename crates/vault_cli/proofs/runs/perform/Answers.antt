@@ -1,4 +1,4 @@
-use Rattle.std.proofs.Common.{◌≡◌, [], Some, arith, true, false, length, refl, sym, ◌∙◌}
+use Rattle.std.proofs.Common.{◌≡◌, [], Some, arith, true, false, refl, sym, ◌∙◌}
 use Rattle.std.specs.Prelude.{IsTrue}
 use Rattle.vault_text.specs.Limits.{limit_of}
 use Rattle.vault_cli.specs.StoredTask.{task_in}
@@ -7,7 +7,7 @@ use Rattle.vault_cli.proofs.runs.perform.Goals as goal
 
 pub returns-in-Some-clause-answer : goal.returns-in-Some-clause-answer
 returns-in-Some-clause-answer g c =
-    let limit = limit_of (length c.args.work.now) in
+    let limit = limit_of c.args.memory.limit in
     let task = task_in c.args.task.now in
     let string : Some c.in-Some.string.now ≡ c.args.request.now.string = rw c.in-Some.is at c.string.ensures in
     let (front, gave, bound, cases) = c.perform.ensures.answer in

@@ -1,4 +1,4 @@
-use Rattle.std.proofs.Common.{◌≡◌, length, map, inl, inr, refl, sym, ap, ◌∙◌}
+use Rattle.std.proofs.Common.{◌≡◌, map, inl, inr, refl, sym, ap, ◌∙◌}
 use Rattle.vault_text.specs.Limits.{limit_of}
 use Rattle.vault_cli.specs.Call.{sink, source}
 use Rattle.vault_cli.specs.Outcome.{text_of_request}
@@ -7,13 +7,13 @@ use Rattle.vault_cli.specs.StoredTask.{task_in}
 use Rattle.vault_cli.specs.declared.status.Status.TheVariants.{DeviceFailed, OutOfMemory, Refused}
 use Rattle.vault_cli.proofs.RefusedAlone.{alone-performed, alone-prepared}
 use Rattle.vault_cli.proofs.RunFacts.{ends-performed, ends-unprepared, finishes-ready, finishes-refused, source-failed}
-use Rattle.vault_cli.proofs.runs.run.Goals as goal
+use Rattle.vault_cli.proofs.runs.run_in.Goals as goal
 
 pub returns-in-Err-clause-ends : goal.returns-in-Err-clause-ends
 returns-in-Err-clause-ends g c =
     ends-unprepared (source g.S.Source c.args.src.now c.args.src.now) (sink g.K.Sink c.args.out.now c.args.out.now)
     (sink g.E.Sink c.args.err.now c.report.new.err) c.report.result
-    (limit_of (length c.args.work.now)) c.args.request.now (map (λ file. file.items) c.args.secret_files.now) c.args.salt.now
+    (limit_of c.args.memory.limit) c.args.request.now (map (λ file. file.items) c.args.secret_files.now) c.args.salt.now
     c.in-Err.fault c.in-Err.ensures.prepared c.report.ensures.status refl refl c.report.ensures.line
 
 pub returns-in-Err-clause-memory_suffices : goal.returns-in-Err-clause-memory_suffices
@@ -31,7 +31,7 @@ returns-in-Ok-perform-clause-ends g c =
     let (input, gave, bound, (unfailed, (whole, is))) = c.in-Ok-perform.ensures.answer in
     let done = finishes-ready src out err c.deliver.result c.in-Ok-perform.ready c.deliver.ensures.status c.deliver.ensures.written
     c.deliver.ensures.silent c.deliver.ensures.intact c.deliver.ensures.failed c.deliver.ensures.prefix _ is in
-    ends-performed src out err c.deliver.result (limit_of (length c.args.work.now)) c.args.request.now
+    ends-performed src out err c.deliver.result (limit_of c.args.memory.limit) c.args.request.now
     (map (λ file. file.items) c.args.secret_files.now) c.args.salt.now (task_in c.in-Ok.task) c.in-Ok.ensures.prepared
     input gave bound c.in-Ok-perform.ensures.unread (inr (inr (unfailed, whole, done)))
 
@@ -44,7 +44,7 @@ returns-in-Err-perform-clause-ends g c =
     let fault = c.in-Err-perform.fault in
     let report = c.report-in-Err-perform.ensures in
     let (input, gave, bound, cases) = c.in-Err-perform.ensures.answer in
-    ends-performed src out err result (limit_of (length c.args.work.now)) c.args.request.now
+    ends-performed src out err result (limit_of c.args.memory.limit) c.args.request.now
     (map (λ file. file.items) c.args.secret_files.now) c.args.salt.now (task_in c.in-Ok.task) c.in-Ok.ensures.prepared
     input gave bound c.in-Err-perform.ensures.unread (elim cases [
       | inl (unread, (unnamed, front)) ↦
@@ -56,7 +56,7 @@ returns-in-Err-perform-clause-ends g c =
 
 pub returns-in-Err-perform-clause-memory_suffices : goal.returns-in-Err-perform-clause-memory_suffices
 returns-in-Err-perform-clause-memory_suffices g c = λ memory.
-    let limit = limit_of (length c.args.work.now) in
+    let limit = limit_of c.args.memory.limit in
     let task = task_in c.in-Ok.task in
     let status = c.report-in-Err-perform.ensures.status in
     let (input, gave, bound, cases) = c.in-Err-perform.ensures.answer in
