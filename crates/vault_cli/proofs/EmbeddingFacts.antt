@@ -4,7 +4,7 @@ use Rattle.std.specs.Prelude.{MatchOption, min}
 use Rattle.std.proofs.lemmas.Bool.{false≢true}
 use Rattle.std.proofs.lemmas.Bool.Decides.{eqb_tells}
 use Rattle.std.proofs.Math.Seq.{drop-append_seam}
-use Rattle.vault_text.specs.Sink.{MemoryState, MemoryTakes, has_begun}
+use Rattle.vault_text.specs.Sink.{MemSinkState, MemoryTakes, has_begun}
 use Rattle.vault_text.specs.Source as source
 use Rattle.vault_text.specs.declared.sink.Stage.{Stage}
 use Rattle.vault_text.specs.declared.sink.Stage.TheVariants.{Unbegun, Begun, Finished}
@@ -36,14 +36,14 @@ memory_store old new = record {
   new = new;
 }
 
-abbrev pub memory_source : source.MemoryState → source.MemoryState → SourceCall source.MemoryState
+abbrev pub memory_source : source.MemSourceState → source.MemSourceState → SourceCall source.MemSourceState
 memory_source old new = record {
   terms = record { gives = source.MemoryGives; ended = λ s. s.ended; failures = λ _. 0 };
   old = old;
   new = new;
 }
 
-abbrev pub memory_sink : MemoryState → MemoryState → SinkCall MemoryState
+abbrev pub memory_sink : MemSinkState → MemSinkState → SinkCall MemSinkState
 memory_sink old new = record {
   terms = record { takes = MemoryTakes; stage = λ s. s.stage; failures = λ s. s.failures };
   old = old;
@@ -51,7 +51,7 @@ memory_sink old new = record {
 }
 
 -- a line is held, or its front where the sink failed
-reported : (err new_err : MemoryState) (line : List ℕ) → Reports (memory_sink err new_err) line
+reported : (err new_err : MemSinkState) (line : List ℕ) → Reports (memory_sink err new_err) line
     → Holds (change err new_err) line ⊎ HoldsFront (change err new_err) line
 reported err new_err line r =
     elim (eqb_tells new_err.failures (min (err.failures + 1) (2 ^ 64 - 1))) [
@@ -59,7 +59,7 @@ reported err new_err line r =
       | inr (_, stayed) ↦ let whole = r.whole stayed in inl (whole.0.0.appended, whole.1)
     ]
 
-told : (err new_err : MemoryState) (line : List ℕ) → Says (memory_sink err new_err) line → Told (change err new_err) line
+told : (err new_err : MemSinkState) (line : List ℕ) → Says (memory_sink err new_err) line → Told (change err new_err) line
 told err new_err [] says = says
 told err new_err (byte ∷ line) says = reported err new_err (byte ∷ line) says
 
@@ -75,7 +75,7 @@ written-stands files new_files aim bytes path empty took begun =
     let held : new_files.output.held ≡ bytes = took.output.appended ∙ ap (λ l. l ++ bytes) empty in
     rw (begun, took.aim, held, took.entries) refl
 
-module _ (result : Status) (files new_files : LoggedState) (out new_out err new_err : MemoryState)
+module _ (result : Status) (files new_files : LoggedState) (out new_out err new_err : MemSinkState)
     (unbegun : files.files.output.stage ≡ Unbegun) (empty : files.files.output.held ≡ []) (access : Access) where
   abbrev StandsSo : (List ℕ → Finding) → Type 0
   StandsSo after = Stands result (change files.files new_files.files) (change out new_out) (change err new_err) after
@@ -178,7 +178,7 @@ module _ (result : Status) (files new_files : LoggedState) (out new_out err new_
     log-done answer (inl done) = log-written path answer.output done.output
     log-done answer (inr fails) = let (bytes, is, (n, took)) = fails.output in log-wrote path (take n bytes) took
 
-    pub log-kept : (src new_src : source.MemoryState) (asked : Option ℕ) (answers : List ℕ → Outcome)
+    pub log-kept : (src new_src : source.MemSourceState) (asked : Option ℕ) (answers : List ℕ → Outcome)
         → Ends (OutputAt path) (memory_sink err new_err) result (memory_source src new_src) asked answers → new_files.log ≡ files.log
     log-kept src new_src None answers (unread, inl memory) = log-untouched path memory.output
     log-kept src new_src None answers (unread, inr done) = log-done (answers []) done
@@ -186,7 +186,7 @@ module _ (result : Status) (files new_files : LoggedState) (out new_out err new_
     log-kept src new_src (Some limit) answers (input, (given, fits, inr (inl (unread, short)))) = log-untouched path unread.output
     log-kept src new_src (Some limit) answers (input, (given, fits, inr (inr (all, done)))) = log-done (answers input) done
 
-    module _ (src new_src : source.MemoryState) (not_ended : src.ended ≡ false) where
+    module _ (src new_src : source.MemSourceState) (not_ended : src.ended ≡ false) where
       -- the answer to what was given is the answer to all that was there
       pub embeds : (asked : Option ℕ) (answers : List ℕ → Outcome) → IsOfFront asked answers
           → Ends (OutputAt path) (memory_sink err new_err) result (memory_source src new_src) asked answers

@@ -2,7 +2,7 @@
 use Rattle.std.specs.Prelude.{◌≡◌, ◌⊎◌, ℕ, ◌+◌, ◌≤◌, if◌then◌else◌, List, [], ◌∷◌, ◌++◌, take, drop}
 use Rattle.std.specs.Prelude.{Option, Some, None}
 use Rattle.vault_text.specs.Failures.{HasRisen}
-use Rattle.vault_text.specs.Sink.{MemoryState}
+use Rattle.vault_text.specs.Sink.{MemSinkState}
 use Rattle.vault_text.specs.Source as source
 use Rattle.vault_text.specs.declared.sink.Stage.TheVariants.{Finished}
 use Rattle.vault_files.specs.File.{Finding}
@@ -23,28 +23,28 @@ abbrev pub change : {T : Type 0} → T → T → Change T
 change old new = record { old = old; new = new }
 
 -- a sink holds these bytes behind what it held, and was finished
-abbrev pub Holds : Change MemoryState → List ℕ → Type 0
+abbrev pub Holds : Change MemSinkState → List ℕ → Type 0
 Holds sink bytes = (sink.new.held ≡ sink.old.held ++ bytes) × (sink.new.stage ≡ Finished)
 
 -- a growth was refused: it holds the first of them
-abbrev pub HoldsFront : Change MemoryState → List ℕ → Type 0
+abbrev pub HoldsFront : Change MemSinkState → List ℕ → Type 0
 HoldsFront sink bytes =
     HasRisen sink.old.failures sink.new.failures
     × ((n : ℕ) × (sink.new.held ≡ sink.old.held ++ take n bytes))
 
 -- a line, or nothing to say, for which the sink is left alone
-abbrev pub Told : Change MemoryState → List ℕ → Type 0
+abbrev pub Told : Change MemSinkState → List ℕ → Type 0
 Told err [] = err.new ≡ err.old
 Told err (byte ∷ line) = Holds err (byte ∷ line) ⊎ HoldsFront err (byte ∷ line)
 
 -- standard output, where the output goes to a path or there, and there is one or none
-abbrev pub Received : Option (List ℕ) → Option (List ℕ) → Change MemoryState → Type 0
+abbrev pub Received : Option (List ℕ) → Option (List ℕ) → Change MemSinkState → Type 0
 Received (Some path) output out = out.new ≡ out.old
 Received None None out = out.new ≡ out.old
 Received None (Some bytes) out = Holds out bytes
 
 -- so much of the input was taken, where it was asked for up to a limit, or it was left alone
-abbrev pub Taken : Option ℕ → Change source.MemoryState → Type 0
+abbrev pub Taken : Option ℕ → Change source.MemSourceState → Type 0
 Taken None src = src.new ≡ src.old
 Taken (Some limit) src =
     (n : ℕ) × (n ≤ limit + 1) × (src.new.left ≡ drop n src.old.left)
@@ -60,7 +60,7 @@ abbrev pub stands_after : (List ℕ → Finding) → Option (List ℕ) → Optio
 stands_after before aim None path = before path
 stands_after before aim (Some bytes) path = if is_aimed_at aim path then Whole bytes else before path
 
-module _ (result : Status) (files : Change StoreState) (out err : Change MemoryState) where
+module _ (result : Status) (files : Change StoreState) (out err : Change MemSinkState) where
   -- at each path stands this
   abbrev pub Stands : (List ℕ → Finding) → Type 0
   Stands after = (path : List ℕ) → stands_at files.new path ≡ after path

@@ -2,7 +2,7 @@
 use Rattle.std.specs.Prelude.{◌≡◌, ℕ, ◌-◌, ◌^◌, ◌<◌, ◌≤◌, Bool, ◌&&◌, if◌then◌else◌}
 use Rattle.std.specs.Prelude.{true, false, IsTrue, List, [], ◌∷◌, ◌++◌, Option, Some, None}
 use Rattle.std.specs.Str.{bytes_eq}
-use Rattle.vault_text.specs.Sink.{MemoryState, Takes, has_begun, state_of}
+use Rattle.vault_text.specs.Sink.{MemSinkState, Takes, has_begun, state_of}
 use Rattle.vault_text.specs.declared.sink.Stage.TheVariants.{Unbegun}
 use Rattle.vault_files.specs.File.{Finding}
 use Rattle.vault_files.specs.File.Finding.{Missing, Whole, Broken}
@@ -56,7 +56,7 @@ pub record Reads (old : ReaderState) (given : List ℕ) (new : ReaderState) : Ty
 pub record StoreState : Type 0 where
   pub entries : List Entry
   pub aim : Option (List ℕ)
-  pub output : MemoryState
+  pub output : MemSinkState
 
 -- between two states the output took these bytes, and all else stayed
 pub record StoreTakes (old : StoreState) (taken : List ℕ) (new : StoreState) : Type 0 where

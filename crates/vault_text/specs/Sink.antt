@@ -30,27 +30,27 @@ has_begun Finished = true
 
 -- a sink over memory: its bytes, its stage, its failures, and how many bytes it takes per call at
 -- most
-pub record MemoryState : Type 0 where
+pub record MemSinkState : Type 0 where
   pub held : List ℕ
   pub stage : Stage
   pub failures : ℕ
   pub step : ℕ
 
-abbrev pub state_of : MemoryState → SinkState
+abbrev pub state_of : MemSinkState → SinkState
 state_of m = record { held = Some m.held; stage = m.stage; failures = m.failures }
 
 -- between two states it took these bytes
-abbrev pub MemoryTakes : MemoryState → List ℕ → MemoryState → Type 0
+abbrev pub MemoryTakes : MemSinkState → List ℕ → MemSinkState → Type 0
 MemoryTakes old taken new = Takes (state_of old) taken (state_of new) × (new.step ≡ old.step)
 
 -- the same where it fails after a number of calls
-abbrev pub failing_state_of : FailingState MemoryState → SinkState
+abbrev pub failing_state_of : FailingState MemSinkState → SinkState
 failing_state_of f =
     record { held = Some f.memory.held; stage = f.memory.stage; failures = f.failures }
 
 -- between two states it took these bytes
-abbrev pub FailingTakes : FailingState MemoryState → List ℕ
-    → FailingState MemoryState → Type 0
+abbrev pub FailingTakes : FailingState MemSinkState → List ℕ
+    → FailingState MemSinkState → Type 0
 FailingTakes old taken new =
     Takes (failing_state_of old) taken (failing_state_of new)
     × (new.memory.step ≡ old.memory.step)

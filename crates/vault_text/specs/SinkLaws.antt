@@ -4,7 +4,7 @@ use Rattle.std.proofs.Common.{arith, sym, append_assoc, ◌∙◌}
 use Rattle.std.proofs.lemmas.List.{append-nil}
 use Rattle.std.specs.Io.KnownBytes.{Appends}
 use Rattle.vault_text.specs.Failures.{FailingState}
-use Rattle.vault_text.specs.Sink.{FailingTakes, MemoryState, MemoryTakes, SinkState, Takes}
+use Rattle.vault_text.specs.Sink.{FailingTakes, MemSinkState, MemoryTakes, SinkState, Takes}
 use Rattle.vault_text.specs.Sink.{failing_state_of, state_of}
 
 Appends-none : (known : Option (List ℕ)) → Appends known known []
@@ -31,19 +31,19 @@ Takes-more s t u xs ys p q = record {
 }
 
 -- over memory
-pub MemoryTakes-none : (s : MemoryState) → MemoryTakes s [] s
+pub MemoryTakes-none : (s : MemSinkState) → MemoryTakes s [] s
 MemoryTakes-none s = (Takes-none (state_of s), refl)
 
-pub MemoryTakes-more : (s t u : MemoryState) (xs ys : List ℕ)
+pub MemoryTakes-more : (s t u : MemSinkState) (xs ys : List ℕ)
     → MemoryTakes s xs t → MemoryTakes t ys u → MemoryTakes s (xs ++ ys) u
 MemoryTakes-more s t u xs ys p q =
     (Takes-more (state_of s) (state_of t) (state_of u) xs ys p.0 q.0, q.1 ∙ p.1)
 
 -- over memory that fails after a number of calls
-pub FailingTakes-none : (s : FailingState MemoryState) → FailingTakes s [] s
+pub FailingTakes-none : (s : FailingState MemSinkState) → FailingTakes s [] s
 FailingTakes-none s = (Takes-none (failing_state_of s), refl)
 
-pub FailingTakes-more : (s t u : FailingState MemoryState) (xs ys : List ℕ)
+pub FailingTakes-more : (s t u : FailingState MemSinkState) (xs ys : List ℕ)
     → FailingTakes s xs t → FailingTakes t ys u → FailingTakes s (xs ++ ys) u
 FailingTakes-more s t u xs ys p q = (
   Takes-more (failing_state_of s) (failing_state_of t) (failing_state_of u) xs ys p.0 q.0,

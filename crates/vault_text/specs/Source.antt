@@ -25,26 +25,26 @@ pub record Gives (old : SourceState) (given : List ℕ) (new : SourceState) : Ty
 
 -- a source over memory, which never fails: its bytes left, whether it told its end, and how many
 -- bytes it gives per call at most
-pub record MemoryState : Type 0 where
+pub record MemSourceState : Type 0 where
   pub left : List ℕ
   pub ended : Bool
   pub step : ℕ
 
-abbrev pub state_of : MemoryState → SourceState
+abbrev pub state_of : MemSourceState → SourceState
 state_of m = record { left = Some m.left; ended = m.ended; failures = 0 }
 
 -- between two states it gave these bytes
-abbrev pub MemoryGives : MemoryState → List ℕ → MemoryState → Type 0
+abbrev pub MemoryGives : MemSourceState → List ℕ → MemSourceState → Type 0
 MemoryGives old given new = Gives (state_of old) given (state_of new) × (new.step ≡ old.step)
 
 -- the same where it fails after a number of calls
-abbrev pub failing_state_of : FailingState MemoryState → SourceState
+abbrev pub failing_state_of : FailingState MemSourceState → SourceState
 failing_state_of f =
     record { left = Some f.memory.left; ended = f.memory.ended; failures = f.failures }
 
 -- between two states it gave these bytes
-abbrev pub FailingGives : FailingState MemoryState → List ℕ
-    → FailingState MemoryState → Type 0
+abbrev pub FailingGives : FailingState MemSourceState → List ℕ
+    → FailingState MemSourceState → Type 0
 FailingGives old given new =
     Gives (failing_state_of old) given (failing_state_of new)
     × (new.memory.step ≡ old.memory.step)

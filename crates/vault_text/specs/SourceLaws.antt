@@ -3,7 +3,7 @@ use Rattle.std.specs.Prelude.{ℕ, ◌++◌, List, [], Option, Some, None, refl}
 use Rattle.std.proofs.Common.{arith, sym, append_assoc, ◌∙◌}
 use Rattle.std.specs.Io.KnownBytes.{Consumes}
 use Rattle.vault_text.specs.Failures.{FailingState}
-use Rattle.vault_text.specs.Source.{FailingGives, Gives, MemoryState, MemoryGives, SourceState}
+use Rattle.vault_text.specs.Source.{FailingGives, Gives, MemSourceState, MemoryGives, SourceState}
 use Rattle.vault_text.specs.Source.{failing_state_of, state_of}
 
 Consumes-none : (known : Option (List ℕ)) → Consumes known known []
@@ -40,19 +40,19 @@ Gives-more s t u xs ys p q = record {
 }
 
 -- over memory
-pub MemoryGives-none : (s : MemoryState) → MemoryGives s [] s
+pub MemoryGives-none : (s : MemSourceState) → MemoryGives s [] s
 MemoryGives-none s = (Gives-none (state_of s), refl)
 
-pub MemoryGives-more : (s t u : MemoryState) (xs ys : List ℕ)
+pub MemoryGives-more : (s t u : MemSourceState) (xs ys : List ℕ)
     → MemoryGives s xs t → MemoryGives t ys u → MemoryGives s (xs ++ ys) u
 MemoryGives-more s t u xs ys p q =
     (Gives-more (state_of s) (state_of t) (state_of u) xs ys p.0 q.0, q.1 ∙ p.1)
 
 -- over memory that fails after a number of calls
-pub FailingGives-none : (s : FailingState MemoryState) → FailingGives s [] s
+pub FailingGives-none : (s : FailingState MemSourceState) → FailingGives s [] s
 FailingGives-none s = (Gives-none (failing_state_of s), refl)
 
-pub FailingGives-more : (s t u : FailingState MemoryState) (xs ys : List ℕ)
+pub FailingGives-more : (s t u : FailingState MemSourceState) (xs ys : List ℕ)
     → FailingGives s xs t → FailingGives t ys u → FailingGives s (xs ++ ys) u
 FailingGives-more s t u xs ys p q = (
   Gives-more (failing_state_of s) (failing_state_of t) (failing_state_of u) xs ys p.0 q.0,

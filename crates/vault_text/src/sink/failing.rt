@@ -20,9 +20,9 @@ pub struct FailingSink {
 impl Model for FailingSink {
     ghost use Rattle.std.specs.Prelude.{◌≤◌};
     ghost use Rattle.vault_text.specs.Failures.{FailingState};
-    ghost use Rattle.vault_text.specs.Sink.{MemoryState};
+    ghost use Rattle.vault_text.specs.Sink.{MemSinkState};
 
-    ghost Value = { FailingState MemoryState };
+    ghost Value = { FailingState MemSinkState };
 
     ghost view = { λ s. record { memory = s.memory; calls = s.calls; failures = s.failures } };
 

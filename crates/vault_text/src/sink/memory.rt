@@ -20,9 +20,9 @@ pub struct MemSink {
 
 impl Model for MemSink {
     ghost use Rattle.std.specs.Prelude.{◌≤◌};
-    ghost use Rattle.vault_text.specs.Sink.{MemoryState};
+    ghost use Rattle.vault_text.specs.Sink.{MemSinkState};
 
-    ghost Value = { MemoryState };
+    ghost Value = { MemSinkState };
 
     ghost view = { λ s. record {
       held = s.bytes.items;

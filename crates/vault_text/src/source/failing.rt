@@ -18,9 +18,9 @@ pub struct FailingSource<'a> {
 impl<'a> Model for FailingSource<'a> {
     ghost use Rattle.std.specs.Prelude.{◌≡◌, ◌<◌};
     ghost use Rattle.vault_text.specs.Failures.{FailingState};
-    ghost use Rattle.vault_text.specs.Source.{MemoryState};
+    ghost use Rattle.vault_text.specs.Source.{MemSourceState};
 
-    ghost Value = { FailingState MemoryState };
+    ghost Value = { FailingState MemSourceState };
 
     ghost view = { λ s. record { memory = s.memory; calls = s.calls; failures = s.failures } };
 

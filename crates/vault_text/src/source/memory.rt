@@ -16,9 +16,9 @@ pub struct MemSource<'a> {
 
 impl<'a> Model for MemSource<'a> {
     ghost use Rattle.std.specs.Prelude.{◌≡◌, ◌≤◌, [], IsTrue};
-    ghost use Rattle.vault_text.specs.Source.{MemoryState};
+    ghost use Rattle.vault_text.specs.Source.{MemSourceState};
 
-    ghost Value = { MemoryState };
+    ghost Value = { MemSourceState };
 
     ghost view = { λ s. record { left = s.left.now; ended = s.ended; step = s.step } };
 
