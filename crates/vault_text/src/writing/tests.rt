@@ -9,9 +9,9 @@ use crate::sink::{FailingSink, MemSink};
 use std::alloc::{AllocError, Global};
 use std::test::Fail;
 
-/// Label, length of the salt, length of the ciphertext, and the envelope. In the envelopes with 7,
-/// 6, 10 and 11 bytes of ciphertext the last line is full.
-const ENVELOPES: [(&str, u16, u16, &str); 6] = [
+/// Label, length of the salt, length of the ciphertext, and the envelope. Except where the ciphertext
+/// has 16 bytes, the last line is full.
+const ENVELOPES: [(&str, u16, u16, &str); 7] = [
     (
         "default",
         0,
@@ -30,6 +30,19 @@ const ENVELOPES: [(&str, u16, u16, &str); 6] = [
          $ANSIBLE_VAULT;1.2;AES256;dev\n\
          30330a66666665666466636662666166396638663766366635663466336632663166306566656565\n\
          6465636562656165396538653765366535653465336532653165300a303531303162323633313363\n\
+         ",
+    ),
+    (
+        "x",
+        3,
+        64,
+        "\
+         $ANSIBLE_VAULT;1.2;AES256;x\n\
+         3033306131310a666666656664666366626661663966386637663666356634663366326631663065\n\
+         666565656465636562656165396538653765366535653465336532653165300a3035313031623236\n\
+         33313363343735323564363837333765383939343966616162356330636264366531656366373032\n\
+         30643138323332653339343434663561363537303762383639313963613762326264633864336465\n\
+         65396634666630613135323032623336343134633537363236643738383338653939613461666261\n\
          ",
     ),
     (
