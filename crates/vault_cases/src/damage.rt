@@ -1,6 +1,5 @@
 //! Envelopes that are damaged, and inputs that are too long.
-use crate::devices::CountingReader;
-use crate::support::{run_decrypt, run_program};
+use crate::support::run_decrypt;
 use std::alloc::Global;
 use std::process::Abort;
 use std::test::Fail;
@@ -8,7 +7,7 @@ use vault_aes::{Key, ctr_apply};
 use vault_cli::Status;
 use vault_kdf::{Meter, derive};
 use vault_made::{envelope, spelled, tagged};
-use vault_text::{CIPHERTEXT_LIMIT, ENVELOPE_LIMIT, MemSink, MemSource};
+use vault_text::{CIPHERTEXT_LIMIT, MemSink, MemSource};
 
 const SALT: &[u8; 32] = &[7; 32];
 
@@ -106,34 +105,5 @@ fn decrypts_up_to_the_limit(rt: HostRuntime) -> Result<(), Fail> {
     assert_eq!(rt; status, Status::Success);
     assert!(rt; out.bytes() == plaintext.as_slice());
     assert!(rt; !err.begun());
-    Ok(())
-}
-
-// An input that is too long is so whatever it holds, and is read no further than one byte past the
-// limit.
-#[test]
-fn refuses_input_over_the_limit(rt: HostRuntime) -> Result<(), Fail> {
-    let damaged = b"$ANSIBLE_VAULT;1.1;AES256\nzz".as_slice();
-    let long = "ERROR! input is longer than the limit\n";
-    let cases: [(&[u8], usize, usize, &str); 5] = [
-        (b"", usize::MAX, ENVELOPE_LIMIT + 1, long),
-        (&damaged[..26], usize::MAX, ENVELOPE_LIMIT + 1, long),
-        (damaged, usize::MAX, ENVELOPE_LIMIT + 1, long),
-        (damaged, ENVELOPE_LIMIT + 1, ENVELOPE_LIMIT + 1, long),
-        (
-            damaged,
-            ENVELOPE_LIMIT,
-            ENVELOPE_LIMIT,
-            "ERROR! vault body is not hexadecimal\n",
-        ),
-    ];
-    for (front, length, given, message) in cases {
-        let mut stdin = CountingReader::with_line_feeds(front, length);
-        let refused = run_program(rt.alloc(), &[], &["decrypt"], &mut stdin)?;
-        assert_eq!(rt; refused.status, Status::Refused, "{length}");
-        assert_eq!(rt; refused.message.as_str(), message, "{length}");
-        assert_eq!(rt; refused.output.len(), 0, "{length}");
-        assert_eq!(rt; stdin.given, given, "{length}");
-    }
     Ok(())
 }

@@ -27,11 +27,11 @@ impl<'a> CountingReader<'a> {
     }
 
     /// These bytes, and line feeds behind them up to this length in all.
-    pub fn with_line_feeds(bytes: &'a [u8], length: usize) -> Self {
+    pub fn with_line_feeds(bytes: &'a [u8], length: usize, step: usize) -> Self {
         CountingReader {
             front: bytes,
             rest: b'\n',
-            step: 65_536,
+            step,
             left: length,
             given: 0,
         }

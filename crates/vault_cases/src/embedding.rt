@@ -2,7 +2,8 @@
 use crate::support::run_in_memory;
 use std::alloc::Global;
 use std::test::Fail;
-use vault_cli::{MemFile, MemFiles, Status};
+use vault_cli::{MemFile, Status};
+use vault_files::LoggedFiles;
 use vault_made::envelope;
 
 const PLAINTEXT: &[u8] = b"key: value\n";
@@ -10,7 +11,7 @@ const PLAINTEXT: &[u8] = b"key: value\n";
 const SALT: &[u8] = &[7; 32];
 
 /// Whether a file of these bytes stands at the path.
-fn has(files: &MemFiles, path: &str, bytes: &[u8]) -> bool {
+fn has(files: &LoggedFiles, path: &str, bytes: &[u8]) -> bool {
     files.content(path) == Some(bytes)
 }
 
@@ -27,7 +28,7 @@ fn writes_to_the_path_of_the_output(rt: HostRuntime) -> Result<(), Fail> {
         MemFile::whole("one", b"first\n"),
         MemFile::whole("kept", b"text"),
     ];
-    let mut files = MemFiles::new(alloc, &entries);
+    let mut files = LoggedFiles::new(alloc, &entries, usize::MAX);
     let words = [
         "decrypt",
         "--vault-password-file",
@@ -55,7 +56,7 @@ fn rekeys_a_file_in_its_place(rt: HostRuntime) -> Result<(), Fail> {
         MemFile::whole("salt", SALT),
         MemFile::whole("secrets.yml", vault.as_slice()),
     ];
-    let mut files = MemFiles::new(alloc, &entries);
+    let mut files = LoggedFiles::new(alloc, &entries, usize::MAX);
     let words = [
         "rekey",
         "--vault-password-file",
@@ -83,7 +84,7 @@ fn creates_no_file_on_a_refusal(rt: HostRuntime) -> Result<(), Fail> {
     let alloc = rt.alloc();
     let vault = vault_of_first(alloc)?;
     let entries = [MemFile::whole("two", b"second\n")];
-    let mut files = MemFiles::new(alloc, &entries);
+    let mut files = LoggedFiles::new(alloc, &entries, usize::MAX);
     let words = ["decrypt", "--vault-id", "two", "--output", "plain"];
     let refused = run_in_memory(alloc, &mut files, &words, vault.as_slice())?;
     assert_eq!(rt; refused.status, Status::Refused);
@@ -101,7 +102,7 @@ fn creates_no_file_on_a_refusal(rt: HostRuntime) -> Result<(), Fail> {
 fn helps_without_a_file(rt: HostRuntime) -> Result<(), Fail> {
     let alloc = rt.alloc();
     let entries = [MemFile::whole("one", b"first\n")];
-    let mut files = MemFiles::new(alloc, &entries);
+    let mut files = LoggedFiles::new(alloc, &entries, usize::MAX);
     let words = ["rekey", "--help", "--output", "one"];
     let helped = run_in_memory(alloc, &mut files, &words, b"")?;
     assert_eq!(rt; helped.status, Status::Success);

@@ -4,6 +4,8 @@
 #[cfg(test)]
 mod asked_once;
 #[cfg(test)]
+mod binding_labels;
+#[cfg(test)]
 mod commands;
 #[cfg(test)]
 mod damage;
@@ -20,7 +22,7 @@ mod encrypting;
 #[cfg(test)]
 mod failures;
 #[cfg(test)]
-mod hints;
+mod limits;
 #[cfg(test)]
 mod opening;
 #[cfg(test)]

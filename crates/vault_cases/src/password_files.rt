@@ -52,7 +52,7 @@ fn refuses_before_the_input_is_read(rt: HostRuntime) -> Result<(), Fail> {
             "--vault-password-file",
             path,
         ];
-        let mut stdin = CountingReader::with_line_feeds(b"", usize::MAX);
+        let mut stdin = CountingReader::with_line_feeds(b"", usize::MAX, 65_536);
         let refused = run_program(alloc, &files(), &words, &mut stdin)?;
         assert_eq!(rt; refused.status, status, "{path}");
         assert_eq!(rt; refused.message.as_str(), line.as_str(), "{path}");

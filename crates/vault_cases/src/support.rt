@@ -9,6 +9,7 @@ use vault_cli::{
     Fault, MemFile, MemFiles, Request, Status, drive, drive_in_memory, has_command, parse, run,
     settle,
 };
+use vault_files::LoggedFiles;
 use vault_text::{
     CIPHERTEXT_LIMIT, MemSink, MemSource, ReadSource, Sink, Source, Stage, WriteSink,
 };
@@ -85,18 +86,18 @@ pub fn run_program_on<'a>(
     words: &[&str],
     input: &[u8],
 ) -> Result<Outcome, Fail> {
-    run_in_memory(alloc, &mut MemFiles::new(alloc, files), words, input)
+    run_in_memory(alloc, &mut LoggedFiles::new(alloc, files, usize::MAX), words, input)
 }
 
 /// As `run_program_on`, over files that are looked at afterwards.
 pub fn run_in_memory(
     alloc: Global,
-    files: &mut MemFiles<'_>,
+    files: &mut LoggedFiles<'_>,
     words: &[&str],
     input: &[u8],
 ) -> Result<Outcome, Fail>
-    requires unbegun { files.old.output.stage ≡ Stage.Unbegun }
-    requires empty { files.old.output.held ≡ [] }
+    requires unbegun { files.old.files.output.stage ≡ Stage.Unbegun }
+    requires empty { files.old.files.output.held ≡ [] }
 {
     let line = line_of(alloc, words)?;
     let mut src = MemSource::new(input, 4_096);
@@ -118,7 +119,24 @@ pub fn run_decrypt<S: Source, K: Sink, E: Sink>(
     requires out_unbegun { K.stage out.old ≡ Stage.Unbegun }
     requires err_unbegun { E.stage err.old ≡ Stage.Unbegun }
 {
-    let request = settled(alloc, &["decrypt", "--vault-password-file", "one"])??;
+    let words = ["decrypt", "--vault-password-file", "one"];
+    run_at_the_limit(alloc, &words, secret_file, src, out, err)
+}
+
+/// Runs these words with one password file of these contents and a salt of zeros, in all the
+/// memory that the limits ask for.
+pub fn run_at_the_limit<S: Source, K: Sink, E: Sink>(
+    alloc: Global,
+    words: &[&str],
+    secret_file: &[u8],
+    src: &mut S,
+    out: &mut K,
+    err: &mut E,
+) -> Result<Status, Fail>
+    requires out_unbegun { K.stage out.old ≡ Stage.Unbegun }
+    requires err_unbegun { E.stage err.old ≡ Stage.Unbegun }
+{
+    let request = settled(alloc, words)??;
     let mut secret_files = Vec::new(alloc);
     secret_files.push(Vec::from_slice(alloc, secret_file)?)?;
     if secret_files.len() != request.files() {
@@ -126,10 +144,11 @@ pub fn run_decrypt<S: Source, K: Sink, E: Sink>(
     }
     let contents = secret_files.as_slice();
     let mut work = work_memory(alloc)?;
-    Ok(run(&request, contents, &[], work.as_mut_slice(), src, out, err))
+    Ok(run(&request, contents, &[0; 32], work.as_mut_slice(), src, out, err))
 }
 
-fn work_memory(alloc: Global) -> Result<Vec<u8>, AllocError>
+/// All the memory that the limits ask for.
+pub fn work_memory(alloc: Global) -> Result<Vec<u8>, AllocError>
     ensures { IfOk result (λ work. vec_len work ≡ CIPHERTEXT_LIMIT) }
 {
     vec![in alloc; 0u8; CIPHERTEXT_LIMIT]
