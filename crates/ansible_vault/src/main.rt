@@ -2,9 +2,8 @@
 #![tactic(auto)]
 
 use std::env::Env;
-use std::fs::Files;
 use std::process::ExitCode;
-use std::{env, fs, io};
+use std::{env, io};
 use vault_cli::{HostFiles, ReadSource, WriteSink, drive, reject_words};
 
 /// The arguments. They are pushed one by one, since `collect` goes on where the room for all of
@@ -17,14 +16,6 @@ fn words(rt: &(impl Env + AllocGlobal)) -> io::Result<Vec<String>> {
     Ok(words)
 }
 
-/// About how many bytes standard input has, where it is a file.
-fn length_of_input(rt: &impl Files) -> usize {
-    match fs::metadata(rt, "/dev/stdin") {
-        Ok(metadata) => metadata.len() as usize,
-        Err(_) => 0,
-    }
-}
-
 fn main(rt: HostRuntime) -> ExitCode {
     let mut err = WriteSink::new(rt.stderr());
     let status = match words(&rt) {
@@ -32,7 +23,7 @@ fn main(rt: HostRuntime) -> ExitCode {
             &mut HostFiles::new(&rt),
             rt.alloc(),
             words.as_slice(),
-            &mut ReadSource::with_length_hint(rt.stdin(), length_of_input(&rt)),
+            &mut ReadSource::new(rt.stdin()),
             &mut WriteSink::new(rt.stdout()),
             &mut err,
         ),

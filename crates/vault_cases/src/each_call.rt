@@ -64,7 +64,7 @@ fn tells_each_read_that_fails(rt: HostRuntime) -> Result<(), Fail> {
     assert_reads_told(&rt, alloc, ENCRYPT_STRING, ONE, b"text")
 }
 
-/// The same of the program, which reads in memory that grows.
+/// The same of the program.
 fn assert_program_tells_reads(
     rt: &impl Abort,
     alloc: Global,

@@ -12,7 +12,7 @@ use clap::Command;
 use std::alloc::{AllocError, Global};
 use vault_core::Fault;
 
-const VERSION: &str = "0.1.0";
+const VERSION: &str = "0.2.0";
 
 /// The command line's description, to be parsed by `clap`.
 #[tactic(auto, unfolding(crate::specs::CommandLine::vault_app))]

@@ -5,7 +5,7 @@ use crate::access::Access;
 use crate::fault::FileFault;
 use crate::file_system::FileSystem;
 use std::alloc::{AllocError, Global};
-use std::fs::{Files, OpenFile, OpenOptions, Permissions};
+use std::fs::{Files, OpenOptions, Permissions};
 use std::io::{ErrorKind, Write};
 use std::marker::Model;
 use std::os::unix::fs::{OpenOptionsExt, PermissionsExt};
@@ -76,14 +76,6 @@ fn create<R: Files>(rt: &R, path: &str, access: Access) -> io::Result<R::File> {
         file.set_permissions(Permissions::from_mode(OWNER_ONLY))?;
     }
     Ok(file)
-}
-
-/// How long an open file is, as the system tells; 0 where it does not, and for what is no file.
-fn length_of<F: OpenFile>(file: &F) -> usize {
-    match file.metadata() {
-        Ok(metadata) => metadata.len() as usize,
-        Err(_) => 0,
-    }
 }
 
 impl<'a, R: Files> Sink for HostFiles<'a, R> {
@@ -194,10 +186,7 @@ impl<'a, R: Files> FileSystem for HostFiles<'a, R> {
 
     fn open(&mut self, path: &str) -> Result<ReadSource<R::File>, FileFault> {
         match fs::open(self.rt, path) {
-            Ok(file) => {
-                let length = length_of(&file);
-                Ok(ReadSource::with_length_hint(file, length))
-            }
+            Ok(file) => Ok(ReadSource::new(file)),
             Err(error) if matches!(error.kind(), ErrorKind::OutOfMemory) => Err(FileFault::Memory),
             Err(_) => Err(FileFault::CannotOpen),
         }

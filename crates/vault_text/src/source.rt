@@ -39,12 +39,6 @@ pub trait Source {
         ensures failed { CountsFailure (failures self.old) (failures self.new) result }
         ensures full { IsLast (failures self.old) → IsErr result };
 
-    /// About how many bytes are left, 0 where nothing is known: a hint for who takes memory for
-    /// them, on which no answer may depend.
-    fn length_hint(&self) -> usize {
-        0
-    }
-
     ghost gives_none: { (s : Self) → gives s [] s };
 
     ghost gives_more: { (s t u : Self) (xs ys : List ℕ)

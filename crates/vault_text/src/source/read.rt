@@ -12,7 +12,6 @@ pub struct ReadSource<R: Read> {
     reader: R,
     ended: bool,
     failures: FailureCount,
-    length_hint: usize,
 }
 
 impl<R: Read> Model for ReadSource<R> {
@@ -32,18 +31,10 @@ impl<R: Read> ReadSource<R> {
     pub fn new(reader: R) -> Self
         ensures { result ≡ record { left = R.remaining reader; ended = false; failures = 0 } }
     {
-        ReadSource::with_length_hint(reader, 0)
-    }
-
-    /// As `new`, of a reader that has about so many bytes left.
-    pub fn with_length_hint(reader: R, length_hint: usize) -> Self
-        ensures { result ≡ record { left = R.remaining reader; ended = false; failures = 0 } }
-    {
         ReadSource {
             reader,
             ended: false,
             failures: FailureCount::new(),
-            length_hint,
         }
     }
 }
@@ -83,10 +74,5 @@ impl<R: Read> Source for ReadSource<R> {
                 Err(SourceFailed)
             }
         }
-    }
-
-    /// As many as were left at first.
-    fn length_hint(&self) -> usize {
-        self.length_hint
     }
 }
