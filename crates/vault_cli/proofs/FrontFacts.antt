@@ -12,7 +12,7 @@ use Rattle.vault_cli.specs.Task.{Task}
 use Rattle.vault_cli.proofs.TaskFacts.{HasLimit, limit-next, limit-prepared, performed-front}
 
 -- the task that is found over files takes as much as its command
-limit-over : (limit : ℕ) (request : Request) (files : Files) → HasLimit limit (input_limit limit request.command) (task_over request files)
+pub limit-over : (limit : ℕ) (request : Request) (files : Files) → HasLimit limit (input_limit limit request.command) (task_over request files)
 unfolding task_over
 limit-over limit request files =
     let amount = input_limit limit request.command in
@@ -27,7 +27,7 @@ IsOfFront None answers = (input : List ℕ) → answers [] ≡ answers input
 IsOfFront (Some limit) answers = (ended : Bool) (text front left : List ℕ) → text ≡ front ++ left → (IsTrue ended → left ≡ [])
     → IsWhole limit ended front → answers front ≡ answers text
 
-task-front : (limit amount : ℕ) (prepares : Result Task Fault) (string : Option (List ℕ)) → HasLimit limit amount prepares
+pub task-front : (limit amount : ℕ) (prepares : Result Task Fault) (string : Option (List ℕ)) → HasLimit limit amount prepares
     → IsOfFront (asked_for prepares string amount) (λ input. answered (ready_by limit prepares string (Ok input)))
 task-front limit amount (Err fault) string has = λ input. refl
 task-front limit amount (Ok task) (Some string) has = λ input. refl

@@ -9,6 +9,7 @@ pub mod ProgramSamples
 pub mod ExplainedFacts
 pub mod LawFacts
 pub mod LawProofs
+pub mod ProgramLawProofs
 pub mod OutcomeFacts
 pub mod ParsedFacts
 pub mod ParsedSamples

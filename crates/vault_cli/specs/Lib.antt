@@ -21,3 +21,4 @@ pub mod Gathered
 pub mod Explained
 pub mod Embedding
 pub mod Laws
+pub mod ProgramLaws

@@ -1,7 +1,9 @@
-//! Laws of the outcomes, each the contract of a function that does nothing but name the laws that
+//! Laws of the outcomes and of the program, each the contract of a function that does nothing but name the laws that
 //! it stands on.
 ghost use Rattle.vault_cli.specs.Laws.{EncryptThenDecrypt, RekeyKeepsThePlaintext};
 ghost use Rattle.vault_cli.specs.Laws.{SettledRequests, ShortTexts};
+ghost use Rattle.vault_cli.specs.ProgramLaws.{ProgramIsOutcome, WrittenIsRead};
+ghost use Rattle.vault_cli.specs.ProgramLaws as program;
 
 /// What settles a request makes one that the laws below speak of.
 pub fn settled_requests()
@@ -28,4 +30,30 @@ pub fn short_texts()
     ensures { ShortTexts }
 {
     vault_core::laws::short_inputs();
+}
+
+/// On files that can be read the program answers with the outcome.
+pub fn program_is_outcome()
+    ensures { ProgramIsOutcome }
+{}
+
+/// What one run wrote to a path, another reads there.
+pub fn written_is_read()
+    ensures { WrittenIsRead }
+{}
+
+/// Decrypting what the program encrypted gives the input, from file to file.
+pub fn program_encrypts_then_decrypts()
+    ensures { program.EncryptThenDecrypt }
+{
+    settled_requests();
+    encrypt_then_decrypt();
+}
+
+/// Decrypting what the program rekeyed gives what decrypting gave before, from file to file.
+pub fn program_keeps_the_plaintext()
+    ensures { program.RekeyKeepsThePlaintext }
+{
+    settled_requests();
+    rekey_keeps_the_plaintext();
 }

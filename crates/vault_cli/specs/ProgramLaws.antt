@@ -1,0 +1,84 @@
+-- Laws of the program: from the words of one run to those of another, from file to file.
+use Rattle.std.specs.Prelude.{◌≡◌, ℕ, List, [], ◌∷◌, Option, Some, None, IfSome, Ok}
+use Rattle.clap.specs.Words.{Text}
+use Rattle.vault_files.specs.File.{Finding}
+use Rattle.vault_files.specs.File.Finding.{Whole}
+use Rattle.vault_core.specs.Form.{Envelope}
+use Rattle.vault_core.specs.Laws.{IsBytes, IsTriedFirst}
+use Rattle.vault_core.specs.Secrets.{Secret, SecretList, secret_at}
+use Rattle.vault_core.specs.declared.label_rule.LabelRule.{LabelRule}
+use Rattle.vault_cli.specs.Embedding.{stands_after}
+use Rattle.vault_cli.specs.Found.{contents_of}
+use Rattle.vault_cli.specs.Laws.{Opens}
+use Rattle.vault_cli.specs.Outcome.{Outcome, outcome}
+use Rattle.vault_cli.specs.Program.{Files, asked_by, files_in, output_path, program, salt_in}
+use Rattle.vault_cli.specs.Request.{Request}
+use Rattle.vault_cli.specs.Task.{Seal, Reseal, prepared}
+use Rattle.vault_cli.specs.declared.command_name.CommandName.TheVariants.{Encrypt, Rekey}
+use Rattle.vault_cli.specs.declared.status.Status.TheVariants.{Success}
+
+-- the input is a file that can be read to its end, or else standard input
+abbrev pub IsInput : Option Finding → List ℕ → List ℕ → Type 0
+IsInput None stdin input = stdin ≡ input
+IsInput (Some file) stdin input = file ≡ Whole input
+
+-- a run whose files can be read: its words, the files that they meet and standard input, and what
+-- these come to
+pub record Run : Type 0 where
+  pub words : List Text
+  pub files : Files
+  pub stdin : List ℕ
+  pub request : Request
+  pub contents : List (List ℕ)
+  pub salt : List ℕ
+  pub input : List ℕ
+  pub asks : asked_by words ≡ Some (Ok request)
+  pub secrets : contents_of files.secrets ≡ Ok contents
+  pub salted : salt_in files.salt ≡ Ok salt
+  pub fed : IsInput files.input stdin input
+
+-- what the program answers to it
+abbrev pub answer : Run → Outcome
+answer run = program run.words run.files run.stdin
+
+-- that is the outcome of its request
+abbrev pub ProgramIsOutcome : Type 0
+ProgramIsOutcome = (run : Run) → answer run ≡ outcome run.request run.contents run.salt run.input
+
+-- what one run wrote to a path, another reads whose FILE is that path
+abbrev pub WrittenIsRead : Type 0
+WrittenIsRead =
+    (before : List ℕ → Finding) (writing reading : List Text) (bytes path : List ℕ) (request : Request)
+    → output_path (asked_by writing) ≡ Some path
+    → asked_by reading ≡ Some (Ok request) → request.input ≡ Some path
+    → (files_in (stands_after before (output_path (asked_by writing)) (Some bytes))
+    (asked_by reading)).input ≡ Some (Whole bytes)
+
+-- what `encrypt` wrote with a secret, `decrypt` and `view` give back where the first secret that
+-- they try has its password
+abbrev pub EncryptThenDecrypt : Type 0
+EncryptThenDecrypt =
+    (encrypting opening : Run) (list : List Secret) (place : ℕ) (used : List ℕ) (secrets : SecretList)
+    → encrypting.request.command ≡ Encrypt
+    → IfSome encrypting.request.salt_text IsBytes → IsBytes encrypting.salt → IsBytes encrypting.input
+    → prepared encrypting.request encrypting.contents encrypting.salt
+    ≡ Ok (Seal list place Envelope used)
+    → (answer encrypting).output ≡ Some opening.input
+    → Opens opening.request opening.contents opening.salt secrets
+    → IsTriedFirst secrets (secret_at place list)
+    → answer opening ≡ record { output = Some encrypting.input; line = []; status = Success }
+
+-- what `rekey` wrote, `decrypt` and `view` open with the new secret alone, under either rule, to what
+-- they gave before with the old secrets under the rule of `rekey`
+abbrev pub RekeyKeepsThePlaintext : Type 0
+RekeyKeepsThePlaintext =
+    (rekeying before after : Run)
+    (secrets : SecretList) (new : Secret) (used : List ℕ) (rule : LabelRule)
+    → rekeying.request.command ≡ Rekey
+    → IfSome rekeying.request.salt_text IsBytes → IsBytes rekeying.salt
+    → prepared rekeying.request rekeying.contents rekeying.salt ≡ Ok (Reseal secrets new used)
+    → before.input ≡ rekeying.input → (answer rekeying).output ≡ Some after.input
+    → Opens before.request before.contents before.salt secrets
+    → Opens after.request after.contents after.salt
+    (record { secrets = new ∷ []; rule = rule })
+    → answer after ≡ answer before
