@@ -55,10 +55,12 @@ Logs result log paths =
     (log.new ≡ log.old ++ paths)
     ⊎ ((result ≡ OutOfMemory) × ((n : ℕ) × (log.new ≡ log.old ++ take n paths)))
 
--- what stands at a path, where the output goes to a path or to standard output, and there is one or none
+-- what stands at a path, where the output goes to a path or to standard output, and there is one or
+-- none
 abbrev pub stands_after : (List ℕ → Finding) → Option (List ℕ) → Option (List ℕ) → List ℕ → Finding
 stands_after before aim None path = before path
-stands_after before aim (Some bytes) path = if is_aimed_at aim path then Whole bytes else before path
+stands_after before aim (Some bytes) path =
+    if is_aimed_at aim path then Whole bytes else before path
 
 module _ (result : Status) (files : Change StoreState) (out err : Change MemSinkState) where
   -- at each path stands this
@@ -89,7 +91,8 @@ module _ (result : Status) (files : Change StoreState) (out err : Change MemSink
   IsCut (Some aim) bytes =
       HasRisen files.old.output.failures files.new.output.failures × (out.new ≡ out.old)
       × (IsKept
-      ⊎ ((n : ℕ) × Stands (stands_after (file_at files.old.entries) (Some aim) (Some (take n bytes)))))
+      ⊎ ((n : ℕ)
+      × Stands (stands_after (file_at files.old.entries) (Some aim) (Some (take n bytes)))))
 
   -- it ended with so much of the answer
   pub record EndsShort (aim : Option (List ℕ)) (answer : Outcome) : Type 0 where

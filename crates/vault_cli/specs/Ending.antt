@@ -47,7 +47,8 @@ to_path {F = F} (Some path) access files out = record {
   untouched = (out.new ≡ out.old) × (files.stage files.new ≡ Unbegun)
       × ((files.new ≡ files.old) ⊎ files.aimed files.old path access files.new);
   wrote = λ bytes. (out.new ≡ out.old)
-      × ((chosen : F) × files.aimed files.old path access chosen × files.takes chosen bytes files.new);
+      × ((chosen : F) × files.aimed files.old path access chosen
+      × files.takes chosen bytes files.new);
   finished = files.stage files.new ≡ Finished;
   failed = HasRisen (files.failures files.old) (files.failures files.new);
   unfailed = files.failures files.new ≡ files.failures files.old;
@@ -65,14 +66,15 @@ module _ {E : Type 0} (out : Output) (err : SinkCall E) (result : Status) where
   pub record OutputFails (answer : Outcome) : Type 0 where
     pub status : result ≡ DeviceFailed
     pub failed : out.failed
-    pub output : (bytes : List ℕ) × (answer.output ≡ Some bytes) × ((n : ℕ) × out.wrote (take n bytes))
+    pub output : (bytes : List ℕ) × (answer.output ≡ Some bytes)
+        × ((n : ℕ) × out.wrote (take n bytes))
     pub line : Says err (line_of Write)
 
   -- one of the two
   abbrev pub Finishes : Outcome → Type 0
   Finishes answer = IsAnswered answer ⊎ OutputFails answer
 
-  -- the source failed
+  -- the source failed, which only a run may tell that asked it
   pub record SourceFails {S : Type 0} (src : SourceCall S) : Type 0 where
     pub status : result ≡ DeviceFailed
     pub failed : HasRisen (src.failures src.old) (src.failures src.new)
@@ -80,7 +82,7 @@ module _ {E : Type 0} (out : Output) (err : SinkCall E) (result : Status) where
     pub output : out.untouched
     pub line : Says err (line_of (Read Input))
 
-  -- there was no memory, which may be so in every run
+  -- there was no memory: any run may end so
   pub record LacksMemory : Type 0 where
     pub status : result ≡ OutOfMemory
     pub unfailed : out.unfailed
@@ -93,11 +95,12 @@ module _ {E : Type 0} (out : Output) (err : SinkCall E) (result : Status) where
     IsRead limit input =
         (src.failures src.new ≡ src.failures src.old) × IsWhole limit (src.ended src.new) input
 
-    -- the source was not asked for the input, and is left alone
+    -- the source was not asked for the input, and is left alone; so it did not fail
     abbrev pub EndsUnasked : Outcome → Type 0
     EndsUnasked answer = (src.new ≡ src.old) × (LacksMemory ⊎ Finishes answer)
 
-    -- it was asked for an input up to the limit and one byte, and gave this
+    -- it was asked for an input up to the limit and one byte, and gave this; where it failed, no byte
+    -- past the limit
     abbrev pub EndsAsked : ℕ → List ℕ → Outcome → Type 0
     EndsAsked limit input answer =
         src.gives src.old input src.new × (length input ≤ limit + 1)

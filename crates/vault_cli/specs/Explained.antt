@@ -25,7 +25,8 @@ module _ {K E : Type 0} (out : SinkCall K) (err : SinkCall E) (result : Status) 
   -- a text on standard output, or a prefix of it where standard output failed
   abbrev pub Shows : Type 0
   Shows = (text : List ℕ)
-      × Finishes (to_sink out) err result (record { output = Some text; line = []; status = Success })
+      × Finishes (to_sink out) err result
+      (record { output = Some text; line = []; status = Success })
 
   -- a text on standard error alone
   pub record Rejects : Type 0 where

@@ -31,7 +31,8 @@ abbrev pub asked_paths : Request → List (List ℕ)
 asked_paths request =
     secret_paths request ++ option_to_list request.salt_path ++ option_to_list request.input
 
--- the contents of password files, each up to one byte more than is taken, or the fault of the first that gives none
+-- the contents of password files, each up to one byte more than is taken, or the fault of the first
+-- that gives none
 unfoldable pub contents_of : List Finding → Result (List (List ℕ)) Fault
 contents_of [] = Ok []
 contents_of (file ∷ files) = do

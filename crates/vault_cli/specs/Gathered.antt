@@ -15,11 +15,14 @@ use Rattle.vault_cli.specs.declared.limits.TheConstants.{SEALING_SALT_LENGTH}
 
 -- a file that may be met gives this answer
 abbrev pub FrontMet : (Finding → Type 0) → Role → ℕ → Result (List ℕ) Fault → Type 0
-FrontMet meets role limit answer = (file : Finding) × meets file × (front_in role limit file ≡ answer)
+FrontMet meets role limit answer =
+    (file : Finding) × meets file × (front_in role limit file ≡ answer)
 
 -- password files that may be met at the paths give this answer
-abbrev pub ContentsMet : (List ℕ → Finding → Type 0) → List (List ℕ) → Result (List (List ℕ)) Fault → Type 0
-ContentsMet meets paths answer = (files : List Finding) × Met meets paths files × (contents_of files ≡ answer)
+abbrev pub ContentsMet : (List ℕ → Finding → Type 0)
+    → List (List ℕ) → Result (List (List ℕ)) Fault → Type 0
+ContentsMet meets paths answer =
+    (files : List Finding) × Met meets paths files × (contents_of files ≡ answer)
 
 -- the salt file that may be met at a path, where there is one, gives this answer
 abbrev pub SaltMet : (List ℕ → Finding → Type 0) → Option (List ℕ) → Result (List ℕ) Fault → Type 0
@@ -44,13 +47,15 @@ LacksMemory opens fault paths = (fault ≡ Memory) × ((n : ℕ) × opens (take 
 
 -- password files that may be met at the paths refuse, and the paths up to the first that does were
 -- opened, or there was no memory
-abbrev pub SecretsRefuse : (List ℕ → Finding → Type 0) → (List (List ℕ) → Type 0) → List (List ℕ) → Fault → Type 0
+abbrev pub SecretsRefuse : (List ℕ → Finding → Type 0) → (List (List ℕ) → Type 0)
+    → List (List ℕ) → Fault → Type 0
 SecretsRefuse meets opens paths fault = (files : List Finding) × Met meets paths files
     × (((contents_of files ≡ Err fault) × opens (secrets_opened paths files))
     ⊎ LacksMemory opens fault (secrets_opened paths files))
 
 -- so do files that may be met at the paths of a request
-abbrev pub RefusedBy : (List ℕ → Finding → Type 0) → (List (List ℕ) → Type 0) → Request → Fault → Type 0
+abbrev pub RefusedBy : (List ℕ → Finding → Type 0) → (List (List ℕ) → Type 0)
+    → Request → Fault → Type 0
 RefusedBy meets opens request fault = (files : Files) × AllMet meets (Some (Ok request)) files
     × (((task_over request files ≡ Err fault) × opens (opened_of (Some (Ok request)) files))
     ⊎ LacksMemory opens fault (opened_of (Some (Ok request)) files))

@@ -50,8 +50,8 @@ EncryptThenDecrypt =
     → outcome_within limit opening other_contents other_salt envelope
     ≡ record { output = Some input; line = []; status = Success }
 
--- what `rekey` wrote, `decrypt` and `view` open with the new secret alone, under either rule, to what
--- they gave before with the old secrets under the rule of `rekey`
+-- what `rekey` wrote, `decrypt` and `view` open with the new secret alone, under either rule, to
+-- what they gave before with the old secrets under the rule of `rekey`
 abbrev pub RekeyKeepsThePlaintext : Type 0
 RekeyKeepsThePlaintext =
     (limit : ℕ) (rekeying before after : Request)
@@ -67,7 +67,8 @@ RekeyKeepsThePlaintext =
     → outcome_within limit after new_contents new_salt envelope
     ≡ outcome_within limit before old_contents old_salt input
 
--- a text that has room wherever so much plaintext does gets one outcome under that limit and under every larger one
+-- a text that has room wherever so much plaintext does gets one outcome under that limit and under
+-- every larger one
 abbrev pub ShortTexts : Type 0
 ShortTexts =
     (smaller larger : ℕ) (request : Request) (contents : List (List ℕ)) (salt input : List ℕ)

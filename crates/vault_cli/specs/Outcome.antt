@@ -1,5 +1,6 @@
 -- What a run of a request answers, as a function of the request, the password files, the salt and
--- the input: five steps, of which the first that refuses decides. Steps 1 to 3 stand with the tasks.
+-- the input: five steps, of which the first that refuses decides. Steps 1 to 3 stand with the
+-- tasks.
 use Rattle.std.specs.Prelude.{ℕ, ◌*◌, List, [], Option, Some, None, unwrap_or, Result, Ok, Err}
 use Rattle.vault_text.specs.Limits.{envelope_limit}
 use Rattle.vault_text.specs.declared.limits.TheConstants.{PLAINTEXT_LIMIT}
@@ -39,7 +40,8 @@ input_limit limit Decrypt = envelope_limit limit
 input_limit limit View = envelope_limit limit
 input_limit limit Rekey = envelope_limit limit
 
--- how long a text may be that has room wherever so much plaintext does: an envelope spells each byte with four digits
+-- how long a text may be that has room wherever so much plaintext does: an envelope spells each
+-- byte with four digits
 abbrev pub room_limit : ℕ → CommandName → ℕ
 room_limit limit Encrypt = limit
 room_limit limit EncryptString = limit
@@ -62,8 +64,8 @@ abbrev pub text_or : Option (List ℕ) → Result (List ℕ) Fault → Result (L
 text_or (Some string) input = Ok string
 text_or None input = input
 
--- the input is asked for where steps 1 to 3 do not refuse, and there is no STRING: up to the limit and
--- one byte more
+-- the input is asked for where steps 1 to 3 do not refuse, and there is no STRING: up to the limit
+-- and one byte more
 abbrev pub asked_for : Result Task Fault → Option (List ℕ) → ℕ → Option ℕ
 asked_for (Err fault) string limit = None
 asked_for (Ok task) (Some string) limit = None
@@ -77,7 +79,8 @@ performed limit (Reseal secrets new salt) text = rekeying limit secrets new salt
 
 -- all five steps, where so much plaintext is encrypted: the task that steps 1 to 3 prepare, and the
 -- text that it is performed on
-abbrev pub ready_by : ℕ → Result Task Fault → Option (List ℕ) → Result (List ℕ) Fault → Result Ready Fault
+abbrev pub ready_by : ℕ → Result Task Fault → Option (List ℕ) → Result (List ℕ) Fault
+    → Result Ready Fault
 ready_by limit prepares string input = do
   task ← prepares
   text ← text_or string input

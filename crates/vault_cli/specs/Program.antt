@@ -1,4 +1,5 @@
--- What the program answers, as a function of its words, the files that it meets, and its standard input.
+-- What the program answers, as a function of its words, the files that it meets, and its standard
+-- input.
 use Rattle.std.specs.Prelude.{ℕ, ◌+◌, List, [], map, Option, Some, None, Result, Ok, Err}
 use Rattle.std.specs.Option.{option_map}
 use Rattle.clap.specs.Words.{Text, subcommand_of}
@@ -22,7 +23,8 @@ use Rattle.vault_cli.specs.Task.{Task, prepared}
 use Rattle.vault_cli.specs.declared.limits.TheConstants.{SEALING_SALT_LENGTH}
 use Rattle.vault_cli.specs.declared.status.Status.TheVariants.{ParseFault}
 
--- the files that a request names, as they are met: its password files, in order, its salt file and its input file
+-- the files that a request names, as they are met: its password files, in order, its salt file and
+-- its input file
 pub record Files : Type 0 where
   pub secrets : List Finding
   pub salt : Option Finding
@@ -40,8 +42,8 @@ opening_of (Some Missing) = Err (CannotOpen Input)
 opening_of (Some (Whole bytes)) = Ok tt
 opening_of (Some (Broken bytes)) = Ok tt
 
--- the password files are read first, then the salt file; then the input file is opened, and steps 1 to 3 prepare
--- the task
+-- the password files are read first, then the salt file; then the input file is opened, and steps 1
+-- to 3 prepare the task
 unfoldable pub task_over : Request → Files → Result Task Fault
 task_over request files = do
   contents ← contents_of files.secrets
@@ -54,8 +56,8 @@ abbrev pub input_in : ℕ → Option Finding → List ℕ → Result (List ℕ) 
 input_in limit None stdin = Ok stdin
 input_in limit (Some file) stdin = front_in Input limit file
 
--- what is ready to be written, or the first fault: the input is read, one byte more than is taken, where there is a
--- task that asks for it
+-- what is ready to be written, or the first fault: the input is read, one byte more than is taken,
+-- where there is a task that asks for it
 abbrev pub ready_of : Request → Files → List ℕ → Result Ready Fault
 ready_of request files stdin =
     ready_by PLAINTEXT_LIMIT (task_over request files) request.string
@@ -65,7 +67,8 @@ ready_of request files stdin =
 abbrev pub asked_by : List Text → Option (Result Request Fault)
 asked_by words = asked (subcommand_of vault_app words)
 
--- the answer to what was asked; words without a command are not parsed, and so not answered
+-- the answer to what was asked; the parser takes no words without a command, so the first case never
+-- comes
 abbrev pub answer_to : Option (Result Request Fault) → Files → List ℕ → Outcome
 answer_to None files stdin = record { output = None; line = []; status = ParseFault }
 answer_to (Some (Err fault)) files stdin = refused fault
@@ -97,8 +100,8 @@ abbrev pub stdin_asked : Option (Result Request Fault) → Files → Option ℕ
 stdin_asked None files = None
 stdin_asked (Some (Err fault)) files = None
 stdin_asked (Some (Ok request)) files =
-    unless_file files.input
-    (asked_for (task_over request files) request.string (input_limit PLAINTEXT_LIMIT request.command))
+    let limit = input_limit PLAINTEXT_LIMIT request.command in
+    unless_file files.input (asked_for (task_over request files) request.string limit)
 
 -- the files that stand at the paths of what was asked
 abbrev pub files_in : (List ℕ → Finding) → Option (Result Request Fault) → Files

@@ -48,7 +48,8 @@ ProgramIsOutcome = (run : Run) → answer run ≡ outcome run.request run.conten
 -- what one run wrote to a path, another reads whose FILE is that path
 abbrev pub WrittenIsRead : Type 0
 WrittenIsRead =
-    (before : List ℕ → Finding) (writing reading : List Text) (bytes path : List ℕ) (request : Request)
+    (before : List ℕ → Finding) (writing reading : List Text) (bytes path : List ℕ)
+    (request : Request)
     → output_path (asked_by writing) ≡ Some path
     → asked_by reading ≡ Some (Ok request) → request.input ≡ Some path
     → (files_in (stands_after before (output_path (asked_by writing)) (Some bytes))
@@ -58,9 +59,11 @@ WrittenIsRead =
 -- they try has its password
 abbrev pub EncryptThenDecrypt : Type 0
 EncryptThenDecrypt =
-    (encrypting opening : Run) (list : List Secret) (place : ℕ) (used : List ℕ) (secrets : SecretList)
+    (encrypting opening : Run)
+    (list : List Secret) (place : ℕ) (used : List ℕ) (secrets : SecretList)
     → encrypting.request.command ≡ Encrypt
-    → IfSome encrypting.request.salt_text IsBytes → IsBytes encrypting.salt → IsBytes encrypting.input
+    → IfSome encrypting.request.salt_text IsBytes
+    → IsBytes encrypting.salt → IsBytes encrypting.input
     → prepared encrypting.request encrypting.contents encrypting.salt
     ≡ Ok (Seal list place Envelope used)
     → (answer encrypting).output ≡ Some opening.input
@@ -68,8 +71,8 @@ EncryptThenDecrypt =
     → IsTriedFirst secrets (secret_at place list)
     → answer opening ≡ record { output = Some encrypting.input; line = []; status = Success }
 
--- what `rekey` wrote, `decrypt` and `view` open with the new secret alone, under either rule, to what
--- they gave before with the old secrets under the rule of `rekey`
+-- what `rekey` wrote, `decrypt` and `view` open with the new secret alone, under either rule, to
+-- what they gave before with the old secrets under the rule of `rekey`
 abbrev pub RekeyKeepsThePlaintext : Type 0
 RekeyKeepsThePlaintext =
     (rekeying before after : Run)
