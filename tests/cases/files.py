@@ -201,19 +201,21 @@ def without_rights(cases: Cases) -> None:
         runs(["--version"], b"")
     except PermissionError:
         return cases.left_out("files without rights", "nobody else may run the program where it lies")
-    locked = cases.file(OLD, 0)
+    locked, folder = cases.file(OLD, 0), cases.path()
+    os.mkdir(folder, 0o555)
     for sample in with_files(cases):
         fault = Fault.INPUT_NOT_OPENED
         done = runs([*sample.words, locked, *to_output(sample)], NOT_ASKED)
         cases.check(f"{sample.command} of a locked file", (done.returncode, done.stdout, done.stderr), (fault.status, b"", fault.line))
     for sample in with_output(cases):
         fault = Fault.NOT_WRITTEN
-        for path in (locked, str(cases.folder / "new")):
+        for path in (locked, f"{folder}/new"):
             done = runs([*sample.words, "--output", path], sample.stdin)
             cases.check(f"{sample.command} to a locked place", (done.returncode, done.stdout, done.stderr), (fault.status, b"", fault.line))
         fault = Fault.SECRET_NOT_OPENED
         done = runs([*sample.words, *by_file(locked)], sample.stdin)
         cases.check(f"{sample.command}, a locked password file", (done.returncode, done.stdout, done.stderr), (fault.status, b"", fault.line))
+    os.chmod(locked, 0o600)
     cases.check("the locked file stays", Path(locked).read_bytes(), OLD)
 
 

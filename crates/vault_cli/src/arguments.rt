@@ -59,8 +59,8 @@ pub(crate) fn require_id_match<'a>(alloc: Global) -> Arg<'a>
         .long("require-id-match")
         .action(ArgAction::SetTrue)
         .help(
-            "Try the secrets with the envelope's label alone; by default the others are tried \
-             behind them",
+            "Try only the secrets with the label of the encrypted file; by default the others are \
+             tried behind them",
         )
 }
 
@@ -76,7 +76,8 @@ pub(crate) fn output<'a>(alloc: Global) -> Arg<'a>
     ensures rule { rule_of result ≡ option (codes "output") }
     ensures local { result.global ≡ false }
 {
-    let help = "The file to write, or - for standard output, which is the default";
+    let help = "The file to write, or - for standard output; needed with FILE, else standard output \
+                is the default";
     option(alloc, "output", "PATH", help)
 }
 

@@ -58,7 +58,7 @@ fn encrypt<'a>(alloc: Global) -> Result<Command<'a>, AllocError>
     ensures shape { IfOk result (λ command. app_of command ≡ encrypt) }
     ensures local { IfOk result (λ command. (fields_of command).has_globals ≡ false) }
 {
-    let about = "Reads plaintext and writes an envelope";
+    let about = "Reads plaintext and writes an encrypted file";
     with_salt(alloc, "encrypt", about)?
         .arg(arguments::encrypt_vault_id(alloc))?
         .arg(arguments::output(alloc))?
@@ -69,7 +69,7 @@ fn decrypt<'a>(alloc: Global) -> Result<Command<'a>, AllocError>
     ensures shape { IfOk result (λ command. app_of command ≡ decrypt) }
     ensures local { IfOk result (λ command. (fields_of command).has_globals ≡ false) }
 {
-    let about = "Reads an envelope and writes its plaintext";
+    let about = "Reads an encrypted file and writes its plaintext";
     with_secrets(alloc, "decrypt", about)?
         .arg(arguments::require_id_match(alloc))?
         .arg(arguments::output(alloc))?
@@ -80,7 +80,7 @@ fn view<'a>(alloc: Global) -> Result<Command<'a>, AllocError>
     ensures shape { IfOk result (λ command. app_of command ≡ view) }
     ensures local { IfOk result (λ command. (fields_of command).has_globals ≡ false) }
 {
-    let about = "Reads an envelope and writes its plaintext to standard output";
+    let about = "Reads an encrypted file and writes its plaintext to standard output";
     with_secrets(alloc, "view", about)?
         .arg(arguments::require_id_match(alloc))?
         .arg(arguments::file(alloc))
@@ -139,7 +139,7 @@ fn with_new_secret<'a>(alloc: Global) -> Result<Command<'a>, AllocError>
         ≡ app_with (codes "rekey") (secret_rules ++ salt_rules ++ new_secret_rules)) }
     ensures local { IfOk result (λ command. (fields_of command).has_globals ≡ false) }
 {
-    let about = "Reads an envelope and writes one of the same plaintext under a new secret";
+    let about = "Reads an encrypted file and writes one of the same plaintext under a new secret";
     let id = "The password file of the new secret, with its label, by default `default`; exactly \
               one of this option and --new-vault-password-file is needed";
     let path = "The password file of a new secret for the label `default`; exactly one of this \

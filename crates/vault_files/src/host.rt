@@ -5,7 +5,7 @@ use crate::access::Access;
 use crate::fault::FileFault;
 use crate::file_system::FileSystem;
 use std::alloc::{AllocError, Global};
-use std::fs::{Files, OpenOptions, Permissions};
+use std::fs::{Files, OpenFile, OpenOptions, Permissions};
 use std::io::{ErrorKind, Write};
 use std::marker::Model;
 use std::os::unix::fs::{OpenOptionsExt, PermissionsExt};
