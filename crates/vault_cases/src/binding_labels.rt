@@ -41,7 +41,14 @@ fn decrypted(
 #[test]
 fn decide_which_secrets_are_tried(rt: HostRuntime) -> Result<(), Fail> {
     let (hint, required) = (LabelRule::Hint, LabelRule::Required);
-    let cases: [(&str, &[u8], &[(&str, &[u8])], LabelRule, Result<usize, Fault>, u64); 10] = [
+    let cases: [(
+        &str,
+        &[u8],
+        &[(&str, &[u8])],
+        LabelRule,
+        Result<usize, Fault>,
+        u64,
+    ); 10] = [
         ("b", b"two", A_AND_B, hint, Ok(1), 1),
         ("a", b"two", A_AND_B, hint, Ok(2), 2),
         ("a", b"two", A_AND_B, required, NONE_FITS, 1),

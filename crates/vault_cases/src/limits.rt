@@ -7,7 +7,9 @@ use vault_cli::{Fault, Status};
 use vault_core::{Secrets, prepare_decrypt};
 use vault_kdf::Meter;
 use vault_made::envelope;
-use vault_text::{CIPHERTEXT_LIMIT, ENVELOPE_LIMIT, MemSink, MemSource, PLAINTEXT_LIMIT, ReadSource};
+use vault_text::{
+    CIPHERTEXT_LIMIT, ENVELOPE_LIMIT, MemSink, MemSource, PLAINTEXT_LIMIT, ReadSource,
+};
 
 const ENCRYPT: &[&str] = &["encrypt", "--vault-password-file", "one"];
 
@@ -71,18 +73,53 @@ struct Long<'a> {
 /// Inputs that are too long by one byte or without end. That their bodies are damaged comes after
 /// that.
 const LONG: [Long<'static>; 6] = [
-    Long { words: ENCRYPT, front: b"", length: 16_777_217, read: 16_777_217 },
-    Long { words: ENCRYPT, front: b"", length: usize::MAX, read: 16_777_217 },
-    Long { words: DECRYPT, front: b"", length: usize::MAX, read: 100_671_489 },
-    Long { words: DECRYPT, front: HEADER_LINE, length: usize::MAX, read: 100_671_489 },
-    Long { words: DECRYPT, front: b"$ANSIBLE_VAULT;1.1;AES256\nzz", length: 100_671_489, read: 100_671_489 },
-    Long { words: DECRYPT, front: b"$ANSIBLE_VAULT;1.1;AES256\nzz", length: usize::MAX, read: 100_671_489 },
+    Long {
+        words: ENCRYPT,
+        front: b"",
+        length: 16_777_217,
+        read: 16_777_217,
+    },
+    Long {
+        words: ENCRYPT,
+        front: b"",
+        length: usize::MAX,
+        read: 16_777_217,
+    },
+    Long {
+        words: DECRYPT,
+        front: b"",
+        length: usize::MAX,
+        read: 100_671_489,
+    },
+    Long {
+        words: DECRYPT,
+        front: HEADER_LINE,
+        length: usize::MAX,
+        read: 100_671_489,
+    },
+    Long {
+        words: DECRYPT,
+        front: b"$ANSIBLE_VAULT;1.1;AES256\nzz",
+        length: 100_671_489,
+        read: 100_671_489,
+    },
+    Long {
+        words: DECRYPT,
+        front: b"$ANSIBLE_VAULT;1.1;AES256\nzz",
+        length: usize::MAX,
+        read: 100_671_489,
+    },
 ];
 
 #[test]
 fn refuse_one_byte_more(rt: HostRuntime) -> Result<(), Fail> {
     let alloc = rt.alloc();
-    for Long { words, front, length, read } in LONG {
+    for Long {
+        words,
+        front,
+        length,
+        read,
+    } in LONG {
         for step in [4_096, 65_536] {
             let mut reader = CountingReader::with_line_feeds(front, length, step);
             let mut src = ReadSource::new(&mut reader);
@@ -123,7 +160,10 @@ fn tell_the_damage_of_the_longest_input(rt: HostRuntime) -> Result<(), Fail> {
     let mut stdin = CountingReader::with_line_feeds(damaged, 100_671_488, 65_536);
     let refused = run_program(rt.alloc(), &[], &["decrypt"], &mut stdin)?;
     assert_eq!(rt; refused.status, Status::Refused);
-    assert_eq!(rt; refused.message.as_str(), "ERROR! vault body is not hexadecimal\n");
+    assert_eq!(rt;
+        refused.message.as_str(),
+        "ERROR! vault body is not hexadecimal\n"
+    );
     assert!(rt; refused.output.is_empty());
     assert_eq!(rt; stdin.given, 100_671_488);
     Ok(())
@@ -154,7 +194,11 @@ fn take_the_longest_label(rt: HostRuntime) -> Result<(), Fail> {
             let mut err = MemSink::new(alloc, 100);
             run_decrypt(alloc, b"one\n", &mut src, &mut out, &mut err)?;
             assert_eq!(rt; err.bytes(), message, "{length} {step}");
-            assert_eq!(rt; out.bytes() == b"text".as_slice(), message.is_empty(), "{length} {step}");
+            assert_eq!(rt;
+                out.bytes() == b"text".as_slice(),
+                message.is_empty(),
+                "{length} {step}"
+            );
         }
     }
     Ok(())

@@ -86,7 +86,12 @@ pub fn run_program_on<'a>(
     words: &[&str],
     input: &[u8],
 ) -> Result<Outcome, Fail> {
-    run_in_memory(alloc, &mut LoggedFiles::new(alloc, files, usize::MAX), words, input)
+    run_in_memory(
+        alloc,
+        &mut LoggedFiles::new(alloc, files, usize::MAX),
+        words,
+        input,
+    )
 }
 
 /// As `run_program_on`, over files that are looked at afterwards.
@@ -144,7 +149,15 @@ pub fn run_at_the_limit<S: Source, K: Sink, E: Sink>(
     }
     let contents = secret_files.as_slice();
     let mut work = work_memory(alloc)?;
-    Ok(run(&request, contents, &[0; 32], work.as_mut_slice(), src, out, err))
+    Ok(run(
+        &request,
+        contents,
+        &[0; 32],
+        work.as_mut_slice(),
+        src,
+        out,
+        err,
+    ))
 }
 
 /// All the memory that the limits ask for.
