@@ -76,9 +76,8 @@ pub(crate) fn output<'a>(alloc: Global) -> Arg<'a>
     ensures rule { rule_of result ≡ option (codes "output") }
     ensures local { result.global ≡ false }
 {
-    let help =
-        "The file to write, or - for standard output; needed with FILE, else standard output \
-                is the default";
+    let help = "The file to write, or - for standard output; needed with FILE, else \
+        standard output is the default";
     option(alloc, "output", "PATH", help)
 }
 
