@@ -62,8 +62,9 @@ RekeyedDecrypts =
     → decryption limit (record { secrets = new ∷ []; rule = rule }) ready.output
     ≡ Ok (record { output = plain; tried = 1 }))
 
--- an input that has room wherever so much plaintext does gets one answer under that limit and under every larger one:
--- a plaintext within the limit, and an envelope of four times as many bytes, since it spells each byte with four digits
+-- an input that has room wherever so much plaintext does gets one answer under that limit and under
+-- every larger one: a plaintext within the limit, and an envelope of four times as many bytes, since
+-- it spells each byte with four digits
 abbrev pub ShortInputs : Type 0
 ShortInputs =
     (smaller larger : ℕ) (input : List ℕ) → smaller ≤ larger

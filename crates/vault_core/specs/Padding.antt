@@ -14,8 +14,8 @@ padded plain = let count = 16 - length plain % 16 in plain ++ replicate count co
 abbrev pub padding_count : List ℕ → ℕ
 padding_count padded = slice_index padded (length padded - 1)
 
--- one or more whole blocks; the last byte is from 1 to 16; and that many of the last bytes are equal
--- to it
+-- one or more whole blocks; the last byte is from 1 to 16; and that many of the last bytes are
+-- equal to it
 abbrev pub is_padded : List ℕ → Bool
 is_padded padded =
     nat_lt 0 (length padded) && length padded % 16 == 0

@@ -22,8 +22,8 @@ secret_at place secrets = slice_index_or secrets place (record { label = []; pas
 abbrev pub has_label : List ℕ → Secret → Bool
 has_label label secret = bytes_eq secret.label label
 
--- the secrets that are tried behind those with the label: the others where the label is a hint, none
--- where it is required
+-- the secrets that are tried behind those with the label: the others where the label is a hint,
+-- none where it is required
 abbrev pub tried_behind : LabelRule → List ℕ → List Secret → List Secret
 tried_behind Hint label secrets = filter (λ secret. not (has_label label secret)) secrets
 tried_behind Required label secrets = []

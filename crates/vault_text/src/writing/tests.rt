@@ -9,8 +9,8 @@ use crate::sink::{FailingSink, MemSink};
 use std::alloc::{AllocError, Global};
 use std::test::Fail;
 
-/// Label, length of the salt, length of the ciphertext, and the envelope. Except where the ciphertext
-/// has 16 bytes, the last line is full.
+/// Label, length of the salt, length of the ciphertext, and the envelope. The last line is full but
+/// where the ciphertext has 16 bytes.
 const ENVELOPES: [(&str, u16, u16, &str); 7] = [
     (
         "default",
