@@ -1,4 +1,4 @@
-//! Files in memory, for tests and for who embeds the program.
+//! Files in memory, for tests and for programs that embed this one.
 mod entry;
 mod logged;
 mod reader;

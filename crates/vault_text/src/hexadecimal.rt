@@ -37,17 +37,6 @@ impl HexDecoder {
         }
     }
 
-    /// How many bytes these digits complete.
-    pub(crate) fn byte_count(&self, digits: &[u8]) -> usize
-        ensures { result ≡ byte_count self.now digits.now }
-    {
-        if self.high.is_some() && digits.len() % 2 == 1 {
-            digits.len() / 2 + 1
-        } else {
-            digits.len() / 2
-        }
-    }
-
     /// Decodes the bytes that these digits complete, to the front of `bytes`, and answers how many.
     /// Once a digit was bad, the bytes mean nothing.
     pub(crate) fn decode(&mut self, digits: &[u8], bytes: &mut [u8]) -> usize
