@@ -1,5 +1,5 @@
 -- The laws of the outcomes.
-use Rattle.std.proofs.Common.{◌≡◌, ◌≢◌, ℕ, ◌*◌, ◌≤◌, List, [], ◌∷◌, length, Result, Ok, Err, inl, inr, refl, sym, ap, ◌∙◌, arith}
+use Rattle.std.proofs.Common.{◌≡◌, ◌≢◌, ◌⊎◌, ℕ, ◌*◌, ◌≤◌, List, [], ◌∷◌, length, None, Some, Result, Ok, Err, inl, inr, refl, sym, ap, ◌∙◌, arith}
 use Rattle.std.specs.Prelude.{Option, unwrap_or}
 use Rattle.vault_core.specs.Decryption.{decryption}
 use Rattle.vault_core.specs.Encryption.{encryption}
@@ -8,7 +8,7 @@ use Rattle.vault_core.specs.Laws.{EncryptedDecrypts, RekeyedDecrypts, ShortInput
 use Rattle.vault_core.specs.Rekeying.{rekeying}
 use Rattle.vault_core.specs.Secrets.{Secret, SecretList}
 use Rattle.vault_core.specs.declared.fault.Fault.{Fault}
-use Rattle.vault_cli.specs.Laws.{EncryptThenDecrypt, Opens, RekeyKeepsThePlaintext, ShortTexts}
+use Rattle.vault_cli.specs.Laws.{EncryptThenDecrypt, Opens, OutcomesAreDecided, RekeyKeepsThePlaintext, ShortTexts}
 use Rattle.vault_cli.specs.Outcome.{Outcome, answered, input_limit, outcome_within, performed, ready_by, room_limit, task_limit, text_of_request}
 use Rattle.vault_cli.specs.Request.{Request}
 use Rattle.vault_cli.specs.Task.{Task, Seal, Open, Reseal, prepared}
@@ -17,6 +17,9 @@ use Rattle.vault_cli.specs.declared.command_name.CommandName.{CommandName}
 use Rattle.vault_cli.specs.declared.command_name.CommandName.TheVariants as command
 use Rattle.vault_cli.proofs.LawFacts.{answered-some, sound-prepared, text-input}
 use Rattle.vault_cli.proofs.OutcomeFacts.{outcome-performed, ready-text}
+use Rattle.vault_cli.specs.declared.status.Status.TheVariants.{Refused, Success}
+use Rattle.vault_core.specs.Ready.{Ready}
+use Rattle.vault_cli.proofs.RefusedAlone.{IsRefusedAlone, alone-err, alone-performed, alone-prepared}
 use Rattle.vault_cli.proofs.TaskFacts.{limit-prepared}
 
 -- what a request that opens answers
@@ -110,3 +113,20 @@ short_texts law smaller larger request contents salt input short more =
     ap answered (short-tasks larger smaller request.string input (prepared request contents salt) (λ task found.
     short-performed law smaller larger text more task
     (room-of_task law smaller larger text more task request.command (limit-prepared smaller request contents salt task found) short)))
+
+-- what is refused is refused with status 1
+ready-alone : (limit : ℕ) (prepares : Result Task Fault) (string : Option (List ℕ)) (input : List ℕ)
+    → IsRefusedAlone prepares → IsRefusedAlone (ready_by limit prepares string (Ok input))
+ready-alone limit (Err fault) string input alone = alone-err fault (alone.status fault refl)
+ready-alone limit (Ok task) None input alone = alone-performed limit task input
+ready-alone limit (Ok task) (Some string) input alone = alone-performed limit task string
+
+decided : (ready : Result Ready Fault) → IsRefusedAlone ready → ((answered ready).status ≡ Success) ⊎ ((answered ready).status ≡ Refused)
+decided (Ok ready) alone = inl refl
+decided (Err fault) alone = inr (alone.status fault refl)
+
+pub outcomes_are_decided : OutcomesAreDecided
+unfolding outcome_within
+outcomes_are_decided limit request contents salt input =
+    decided (ready_by limit (prepared request contents salt) request.string (Ok input))
+    (ready-alone limit (prepared request contents salt) request.string input (alone-prepared request contents salt))

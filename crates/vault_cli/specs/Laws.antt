@@ -14,7 +14,7 @@ use Rattle.vault_cli.specs.Settled.{settled}
 use Rattle.vault_cli.specs.Task.{Seal, Open, Reseal, prepared}
 use Rattle.vault_cli.specs.declared.command_name.CommandName.{CommandName}
 use Rattle.vault_cli.specs.declared.command_name.CommandName.TheVariants.{Encrypt, Decrypt, View, Rekey, EncryptString}
-use Rattle.vault_cli.specs.declared.status.Status.TheVariants.{Success}
+use Rattle.vault_cli.specs.declared.status.Status.TheVariants.{Refused, Success}
 
 -- what a request that was settled is: its labels are labels, and only `encrypt_string` has a STRING
 pub record IsRequest (request : Request) : Type 0 where
@@ -27,6 +27,13 @@ abbrev pub SettledRequests : Type 0
 SettledRequests =
     (command : CommandName) (rows : List Row) (request : Request)
     → settled command rows ≡ Ok request → IsRequest request
+
+-- an outcome is a success, or a refusal: it tells of no device, and of no want of memory
+abbrev pub OutcomesAreDecided : Type 0
+OutcomesAreDecided =
+    (limit : ℕ) (request : Request) (contents : List (List ℕ)) (salt input : List ℕ)
+    → ((outcome_within limit request contents salt input).status ≡ Success)
+    ⊎ ((outcome_within limit request contents salt input).status ≡ Refused)
 
 -- a request of `decrypt` or `view` whose password files give these secrets
 pub record Opens (request : Request) (contents : List (List ℕ)) (salt : List ℕ)

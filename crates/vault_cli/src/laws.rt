@@ -1,13 +1,19 @@
 //! Laws of the outcomes and of the program, each the contract of a function that does nothing but name the laws that
 //! it stands on.
-ghost use Rattle.vault_cli.specs.Laws.{EncryptThenDecrypt, RekeyKeepsThePlaintext};
-ghost use Rattle.vault_cli.specs.Laws.{SettledRequests, ShortTexts};
+ghost use Rattle.vault_cli.specs.Laws.{EncryptThenDecrypt, OutcomesAreDecided};
+ghost use Rattle.vault_cli.specs.Laws.{RekeyKeepsThePlaintext, SettledRequests, ShortTexts};
 ghost use Rattle.vault_cli.specs.ProgramLaws.{ProgramIsOutcome, WrittenIsRead};
 ghost use Rattle.vault_cli.specs.ProgramLaws as program;
 
 /// What settles a request makes one that the laws below speak of.
 pub fn settled_requests()
     ensures { SettledRequests }
+{}
+
+/// An outcome is a success or a refusal, so that a run answers `DeviceFailed` only where its source or
+/// its sink failed.
+pub fn outcomes_are_decided()
+    ensures { OutcomesAreDecided }
 {}
 
 /// Decrypting what was encrypted gives the input.
