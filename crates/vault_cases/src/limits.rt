@@ -49,7 +49,8 @@ fn take_the_longest_envelope(rt: HostRuntime) -> Result<(), Fail> {
     let plaintext = vec![in alloc; b'p'; 16_777_231]?;
     let vault = envelope(alloc, "default", b"one", &[7; 32], plaintext.as_slice())?;
     for step in [1, 7, 4_096] {
-        let mut src = MemSource::new(vault.as_slice(), step);
+        let mut reader = CountingReader::new(vault.as_slice(), step);
+        let mut src = ReadSource::new(&mut reader);
         let mut out = MemSink::new(alloc, 65_536);
         let mut err = MemSink::new(alloc, 100);
         let status = run_decrypt(alloc, b"one\n", &mut src, &mut out, &mut err)?;
