@@ -33,10 +33,9 @@ OURS, THEIRS = "ours", "theirs"
 GOALS = {
     "view, 1 KiB": 23,
     "view, 1 MiB": 13,
-    "view, 16 MiB": 3.8,
-    "encrypt, 1 KiB": 25,
+    "view, 16 MiB": 3.4,
     "encrypt, 1 MiB": 8,
-    "rekey, 1 KiB": 20,
+    "rekey, 1 KiB": 13,
 }
 
 
