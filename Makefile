@@ -51,6 +51,7 @@ test: all
 	tests/with_ansible bin/ansible-vault
 	tests/hostile bin/ansible-vault
 	tests/growths bin/ansible-vault
+	tests/with_strace bin/ansible-vault
 	tests/with_valgrind bin/ansible-vault
 	tests/fuzz bin/ansible-vault --seed 1 --runs 6000 --seconds 60
 
