@@ -3,7 +3,7 @@ DESTDIR ?=
 # The processor that the program is built for, as x86-64-v3; empty: x86-64-v2, as rt has it.
 CPU ?=
 
-VERSION := $(shell sed -n 's/^const VERSION: &str = "\(.*\)";$$/\1/p' crates/vault_cli/src/command_line.rt)
+VERSION := $(shell sed -n 's/^const VERSION: &str = "\(.*\)";$$/\1/p' crates/vault_cli/src/line/command_line.rt)
 SOURCES := $(shell find crates/*/src crates/*/specs crates/*/proofs) crates.txt
 
 SHARE := $(DESTDIR)$(PREFIX)/share
@@ -14,7 +14,11 @@ FISH_COMPLETION := $(SHARE)/fish/vendor_completions.d/ansible-vault.fish
 ZSH_FOLDER := $(if $(filter /usr,$(PREFIX)),vendor-completions,site-functions)
 ZSH_COMPLETION := $(SHARE)/zsh/$(ZSH_FOLDER)/_ansible-vault
 
-.PHONY: all check test fuzz bench install uninstall package clean FORCE
+# What is run with the program that was built, and what needs none.
+PROGRAM_TESTS := with_ansible growths hostile end_to_end with_strace with_valgrind workflows options_agree first_page
+OTHER_TESTS := package cipher_reads_its_tables completions audit_agrees documents_agree progress
+
+.PHONY: all check test fuzz bench install uninstall package clean FORCE test-growths_in_memory $(PROGRAM_TESTS:%=test-%) $(OTHER_TESTS:%=test-%)
 
 all: bin/ansible-vault
 
@@ -24,6 +28,12 @@ bin/ansible-vault: $(SOURCES) bin/processor
 	@tools/progress.py bin/build.log ansible_vault \
 		env -C crates/ansible_vault rt run ansible_vault $(if $(CPU),--cpu $(CPU)) -- --version
 	@cp crates/ansible_vault/out/ansible_vault $@
+
+# The program that tests/growths_in_memory runs.
+bin/vault_growths: $(SOURCES)
+	@mkdir -p bin
+	@tools/progress.py bin/growths.log vault_growths env -C crates/vault_growths rt run -- drive view < /dev/null
+	@cp crates/vault_growths/out/vault_growths $@
 
 # Changes where the processor does.
 bin/processor: FORCE
@@ -37,23 +47,20 @@ check:
 	@tools/progress.py bin/ci.log all rt ci
 	@$(MAKE) --no-print-directory test
 
-test: all
-	tests/end_to_end bin/ansible-vault
-	tests/cipher_reads_its_tables
-	tests/options_agree bin/ansible-vault
-	tests/documents_agree
-	tests/audit_agrees
-	tests/completions
-	tests/progress
-	tests/package
-	tests/first_page bin/ansible-vault
-	tests/workflows bin/ansible-vault
-	tests/with_ansible bin/ansible-vault
-	tests/hostile bin/ansible-vault
-	tests/growths bin/ansible-vault
-	tests/with_strace bin/ansible-vault
-	tests/with_valgrind bin/ansible-vault
+# Four at a time, those first that take longest; each prints what it has to say when it is through.
+test: all bin/vault_growths
+	tools/dead_names
+	@$(MAKE) --no-print-directory --jobs=4 --output-sync=target $(PROGRAM_TESTS:%=test-%) test-growths_in_memory $(OTHER_TESTS:%=test-%)
 	tests/fuzz bin/ansible-vault --seed 1 --runs 6000 --seconds 60
+
+$(PROGRAM_TESTS:%=test-%): test-%: all
+	tests/$* bin/ansible-vault
+
+test-growths_in_memory: bin/vault_growths
+	tests/growths_in_memory bin/vault_growths
+
+$(OTHER_TESTS:%=test-%): test-%:
+	tests/$*
 
 # Random requests, until told to stop.
 fuzz: all

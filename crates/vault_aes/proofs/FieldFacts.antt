@@ -1,6 +1,6 @@
 -- The field and the S-box at the values that the standard gives.
 use Rattle.std.proofs.Common.{◌≡◌, ℕ, zero, suc, ◌<◌, ◌==◌, Bool, true, ◌&&◌, refl, arith, inl, inr}
-use Rattle.std.proofs.lemmas.Bool.{and_parts, cases_lt, eqb-true}
+use Rattle.std.proofs.lemmas.Bool.{and_parts, cases_lt}
 use Rattle.vault_aes.specs.Field.{polynomial_product, remainder, mul, repeated_square, product_of_squares, inverse}
 use Rattle.vault_aes.specs.SubstitutionBox.{number_of_bits, s_box}
 
@@ -33,10 +33,6 @@ is_inverted n = mul (suc n) (inverse (suc n)) == 1
 is_inverted-all : all_below is_inverted 255 ≡ true
 unfolding polynomial_product remainder mul repeated_square product_of_squares inverse
 is_inverted-all = refl
-
--- each byte but 0 times its inverse is 1
-pub mul-inverse : (n : ℕ) → n < 255 → mul (suc n) (inverse (suc n)) ≡ 1
-mul-inverse n lt = eqb-true _ _ (all_below-at is_inverted 255 n is_inverted-all lt)
 
 pub inverse-0 : inverse 0 ≡ 0
 unfolding polynomial_product remainder mul repeated_square product_of_squares inverse

@@ -1,120 +1,195 @@
--- A list has one padding, and a padded list has one plain list.
-use Rattle.std.proofs.Common.{◌≡◌, ℕ, ◌+◌, ◌-◌, ◌%◌, ◌<◌, ◌≤◌, List, [], ◌∷◌, ◌++◌, Some, refl, sym, ap, ◌∙◌, arith, drop, drop_at, length, length-append, length-drop, length-take-le, replicate, slice_index, take, take_all, take_at, Bool, true, false, length-take}
-use Rattle.std.specs.Prelude.{All, IfSome, IsTrue}
+-- Padding that is put on, and the one plaintext that is left when it is taken off.
+use Rattle.std.proofs.Common.{◌≡◌, ℕ, ◌+◌, ◌-◌, ◌%◌, ◌<◌, ◌≤◌, List, [], ◌∷◌, ◌++◌, Option, Some, None, refl, sym, ap, ◌∙◌, arith, drop, drop_at, length, length-append, length-drop, length-take-le, replicate, slice_index, take, take_all, take_at, Bool, true, false, length-take, inl, inr, get_or}
+use Rattle.std.specs.Prelude.{All, IsTrue, find, ◌↔◌}
 use Rattle.std.specs.Bool.{then_some}
+use Rattle.std.specs.List.{list_any}
+use Rattle.std.specs.Option.{option_map}
+use Rattle.std.specs.Str.{bytes_eq}
+use Rattle.std.proofs.lemmas.Bool.{cases_Bool}
 use Rattle.std.proofs.lemmas.Slice.{take-put_mid}
 use borrow.Rule.Slice.PartMut.{put_mid}
 use Rattle.std.proofs.lemmas.List.{take-append-drop, get_or-append_right, get_or-replicate, length-replicate}
 use Rattle.std.proofs.lemmas.List.Elements.{All-head, All-replicate, All-tail}
-use Rattle.vault_aes.specs.Padding.{IsPadded}
+use Rattle.std.proofs.lemmas.List.Folds.{list_any_at}
+use Rattle.std.proofs.lemmas.List.FromFn.{get_or-map-range_with_len, length-map-range_with_len}
+use Rattle.std.proofs.lemmas.Slice.Eq.{bytes_eq-Decides}
+use Rattle.vault_aes.specs.Padding.{padded, padded_length, prefixes, without_padding}
 
-pub IsPadded-from : (plain padded : List ℕ) (count : ℕ) → 1 ≤ count → count ≤ 16 → (length plain + count) % 16 ≡ 0
-    → padded ≡ plain ++ replicate count count → IsPadded plain padded
-IsPadded-from plain padded count low high whole appended =
-    let total : length padded ≡ length plain + count =
-    ap length appended ∙ length-append plain (replicate count count) ∙ ap (λ (n : ℕ). length plain + n) (length-replicate count count) in
-    record { count = count; not_empty = low; at_most_a_block = high; appended = appended; whole_blocks = ap (λ (n : ℕ). n % 16) total ∙ whole }
+-- ---- padding that is put on
 
--- every list has a padding
-pub IsPadded-every : (plain : List ℕ) → (padded : List ℕ) × IsPadded plain padded
-IsPadded-every plain =
-    let count : ℕ = 16 - length plain % 16 in
-    (plain ++ replicate count count, IsPadded-from plain _ count (omega arith) (omega arith) (omega arith) refl)
+abbrev count_of : List ℕ → ℕ
+count_of plain = 16 - length plain % 16
 
-pub length-IsPadded : (plain padded : List ℕ) (h : IsPadded plain padded) → length padded ≡ length plain + h.count
-length-IsPadded plain padded h =
-    ap length h.appended ∙ length-append plain (replicate h.count h.count) ∙ ap (λ (n : ℕ). length plain + n) (length-replicate h.count h.count)
+abbrev padding_of : List ℕ → List ℕ
+padding_of plain = replicate (count_of plain) (count_of plain)
 
--- only one padding
-pub IsPadded-padded_once : (plain one other : List ℕ) → IsPadded plain one → IsPadded plain other → one ≡ other
-IsPadded-padded_once plain one other h g =
-    let same : h.count ≡ g.count = omega (arith, length-IsPadded plain one h, length-IsPadded plain other g, h.whole_blocks, g.whole_blocks) in
-    h.appended ∙ ap (λ (n : ℕ). plain ++ replicate n n) same ∙ sym g.appended
+pub length-padded : (plain : List ℕ) → length (padded plain) ≡ padded_length (length plain)
+unfolding padded
+length-padded plain = omega (arith, length-append plain (padding_of plain), length-replicate (count_of plain) (count_of plain))
 
--- the last byte of a padded list is the count
-pub last-IsPadded : (plain padded : List ℕ) (h : IsPadded plain padded) → slice_index padded (length padded - 1) ≡ h.count
-last-IsPadded plain padded h =
-    let total = length-IsPadded plain padded h in
-    let bytes : List ℕ = replicate h.count h.count in
-    let past : length plain ≤ length padded - 1 = omega (arith, total, h.not_empty) in
-    let low : length padded - 1 - length plain < h.count = omega (arith, total, h.not_empty) in
-    ap (λ (q : List ℕ). slice_index q (length padded - 1)) h.appended
-    ∙ get_or-append_right plain bytes (length plain) (length padded - 1) 0 refl past
-    ∙ get_or-replicate h.count (length padded - 1 - length plain) h.count 0 low
+pub whole_blocks : (plain : List ℕ) → length (padded plain) % 16 ≡ 0
+whole_blocks plain = omega (arith, length-padded plain)
 
-pub length-IsPadded_last : (plain padded : List ℕ) → IsPadded plain padded
-    → length plain ≡ length padded - slice_index padded (length padded - 1)
-length-IsPadded_last plain padded h = omega (arith, length-IsPadded plain padded h, last-IsPadded plain padded h)
+pub take-padded : (plain : List ℕ) → take (length plain) (padded plain) ≡ plain
+unfolding padded
+take-padded plain = take_at plain (padding_of plain) (length plain) refl
 
-pub take-IsPadded : (plain padded : List ℕ) → IsPadded plain padded → take (length plain) padded ≡ plain
-take-IsPadded plain padded h = ap (take (length plain)) h.appended ∙ take_at plain (replicate h.count h.count) (length plain) refl
+drop-padded : (plain : List ℕ) → drop (length plain) (padded plain) ≡ padding_of plain
+unfolding padded
+drop-padded plain = drop_at plain (padding_of plain) (length plain) refl
 
--- only one plain list
-pub IsPadded-plain_once : (one other padded : List ℕ) → IsPadded one padded → IsPadded other padded → one ≡ other
-IsPadded-plain_once one other padded h g =
-    let same : length one ≡ length other = length-IsPadded_last one padded h ∙ sym (length-IsPadded_last other padded g) in
-    sym (take-IsPadded one padded h) ∙ ap (λ (n : ℕ). take n padded) same ∙ take-IsPadded other padded g
+-- the last byte of a text
+abbrev last_of : List ℕ → ℕ
+last_of text = slice_index text (length text - 1)
+
+last-padded : (plain : List ℕ) → last_of (padded plain) ≡ count_of plain
+unfolding padded
+last-padded plain =
+    let total : length (padded plain) ≡ padded_length (length plain) = length-padded plain in
+    let past : length plain ≤ length (padded plain) - 1 = omega (arith, total) in
+    let low : length (padded plain) - 1 - length plain < count_of plain = omega (arith, total) in
+    get_or-append_right plain (padding_of plain) (length plain) (length (padded plain) - 1) 0 refl past
+    ∙ get_or-replicate (count_of plain) (length (padded plain) - 1 - length plain) (count_of plain) 0 low
+
+-- one plaintext alone has the padding
+pub padded-once : (one other : List ℕ) → padded one ≡ padded other → one ≡ other
+padded-once one other same =
+    let last : count_of one ≡ count_of other = sym (last-padded one) ∙ ap last_of same ∙ last-padded other in
+    let long : length one ≡ length other = omega (arith, last, ap length same, length-padded one, length-padded other) in
+    sym (take-padded one) ∙ ap (take (length one)) same ∙ rw long (take-padded other)
+
+-- ---- padding that is found
 
 -- a list of one byte
-pub All-replicate_once : (value : ℕ) (xs : List ℕ) → All (λ x. x ≡ value) xs → xs ≡ replicate (length xs) value
+All-replicate_once : (value : ℕ) (xs : List ℕ) → All (λ x. x ≡ value) xs → xs ≡ replicate (length xs) value
 All-replicate_once value [] all = refl
 All-replicate_once value (x ∷ xs) all =
     let head : x ≡ value = All-head (λ (y : ℕ). y ≡ value) x xs all in
     let tail = All-replicate_once value xs (All-tail (λ (y : ℕ). y ≡ value) x xs all) in
     (λ i. head i ∷ tail i)
 
--- what comes after the plain list
-pub drop-IsPadded : (plain padded : List ℕ) (h : IsPadded plain padded) → drop (length plain) padded ≡ replicate h.count h.count
-drop-IsPadded plain padded h = ap (drop (length plain)) h.appended ∙ drop_at plain (replicate h.count h.count) (length plain) refl
+-- a front and behind it as many bytes as fill up its blocks, each of that count
+padded-from : (front back : List ℕ) (count : ℕ) → count_of front ≡ count → back ≡ replicate count count → padded front ≡ front ++ back
+unfolding padded
+padded-from front back count is filled = rw (is, filled) refl
 
--- a list whose last `count` bytes are `count` is padded
-pub IsPadded-from_tail : (padded : List ℕ) (count : ℕ) → 1 ≤ count → count ≤ 16 → count ≤ length padded → length padded % 16 ≡ 0
-    → All (λ x. x ≡ count) (drop (length padded - count) padded) → IsPadded (take (length padded - count) padded) padded
-IsPadded-from_tail padded count low high within whole all =
-    let n : ℕ = length padded - count in
-    let front : length (take n padded) ≡ n = length-take-le n padded (omega arith) in
-    let back : length (drop n padded) ≡ count = length-drop n padded ∙ omega arith in
-    let same : drop n padded ≡ replicate count count =
-    All-replicate_once count (drop n padded) all ∙ ap (λ (k : ℕ). replicate k count) back in
-    IsPadded-from (take n padded) padded count low high (omega (arith, front, whole))
-    (sym (take-append-drop n padded) ∙ ap (λ (xs : List ℕ). take n padded ++ xs) same)
+-- a text whose last `count` bytes are `count`
+padded-from_tail : (text : List ℕ) (count : ℕ) → 1 ≤ count → count ≤ 16 → count ≤ length text → length text % 16 ≡ 0
+    → All (λ x. x ≡ count) (drop (length text - count) text) → padded (take (length text - count) text) ≡ text
+padded-from_tail text count low high within whole all =
+    let n : ℕ = length text - count in
+    let front : length (take n text) ≡ n = length-take-le n text (omega arith) in
+    let back : length (drop n text) ≡ count = length-drop n text ∙ omega arith in
+    let filled : drop n text ≡ replicate count count =
+    All-replicate_once count (drop n text) all ∙ ap (λ (k : ℕ). replicate k count) back in
+    padded-from (take n text) (drop n text) count (omega (arith, front)) filled ∙ take-append-drop n text
 
 -- what `pad` leaves at the front
-pub IsPadded-put_mid : (work bytes : List ℕ) (n count : ℕ) → n ≤ length work → n - n % 16 + 16 ≤ length work → count ≡ 16 - n % 16
+pub padded-put_mid : (work bytes : List ℕ) (n count : ℕ) → n ≤ length work → padded_length n ≤ length work → count ≡ 16 - n % 16
     → bytes ≡ replicate (length (take (n + count - n) (drop n work))) count
-    → IsPadded (take n work) (take (n + count) (put_mid n (n + count - n) work bytes))
-IsPadded-put_mid work bytes n count within room is written =
+    → take (n + count) (put_mid n (n + count - n) work bytes) ≡ padded (take n work)
+padded-put_mid work bytes n count within room is written =
     let front : length (take n work) ≡ n = length-take-le n work within in
     let room_left : length (take (n + count - n) (drop n work)) ≡ count = simp (length-take, length-drop) (omega arith) in
-    let same : bytes ≡ replicate count count = written ∙ ap (λ (k : ℕ). replicate k count) room_left in
-    let long : length bytes ≡ count = ap length same ∙ length-replicate count count in
-    IsPadded-from (take n work) _ count (omega arith) (omega arith) (omega (arith, front))
-    (take-put_mid n (n + count - n) work bytes (n + count) (omega (arith, long)) within ∙ ap (λ (xs : List ℕ). take n work ++ xs) same)
+    let filled : bytes ≡ replicate count count = written ∙ ap (λ (k : ℕ). replicate k count) room_left in
+    let long : length bytes ≡ count = ap length filled ∙ length-replicate count count in
+    take-put_mid n (n + count - n) work bytes (n + count) (omega (arith, long)) within
+    ∙ sym (padded-from (take n work) bytes count (omega (arith, front)) filled)
+
+-- ---- padding that is taken off
+
+module _ {X : Type 0} (test : X → Bool) where
+  find-passes : (xs : List X) (x : X) → find test xs ≡ Some x → test x ≡ true
+  find-passes [] x found = let none : None ≡ Some x = found in absurd cc
+  find-passes (y ∷ ys) x found = elim (cases_Bool (test y)) [
+    | inl holds ↦ let same : Some y ≡ Some x = rw holds at found in let is : y ≡ x = cc in rw is at holds
+    | inr fails ↦ find-passes ys x (rw fails at found)
+  ]
+
+  -- where one alone passes, it is found
+  find-only : (xs : List X) (x : X) → ((y : X) → test y ≡ true → y ≡ x) → list_any test xs ≡ true → find test xs ≡ Some x
+  find-only [] x only some = absurd cc
+  find-only (y ∷ ys) x only some = elim (cases_Bool (test y)) [
+    | inl holds ↦ rw holds (ap Some (only y holds))
+    | inr fails ↦ rw fails (find-only ys x only (rw fails at some))
+  ]
+
+abbrev is_padded_to : List ℕ → List ℕ → Bool
+is_padded_to text plain = bytes_eq (padded plain) text
+
+pub padded-without_padding : (plain text : List ℕ) → without_padding text ≡ Some plain → padded plain ≡ text
+unfolding without_padding
+padded-without_padding plain text found =
+    (bytes_eq-Decides (padded plain) text).0 (find-passes (is_padded_to text) (prefixes text) plain found)
+
+pub without_padding-padded : (plain text : List ℕ) → padded plain ≡ text → without_padding text ≡ Some plain
+unfolding without_padding
+without_padding-padded plain text is =
+    let n : ℕ = length plain in
+    let inside : n < length text = omega (arith, ap length is, length-padded plain) in
+    let taken : get_or (prefixes text) n [] ≡ plain =
+    get_or-map-range_with_len (λ k. take k text) 0 (length text) n n [] inside (omega arith) ∙ rw (← is) (take-padded plain) in
+    let passes : is_padded_to text (get_or (prefixes text) n []) ≡ true = rw taken ((bytes_eq-Decides (padded plain) text).1 is) in
+    let short : n < length (prefixes text) = omega (arith, inside, length-map-range_with_len (λ k. take k text) 0 (length text)) in
+    find-only (is_padded_to text) (prefixes text) plain
+    (λ other same. padded-once other plain ((bytes_eq-Decides (padded other) text).0 same ∙ sym is))
+    (list_any_at (is_padded_to text) (prefixes text) n [] short passes)
+
+-- what a padded text is by its last byte
+record HasPadding (plain text : List ℕ) : Type 0 where
+  low : 1 ≤ last_of text
+  high : last_of text ≤ 16
+  long : length text ≡ length plain + last_of text
+  whole : length text % 16 ≡ 0
+
+HasPadding-padded : (plain text : List ℕ) → padded plain ≡ text → HasPadding plain text
+HasPadding-padded plain text is =
+    let last : last_of text ≡ count_of plain = ap last_of (sym is) ∙ last-padded plain in
+    let total : length text ≡ padded_length (length plain) = ap length (sym is) ∙ length-padded plain in
+    record {
+      low = omega (arith, last);
+      high = omega (arith, last);
+      long = omega (arith, last, total);
+      whole = omega (arith, total);
+    }
+
+-- where the last byte cannot be that of padding
+pub without_padding-None : (text : List ℕ) → (1 ≤ last_of text → last_of text ≤ 16 → length text % 16 ≡ 0 → 1 ≤ length text → ⊥)
+    → None ≡ without_padding text
+without_padding-None text refuted = unless (without_padding text) refl
+  where
+    unless : (found : Option (List ℕ)) → without_padding text ≡ found → None ≡ found
+    unless None is = refl
+    unless (Some plain) is =
+        let h = HasPadding-padded plain text (padded-without_padding plain text is) in
+        absurd (refuted h.low h.high h.whole (omega (arith, h.low, h.long)))
 
 -- the bytes that `unpad` compares
-tail_of : (padded : List ℕ) (count : ℕ) → count ≤ length padded
-    → take (length padded - (length padded - count)) (drop (length padded - count) padded) ≡ drop (length padded - count) padded
-tail_of padded count within =
-    take_all (length padded - (length padded - count)) (drop (length padded - count) padded) (omega (arith, length-drop (length padded - count) padded))
-
 abbrev compared : List ℕ → ℕ → List ℕ
-compared padded count = take (length padded - (length padded - count)) (drop (length padded - count) padded)
+compared text count = take (length text - (length text - count)) (drop (length text - count) text)
 
--- what `unpad` answers is right
-pub IsPadded-then_some : (padded : List ℕ) (count : ℕ) (same : Bool) → 1 ≤ count → count ≤ 16 → count ≤ length padded → length padded % 16 ≡ 0
-    → (IsTrue same → All (λ x. x ≡ count) (compared padded count))
-    → IfSome (then_some same (length padded - count)) (λ n. IsPadded (take n padded) padded)
-IsPadded-then_some padded count false low high within whole all = tt
-IsPadded-then_some padded count true low high within whole all =
-    IsPadded-from_tail padded count low high within whole (rw (← tail_of padded count within) (all refl))
+compared-drop : (text : List ℕ) (count : ℕ) → count ≤ length text → compared text count ≡ drop (length text - count) text
+compared-drop text count within =
+    take_all (length text - (length text - count)) (drop (length text - count) text) (omega (arith, length-drop (length text - count) text))
 
--- where `unpad` answers `None`, nothing is padded here
-pub then_some-IsPadded : (plain padded : List ℕ) (count : ℕ) (same : Bool) → IsPadded plain padded → count ≡ slice_index padded (length padded - 1)
-    → (All (λ x. x ≡ count) (compared padded count) → IsTrue same)
-    → then_some same (length padded - count) ≡ Some (length plain)
-then_some-IsPadded plain padded count same h last every =
-    let count_is : count ≡ h.count = last ∙ last-IsPadded plain padded h in
-    let start : length padded - count ≡ length plain = omega (arith, length-IsPadded plain padded h) in
-    let all : All (λ x. x ≡ count) (compared padded count) =
-    rw (tail_of padded count (omega (arith, length-IsPadded plain padded h)), start, drop-IsPadded plain padded h, count_is) (All-replicate (λ x. x ≡ h.count) h.count h.count refl) in
-    ap (λ (b : Bool). then_some b (length padded - count)) (every all) ∙ ap Some start
+-- what `unpad` answers once it has compared them
+pub then_some-without_padding : (text : List ℕ) (count : ℕ) (same : Bool) → count ≡ last_of text
+    → 1 ≤ count → count ≤ 16 → 1 ≤ length text → length text % 16 ≡ 0 → IsTrue same ↔ All (λ x. x ≡ count) (compared text count)
+    → option_map (λ n. take n text) (then_some same (length text - count)) ≡ without_padding text
+then_some-without_padding text count true last low high some whole all =
+    let within : count ≤ length text = omega arith in
+    sym (without_padding-padded _ text (padded-from_tail text count low high within whole (rw (compared-drop text count within) at (all.0 refl))))
+then_some-without_padding text count false last low high some whole all = unless (without_padding text) refl
+  where
+    unless : (found : Option (List ℕ)) → without_padding text ≡ found → None ≡ found
+    unless None is = refl
+    unless (Some plain) is =
+        let padding = padded-without_padding plain text is in
+        let h = HasPadding-padded plain text padding in
+        let start : length text - count ≡ length plain = omega (arith, last, h.long) in
+        let counted : count_of plain ≡ count = sym (last-padded plain) ∙ ap last_of padding ∙ sym last in
+        let tail : drop (length text - count) text ≡ replicate count count =
+        rw start (ap (drop (length plain)) (sym padding) ∙ drop-padded plain ∙ ap (λ (k : ℕ). replicate k k) counted) in
+        let same : compared text count ≡ replicate count count = compared-drop text count (omega arith) ∙ tail in
+        let wrong : IsTrue false = all.1 (rw same (All-replicate (λ x. x ≡ count) count count refl)) in
+        cc

@@ -1,11 +1,22 @@
--- The padding of RFC 5652, section 6.3, for blocks of 16 bytes.
-use Rattle.std.specs.Prelude.{◌≡◌, ℕ, ◌%◌, ◌≤◌, List, ◌++◌, length, replicate}
+-- The padding of RFC 5652, section 6.3, for blocks of 16 bytes, put on and taken off again.
+use Rattle.std.specs.Prelude.{ℕ, ◌+◌, ◌-◌, ◌%◌, List, ◌++◌, length, replicate, take, map, find}
+use Rattle.std.specs.Prelude.{Option}
+use Rattle.std.specs.List.{range_with_len}
+use Rattle.std.specs.Str.{bytes_eq}
 
--- `padded` is the plaintext with its padding: `count` bytes, from 1 to 16, each with the value
--- `count`, so that whole blocks result
-pub record IsPadded (plaintext padded : List ℕ) : Type 0 where
-  pub count : ℕ
-  pub not_empty : 1 ≤ count
-  pub at_most_a_block : count ≤ 16
-  pub appended : padded ≡ plaintext ++ replicate count count
-  pub whole_blocks : length padded % 16 ≡ 0
+-- the length of n bytes with their padding: the next multiple of 16 above n
+abbrev pub padded_length : ℕ → ℕ
+padded_length n = n - n % 16 + 16
+
+-- the plaintext, of n bytes, and behind it 16 - (n mod 16) bytes, each of that value
+unfoldable pub padded : List ℕ → List ℕ
+padded plaintext =
+    let count = 16 - length plaintext % 16 in plaintext ++ replicate count count
+
+-- what stands before each byte of the text
+abbrev pub prefixes : List ℕ → List (List ℕ)
+prefixes text = map (λ n. take n text) (range_with_len 0 (length text))
+
+-- the plaintext that the text is when it is padded; none where there is no such plaintext
+unfoldable pub without_padding : List ℕ → Option (List ℕ)
+without_padding text = find (λ plaintext. bytes_eq (padded plaintext) text) (prefixes text)

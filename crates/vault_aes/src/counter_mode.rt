@@ -1,5 +1,4 @@
-// Counter mode (SP 800-38A, 6.5).
-
+//! Counter mode (SP 800-38A, 6.5).
 ghost use Rattle.std.specs.Prelude.{◌≡◌, ◌≤◌, length, slice_index};
 ghost use Rattle.std.specs.Int.{w128, to_be_bytes};
 ghost use Rattle.vault_aes.specs.CounterMode.{counter_mode, with_stream};

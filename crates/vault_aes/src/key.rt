@@ -1,3 +1,4 @@
+//! The cipher of one block under a key.
 ghost use Rattle.std.specs.Prelude.{◌≡◌};
 ghost use Rattle.vault_aes.specs.Cipher.{cipher};
 ghost use Rattle.vault_aes.specs.KeyExpansion.{key_schedule};

@@ -1,11 +1,11 @@
-// The key expansion (FIPS 197, 5.2).
-
+//! The key expansion (FIPS 197, 5.2).
 ghost use Rattle.std.specs.Prelude.{◌≡◌, ◌<◌, ◌≤◌, map};
 ghost use Rattle.std.specs.List.{range_with_len};
 ghost use Rattle.vault_aes.specs.KeyExpansion.{key_schedule, key_word, schedule_step, sub_word};
 
 use crate::rounds::{WORD_COUNT, Words};
 use crate::tables::substituted;
+use std::array;
 
 // The number of words in a key.
 const KEY_WORDS: usize = 8;
@@ -25,11 +25,7 @@ fn key_word(key: &[u8; 32], i: usize) -> u32
 fn key_words(key: &[u8; 32]) -> [u32; KEY_WORDS]
     ensures { result ≡ map (key_word key.now) (range_with_len 0 KEY_WORDS) }
 {
-    let mut words = [0; KEY_WORDS];
-    for i in 0..KEY_WORDS {
-        words[i] = key_word(key, i);
-    }
-    words
+    array::from_fn(|i| key_word(key, i))
 }
 
 fn sub_word(word: u32) -> u32

@@ -1,23 +1,22 @@
 //! Laws of the definitions, each the contract of a function that does nothing, and readers of the
 //! cipher's tables.
-
-ghost use Rattle.std.specs.Prelude.{◌≡◌, ℕ, List, [], ◌∷◌, length};
+ghost use Rattle.std.specs.Prelude.{◌≡◌, ℕ, ◌%◌, List, [], ◌∷◌, length, Some};
 ghost use Rattle.vault_aes.specs.CounterMode.{counter_mode};
 ghost use Rattle.vault_aes.specs.Field.{mul};
-ghost use Rattle.vault_aes.specs.Padding.{IsPadded};
+ghost use Rattle.vault_aes.specs.Padding.{padded, without_padding};
 ghost use Rattle.vault_aes.specs.SubstitutionBox.{s_box};
 
 use crate::tables::{
     first_row_column, fourth_row_column, second_row_column, substituted, third_row_column,
 };
 
-/// Each plaintext has one padding, and each padded list is that of one plaintext.
+/// Padding fills up whole blocks, and what is taken off is what was put on.
 pub fn one_padding()
-    ensures some { (plaintext : List ℕ) → (padded : List ℕ) × IsPadded plaintext padded }
-    ensures padded_once { (plaintext one other : List ℕ)
-        → IsPadded plaintext one → IsPadded plaintext other → one ≡ other }
-    ensures plaintext_once { (one other padded : List ℕ)
-        → IsPadded one padded → IsPadded other padded → one ≡ other }
+    ensures whole_blocks { (plaintext : List ℕ) → length (padded plaintext) % 16 ≡ 0 }
+    ensures once { (one other : List ℕ) → padded one ≡ padded other → one ≡ other }
+    ensures put_on { (plaintext : List ℕ) → without_padding (padded plaintext) ≡ Some plaintext }
+    ensures taken_off { (plaintext text : List ℕ) → without_padding text ≡ Some plaintext
+        → padded plaintext ≡ text }
 {}
 
 /// To encipher twice is to decipher, and the length stays.

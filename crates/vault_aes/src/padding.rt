@@ -1,8 +1,7 @@
-// The padding of RFC 5652, section 6.3, for blocks of 16 bytes.
-
-ghost use Rattle.std.specs.Prelude.{◌≡◌, ℕ, ◌+◌, ◌-◌, ◌%◌, ◌<◌, ◌≤◌, ◌↔◌, List, length, take};
-ghost use Rattle.std.specs.Prelude.{drop, IfSome, Some, IsTrue, All};
-ghost use Rattle.vault_aes.specs.Padding.{IsPadded};
+//! The padding of RFC 5652, section 6.3, for blocks of 16 bytes.
+ghost use Rattle.std.specs.Prelude.{◌≡◌, ◌≤◌, ◌↔◌, length, take, drop, IfSome, IsTrue, All};
+ghost use Rattle.std.specs.Option.{option_map};
+ghost use Rattle.vault_aes.specs.Padding.{padded, padded_length, without_padding};
 
 use crate::rounds::BLOCK_LEN;
 
@@ -10,9 +9,9 @@ use crate::rounds::BLOCK_LEN;
 /// stay.
 pub fn pad(work: &mut [u8], n: usize) -> usize
     requires within { n ≤ length work.old }
-    requires room { n - n % BLOCK_LEN + BLOCK_LEN ≤ length work.old }
-    ensures len { result ≡ n - n % BLOCK_LEN + BLOCK_LEN }
-    ensures padded { IsPadded (take n work.old) (take result work.new) }
+    requires room { padded_length n ≤ length work.old }
+    ensures len { result ≡ padded_length n }
+    ensures padded { take result work.new ≡ padded (take n work.old) }
     ensures rest { drop result work.new ≡ drop result work.old }
 {
     let count = BLOCK_LEN - n % BLOCK_LEN;
@@ -20,12 +19,10 @@ pub fn pad(work: &mut [u8], n: usize) -> usize
     n + count
 }
 
-/// The length of the bytes that are padded here, or `None` where the padding is wrong.
+/// The length of the plaintext whose padding this is, or `None` where the padding is wrong.
 pub fn unpad(padded: &[u8]) -> Option<usize>
-    ensures within { IfSome result (λ n. n < length padded.now) }
-    ensures found { IfSome result (λ n. IsPadded (take n padded.now) padded.now) }
-    ensures every { (plaintext : List ℕ) → IsPadded plaintext padded.now
-        → result ≡ Some (length plaintext) }
+    ensures plaintext { option_map (λ n. take n padded.now) result ≡ without_padding padded.now }
+    ensures len { IfSome result (λ n. padded_length n ≡ length padded.now) }
 {
     let count = *padded.last()?;
     if padded.len() % BLOCK_LEN != 0 || count == 0 || count as usize > BLOCK_LEN {

@@ -1,5 +1,4 @@
-// The tables that the cipher and the key expansion read, and their readers.
-
+//! The tables that the cipher and the key expansion read, and their readers.
 ghost use Rattle.std.specs.Prelude.{◌≡◌};
 ghost use Rattle.std.specs.Int.{w32, to_be_bytes};
 ghost use Rattle.vault_aes.specs.Columns.{mixed_column};

@@ -20,6 +20,8 @@ mod embedding;
 #[cfg(test)]
 mod encrypting;
 #[cfg(test)]
+mod examples;
+#[cfg(test)]
 mod failures;
 #[cfg(test)]
 mod limits;

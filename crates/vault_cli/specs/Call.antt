@@ -30,9 +30,11 @@ pub record StoreCall (F R : Type 0) : Type 1 where
   pub old : F
   pub new : F
 
+-- a call over a source, from its terms and the states before and after
 abbrev pub source : {S : Type 0} → SourceTerms S → S → S → SourceCall S
 source terms old new = record { terms = terms; old = old; new = new }
 
+-- one over a sink
 abbrev pub sink : {K : Type 0} → SinkTerms K → K → K → SinkCall K
 sink terms old new = record { terms = terms; old = old; new = new }
 
@@ -48,6 +50,7 @@ StoreMembers F R = record {
   aimed : F → List ℕ → Access → F → Type 0;
 }
 
+-- one over a store, from what a clause knows of it
 abbrev pub store : {F R : Type 0} → StoreMembers F R → F → F → StoreCall F R
 store members old new = record {
   output = record { takes = members.takes; stage = members.stage; failures = members.failures };

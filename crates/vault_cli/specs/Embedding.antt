@@ -9,16 +9,17 @@ use Rattle.vault_files.specs.File.{Finding}
 use Rattle.vault_files.specs.File.Finding.{Whole}
 use Rattle.vault_files.specs.Memory.{StoreState, file_at, is_aimed_at, stands_at}
 use Rattle.vault_core.specs.declared.fault.Fault.TheVariants.{Memory, Write}
-use Rattle.vault_cli.specs.Line.{line_of}
-use Rattle.vault_cli.specs.Outcome.{Outcome}
-use Rattle.vault_cli.specs.declared.status.Status.{Status}
-use Rattle.vault_cli.specs.declared.status.Status.TheVariants.{DeviceFailed, OutOfMemory}
+use Rattle.vault_cli.specs.runs.ReportLine.{line_of}
+use Rattle.vault_cli.specs.runs.Outcome.{Outcome}
+use Rattle.vault_cli.specs.declared.runs.status.Status.{Status}
+use Rattle.vault_cli.specs.declared.runs.status.Status.TheVariants.{DeviceFailed, OutOfMemory}
 
 -- what was in memory before a call, and what is after it
 pub record Change (T : Type 0) : Type 0 where
   pub old : T
   pub new : T
 
+-- from the one to the other
 abbrev pub change : {T : Type 0} → T → T → Change T
 change old new = record { old = old; new = new }
 

@@ -1,6 +1,7 @@
 -- Laws of the outcomes, which hold under every limit, of all requests, password files, salts and
 -- inputs.
-use Rattle.std.specs.Prelude.{◌≡◌, ◌≢◌, ◌⊎◌, ℕ, ◌≤◌, List, [], ◌∷◌, length, Some, None, IfSome, true, Ok}
+use Rattle.std.specs.Prelude.{◌≡◌, ◌≢◌, ◌⊎◌, ℕ, ◌≤◌, List, [], ◌∷◌, length, Some, None, IfSome}
+use Rattle.std.specs.Prelude.{true, Ok}
 use Rattle.std.specs.List.{AllByRecursion}
 use Rattle.clap.specs.Walk.{Row}
 use Rattle.vault_text.specs.Label.{is_label}
@@ -8,13 +9,15 @@ use Rattle.vault_core.specs.Form.{Envelope}
 use Rattle.vault_core.specs.Laws.{IsBytes, IsTriedFirst}
 use Rattle.vault_core.specs.Secrets.{Secret, SecretList, secret_at}
 use Rattle.vault_core.specs.declared.label_rule.LabelRule.{LabelRule}
-use Rattle.vault_cli.specs.Outcome.{outcome_within, room_limit, text_of_request}
-use Rattle.vault_cli.specs.Request.{IsSettled, Request, files_of}
-use Rattle.vault_cli.specs.Settled.{settled}
-use Rattle.vault_cli.specs.Task.{Seal, Open, Reseal, prepared}
-use Rattle.vault_cli.specs.declared.command_name.CommandName.{CommandName}
-use Rattle.vault_cli.specs.declared.command_name.CommandName.TheVariants.{Encrypt, Decrypt, View, Rekey, EncryptString}
-use Rattle.vault_cli.specs.declared.status.Status.TheVariants.{Refused, Success}
+use Rattle.vault_cli.specs.runs.Outcome.{outcome_within, room_limit, text_of_request}
+use Rattle.vault_cli.specs.request.Request.{IsSettled, Request, files_of}
+use Rattle.vault_cli.specs.request.Settled.{settled}
+use Rattle.vault_cli.specs.runs.Task.{Seal, Open, Reseal, prepared}
+use Rattle.vault_cli.specs.declared.line.command_name.CommandName.{CommandName}
+use Rattle.vault_cli.specs.declared.line.command_name.CommandName.TheVariants.{Encrypt, Decrypt}
+use Rattle.vault_cli.specs.declared.line.command_name.CommandName.TheVariants.{View, Rekey}
+use Rattle.vault_cli.specs.declared.line.command_name.CommandName.TheVariants.{EncryptString}
+use Rattle.vault_cli.specs.declared.runs.status.Status.TheVariants.{Refused, Success}
 
 -- what a request that was settled is: its labels are labels, and only `encrypt_string` has a STRING
 pub record IsRequest (request : Request) : Type 0 where
@@ -36,7 +39,7 @@ OutcomesAreDecided =
     ⊎ ((outcome_within limit request contents salt input).status ≡ Refused)
 
 -- a request of `decrypt` or `view` whose password files give these secrets
-pub record Opens (request : Request) (contents : List (List ℕ)) (salt : List ℕ)
+pub record OpensWith (request : Request) (contents : List (List ℕ)) (salt : List ℕ)
     (secrets : SecretList) : Type 0 where
   pub settled : IsRequest request
   pub command : (request.command ≡ Decrypt) ⊎ (request.command ≡ View)
@@ -53,7 +56,8 @@ EncryptThenDecrypt =
     → IfSome encrypting.salt_text IsBytes → IsBytes salt → IsBytes input
     → prepared encrypting contents salt ≡ Ok (Seal list place Envelope used)
     → (outcome_within limit encrypting contents salt input).output ≡ Some envelope
-    → Opens opening other_contents other_salt secrets → IsTriedFirst secrets (secret_at place list)
+    → OpensWith opening other_contents other_salt secrets
+    → IsTriedFirst secrets (secret_at place list)
     → outcome_within limit opening other_contents other_salt envelope
     ≡ record { output = Some input; line = []; status = Success }
 
@@ -69,8 +73,8 @@ RekeyKeepsThePlaintext =
     → IfSome rekeying.salt_text IsBytes → IsBytes salt
     → prepared rekeying contents salt ≡ Ok (Reseal secrets new used)
     → (outcome_within limit rekeying contents salt input).output ≡ Some envelope
-    → Opens before old_contents old_salt secrets
-    → Opens after new_contents new_salt (record { secrets = new ∷ []; rule = rule })
+    → OpensWith before old_contents old_salt secrets
+    → OpensWith after new_contents new_salt (record { secrets = new ∷ []; rule = rule })
     → outcome_within limit after new_contents new_salt envelope
     ≡ outcome_within limit before old_contents old_salt input
 

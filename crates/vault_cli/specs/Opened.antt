@@ -5,9 +5,9 @@ use Rattle.vault_files.specs.File.{Finding}
 use Rattle.vault_core.specs.declared.fault.Fault.{Fault}
 use Rattle.vault_core.specs.declared.fault.Role.TheVariants.{Secret}
 use Rattle.vault_core.specs.declared.limits.TheConstants.{PASSWORD_FILE_LIMIT}
-use Rattle.vault_cli.specs.Found.{contents_of, front_in, secret_paths}
+use Rattle.vault_cli.specs.runs.Found.{contents_of, front_in, secret_paths}
 use Rattle.vault_cli.specs.Program.{Files, salt_in}
-use Rattle.vault_cli.specs.Request.{Request}
+use Rattle.vault_cli.specs.request.Request.{Request}
 
 -- none behind a step that refuses
 abbrev pub behind : {T : Type 0} → Result T Fault → List (List ℕ) → List (List ℕ)

@@ -13,15 +13,16 @@ use Rattle.vault_core.specs.Ready.{Ready}
 use Rattle.vault_core.specs.declared.fault.Fault.{Fault}
 use Rattle.vault_core.specs.declared.fault.Fault.TheVariants.{CannotOpen}
 use Rattle.vault_core.specs.declared.fault.Role.TheVariants.{Input, Salt}
-use Rattle.vault_cli.specs.CommandLine.{vault_app}
-use Rattle.vault_cli.specs.CommandName.{output_access}
-use Rattle.vault_cli.specs.Found.{contents_of, front_in, secret_paths}
-use Rattle.vault_cli.specs.Outcome.{Outcome, answered, asked_for, input_limit, ready_by, refused}
-use Rattle.vault_cli.specs.Request.{Request}
-use Rattle.vault_cli.specs.Settled.{asked}
-use Rattle.vault_cli.specs.Task.{Task, prepared}
+use Rattle.vault_cli.specs.line.CommandLine.{vault_app}
+use Rattle.vault_cli.specs.line.CommandName.{output_access}
+use Rattle.vault_cli.specs.runs.Found.{contents_of, front_in, secret_paths}
+use Rattle.vault_cli.specs.runs.Outcome.{Outcome, answered, asked_for, input_limit, ready_by}
+use Rattle.vault_cli.specs.runs.Outcome.{refused}
+use Rattle.vault_cli.specs.request.Request.{Request}
+use Rattle.vault_cli.specs.request.Settled.{asked}
+use Rattle.vault_cli.specs.runs.Task.{Task, prepared}
 use Rattle.vault_cli.specs.declared.limits.TheConstants.{SEALING_SALT_LENGTH}
-use Rattle.vault_cli.specs.declared.status.Status.TheVariants.{ParseFault}
+use Rattle.vault_cli.specs.declared.runs.status.Status.TheVariants.{ParseFault}
 
 -- the files that a request names, as they are met: its password files, in order, its salt file and
 -- its input file
@@ -42,8 +43,8 @@ opening_of (Some Missing) = Err (CannotOpen Input)
 opening_of (Some (Whole bytes)) = Ok tt
 opening_of (Some (Broken bytes)) = Ok tt
 
--- the password files are read first, then the salt file; then the input file is opened, and steps 1
--- to 3 prepare the task
+-- the task of a request, or the first fault: of its password files, of its salt file, of an input
+-- file that cannot be opened, or of steps 1 to 3
 unfoldable pub task_over : Request → Files → Result Task Fault
 task_over request files = do
   contents ← contents_of files.secrets
@@ -56,8 +57,8 @@ abbrev pub input_in : ℕ → Option Finding → List ℕ → Result (List ℕ) 
 input_in limit None stdin = Ok stdin
 input_in limit (Some file) stdin = front_in Input limit file
 
--- what is ready to be written, or the first fault: the input is read, one byte more than is taken,
--- where there is a task that asks for it
+-- what is ready to be written, or the first fault: of the task, of its input, which counts up to
+-- one byte more than is taken, or of steps 4 and 5
 abbrev pub ready_of : Request → Files → List ℕ → Result Ready Fault
 ready_of request files stdin =
     ready_by PLAINTEXT_LIMIT (task_over request files) request.string
@@ -67,8 +68,8 @@ ready_of request files stdin =
 abbrev pub asked_by : List Text → Option (Result Request Fault)
 asked_by words = asked (subcommand_of vault_app words)
 
--- the answer to what was asked; the parser takes no words without a command, so the first case never
--- comes
+-- the answer to what was asked; words without a fault name a command, which is a law, so that the
+-- first case never comes
 abbrev pub answer_to : Option (Result Request Fault) → Files → List ℕ → Outcome
 answer_to None files stdin = record { output = None; line = []; status = ParseFault }
 answer_to (Some (Err fault)) files stdin = refused fault

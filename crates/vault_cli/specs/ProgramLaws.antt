@@ -1,6 +1,6 @@
 -- Laws of the program: from the words of one run to those of another, from file to file.
-use Rattle.std.specs.Prelude.{◌≡◌, ℕ, List, [], ◌∷◌, Option, Some, None, IfSome, Ok}
-use Rattle.clap.specs.Words.{Text}
+use Rattle.std.specs.Prelude.{◌≡◌, ◌≢◌, ℕ, List, [], ◌∷◌, Option, Some, None, IfSome, Ok}
+use Rattle.clap.specs.Words.{Text, fault_of}
 use Rattle.vault_files.specs.File.{Finding}
 use Rattle.vault_files.specs.File.Finding.{Whole}
 use Rattle.vault_core.specs.Form.{Envelope}
@@ -8,14 +8,20 @@ use Rattle.vault_core.specs.Laws.{IsBytes, IsTriedFirst}
 use Rattle.vault_core.specs.Secrets.{Secret, SecretList, secret_at}
 use Rattle.vault_core.specs.declared.label_rule.LabelRule.{LabelRule}
 use Rattle.vault_cli.specs.Embedding.{stands_after}
-use Rattle.vault_cli.specs.Found.{contents_of}
-use Rattle.vault_cli.specs.Laws.{Opens}
-use Rattle.vault_cli.specs.Outcome.{Outcome, outcome}
+use Rattle.vault_cli.specs.runs.Found.{contents_of}
+use Rattle.vault_cli.specs.Laws.{OpensWith}
+use Rattle.vault_cli.specs.line.CommandLine.{vault_app}
+use Rattle.vault_cli.specs.runs.Outcome.{Outcome, outcome}
 use Rattle.vault_cli.specs.Program.{Files, asked_by, files_in, output_path, program, salt_in}
-use Rattle.vault_cli.specs.Request.{Request}
-use Rattle.vault_cli.specs.Task.{Seal, Reseal, prepared}
-use Rattle.vault_cli.specs.declared.command_name.CommandName.TheVariants.{Encrypt, Rekey}
-use Rattle.vault_cli.specs.declared.status.Status.TheVariants.{Success}
+use Rattle.vault_cli.specs.request.Request.{Request}
+use Rattle.vault_cli.specs.runs.Task.{Seal, Reseal, prepared}
+use Rattle.vault_cli.specs.declared.line.command_name.CommandName.TheVariants.{Encrypt, Rekey}
+use Rattle.vault_cli.specs.declared.runs.status.Status.TheVariants.{Success}
+
+-- words without a fault name a command, so that each line of words asks for something, or is
+-- explained
+abbrev pub WordsNameACommand : Type 0
+WordsNameACommand = (words : List Text) → fault_of vault_app words ≡ [] → asked_by words ≢ None
 
 -- the input is a file that can be read to its end, or else standard input
 abbrev pub IsInput : Option Finding → List ℕ → List ℕ → Type 0
@@ -57,8 +63,8 @@ WrittenIsRead =
 
 -- what `encrypt` wrote with a secret, `decrypt` and `view` give back where the first secret that
 -- they try has its password
-abbrev pub EncryptThenDecrypt : Type 0
-EncryptThenDecrypt =
+abbrev pub ProgramEncryptsThenDecrypts : Type 0
+ProgramEncryptsThenDecrypts =
     (encrypting opening : Run)
     (list : List Secret) (place : ℕ) (used : List ℕ) (secrets : SecretList)
     → encrypting.request.command ≡ Encrypt
@@ -67,21 +73,21 @@ EncryptThenDecrypt =
     → prepared encrypting.request encrypting.contents encrypting.salt
     ≡ Ok (Seal list place Envelope used)
     → (answer encrypting).output ≡ Some opening.input
-    → Opens opening.request opening.contents opening.salt secrets
+    → OpensWith opening.request opening.contents opening.salt secrets
     → IsTriedFirst secrets (secret_at place list)
     → answer opening ≡ record { output = Some encrypting.input; line = []; status = Success }
 
 -- what `rekey` wrote, `decrypt` and `view` open with the new secret alone, under either rule, to
 -- what they gave before with the old secrets under the rule of `rekey`
-abbrev pub RekeyKeepsThePlaintext : Type 0
-RekeyKeepsThePlaintext =
+abbrev pub ProgramKeepsThePlaintext : Type 0
+ProgramKeepsThePlaintext =
     (rekeying before after : Run)
     (secrets : SecretList) (new : Secret) (used : List ℕ) (rule : LabelRule)
     → rekeying.request.command ≡ Rekey
     → IfSome rekeying.request.salt_text IsBytes → IsBytes rekeying.salt
     → prepared rekeying.request rekeying.contents rekeying.salt ≡ Ok (Reseal secrets new used)
     → before.input ≡ rekeying.input → (answer rekeying).output ≡ Some after.input
-    → Opens before.request before.contents before.salt secrets
-    → Opens after.request after.contents after.salt
+    → OpensWith before.request before.contents before.salt secrets
+    → OpensWith after.request after.contents after.salt
     (record { secrets = new ∷ []; rule = rule })
     → answer after ≡ answer before

@@ -1,9 +1,10 @@
-//! Laws of the outcomes and of the program, each the contract of a function that does nothing but name the laws that
-//! it stands on.
+//! Laws of the outcomes and of the program, each the contract of a function that does nothing but
+//! name the laws that it stands on.
 ghost use Rattle.vault_cli.specs.Laws.{EncryptThenDecrypt, OutcomesAreDecided};
 ghost use Rattle.vault_cli.specs.Laws.{RekeyKeepsThePlaintext, SettledRequests, ShortTexts};
-ghost use Rattle.vault_cli.specs.ProgramLaws.{ProgramIsOutcome, WrittenIsRead};
-ghost use Rattle.vault_cli.specs.ProgramLaws as program;
+ghost use Rattle.vault_cli.specs.ProgramLaws.{ProgramEncryptsThenDecrypts, ProgramIsOutcome};
+ghost use Rattle.vault_cli.specs.ProgramLaws.{ProgramKeepsThePlaintext, WordsNameACommand};
+ghost use Rattle.vault_cli.specs.ProgramLaws.{WrittenIsRead};
 
 /// What settles a request makes one that the laws below speak of.
 pub fn settled_requests()
@@ -38,6 +39,11 @@ pub fn short_texts()
     vault_core::laws::short_inputs();
 }
 
+/// Words without a fault name a command.
+pub fn words_name_a_command()
+    ensures { WordsNameACommand }
+{}
+
 /// On files that can be read the program answers with the outcome.
 pub fn program_is_outcome()
     ensures { ProgramIsOutcome }
@@ -50,7 +56,7 @@ pub fn written_is_read()
 
 /// Decrypting what the program encrypted gives the input, from file to file.
 pub fn program_encrypts_then_decrypts()
-    ensures { program.EncryptThenDecrypt }
+    ensures { ProgramEncryptsThenDecrypts }
 {
     settled_requests();
     encrypt_then_decrypt();
@@ -58,7 +64,7 @@ pub fn program_encrypts_then_decrypts()
 
 /// Decrypting what the program rekeyed gives what decrypting gave before, from file to file.
 pub fn program_keeps_the_plaintext()
-    ensures { program.RekeyKeepsThePlaintext }
+    ensures { ProgramKeepsThePlaintext }
 {
     settled_requests();
     rekey_keeps_the_plaintext();

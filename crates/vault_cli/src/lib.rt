@@ -1,39 +1,40 @@
 //! The command line of `ansible-vault`: requests, and the whole run of one.
+//!
+//! ```rust
+//! let mut words = Vec::new(alloc);
+//! for word in ["ansible-vault", "encrypt_string", "--vault-id=one", "--salt=abc", "text"] {
+//!     words.push(String::from_str(alloc, word)?)?;
+//! }
+//! let matches = parse(alloc, words.as_slice())?;
+//! assert!(rt; has_command(&matches));
+//! let request = settle(alloc, &matches)?;
+//! let mut secret_files = Vec::new(alloc);
+//! secret_files.push(Vec::from_slice(alloc, b"password\n")?)?;
+//! assert_eq!(rt; secret_files.len(), request.files());
+//! let (secret_files, mut work) = (secret_files.as_slice(), [0; 64]);
+//! let mut src = MemSource::new(b"", 4_096);
+//! let mut out = MemSink::new(alloc, 4_096);
+//! let mut err = MemSink::new(alloc, 4_096);
+//! let status = run(&request, secret_files, b"", &mut work, &mut src, &mut out, &mut err);
+//! assert_eq!(rt; status, Status::Success);
+//! assert!(rt; out.bytes().starts_with(b"!vault |\n"));
+//! ```
 #![tactic(auto)]
 
-mod arguments;
-mod command_line;
-mod command_name;
 mod embedding;
-mod explaining;
-mod gathering;
 pub mod laws;
 mod limits;
-mod options;
-mod parsing;
-mod passwords;
+mod line;
 mod program;
-mod refusals;
-mod report_line;
 mod request;
 mod runs;
-mod settling;
-mod status;
-mod task;
-mod vault_id;
 
-pub use command_line::command;
-pub use command_name::CommandName;
 pub use embedding::drive_in_memory;
-pub use explaining::reject_words;
 pub use limits::{SALT_TEXT_LIMIT, SEALING_SALT_LENGTH};
-pub use parsing::parse;
+pub use line::{CommandName, command, parse, reject_words};
 pub use program::drive;
-pub use report_line::report;
-pub use request::Request;
-pub use runs::run;
-pub use settling::{has_command, settle};
-pub use status::Status;
+pub use request::{Request, has_command, settle};
+pub use runs::{Status, report, run};
 pub use vault_core::{Fault, LabelRule, Role, SECRET_COUNT_LIMIT};
 pub use vault_files::{FileSystem, HostFiles, LoggedFiles, MemFile, MemFiles};
 pub use vault_text::{MemSink, MemSource, ReadSource, WriteSink};

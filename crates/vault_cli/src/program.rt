@@ -4,26 +4,21 @@ ghost use Rattle.std.specs.String.{string_bytes};
 ghost use Rattle.clap.specs.Words.{fault_of, subcommand_rows_of};
 ghost use Rattle.vault_text.specs.declared.limits.TheConstants.{CIPHERTEXT_LIMIT, PLAINTEXT_LIMIT};
 ghost use Rattle.vault_cli.specs.Call.{sink, source, store};
-ghost use Rattle.vault_cli.specs.CommandLine.{vault_app};
-ghost use Rattle.vault_cli.specs.CommandName.{output_access};
+ghost use Rattle.vault_cli.specs.line.CommandLine.{vault_app};
+ghost use Rattle.vault_cli.specs.line.CommandName.{output_access};
 ghost use Rattle.vault_cli.specs.Drive.{Drives};
-ghost use Rattle.vault_cli.specs.Ending.{Ends, to_path};
-ghost use Rattle.vault_cli.specs.Explained.{ExplainsOneOf};
-ghost use Rattle.vault_cli.specs.Found.{asked_paths, secret_paths};
-ghost use Rattle.vault_cli.specs.Gathered.{ContentsMet, IsOpened, RefusedBy, SaltMet};
-ghost use Rattle.vault_cli.specs.Outcome.{input_asked, outcome};
+ghost use Rattle.vault_cli.specs.runs.Ending.{Ends, to_path};
+ghost use Rattle.vault_cli.specs.line.Explained.{ExplainsOneOf};
+ghost use Rattle.vault_cli.specs.runs.Found.{AtPath, asked_paths, secret_paths};
+ghost use Rattle.vault_cli.specs.runs.Gathered.{ContentsMet, RefusedBy, SaltMet};
+ghost use Rattle.vault_cli.specs.runs.Outcome.{input_asked, outcome};
 ghost use Rattle.vault_cli.specs.Program.{answer_to, asked_by, program};
-ghost use Rattle.vault_cli.specs.Request.{files_of};
-ghost use Rattle.vault_cli.specs.Settled.{asked};
+ghost use Rattle.vault_cli.specs.request.Request.{files_of};
+ghost use Rattle.vault_cli.specs.request.Settled.{asked};
 
-use crate::explaining::explain;
-use crate::gathering::{open_input, read_salt, read_secret_files};
-use crate::parsing::parse;
-use crate::report_line::report;
-use crate::request::Request;
-use crate::runs::run_in;
-use crate::settling::{has_command, settle};
-use crate::status::Status;
+use crate::line::{explain, parse};
+use crate::request::{Request, has_command, settle};
+use crate::runs::{Gathered, Job, Status, gather, report, run_in};
 use clap::ArgMatches;
 use std::alloc::Global;
 use vault_core::Fault;
@@ -92,46 +87,6 @@ fn carry_out<F: FileSystem, S: Source, K: Sink, E: Sink>(
     }
 }
 
-/// What a request needs of its files: the contents of its password files, its salt, and its input
-/// file, opened, where it names one.
-#[derive(Drop)]
-struct Gathered<R: Source + Drop> {
-    secret_files: Vec<Vec<u8>>,
-    salt: Vec<u8>,
-    input: Option<R>,
-}
-
-fn gather<F: FileSystem>(
-    files: &mut F,
-    alloc: Global,
-    request: &Request,
-) -> Result<Gathered<F::Reader>, Fault>
-    requires { F.stage files.old ≡ Stage.Unbegun }
-    ensures count { IfOk result (λ found.
-        vec_len found.secret_files ≡ length (files_of request.now)) }
-    ensures secrets { IfOk result (λ found.
-        ContentsMet (F.meets files.old) (secret_paths request.now)
-        (Ok (map (λ file. file.items) found.secret_files.items))) }
-    ensures salt { IfOk result (λ found.
-        SaltMet (F.meets files.old) request.now.salt_path (Ok found.salt.items)) }
-    ensures input { IfOk result (λ found.
-        IsOpened (F.opened files.old) request.now.input found.input) }
-    ensures opens { OnOk result (F.opens files.old (asked_paths request.now) files.new) }
-    ensures refused { IfErr result (λ fault.
-        RefusedBy (F.meets files.old) (λ paths. F.opens files.old paths files.new)
-        request.now fault) }
-    ensures unbegun { F.stage files.new ≡ Stage.Unbegun }
-{
-    let secret_files = read_secret_files(files, alloc, request)?;
-    let salt = read_salt(files, alloc, request)?;
-    let input = open_input(files, request)?;
-    Ok(Gathered {
-        secret_files,
-        salt,
-        input,
-    })
-}
-
 /// Answers a request over its files, its input and its output, in memory for the longest text,
 /// which is reserved before any file is opened.
 fn answer<F: FileSystem, S: Source, K: Sink, E: Sink>(
@@ -165,61 +120,49 @@ fn answer<F: FileSystem, S: Source, K: Sink, E: Sink>(
     } = found;
     let secret_files = secret_files.as_slice();
     let salt = salt.as_slice();
-    let prepared = Prepared {
+    let memory = TextMemory::reserved(&mut room, CIPHERTEXT_LIMIT);
+    let job = Job {
         request,
         secret_files,
         salt,
+        memory,
     };
-    let memory = TextMemory::reserved(&mut room, CIPHERTEXT_LIMIT);
     match input {
-        Some(mut reader) => send(files, alloc, prepared, memory, &mut reader, out, err),
-        None => send(files, alloc, prepared, memory, src, out, err),
+        Some(mut reader) => send(files, alloc, job, &mut reader, out, err),
+        None => send(files, alloc, job, src, out, err),
     }
-}
-
-/// What a run needs beside its memory, its input and its sinks.
-#[derive(Clone, Copy)]
-struct Prepared<'a> {
-    request: &'a Request,
-    secret_files: &'a [Vec<u8>],
-    salt: &'a [u8],
 }
 
 /// Runs a request, and sends its output where the request says.
 fn send<F: FileSystem, S: Source, K: Sink, E: Sink>(
     files: &mut F,
     alloc: Global,
-    prepared: Prepared<'_>,
-    memory: TextMemory<'_>,
+    job: Job<'_, '_>,
     src: &mut S,
     out: &mut K,
     err: &mut E,
 ) -> Status
-    requires files { length prepared.secret_files.now ≡ length (files_of prepared.request.now) }
-    requires empty { memory.bytes ≡ [] }
-    requires room { memory.limit ≡ CIPHERTEXT_LIMIT }
+    requires files { length job.secret_files.now ≡ length (files_of job.request.now) }
+    requires empty { job.memory.bytes ≡ [] }
+    requires room { job.memory.limit ≡ CIPHERTEXT_LIMIT }
     requires files_unbegun { F.stage files.old ≡ Stage.Unbegun }
     requires out_unbegun { K.stage out.old ≡ Stage.Unbegun }
     requires err_unbegun { E.stage err.old ≡ Stage.Unbegun }
-    ensures ends { let request = prepared.entry.request.now in
-        let contents = map (λ file. file.items) prepared.entry.secret_files.now in
-        let salt = prepared.entry.salt.now in
+    ensures ends { let request = job.entry.request.now in
+        let contents = map (λ file. file.items) job.entry.secret_files.now in
+        let salt = job.entry.salt.now in
         let files = store F.FileSystem files.old files.new in
         let out = sink K.Sink out.old out.new in
         Ends (to_path request.output (output_access request.command) files out)
         (sink E.Sink err.old err.new) result (source S.Source src.old src.new)
         (input_asked PLAINTEXT_LIMIT request contents salt) (outcome request contents salt) }
 {
-    let Prepared {
-        request,
-        secret_files,
-        salt,
-    } = prepared;
+    let request = job.request;
     let Some(path) = request.output() else {
-        return run_in(request, secret_files, salt, memory, src, out, err);
+        return run_in(job, src, out, err);
     };
     match files.aim(alloc, path, request.command().output_access()) {
-        Ok(()) => run_in(request, secret_files, salt, memory, src, files, err),
+        Ok(()) => run_in(job, src, files, err),
         Err(error) => report(Fault::from(error), err),
     }
 }

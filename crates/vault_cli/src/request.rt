@@ -1,11 +1,17 @@
 //! What a command line asks for.
 ghost use Rattle.std.specs.Prelude.{◌≡◌, ◌+◌, ◌<◌, ◌≤◌, Some, IfSome, is_some, length, slice_get};
-ghost use Rattle.std.specs.Option.{option_map};
+ghost use Rattle.std.specs.Option.{option_copied, option_map};
 ghost use Rattle.vault_core.specs.declared.limits.TheConstants.{SECRET_COUNT_LIMIT};
-ghost use Rattle.vault_cli.specs.CommandName.{rekeys, seals};
-ghost use Rattle.vault_cli.specs.Request.{IsSaltText, files_of};
+ghost use Rattle.vault_cli.specs.line.CommandName.{rekeys, seals};
+ghost use Rattle.vault_cli.specs.request.Request.{IsSaltText, files_of};
 
-use crate::command_name::CommandName;
+mod options;
+mod refusals;
+mod settling;
+mod vault_id;
+
+use crate::line::CommandName;
+pub use settling::{has_command, settle};
 use std::marker::Model;
 use vault_core::LabelRule;
 use vault_text::Label;
@@ -19,7 +25,7 @@ pub(crate) struct SecretFile {
 
 impl Model for SecretFile {
     ghost use Rattle.std.specs.String.{string_bytes};
-    ghost use Rattle.vault_cli.specs.Request.{SecretFile};
+    ghost use Rattle.vault_cli.specs.request.Request.{SecretFile};
 
     ghost Value = { SecretFile };
 
@@ -46,7 +52,7 @@ pub struct Request {
 impl Model for Request {
     ghost use Rattle.std.specs.Option.{option_map};
     ghost use Rattle.std.specs.String.{string_bytes};
-    ghost use Rattle.vault_cli.specs.Request.{IsSettled, Request};
+    ghost use Rattle.vault_cli.specs.request.Request.{IsSettled, Request};
 
     ghost Value = { Request };
 
@@ -133,7 +139,7 @@ impl Request {
 
     /// The label of what `rekey` seals with; `None` for every other command.
     pub fn new_label(&self) -> Option<&Label>
-        ensures label { option_map (λ label. label.now) result
+        ensures label { option_copied result
             ≡ option_map (λ file. file.label) self.now.new_secret }
         ensures rekey { is_some result ≡ rekeys self.now.command }
     {
@@ -145,28 +151,28 @@ impl Request {
 
     /// The label of the secret to encrypt with, where one was chosen.
     pub fn choice(&self) -> Option<&Label>
-        ensures { option_map (λ label. label.now) result ≡ self.now.choice }
+        ensures { option_copied result ≡ self.now.choice }
     {
         self.choice.as_ref()
     }
 
     /// The name of the variable that `encrypt_string` writes, where one was given.
     pub fn name(&self) -> Option<&str>
-        ensures { option_map (λ name. name.now) result ≡ self.now.name }
+        ensures { option_copied result ≡ self.now.name }
     {
         self.name.as_deref()
     }
 
     /// The STRING of `encrypt_string`; where it is given, no input is read.
     pub fn string(&self) -> Option<&str>
-        ensures { option_map (λ string. string.now) result ≡ self.now.string }
+        ensures { option_copied result ≡ self.now.string }
     {
         self.string.as_deref()
     }
 
     /// The text of `--salt`, of 1 to 64 bytes, where it was given.
     pub fn salt_text(&self) -> Option<&str>
-        ensures text { option_map (λ text. text.now) result ≡ self.now.salt_text }
+        ensures text { option_copied result ≡ self.now.salt_text }
         ensures length { IfSome result (λ text. IsSaltText text.now) }
     {
         self.salt_text.as_deref()
@@ -174,7 +180,7 @@ impl Request {
 
     /// The path of the salt file; `None` where no salt is used, and where there is a salt text.
     pub fn salt_path(&self) -> Option<&str>
-        ensures { option_map (λ path. path.now) result ≡ self.now.salt_path }
+        ensures { option_copied result ≡ self.now.salt_path }
     {
         self.salt_path.as_deref()
     }
@@ -195,14 +201,14 @@ impl Request {
 
     /// The path of the input; `None` where it is standard input or a STRING.
     pub fn input(&self) -> Option<&str>
-        ensures { option_map (λ path. path.now) result ≡ self.now.input }
+        ensures { option_copied result ≡ self.now.input }
     {
         self.input.as_deref()
     }
 
     /// The path of the output; `None` where it is standard output.
     pub fn output(&self) -> Option<&str>
-        ensures { option_map (λ path. path.now) result ≡ self.now.output }
+        ensures { option_copied result ≡ self.now.output }
     {
         self.output.as_deref()
     }

@@ -6,21 +6,38 @@ ghost use Rattle.vault_core.specs.Input.{IsWhole, UnlessUnreadable};
 ghost use Rattle.vault_text.specs.Limits.{IsWorkLength, limit_of};
 ghost use Rattle.vault_core.specs.declared.fault.Fault.TheVariants.{Write};
 ghost use Rattle.vault_cli.specs.Call.{sink, source};
-ghost use Rattle.vault_cli.specs.Ending.{Ends, to_sink};
-ghost use Rattle.vault_cli.specs.Line.{line_of};
-ghost use Rattle.vault_cli.specs.Outcome.{input_asked, outcome_within};
-ghost use Rattle.vault_cli.specs.Outcome.{performed, task_limit, text_of_request};
-ghost use Rattle.vault_cli.specs.Reports.{Reports};
-ghost use Rattle.vault_cli.specs.Request.{files_of};
-ghost use Rattle.vault_cli.specs.StoredTask.{task_in};
-ghost use Rattle.vault_cli.specs.Task.{HasPlace};
+ghost use Rattle.vault_cli.specs.runs.Ending.{Ends, to_sink};
+ghost use Rattle.vault_cli.specs.runs.ReportLine.{line_of};
+ghost use Rattle.vault_cli.specs.runs.Outcome.{input_asked, outcome_within};
+ghost use Rattle.vault_cli.specs.runs.Outcome.{performed, task_limit, text_of_request};
+ghost use Rattle.vault_cli.specs.runs.Reports.{Reports};
+ghost use Rattle.vault_cli.specs.request.Request.{files_of};
+ghost use Rattle.vault_cli.specs.runs.StoredTask.{task_in};
+ghost use Rattle.vault_cli.specs.runs.Task.{HasPlace};
 
-use crate::report_line::report;
+mod gathering;
+mod passwords;
+mod report_line;
+mod status;
+mod task;
+
 use crate::request::Request;
-use crate::status::Status;
-use crate::task::{Task, prepare};
+pub(crate) use gathering::{Gathered, gather};
+pub use report_line::report;
+pub use status::Status;
+use task::{Task, prepare};
 use vault_core::{Fault, Ready};
 use vault_text::{MemSource, Sink, Source, Stage, TextMemory};
+
+/// What a run works on beside its input: a request, the contents of its password files, in their
+/// order, a salt, and the memory for its text.
+#[derive(Drop)]
+pub(crate) struct Job<'a, 'm> {
+    pub request: &'a Request,
+    pub secret_files: &'a [Vec<u8>],
+    pub salt: &'a [u8],
+    pub memory: TextMemory<'m>,
+}
 
 /// Performs the task on the STRING of the request, or else on what the source gives.
 fn perform<'a, S: Source>(
@@ -31,7 +48,7 @@ fn perform<'a, S: Source>(
 ) -> Result<Ready<'a>, Fault>
     requires empty { memory.bytes ≡ [] }
     requires room { IsWorkLength memory.limit }
-    requires chosen { HasPlace (task_in task.now) }
+    requires place { HasPlace (task_in task.now) }
     ensures answer { let limit = limit_of memory.entry.limit in
         let bound = task_limit limit (task_in task.now) in
         (input : List ℕ) × S.gives src.old input src.new × (length input ≤ bound + 1)
@@ -76,7 +93,7 @@ fn deliver<K: Sink, E: Sink>(ready: Ready<'_>, out: &mut K, err: &mut E) -> Stat
 pub fn run<'r, S: Source, K: Sink, E: Sink>(
     request: &'r Request,
     secret_files: &'r [Vec<u8>],
-    salt: &[u8],
+    salt: &'r [u8],
     work: &mut [u8],
     src: &mut S,
     out: &mut K,
@@ -96,39 +113,43 @@ pub fn run<'r, S: Source, K: Sink, E: Sink>(
         (outcome_within limit request.now contents salt.now) }
     ensures memory_suffices { result ≢ Status.OutOfMemory }
 {
-    run_in(
+    let memory = TextMemory::lent(work);
+    let job = Job {
         request,
         secret_files,
         salt,
-        TextMemory::lent(work),
-        src,
-        out,
-        err,
-    )
+        memory,
+    };
+    run_in(job, src, out, err)
 }
 
 /// Does what `run` does, in memory that holds no text.
-pub(crate) fn run_in<'r, S: Source, K: Sink, E: Sink>(
-    request: &'r Request,
-    secret_files: &'r [Vec<u8>],
-    salt: &[u8],
-    memory: TextMemory<'_>,
+pub(crate) fn run_in<S: Source, K: Sink, E: Sink>(
+    job: Job<'_, '_>,
     src: &mut S,
     out: &mut K,
     err: &mut E,
 ) -> Status
-    requires files { length secret_files.now ≡ length (files_of request.now) }
-    requires empty { memory.bytes ≡ [] }
-    requires room { IsWorkLength memory.limit }
+    requires files { length job.secret_files.now ≡ length (files_of job.request.now) }
+    requires empty { job.memory.bytes ≡ [] }
+    requires room { IsWorkLength job.memory.limit }
     requires out_unbegun { K.stage out.old ≡ Stage.Unbegun }
     requires err_unbegun { E.stage err.old ≡ Stage.Unbegun }
-    ensures ends { let contents = map (λ file. file.items) secret_files.now in
-        let limit = limit_of memory.entry.limit in
+    ensures ends { let request = job.entry.request.now in
+        let contents = map (λ file. file.items) job.entry.secret_files.now in
+        let salt = job.entry.salt.now in
+        let limit = limit_of job.entry.memory.limit in
         Ends (to_sink (sink K.Sink out.old out.new)) (sink E.Sink err.old err.new) result
-        (source S.Source src.old src.new) (input_asked limit request.now contents salt.now)
-        (outcome_within limit request.now contents salt.now) }
+        (source S.Source src.old src.new) (input_asked limit request contents salt)
+        (outcome_within limit request contents salt) }
     ensures memory_suffices { result ≢ Status.OutOfMemory }
 {
+    let Job {
+        request,
+        secret_files,
+        salt,
+        memory,
+    } = job;
     let task = match prepare(request, secret_files, salt) {
         Ok(task) => task,
         Err(fault) => return report(fault, err),

@@ -1,11 +1,12 @@
 -- Secrets that are tried one after the other.
 use Rattle.std.proofs.Common.{◌≡◌, ℕ, ◌+◌, ◌<◌, ◌≤◌, min, Bool, true, false, List, [], ◌∷◌, ◌++◌, length, get_or, drop, Option, Some, None, arith, refl, ap, sym, ◌∙◌, inl, inr}
 use Rattle.std.specs.Bool.{beq}
-use Rattle.std.specs.Prelude.{if◌then◌else◌, find}
+use Rattle.std.specs.Prelude.{if◌then◌else◌, filter, find, not}
 use Rattle.std.specs.List.{position_or_len}
 use Rattle.std.specs.Option.{option_map, option_or}
 use Rattle.std.proofs.lemmas.Bool.{cases_Bool, cases_lt, le-ltb, lt-ltb}
 use Rattle.std.proofs.lemmas.List.{append-nil, drop_more}
+use Rattle.std.proofs.lemmas.List.Elements.{filter_agree}
 use Rattle.std.proofs.lemmas.List.Folds.{find-append}
 use Rattle.std.proofs.lemmas.List.Sums.{count_by-le-length, length-filter}
 use Rattle.vault_kdf.specs.declared.keys.Keys.{Keys}
@@ -14,7 +15,6 @@ use Rattle.vault_core.specs.Agreement.{agrees, keys_of, tries}
 use Rattle.vault_core.specs.Secrets.{Secret, SecretList, has_label, tried_order}
 use Rattle.vault_core.specs.declared.label_rule.LabelRule.{LabelRule}
 use Rattle.vault_core.specs.declared.label_rule.LabelRule.TheVariants.{Hint, Required}
-use Rattle.vault_core.specs.TriedPart.{is_in_part, tried_part}
 
 tries-min : (payload : Payload) (order : List Secret)
     → tries payload order ≡ min (position_or_len (agrees payload) order + 1) (length order)
@@ -41,18 +41,6 @@ tries-nil payload = omega (arith, tries-min payload [])
 
 pub tries-le-length : (payload : Payload) (order : List Secret) → tries payload order ≤ length order
 tries-le-length payload order = omega (arith, tries-min payload order)
-
--- where a secret agrees, the tries end at its place
-pub tries-found : (payload : Payload) (order : List Secret) (secret : Secret) → find (agrees payload) order ≡ Some secret
-    → tries payload order ≡ position_or_len (agrees payload) order + 1
-tries-found payload [] secret found = let nothing : None ≡ Some secret = found in absurd cc
-tries-found payload (x ∷ order) secret found =
-    elim (cases_Bool (agrees payload x)) [
-      | inl holds ↦ tries-cons_yes payload x order holds ∙ rw holds refl
-      | inr fails ↦
-          let later = tries-found payload order secret (rw fails at found) in
-          tries-cons_no payload x order fails ∙ rw fails (omega (arith, later))
-    ]
 
 -- the tries of one list after another
 pub tries-append_found : (payload : Payload) (front back : List Secret) (secret : Secret) → find (agrees payload) front ≡ Some secret
@@ -95,30 +83,36 @@ agrees-None payload secret h =
       | inr fails ↦ fails
     ]
 
--- whether a secret is in the part that is asked for
-pub is_in_part-yes : (labelled : Bool) (label : List ℕ) (secret : Secret) (has : Bool) → has ≡ has_label label secret
-    → beq has labelled ≡ true → is_in_part labelled label secret ≡ true
-is_in_part-yes true label secret true is same = sym is
-is_in_part-yes false label secret false is same = rw (← is) refl
-is_in_part-yes true label secret false is same = absurd cc
-is_in_part-yes false label secret true is same = absurd cc
+-- the secrets with the label, or those without
+abbrev in_part : Bool → List ℕ → Secret → Bool
+in_part labelled label secret = beq (has_label label secret) labelled
 
-pub is_in_part-no : (labelled : Bool) (label : List ℕ) (secret : Secret) (has : Bool) → has ≡ has_label label secret
-    → beq has labelled ≡ false → is_in_part labelled label secret ≡ false
-is_in_part-no true label secret false is same = sym is
-is_in_part-no false label secret true is same = rw (← is) refl
-is_in_part-no true label secret true is same = absurd cc
-is_in_part-no false label secret false is same = absurd cc
+abbrev pub tried_part : Bool → List ℕ → List Secret → List Secret
+tried_part labelled label secrets = filter (in_part labelled label) secrets
+
+with_label : (label : List ℕ) (secrets : List Secret) → filter (has_label label) secrets ≡ tried_part true label secrets
+with_label label secrets = filter_agree _ _ (λ secret. same (has_label label secret)) secrets
+  where
+    same : (has : Bool) → has ≡ beq has true
+    same true = refl
+    same false = refl
+
+without_label : (label : List ℕ) (secrets : List Secret) → filter (λ secret. not (has_label label secret)) secrets ≡ tried_part false label secrets
+without_label label secrets = filter_agree _ _ (λ secret. same (has_label label secret)) secrets
+  where
+    same : (has : Bool) → not has ≡ beq has false
+    same true = refl
+    same false = refl
 
 -- the part that is left, from a secret that is in it or is not
 pub tried_part-drop_yes : (labelled : Bool) (label : List ℕ) (secrets : List Secret) (i : ℕ) (secret : Secret) → i < length secrets
-    → secret ≡ get_or secrets i secret → is_in_part labelled label secret ≡ true
+    → secret ≡ get_or secrets i secret → in_part labelled label secret ≡ true
     → tried_part labelled label (drop i secrets) ≡ secret ∷ tried_part labelled label (drop (i + 1) secrets)
 tried_part-drop_yes labelled label secrets i secret inside is holds =
     ap (tried_part labelled label) (drop_more secrets i secret inside) ∙ rw (← is, holds) refl
 
 pub tried_part-drop_no : (labelled : Bool) (label : List ℕ) (secrets : List Secret) (i : ℕ) (secret : Secret) → i < length secrets
-    → secret ≡ get_or secrets i secret → is_in_part labelled label secret ≡ false
+    → secret ≡ get_or secrets i secret → in_part labelled label secret ≡ false
     → tried_part labelled label (drop i secrets) ≡ tried_part labelled label (drop (i + 1) secrets)
 tried_part-drop_no labelled label secrets i secret inside is fails =
     ap (tried_part labelled label) (drop_more secrets i secret inside) ∙ rw (← is, fails) refl
@@ -135,12 +129,12 @@ option_map-None f (Some x) h = absurd cc
 pub tried_order-hint : (list : SecretList) (label : List ℕ) → list.rule ≡ Hint
     → tried_order list label ≡ tried_part true label list.secrets ++ tried_part false label list.secrets
 unfolding tried_order
-tried_order-hint list label hint = rw hint refl
+tried_order-hint list label hint = rw (hint, ← with_label label list.secrets, ← without_label label list.secrets) refl
 
 pub tried_order-required : (list : SecretList) (label : List ℕ) → list.rule ≡ Required
     → tried_order list label ≡ tried_part true label list.secrets
 unfolding tried_order
-tried_order-required list label required = rw required (append-nil (tried_part true label list.secrets))
+tried_order-required list label required = rw required (append-nil (filter (has_label label) list.secrets) ∙ with_label label list.secrets)
 
 -- under each rule the secrets with the label come first
 tried_order-front : (list : SecretList) (label : List ℕ) (rule : LabelRule) → list.rule ≡ rule
@@ -184,4 +178,4 @@ module _ (payload : Payload) (list : SecretList) (label : List ℕ) where
 pub tries-tried_part : (payload : Payload) (labelled : Bool) (label : List ℕ) (secrets : List Secret)
     → tries payload (tried_part labelled label secrets) ≤ length secrets
 tries-tried_part payload labelled label secrets =
-    omega (arith, tries-le-length payload (tried_part labelled label secrets), length-filter (is_in_part labelled label) secrets, count_by-le-length (is_in_part labelled label) secrets)
+    omega (arith, tries-le-length payload (tried_part labelled label secrets), length-filter (in_part labelled label) secrets, count_by-le-length (in_part labelled label) secrets)

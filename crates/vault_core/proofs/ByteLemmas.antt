@@ -11,7 +11,7 @@ use Rattle.vault_aes.specs.Cipher.{add_round_key, cipher, entry, matrix, shift_r
 use Rattle.vault_aes.specs.CounterMode.{counter_mode, stream_byte}
 use Rattle.vault_aes.specs.SubstitutionBox.{number_of_bits, s_box}
 use Rattle.vault_core.specs.Laws.{IsBytes}
-use Rattle.vault_core.specs.Padding.{padded}
+use Rattle.vault_aes.specs.Padding.{padded}
 
 abbrev AllBytes : List ℕ → Type 0
 AllBytes xs = All (λ b. b < 256) xs

@@ -4,12 +4,11 @@ use Rattle.std.specs.Prelude.{find}
 use Rattle.vault_text.specs.Envelope.{Payload}
 use Rattle.vault_text.specs.declared.fault.TextFault.{TextFault}
 use Rattle.vault_text.specs.declared.fault.TextFault.TheVariants as text
-use Rattle.vault_core.specs.Agreement.{agrees, keys_of, tries}
+use Rattle.vault_core.specs.Agreement.{agrees, tries}
 use Rattle.vault_core.specs.Decryption.{decryption, decryption_derivations, payload_of}
 use Rattle.vault_core.specs.Fault.{of_text}
 use Rattle.vault_core.specs.Input.{UnlessUnreadable}
-use Rattle.vault_core.specs.Opening.{deciphered_by, opening}
-use Rattle.vault_core.specs.Padding.{without_padding}
+use Rattle.vault_core.specs.Opening.{opening, plaintext_of}
 use Rattle.vault_core.specs.Secrets.{Secret, SecretList, tried_order}
 use Rattle.vault_core.specs.declared.fault.Fault.{Fault}
 use Rattle.vault_core.specs.declared.fault.Fault.TheVariants.{BadPadding, NoSecretFits, Read}
@@ -29,7 +28,7 @@ of_text-is_no_read text.CipherTooLong h = cc
 
 module _ (secrets : SecretList) (payload : Payload) (fault : Fault) (refused : opening secrets payload ≡ Err fault) where
   after_agreement : (secret : Secret) → find (agrees payload) (tried_order secrets payload.label) ≡ Some secret
-      → (plain : Option (List ℕ)) → without_padding (deciphered_by (keys_of payload secret) payload.cipher) ≡ plain
+      → (plain : Option (List ℕ)) → plaintext_of payload secret ≡ plain
       → fault ≡ BadPadding
   after_agreement secret found None e =
       let same = sym refused ∙ opening-bad_padding secrets payload secret found e in cc
@@ -43,7 +42,7 @@ module _ (secrets : SecretList) (payload : Payload) (fault : Fault) (refused : o
       let fits : fault ≡ NoSecretFits = cc in
       inl fits
   cases (Some secret) e =
-      inr (after_agreement secret e (without_padding (deciphered_by (keys_of payload secret) payload.cipher)) refl)
+      inr (after_agreement secret e (plaintext_of payload secret) refl)
 
   pub opening-is_no_read : fault ≢ Read Input
   opening-is_no_read read =

@@ -6,7 +6,6 @@ pub mod EncryptionLemmas
 pub mod MadeVaultsDecrypt
 pub mod OpenedPlaintext
 pub mod OpeningLemmas
-pub mod PaddingLemmas
 pub mod RekeyingLemmas
 pub mod SealedOpens
 pub mod SealedReadsBack

@@ -1,14 +1,16 @@
 -- What was encrypted or rekeyed decrypts.
 use Rattle.std.proofs.Common.{◌≡◌, ℕ, ◌≤◌, List, [], ◌∷◌, length, Result, Ok, Err, refl, ap, sym, ◌∙◌, arith, inl, inr}
 use Rattle.std.proofs.lemmas.Bool.{cases_Bool, cases_lt}
+use Rattle.vault_text.specs.Envelope.{Payload}
 use Rattle.vault_text.specs.Limits.{ciphertext_limit}
-use Rattle.vault_core.specs.Decryption.{decryption}
+use Rattle.vault_core.specs.Decryption.{decryption, payload_of}
 use Rattle.vault_core.specs.Encryption.{encryption, is_vault}
 use Rattle.vault_core.specs.Form.{Envelope}
 use Rattle.vault_core.specs.Laws.{EncryptedDecrypts, IsTriedFirst, RekeyedDecrypts}
-use Rattle.vault_core.specs.Padding.{padded_length}
+use Rattle.vault_aes.specs.Padding.{padded_length}
+use Rattle.vault_core.specs.Opening.{opening}
 use Rattle.vault_core.specs.Ready.{Ready}
-use Rattle.vault_core.specs.Rekeying.{rekeying}
+use Rattle.vault_core.specs.Rekeying.{rekeying, resealing}
 use Rattle.vault_core.specs.Sealing.{sealed, text_in}
 use Rattle.vault_core.specs.Secrets.{Secret, SecretList, secret_at, tried_behind, tried_order}
 use Rattle.vault_core.specs.declared.fault.Fault.{Fault}
@@ -16,7 +18,7 @@ use Rattle.vault_core.specs.declared.label_rule.LabelRule.{LabelRule}
 use Rattle.vault_core.proofs.DecryptionLemmas.{decryption-Ok}
 use Rattle.vault_core.proofs.EncryptionLemmas.{encryption-sealed, encryption-too_long, encryption-vault}
 use Rattle.vault_core.proofs.OpenedPlaintext.{FitsAgain-decryption}
-use Rattle.vault_core.proofs.RekeyingLemmas.{rekeying-Err, rekeying-sealed, rekeying-vault}
+use Rattle.vault_core.proofs.RekeyingLemmas.{rekeying-no_payload, rekeying-payload, resealing-Err, resealing-sealed, resealing-vault}
 use Rattle.vault_core.proofs.SealedOpens.{bytes_eq-same, sealed_opens}
 use Rattle.vault_core.proofs.SealedReadsBack.{sealed_reads_back}
 
@@ -53,17 +55,26 @@ encrypted_decrypts limit list place salt input ready label salt_bytes salt_fits 
 
 module _ (limit : ℕ) (secrets : SecretList) (new : Secret) (salt input : List ℕ) (ready : Ready) (is : rekeying limit secrets new salt input ≡ Ok ready) where
   pub rekeying-made : (opened : Ready) × (decryption limit secrets input ≡ Ok opened) × (ready ≡ envelope_of new salt opened.output opened.tried)
-  rekeying-made = by_opened (decryption limit secrets input) refl
+  rekeying-made = by_payload (payload_of limit input) refl
     where
-      by_opened : (answer : Result Ready Fault) → decryption limit secrets input ≡ answer
-          → (opened : Ready) × (decryption limit secrets input ≡ Ok opened) × (ready ≡ envelope_of new salt opened.output opened.tried)
-      by_opened (Err fault) known = let wrong = sym (rekeying-Err limit secrets new salt input fault (sym known)) ∙ is in absurd cc
-      by_opened (Ok opened) known = elim (cases_Bool (is_vault opened.output)) [
-        | inl vault ↦ let wrong = sym (rekeying-vault limit secrets new salt input opened (sym known) vault) ∙ is in absurd cc
+      Made : Type 0
+      Made = (opened : Ready) × (decryption limit secrets input ≡ Ok opened) × (ready ≡ envelope_of new salt opened.output opened.tried)
+
+      by_opened : (payload : Payload) → resealing secrets new salt payload ≡ Ok ready
+          → (answer : Result Ready Fault) → opening secrets payload ≡ answer → decryption limit secrets input ≡ answer → Made
+      by_opened payload is (Err fault) known same = let wrong = sym (resealing-Err secrets new salt payload fault (sym known)) ∙ is in absurd cc
+      by_opened payload is (Ok opened) known same = elim (cases_Bool (is_vault opened.output)) [
+        | inl vault ↦ let wrong = sym (resealing-vault secrets new salt payload opened (sym known) vault) ∙ is in absurd cc
         | inr plain ↦
-            let same = sym (rekeying-sealed limit secrets new salt input opened (sym known) plain) ∙ is in
-            (opened, known, sym cc)
+            let made = sym (resealing-sealed secrets new salt payload opened (sym known) plain) ∙ is in
+            (opened, same, sym cc)
       ]
+
+      by_payload : (read : Result Payload Fault) → payload_of limit input ≡ read → Made
+      by_payload (Err fault) known = let wrong = sym (rekeying-no_payload limit secrets new salt input fault (sym known)) ∙ is in absurd cc
+      by_payload (Ok payload) known =
+          by_opened payload (sym (rekeying-payload limit secrets new salt input payload (sym known)) ∙ is) (opening secrets payload) refl
+          (decryption-Ok limit secrets input payload (sym known))
 
 -- a list of one secret tries it first for its own label
 alone : (new : Secret) (rule : LabelRule) → IsTriedFirst (record { secrets = new ∷ []; rule = rule }) new

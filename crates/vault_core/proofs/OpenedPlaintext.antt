@@ -4,7 +4,7 @@ use Rattle.std.specs.Prelude.{find}
 use Rattle.std.specs.Result.{result_map_both}
 use Rattle.vault_aes.specs.KeyExpansion.{key_schedule}
 use Rattle.vault_aes.proofs.CounterModeLemmas.{length-counter_mode}
-use Rattle.vault_aes.proofs.PaddingLemmas.{take-IsPadded}
+use Rattle.vault_aes.proofs.PaddingLemmas.{length-padded, padded-without_padding, take-padded}
 use Rattle.vault_kdf.specs.declared.keys.Keys.{Keys}
 use Rattle.vault_text.specs.Envelope.{Payload, read_within}
 use Rattle.vault_text.specs.Limits.{ciphertext_limit}
@@ -14,14 +14,13 @@ use Rattle.vault_core.specs.Agreement.{agrees, keys_of}
 use Rattle.vault_core.specs.Decryption.{decryption}
 use Rattle.vault_core.specs.Fault.{of_text}
 use Rattle.vault_core.specs.Laws.{IsBytes}
-use Rattle.vault_core.specs.Opening.{deciphered_by, opening}
-use Rattle.vault_core.specs.Padding.{padded_length, without_padding}
+use Rattle.vault_core.specs.Opening.{deciphered_by, opening, plaintext_of}
+use Rattle.vault_aes.specs.Padding.{padded_length}
 use Rattle.vault_core.specs.Ready.{Ready}
 use Rattle.vault_core.specs.Secrets.{Secret, SecretList, tried_order}
 use Rattle.vault_core.proofs.ByteLemmas.{counter_mode-bytes, take-bytes}
 use Rattle.vault_core.proofs.DecryptionLemmas.{decryption-Err, decryption-Ok}
 use Rattle.vault_core.proofs.OpeningLemmas.{opening-bad_padding, opening-no_secret, opening-plain}
-use Rattle.vault_core.proofs.PaddingLemmas.{IsPadded-without_padding, length-padded_by}
 
 -- the plaintext fits under its limit again
 pub record FitsAgain (limit : ℕ) (plain : List ℕ) : Type 0 where
@@ -30,27 +29,27 @@ pub record FitsAgain (limit : ℕ) (plain : List ℕ) : Type 0 where
 
 -- what stands before the padding of deciphered bytes
 FitsAgain-plain : (limit : ℕ) (payload : Payload) (secret : Secret) (plain : List ℕ) → HasFittingCipher limit payload
-    → without_padding (deciphered_by (keys_of payload secret) payload.cipher) ≡ Some plain → FitsAgain limit plain
-FitsAgain-plain limit payload secret plain cipher found =
+    → plaintext_of payload secret ≡ Some plain → FitsAgain limit plain
+FitsAgain-plain limit payload secret plain ciphertext found =
     let keys : Keys = keys_of payload secret in
     let text : List ℕ = deciphered_by keys payload.cipher in
-    let padding = IsPadded-without_padding plain text found in
+    let padding = padded-without_padding plain text found in
     record {
-      bytes = rw (take-IsPadded plain text padding) at (take-bytes (length plain) text (counter_mode-bytes (key_schedule keys.cipher) keys.iv payload.cipher cipher.bytes));
-      fits = omega (arith, length-padded_by plain text padding, length-counter_mode (key_schedule keys.cipher) keys.iv payload.cipher, cipher.fits);
+      bytes = rw (rw padding at (take-padded plain)) at (take-bytes (length plain) text (counter_mode-bytes (key_schedule keys.cipher) keys.iv payload.cipher ciphertext.bytes));
+      fits = omega (arith, ap length padding, length-padded plain, length-counter_mode (key_schedule keys.cipher) keys.iv payload.cipher, ciphertext.fits);
     }
 
 module _ (limit : ℕ) (secrets : SecretList) (opened : Ready) where
   FitsAgain-opening : (payload : Payload) → HasFittingCipher limit payload → opening secrets payload ≡ Ok opened → FitsAgain limit opened.output
-  FitsAgain-opening payload cipher is = by_secret (find (agrees payload) (tried_order secrets payload.label)) refl
+  FitsAgain-opening payload ciphertext is = by_secret (find (agrees payload) (tried_order secrets payload.label)) refl
     where
       by_plain : (secret : Secret) → find (agrees payload) (tried_order secrets payload.label) ≡ Some secret → (plain : Option (List ℕ))
-          → without_padding (deciphered_by (keys_of payload secret) payload.cipher) ≡ plain → FitsAgain limit opened.output
+          → plaintext_of payload secret ≡ plain → FitsAgain limit opened.output
       by_plain secret found None known = let wrong = sym (opening-bad_padding secrets payload secret found known) ∙ is in absurd cc
       by_plain secret found (Some plain) known =
           let same = sym (opening-plain secrets payload secret plain found known) ∙ is in
           let output : plain ≡ opened.output = cc in
-          rw output at (FitsAgain-plain limit payload secret plain cipher known)
+          rw output at (FitsAgain-plain limit payload secret plain ciphertext known)
 
       by_secret : (found : Option Secret) → find (agrees payload) (tried_order secrets payload.label) ≡ found → FitsAgain limit opened.output
       by_secret None none = let wrong = sym (opening-no_secret secrets payload none) ∙ is in absurd cc

@@ -2,12 +2,10 @@
 use Rattle.std.proofs.Common.{◌≡◌, ℕ, List, Some, None, Ok, Err, refl}
 use Rattle.std.specs.Prelude.{find}
 use Rattle.vault_text.specs.Envelope.{Payload}
-use Rattle.vault_core.specs.Agreement.{agrees, keys_of, tries}
-use Rattle.vault_core.specs.Opening.{deciphered_by, opening}
+use Rattle.vault_core.specs.Agreement.{agrees, tries}
+use Rattle.vault_core.specs.Opening.{opening, plaintext_of}
 use Rattle.vault_core.specs.Secrets.{Secret, SecretList, tried_order}
-use Rattle.vault_core.specs.Padding.{without_padding}
 use Rattle.vault_core.specs.declared.fault.Fault.TheVariants.{NoSecretFits, BadPadding}
-use Rattle.vault_core.proofs.AgreementLemmas.{tries-found}
 
 module _ (secrets : SecretList) (payload : Payload) where
   pub opening-no_secret : find (agrees payload) (tried_order secrets payload.label) ≡ None → opening secrets payload ≡ Err NoSecretFits
@@ -15,13 +13,12 @@ module _ (secrets : SecretList) (payload : Payload) where
   opening-no_secret none = rw none refl
 
   pub opening-bad_padding : (secret : Secret) → find (agrees payload) (tried_order secrets payload.label) ≡ Some secret
-      → without_padding (deciphered_by (keys_of payload secret) payload.cipher) ≡ None → opening secrets payload ≡ Err BadPadding
+      → plaintext_of payload secret ≡ None → opening secrets payload ≡ Err BadPadding
   unfolding opening
   opening-bad_padding secret found none = rw (found, none) refl
 
   pub opening-plain : (secret : Secret) (plain : List ℕ) → find (agrees payload) (tried_order secrets payload.label) ≡ Some secret
-      → without_padding (deciphered_by (keys_of payload secret) payload.cipher) ≡ Some plain
+      → plaintext_of payload secret ≡ Some plain
       → opening secrets payload ≡ Ok (record { output = plain; tried = tries payload (tried_order secrets payload.label) })
   unfolding opening
-  opening-plain secret plain found some =
-      rw (found, some, tries-found payload (tried_order secrets payload.label) secret found) refl
+  opening-plain secret plain found some = rw (found, some) refl

@@ -1,14 +1,13 @@
--- The answers of rekeying, by what decrypting gives, and of resealing, by what opening gives.
+-- The answers of rekeying, by what is read, and of resealing, by what opening gives.
 use Rattle.std.proofs.Common.{◌≡◌, ◌≢◌, ℕ, true, false, List, Result, Ok, Err, refl, sym, ◌∙◌, inl, inr}
 use Rattle.std.proofs.lemmas.Bool.{cases_Bool}
 use Rattle.vault_text.specs.Envelope.{Payload}
-use Rattle.vault_text.specs.Steps.{◌>>=◌}
-use Rattle.vault_core.specs.Decryption.{decryption, payload_of}
+use Rattle.vault_core.specs.Decryption.{payload_of}
 use Rattle.vault_core.specs.Encryption.{is_vault}
 use Rattle.vault_core.specs.Form.{Envelope}
 use Rattle.vault_core.specs.Opening.{opening}
 use Rattle.vault_core.specs.Ready.{Ready}
-use Rattle.vault_core.specs.Rekeying.{rekeying, resealed, resealing}
+use Rattle.vault_core.specs.Rekeying.{rekeying, resealing}
 use Rattle.vault_core.specs.Sealing.{sealed, text_in}
 use Rattle.vault_core.specs.Secrets.{Secret, SecretList}
 use Rattle.vault_core.specs.declared.fault.Fault.{Fault}
@@ -17,37 +16,14 @@ use Rattle.vault_core.specs.declared.fault.Role.TheVariants.{Input}
 use Rattle.vault_core.proofs.DecryptionLemmas.{opening-is_no_read}
 
 module _ (limit : ℕ) (secrets : SecretList) (new : Secret) (salt input : List ℕ) where
-  pub rekeying-Err : (fault : Fault) → Err fault ≡ decryption limit secrets input → rekeying limit secrets new salt input ≡ Err fault
-  unfolding rekeying
-  rekeying-Err fault h = rw (← h) refl
-
-  pub rekeying-vault : (opened : Ready) → Ok opened ≡ decryption limit secrets input → is_vault opened.output ≡ true
-      → rekeying limit secrets new salt input ≡ Err AlreadyVault
-  unfolding rekeying
-  rekeying-vault opened h vault = rw (← h, vault) refl
-
-  pub rekeying-sealed : (opened : Ready) → Ok opened ≡ decryption limit secrets input → is_vault opened.output ≡ false
-      → rekeying limit secrets new salt input
-      ≡ Ok (record { output = text_in Envelope (sealed new salt opened.output); tried = opened.tried })
-  unfolding rekeying
-  rekeying-sealed opened h plain = rw (← h, plain) refl
-
-  -- the same as reading the payload and resealing it
-  rekeying-resealing : rekeying limit secrets new salt input ≡ (payload_of limit input >>= resealing secrets new salt)
-  unfolding rekeying decryption resealing
-  rekeying-resealing = by_payload (payload_of limit input)
-    where
-      by_payload : (read : Result Payload Fault)
-          → ((read >>= opening secrets) >>= resealed new salt) ≡ (read >>= resealing secrets new salt)
-      by_payload (Ok payload) = refl
-      by_payload (Err fault) = refl
-
   pub rekeying-no_payload : (fault : Fault) → Err fault ≡ payload_of limit input → rekeying limit secrets new salt input ≡ Err fault
-  rekeying-no_payload fault h = rw (rekeying-resealing, ← h) refl
+  unfolding rekeying
+  rekeying-no_payload fault h = rw (← h) refl
 
   pub rekeying-payload : (payload : Payload) → Ok payload ≡ payload_of limit input
       → rekeying limit secrets new salt input ≡ resealing secrets new salt payload
-  rekeying-payload payload h = rw (rekeying-resealing, ← h) refl
+  unfolding rekeying
+  rekeying-payload payload h = rw (← h) refl
 
 module _ (secrets : SecretList) (new : Secret) (salt : List ℕ) (payload : Payload) where
   pub resealing-Err : (fault : Fault) → Err fault ≡ opening secrets payload → resealing secrets new salt payload ≡ Err fault

@@ -4,16 +4,16 @@ use Rattle.std.specs.Prelude.{find}
 use Rattle.std.specs.Str.{bytes_eq}
 use Rattle.std.proofs.lemmas.Slice.Eq.{bytes_eq-Decides}
 use Rattle.vault_aes.proofs.CounterModeLemmas.{counter_mode-counter_mode}
+use Rattle.vault_aes.proofs.PaddingLemmas.{without_padding-padded}
 use Rattle.vault_text.specs.Envelope.{Payload}
-use Rattle.vault_core.specs.Agreement.{agrees, keys_of, tries}
+use Rattle.vault_core.specs.Agreement.{agrees, tries}
 use Rattle.vault_core.specs.Laws.{SealedOpens}
-use Rattle.vault_core.specs.Opening.{deciphered_by}
-use Rattle.vault_core.specs.Padding.{padded, without_padding}
+use Rattle.vault_core.specs.Opening.{plaintext_of}
+use Rattle.vault_aes.specs.Padding.{padded, without_padding}
 use Rattle.vault_core.specs.Sealing.{sealed}
 use Rattle.vault_core.specs.Secrets.{Secret, tried_order}
 use Rattle.vault_core.proofs.AgreementLemmas.{tries-cons_yes}
 use Rattle.vault_core.proofs.OpeningLemmas.{opening-plain}
-use Rattle.vault_core.proofs.PaddingLemmas.{without_padding-padded}
 use Rattle.vault_core.proofs.SealingLemmas.{label-sealed}
 
 -- bytes are equal to themselves
@@ -29,10 +29,10 @@ module _ (sealing : Secret) (salt plain : List ℕ) where
   agrees-sealed secret same = rw same (bytes_eq-same vault.tag)
 
   plain-sealed : (secret : Secret) → secret.password ≡ sealing.password
-      → without_padding (deciphered_by (keys_of vault secret) vault.cipher) ≡ Some plain
+      → plaintext_of vault secret ≡ Some plain
   unfolding sealed
   plain-sealed secret same =
-      rw same (ap without_padding (counter_mode-counter_mode _ _ (padded plain)) ∙ without_padding-padded plain)
+      rw same (ap without_padding (counter_mode-counter_mode _ _ (padded plain)) ∙ without_padding-padded plain (padded plain) refl)
 
 pub sealed_opens : SealedOpens
 sealed_opens secrets sealing salt plain tried =

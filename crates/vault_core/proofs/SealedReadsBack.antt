@@ -2,6 +2,7 @@
 use Rattle.std.proofs.Common.{◌≡◌, ℕ, ◌≤◌, List, length, ap, ◌∙◌, arith}
 use Rattle.std.specs.Result.{result_map_both}
 use Rattle.vault_aes.proofs.CounterModeLemmas.{length-counter_mode}
+use Rattle.vault_aes.proofs.PaddingLemmas.{length-padded}
 use Rattle.vault_kdf.proofs.Bytes.{hmac-bytes}
 use Rattle.vault_kdf.proofs.Lengths.{length-hmac}
 use Rattle.vault_text.specs.Envelope.{Payload}
@@ -12,11 +13,10 @@ use Rattle.vault_text.proofs.WrittenReadsBack.{written_reads_back}
 use Rattle.vault_core.specs.Decryption.{payload_of}
 use Rattle.vault_core.specs.Fault.{of_text}
 use Rattle.vault_core.specs.Laws.{IsBytes, SealedReadsBack}
-use Rattle.vault_core.specs.Padding.{padded_length}
+use Rattle.vault_aes.specs.Padding.{padded_length}
 use Rattle.vault_core.specs.Sealing.{sealed}
 use Rattle.vault_core.specs.Secrets.{Secret}
 use Rattle.vault_core.proofs.ByteLemmas.{counter_mode-bytes, padded-bytes}
-use Rattle.vault_core.proofs.PaddingLemmas.{length-padded}
 use Rattle.vault_core.proofs.SealingLemmas.{label-sealed, salt-sealed, text_in-Envelope}
 
 module _ (sealing : Secret) (salt plain : List ℕ) where
@@ -28,13 +28,13 @@ module _ (sealing : Secret) (salt plain : List ℕ) where
   unfolding sealed
   length-tag = length-hmac _ _
 
-  cipher-bytes : IsBytes plain → IsBytes (sealed sealing salt plain).cipher
+  ciphertext-bytes : IsBytes plain → IsBytes (sealed sealing salt plain).cipher
   unfolding sealed
-  cipher-bytes bytes = counter_mode-bytes _ _ _ (padded-bytes plain bytes)
+  ciphertext-bytes bytes = counter_mode-bytes _ _ _ (padded-bytes plain bytes)
 
-  length-cipher : length (sealed sealing salt plain).cipher ≡ padded_length (length plain)
+  length-ciphertext : length (sealed sealing salt plain).cipher ≡ padded_length (length plain)
   unfolding sealed
-  length-cipher = length-counter_mode _ _ _ ∙ length-padded plain
+  length-ciphertext = length-counter_mode _ _ _ ∙ length-padded plain
 
 pub sealed_reads_back : SealedReadsBack
 sealed_reads_back limit sealing salt plain label salt_bytes salt_fits plain_bytes fits =
@@ -42,7 +42,7 @@ sealed_reads_back limit sealing salt plain label salt_bytes salt_fits plain_byte
     let same_salt = salt-sealed sealing salt plain in
     let labelled = ap is_label (label-sealed sealing salt plain) ∙ label in
     let short : length vault.salt ≤ SALT_LIMIT = omega (arith, ap length same_salt, salt_fits) in
-    let room : length vault.cipher ≤ ciphertext_limit limit = omega (arith, length-cipher sealing salt plain, fits) in
+    let room : length vault.cipher ≤ ciphertext_limit limit = omega (arith, length-ciphertext sealing salt plain, fits) in
     ap (payload_of limit) (text_in-Envelope vault)
     ∙ ap (result_map_both (λ payload. payload) of_text) (written_reads_back limit vault.label vault.salt vault.tag vault.cipher
-    labelled (rw same_salt salt_bytes) short (tag-bytes sealing salt plain) (length-tag sealing salt plain) (cipher-bytes sealing salt plain plain_bytes) room)
+    labelled (rw same_salt salt_bytes) short (tag-bytes sealing salt plain) (length-tag sealing salt plain) (ciphertext-bytes sealing salt plain plain_bytes) room)

@@ -31,4 +31,4 @@ module _ (smaller larger : ℕ) (input : List ℕ) (more : smaller ≤ larger) (
   pub rekeying-short : (secrets : SecretList) (new : Secret) (salt : List ℕ)
       → rekeying larger secrets new salt input ≡ rekeying smaller secrets new salt input
   unfolding rekeying
-  rekeying-short secrets new salt = rw (decryption-short secrets) refl
+  rekeying-short secrets new salt = rw payload_of-short refl

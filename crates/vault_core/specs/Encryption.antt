@@ -1,5 +1,6 @@
 -- What `encrypt` and `encrypt_string` answer.
-use Rattle.std.specs.Prelude.{ℕ, ◌==◌, ◌&&◌, nat_lt, nat_eq, Bool, if◌then◌else◌, List, length, Result, Ok, Err}
+use Rattle.std.specs.Prelude.{ℕ, ◌==◌, ◌&&◌, nat_lt, nat_eq, Bool, if◌then◌else◌, List, length}
+use Rattle.std.specs.Prelude.{Result, Ok, Err}
 use Rattle.std.specs.List.{starts_with}
 use Rattle.vault_text.specs.Header.{marker}
 use Rattle.vault_core.specs.Form.{Form, is_block}

@@ -1,7 +1,19 @@
 -- The table of faults: the number and the text of each, and the fault that a smaller type names.
 use Rattle.std.specs.Prelude.{ℕ, List, codes}
 use Rattle.vault_core.specs.declared.fault.Fault.{Fault}
-use Rattle.vault_core.specs.declared.fault.Fault.TheVariants.{TooLong, NotVault, HeaderTooLong, BadHeader, BadVersion, BadCipher, BadHex, BadPayload, CipherTooLong, SecretTooLong, SecretIsScript, SecretIsVault, SecretEmpty, TooManySecrets, NoEncryptSecret, ManyEncryptSecrets, UnknownEncryptId, EmptyString, AlreadyVault, NoSecretFits, BadPadding, BadLabel, BadName, NameMismatch, PromptSource, NeedNewSecret, OutputNeeded, Read, Write, SaltShort, CannotOpen, Memory, SaltChoice, BadSalt}
+use Rattle.vault_core.specs.declared.fault.Fault.TheVariants.{TooLong, NotVault, HeaderTooLong}
+use Rattle.vault_core.specs.declared.fault.Fault.TheVariants.{BadHeader, BadVersion, BadCipher}
+use Rattle.vault_core.specs.declared.fault.Fault.TheVariants.{BadHex, BadPayload, CipherTooLong}
+use Rattle.vault_core.specs.declared.fault.Fault.TheVariants.{SecretTooLong, SecretIsScript}
+use Rattle.vault_core.specs.declared.fault.Fault.TheVariants.{SecretIsVault, SecretEmpty}
+use Rattle.vault_core.specs.declared.fault.Fault.TheVariants.{TooManySecrets, NoEncryptSecret}
+use Rattle.vault_core.specs.declared.fault.Fault.TheVariants.{ManyEncryptSecrets, UnknownEncryptId}
+use Rattle.vault_core.specs.declared.fault.Fault.TheVariants.{EmptyString, AlreadyVault}
+use Rattle.vault_core.specs.declared.fault.Fault.TheVariants.{NoSecretFits, BadPadding, BadLabel}
+use Rattle.vault_core.specs.declared.fault.Fault.TheVariants.{BadName, NameMismatch, PromptSource}
+use Rattle.vault_core.specs.declared.fault.Fault.TheVariants.{NeedNewSecret, OutputNeeded, Read}
+use Rattle.vault_core.specs.declared.fault.Fault.TheVariants.{Write, SaltShort, CannotOpen, Memory}
+use Rattle.vault_core.specs.declared.fault.Fault.TheVariants.{SaltChoice, BadSalt}
 use Rattle.vault_core.specs.declared.fault.Role.TheVariants.{Input, Secret, Salt}
 use Rattle.vault_core.specs.declared.choice.ChoiceFault.{ChoiceFault}
 use Rattle.vault_core.specs.declared.choice.ChoiceFault.TheVariants as choice

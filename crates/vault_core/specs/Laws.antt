@@ -1,22 +1,19 @@
 -- Laws of the definitions, which hold of all secrets, salts and inputs.
-use Rattle.std.specs.Prelude.{◌≡◌, ℕ, ◌*◌, ◌<◌, ◌≤◌, List, [], ◌∷◌, length, slice_index, true, Ok}
+use Rattle.std.specs.Prelude.{◌≡◌, ℕ, ◌*◌, ◌≤◌, List, [], ◌∷◌, length, true, Ok}
+pub use Rattle.hex.specs.Hex.{IsBytes}
 use Rattle.vault_text.specs.Label.{is_label}
 use Rattle.vault_text.specs.declared.limits.TheConstants.{SALT_LIMIT}
 use Rattle.vault_core.specs.Decryption.{decryption, payload_of}
 use Rattle.vault_core.specs.Encryption.{encryption}
 use Rattle.vault_core.specs.Form.{Form, Envelope}
 use Rattle.vault_core.specs.Opening.{opening}
-use Rattle.vault_core.specs.Padding.{padded_length}
+use Rattle.vault_aes.specs.Padding.{padded_length}
 use Rattle.vault_core.specs.Ready.{Ready}
 use Rattle.vault_core.specs.Rekeying.{rekeying}
 use Rattle.vault_core.specs.Sealing.{sealed, text_in}
 use Rattle.vault_core.specs.Secrets.{Secret, SecretList, secret_at, tried_order}
 use Rattle.vault_text.specs.Limits.{ciphertext_limit}
 use Rattle.vault_core.specs.declared.label_rule.LabelRule.{LabelRule}
-
--- numbers below 256; past the end a list reads as 0
-abbrev pub IsBytes : List ℕ → Type 0
-IsBytes bytes = (i : ℕ) → slice_index bytes i < 256
 
 -- the first secret that is tried for a label has the password
 abbrev pub IsTriedFirst : SecretList → Secret → Type 0
@@ -62,9 +59,9 @@ RekeyedDecrypts =
     → decryption limit (record { secrets = new ∷ []; rule = rule }) ready.output
     ≡ Ok (record { output = plain; tried = 1 }))
 
--- an input that has room wherever so much plaintext does gets one answer under that limit and under
--- every larger one: a plaintext within the limit, and an envelope of four times as many bytes, since
--- it spells each byte with four digits
+-- an input that is short enough gets one answer under that limit and under every larger one: a
+-- plaintext within the limit, and an envelope of at most four times as many bytes, since it spells
+-- each byte with four digits
 abbrev pub ShortInputs : Type 0
 ShortInputs =
     (smaller larger : ℕ) (input : List ℕ) → smaller ≤ larger

@@ -8,10 +8,8 @@ pub mod Input
 pub mod Laws
 pub mod Opening
 pub mod Output
-pub mod Padding
 pub mod Password
 pub mod Ready
 pub mod Rekeying
 pub mod Sealing
 pub mod Secrets
-pub mod TriedPart

@@ -6,6 +6,6 @@ use Rattle.vault_core.specs.declared.output.Output.{Output}
 use Rattle.vault_core.specs.declared.output.Output.TheVariants.{Plain, Vault}
 
 -- plaintext as it is, or a vault in its form
-abbrev pub bytes_of : Output → List ℕ
-bytes_of (Plain plain) = plain.now
-bytes_of (Vault vault form) = text_in (form_of form) vault
+abbrev pub output_bytes : Output → List ℕ
+output_bytes (Plain plain) = plain.now
+output_bytes (Vault vault form) = text_in (form_of form) vault

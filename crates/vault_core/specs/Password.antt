@@ -1,11 +1,14 @@
 -- Password files and the passwords in them.
-use Rattle.std.specs.Prelude.{ℕ, ◌==◌, ◌≤◌, nat_eq, nat_lt, if◌then◌else◌, List, length, codes, Result, Ok, Err}
+use Rattle.std.specs.Prelude.{ℕ, ◌==◌, ◌≤◌, nat_eq, nat_lt, if◌then◌else◌, List, length, codes}
+use Rattle.std.specs.Prelude.{Result, Ok, Err}
 use Rattle.std.specs.List.{starts_with}
 use Rattle.vault_text.specs.Header.{marker}
 use Rattle.vault_text.specs.Whitespace.{strip}
 use Rattle.vault_core.specs.declared.limits.TheConstants.{PASSWORD_FILE_LIMIT}
 use Rattle.vault_core.specs.declared.password.SecretFault.{SecretFault}
-use Rattle.vault_core.specs.declared.password.SecretFault.TheVariants.{SecretTooLong, SecretIsScript, SecretIsVault, SecretEmpty}
+use Rattle.vault_core.specs.declared.password.SecretFault.TheVariants.{SecretTooLong}
+use Rattle.vault_core.specs.declared.password.SecretFault.TheVariants.{SecretIsScript}
+use Rattle.vault_core.specs.declared.password.SecretFault.TheVariants.{SecretIsVault, SecretEmpty}
 
 -- the length that a password may have
 abbrev pub IsPassword : List ℕ → Type 0

@@ -10,7 +10,7 @@ use Rattle.vault_text.specs.Block.{block}
 use Rattle.vault_text.specs.Envelope.{Payload}
 use Rattle.vault_text.specs.Written.{written}
 use Rattle.vault_core.specs.Form.{Form, Envelope, Block}
-use Rattle.vault_core.specs.Padding.{padded}
+use Rattle.vault_aes.specs.Padding.{padded}
 use Rattle.vault_core.specs.Secrets.{Secret}
 use Rattle.vault_core.specs.declared.fault.Fault.{Fault}
 
@@ -23,8 +23,13 @@ enciphered_by keys plain = counter_mode (key_schedule keys.cipher) keys.iv (padd
 unfoldable pub sealed : Secret → List ℕ → List ℕ → Payload
 sealed secret salt plain =
     let keys = vault_keys secret.password salt in
-    let cipher = enciphered_by keys plain in
-    record { label = secret.label; salt = salt; tag = hmac keys.mac cipher; cipher = cipher }
+    let ciphertext = enciphered_by keys plain in
+    record {
+      label = secret.label;
+      salt = salt;
+      tag = hmac keys.mac ciphertext;
+      cipher = ciphertext;
+    }
 
 -- the vault as it is written
 unfoldable pub text_in : Form → Payload → List ℕ

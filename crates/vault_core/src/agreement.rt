@@ -1,9 +1,10 @@
 //! Which secret agrees with an envelope: trying secrets one after the other.
-ghost use Rattle.std.specs.Prelude.{◌≡◌, ◌+◌, ◌<◌, ◌^◌, Some, None, if◌then◌else◌, length, find};
+ghost use Rattle.std.specs.Prelude.{◌≡◌, ◌+◌, ◌<◌, ◌^◌, Some, None, if◌then◌else◌, length};
+ghost use Rattle.std.specs.Prelude.{filter, find};
+ghost use Rattle.std.specs.Bool.{beq};
 ghost use Rattle.std.specs.Option.{option_map};
 ghost use Rattle.vault_core.specs.Agreement.{agrees, keys_of, tries};
-ghost use Rattle.vault_core.specs.Secrets.{tried_order};
-ghost use Rattle.vault_core.specs.TriedPart.{tried_part};
+ghost use Rattle.vault_core.specs.Secrets.{has_label, tried_order};
 
 use crate::label_rule::LabelRule;
 use crate::secret::Secret;
@@ -40,10 +41,10 @@ fn first_agreeing(
     meter: &mut Meter,
 ) -> Option<Keys>
     requires { meter.old + length secrets.now < 2 ^ 63 }
-    ensures keys { result ≡ option_map (keys_of payload.now)
-        (find (agrees payload.now) (tried_part labelled payload.now.label secrets.now)) }
-    ensures counted { meter.new
-        ≡ meter.old + tries payload.now (tried_part labelled payload.now.label secrets.now) }
+    ensures keys { result ≡ option_map (keys_of payload.now) (find (agrees payload.now)
+        (filter (λ secret. beq (has_label payload.now.label secret) labelled) secrets.now)) }
+    ensures counted { meter.new ≡ meter.old + tries payload.now
+        (filter (λ secret. beq (has_label payload.now.label secret) labelled) secrets.now) }
 {
     for secret in secrets {
         if secret.has_label(payload.label()) == labelled

@@ -1,7 +1,7 @@
 //! Choosing the secret that encrypts.
 ghost use Rattle.std.specs.Prelude.{◌≡◌, position};
 ghost use Rattle.std.specs.Option.{option_copied};
-ghost use Rattle.vault_core.specs.Choice.{choice};
+ghost use Rattle.vault_core.specs.Choice.{chosen_place};
 ghost use Rattle.vault_core.specs.Secrets.{has_label};
 
 use crate::secret::Secret;
@@ -20,8 +20,8 @@ pub enum ChoiceFault {
 }
 
 /// The place of the first secret with the label, or of the only one where no label is given.
-pub(crate) fn choice(secrets: &[Secret], label: Option<&Label>) -> Result<usize, ChoiceFault>
-    ensures { result ≡ choice secrets.now (option_copied label.entry) }
+pub(crate) fn chosen_place(secrets: &[Secret], label: Option<&Label>) -> Result<usize, ChoiceFault>
+    ensures { result ≡ chosen_place secrets.now (option_copied label.entry) }
 {
     if secrets.is_empty() {
         return Err(ChoiceFault::NoEncryptSecret);

@@ -16,7 +16,7 @@ use crate::secrets::Secrets;
 use vault_kdf::Meter;
 use vault_text::{MARKER, PADDING_LIMIT, Salt, Source, TextMemory};
 
-/// Reads a plaintext and seals it with the secret at the place `choice`, counted from 0.
+/// Reads a plaintext and seals it with the secret at the place, counted from 0.
 ///
 /// All of it happens in `work`, of 16 bytes to `CIPHERTEXT_LIMIT`: a plaintext is taken that fits
 /// there with a whole block of padding. The input is read to its end, or to one byte more than is
@@ -26,13 +26,13 @@ pub fn prepare_encrypt<'a, S: Source>(
     src: &mut S,
     work: &'a mut [u8],
     secrets: &'a Secrets,
-    choice: usize,
+    place: usize,
     form: Form<'a>,
     salt: &'a Salt,
     meter: &mut Meter,
 ) -> Result<Ready<'a>, Fault>
     requires room { IsWorkLength (length work.old) }
-    requires chosen { choice < length secrets.now.secrets }
+    requires chosen { place < length secrets.now.secrets }
     requires countable { meter.old < 2 ^ 62 }
     ensures answer { let limit = limit_of (length work.old) in
         (input : List ℕ) × S.gives src.old input src.new
@@ -41,14 +41,14 @@ pub fn prepare_encrypt<'a, S: Source>(
         ((length input ≤ limit) × (meter.new ≡ meter.old))
         (IsWhole limit (S.ended src.new) input
         × (result
-        ≡ encryption limit secrets.now.secrets choice (form_of form.entry) salt.now input)
+        ≡ encryption limit secrets.now.secrets place (form_of form.entry) salt.now input)
         × (meter.new ≡ meter.old + sealing_derivations result)) }
 {
     prepare_encrypt_in(
         src,
         TextMemory::lent(work),
         secrets,
-        choice,
+        place,
         form,
         salt,
         meter,
@@ -60,14 +60,14 @@ pub fn prepare_encrypt_in<'a, S: Source>(
     src: &mut S,
     mut memory: TextMemory<'a>,
     secrets: &'a Secrets,
-    choice: usize,
+    place: usize,
     form: Form<'a>,
     salt: &'a Salt,
     meter: &mut Meter,
 ) -> Result<Ready<'a>, Fault>
     requires empty { memory.bytes ≡ [] }
     requires room { IsWorkLength memory.limit }
-    requires chosen { choice < length secrets.now.secrets }
+    requires chosen { place < length secrets.now.secrets }
     requires countable { meter.old < 2 ^ 62 }
     ensures answer { let limit = limit_of memory.entry.limit in
         (input : List ℕ) × S.gives src.old input src.new
@@ -76,11 +76,11 @@ pub fn prepare_encrypt_in<'a, S: Source>(
         ((length input ≤ limit) × (meter.new ≡ meter.old))
         (IsWhole limit (S.ended src.new) input
         × (result
-        ≡ encryption limit secrets.now.secrets choice (form_of form.entry) salt.now input)
+        ≡ encryption limit secrets.now.secrets place (form_of form.entry) salt.now input)
         × (meter.new ≡ meter.old + sealing_derivations result)) }
 {
     read_plaintext(src, &mut memory)?;
-    encrypt_plaintext(memory, secrets, choice, form, salt, meter)
+    encrypt_plaintext(memory, secrets, place, form, salt, meter)
 }
 
 /// Seals the plaintext that the memory holds, in which a whole block of padding has room behind it;
@@ -88,16 +88,16 @@ pub fn prepare_encrypt_in<'a, S: Source>(
 fn encrypt_plaintext<'a>(
     memory: TextMemory<'a>,
     secrets: &'a Secrets,
-    choice: usize,
+    place: usize,
     form: Form<'a>,
     salt: &'a Salt,
     meter: &mut Meter,
 ) -> Result<Ready<'a>, Fault>
     requires within { length memory.bytes + PADDING_LIMIT ≤ memory.limit }
-    requires chosen { choice < length secrets.now.secrets }
+    requires chosen { place < length secrets.now.secrets }
     requires countable { meter.old < 2 ^ 62 }
     ensures answer { (limit : ℕ) → length memory.entry.bytes ≤ limit
-        → result ≡ encryption limit secrets.now.secrets choice (form_of form.entry) salt.now
+        → result ≡ encryption limit secrets.now.secrets place (form_of form.entry) salt.now
         memory.entry.bytes }
     ensures counted { meter.new ≡ meter.old + sealing_derivations result }
 {
@@ -109,8 +109,8 @@ fn encrypt_plaintext<'a>(
     if is_vault(&work[..n]) {
         return Err(Fault::AlreadyVault);
     }
-    let secret = secrets.get(choice);
-    let vault = seal(work, n, &secret.label, secret.password, salt, meter);
+    let secret = secrets.get(place).to_seal_with();
+    let vault = seal(work, n, &secret, salt, meter);
     Ok(Ready::vault(vault, form, 0))
 }
 

@@ -17,8 +17,11 @@ use vault_text::{BadLabel, SinkFailed, SourceFailed, TextFault};
 /// What a file that cannot be opened or read was to give.
 #[derive(Clone, Copy, Debug, PartialEq, Eq)]
 pub enum Role {
+    /// The plaintext or the envelope.
     Input,
+    /// A password.
     Secret,
+    /// The salt that a vault is sealed with.
     Salt,
 }
 
@@ -26,39 +29,74 @@ pub enum Role {
 #[derive(Clone, Copy, Debug, PartialEq, Eq, Error)]
 #[error("{}", self.text())]
 pub enum Fault {
+    /// The input is longer than its command takes.
     TooLong,
+    /// The input does not begin with `$ANSIBLE_VAULT`.
     NotVault,
+    /// The header line has more than 256 bytes.
     HeaderTooLong,
+    /// It is not ASCII, has fewer than three fields, or its fourth is no label.
     BadHeader,
+    /// Its version is neither 1.1 nor 1.2.
     BadVersion,
+    /// Its cipher is not AES256.
     BadCipher,
+    /// The body has a byte that is no digit, or an odd number of digits.
     BadHex,
+    /// The inner text lacks a part, or has one that is not hexadecimal, a salt of more than 256
+    /// bytes, or a tag of other than 32.
     BadPayload,
+    /// The ciphertext is longer than that of the longest plaintext.
     CipherTooLong,
+    /// A password file has more than 4,096 bytes.
     SecretTooLong,
+    /// A password file begins with `#!`.
     SecretIsScript,
+    /// A password file begins as a vault does.
     SecretIsVault,
+    /// A password file has nothing but whitespace.
     SecretEmpty,
+    /// There are more than 16 secrets, without the new one of `rekey`.
     TooManySecrets,
+    /// There is no secret to encrypt with.
     NoEncryptSecret,
+    /// There are several, and no label was chosen.
     ManyEncryptSecrets,
+    /// None of them has the label that was chosen.
     UnknownEncryptId,
+    /// A block was asked for, and there is nothing to encrypt.
     EmptyString,
+    /// The plaintext begins as a vault does.
     AlreadyVault,
+    /// The tag agrees with none of the secrets that are tried.
     NoSecretFits,
+    /// The tag agrees with a secret under which the plaintext has no padding.
     BadPadding,
+    /// A label is not of 1 to 128 characters that a label may have.
     BadLabel,
+    /// The name of a variable holds a control byte.
     BadName,
+    /// `--name` was given without a STRING, or `--stdin-name` with one.
     NameMismatch,
+    /// The source of a vault id is `prompt`.
     PromptSource,
+    /// `rekey` was given no new secret, or two.
     NeedNewSecret,
+    /// A FILE was given, and no `--output`.
     OutputNeeded,
+    /// A file, or standard input, failed while it was read.
     Read(Role),
+    /// The output could not be begun, written or flushed.
     Write,
+    /// The salt has fewer than 32 bytes.
     SaltShort,
+    /// A file could not be opened.
     CannotOpen(Role),
+    /// There was no memory. A list, a path or a text could not grow.
     Memory,
+    /// Both `--salt` and `--salt-file` were given.
     SaltChoice,
+    /// The text of `--salt` is empty, or longer than 64 bytes.
     BadSalt,
 }
 

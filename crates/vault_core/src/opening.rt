@@ -1,9 +1,9 @@
 //! Opening an envelope in the memory that it was read into.
-ghost use Rattle.std.specs.Prelude.{◌≡◌, ◌+◌, ◌<◌, ◌≤◌, ◌^◌, IfSome, IfNone, None, Some};
-ghost use Rattle.std.specs.Prelude.{length, take};
+ghost use Rattle.std.specs.Prelude.{◌≡◌, ◌+◌, ◌<◌, ◌^◌, IfSome, length, take};
+ghost use Rattle.std.specs.Option.{option_map};
 ghost use Rattle.vault_core.specs.Agreement.{tries};
 ghost use Rattle.vault_core.specs.Opening.{deciphered_by, opening};
-ghost use Rattle.vault_core.specs.Padding.{padded_length, without_padding};
+ghost use Rattle.vault_aes.specs.Padding.{padded_length, without_padding};
 ghost use Rattle.vault_core.specs.Secrets.{tried_order};
 
 use crate::agreement::agreeing_keys;
@@ -14,24 +14,24 @@ use vault_aes::{Key, ctr_apply, unpad};
 use vault_kdf::{Keys, Meter};
 use vault_text::Payload;
 
-/// An opened plaintext: the first bytes of the memory in which it was padded.
+/// An opened plaintext: the first bytes of itself with its padding.
 #[derive(Drop)]
 pub(crate) struct Opened<'a> {
-    pub body: &'a mut [u8],
+    pub padded: &'a mut [u8],
     pub len: usize,
     pub tried: usize,
 }
 
 impl<'a> Model for Opened<'a> {
     ghost use Rattle.std.specs.Prelude.{◌≤◌, length, take};
-    ghost use Rattle.vault_core.specs.Padding.{padded_length};
+    ghost use Rattle.vault_aes.specs.Padding.{padded_length};
     ghost use Rattle.vault_core.specs.Ready.{Ready};
 
     ghost Value = { Ready };
 
-    ghost view = { λ o. record { output = take o.len o.body.now; tried = o.tried } };
+    ghost view = { λ o. record { output = take o.len o.padded.now; tried = o.tried } };
 
-    ghost invariant = { λ o. padded_length o.len ≤ length o.body.now };
+    ghost invariant = { λ o. padded_length o.len ≤ length o.padded.now };
 }
 
 /// Opens the payload with the first secret in the tried order that agrees with it.
@@ -51,20 +51,19 @@ pub(crate) fn open<'a>(
         return Err(Fault::NoSecretFits);
     };
     let tried = (meter.count() - derived_before) as usize;
-    let body = payload.into_body();
-    match decipher(body, &keys) {
-        Some(len) => Ok(Opened { body, len, tried }),
+    let padded = payload.into_body();
+    match decipher(padded, &keys) {
+        Some(len) => Ok(Opened { padded, len, tried }),
         None => Err(Fault::BadPadding),
     }
 }
 
 /// Deciphers in place, and answers the length of the plaintext; None where its padding is wrong.
-fn decipher(body: &mut [u8], keys: &Keys) -> Option<usize>
-    ensures deciphered { body.new ≡ deciphered_by keys.now body.old }
-    ensures plain { IfSome result (λ len. without_padding body.new ≡ Some (take len body.new)) }
-    ensures none { IfNone result (without_padding body.new ≡ None) }
-    ensures room { IfSome result (λ len. padded_length len ≤ length body.new) }
+fn decipher(text: &mut [u8], keys: &Keys) -> Option<usize>
+    ensures deciphered { text.new ≡ deciphered_by keys.now text.old }
+    ensures plaintext { option_map (λ len. take len text.new) result ≡ without_padding text.new }
+    ensures len { IfSome result (λ len. padded_length len ≡ length text.new) }
 {
-    ctr_apply(&Key::new(&keys.cipher), &keys.iv, body);
-    unpad(body)
+    ctr_apply(&Key::new(&keys.cipher), &keys.iv, text);
+    unpad(text)
 }

@@ -38,9 +38,9 @@ impl<'a> Model for Ready<'a> {
 
     ghost Value = { Ready };
 
-    ghost use Rattle.vault_core.specs.Output.{bytes_of};
+    ghost use Rattle.vault_core.specs.Output.{output_bytes};
 
-    ghost view = { λ r. record { output = bytes_of r.output; tried = r.tried } };
+    ghost view = { λ r. record { output = output_bytes r.output; tried = r.tried } };
 }
 
 impl<'a> Ready<'a> {
@@ -48,9 +48,9 @@ impl<'a> Ready<'a> {
     pub(crate) fn plain(opened: Opened<'a>) -> Self
         ensures { result ≡ opened.entry }
     {
-        let Opened { body, len, tried } = opened;
+        let Opened { padded, len, tried } = opened;
         Ready {
-            output: Output::Plain(&body[..len]),
+            output: Output::Plain(&padded[..len]),
             tried,
         }
     }

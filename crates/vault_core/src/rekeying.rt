@@ -15,6 +15,7 @@ use crate::input::read_payload;
 use crate::opening::{Opened, open};
 use crate::ready::Ready;
 use crate::sealing::seal;
+use crate::secret::SealingSecret;
 use crate::secrets::Secrets;
 use vault_kdf::Meter;
 use vault_text::{Label, Payload, Salt, Source, TextMemory};
@@ -47,15 +48,11 @@ pub fn prepare_rekey<'a, S: Source>(
         × (meter.new ≡ meter.old + decryption_derivations limit secrets.now input
         + sealing_derivations result)) }
 {
-    prepare_rekey_in(
-        src,
-        TextMemory::lent(work),
-        secrets,
-        new,
+    let new = SealingSecret {
+        label: new,
         password,
-        salt,
-        meter,
-    )
+    };
+    prepare_rekey_in(src, TextMemory::lent(work), secrets, &new, salt, meter)
 }
 
 /// Does what `prepare_rekey` does, in memory that holds no text.
@@ -63,8 +60,7 @@ pub fn prepare_rekey_in<'a, S: Source>(
     src: &mut S,
     memory: TextMemory<'a>,
     secrets: &Secrets,
-    new: &'a Label,
-    password: &[u8],
+    new: &SealingSecret<'a, '_>,
     salt: &'a Salt,
     meter: &mut Meter,
 ) -> Result<Ready<'a>, Fault>
@@ -77,35 +73,32 @@ pub fn prepare_rekey_in<'a, S: Source>(
         × UnlessUnreadable (S.failures src.old) (S.failures src.new) result
         ((length input ≤ envelope_limit limit) × (meter.new ≡ meter.old))
         (IsWhole (envelope_limit limit) (S.ended src.new) input
-        × (result ≡ rekeying limit secrets.now
-        (record { label = new.now; password = password.now }) salt.now input)
+        × (result ≡ rekeying limit secrets.now new.now salt.now input)
         × (meter.new ≡ meter.old + decryption_derivations limit secrets.now input
         + sealing_derivations result)) }
 {
     let payload = read_payload(src, memory)?;
-    rekey_payload(payload, secrets, new, password, salt, meter)
+    rekey_payload(payload, secrets, new, salt, meter)
 }
 
 /// Opens the payload of an envelope and seals its plaintext anew, both where its ciphertext lies.
 fn rekey_payload<'a>(
     payload: Payload<'a>,
     secrets: &Secrets,
-    new: &'a Label,
-    password: &[u8],
+    new: &SealingSecret<'a, '_>,
     salt: &'a Salt,
     meter: &mut Meter,
 ) -> Result<Ready<'a>, Fault>
     requires countable { meter.old < 2 ^ 62 }
-    ensures answer { result ≡ resealing secrets.now
-        (record { label = new.now; password = password.now }) salt.now payload.entry }
+    ensures answer { result ≡ resealing secrets.now new.now salt.now payload.entry }
     ensures counted { meter.new
         ≡ meter.old + tries payload.entry (tried_order secrets.now payload.entry.label)
         + sealing_derivations result }
 {
-    let Opened { body, len, tried } = open(payload, secrets, meter)?;
-    if is_vault(&body[..len]) {
+    let Opened { padded, len, tried } = open(payload, secrets, meter)?;
+    if is_vault(&padded[..len]) {
         return Err(Fault::AlreadyVault);
     }
-    let vault = seal(body, len, new, password, salt, meter);
+    let vault = seal(padded, len, new, salt, meter);
     Ok(Ready::vault(vault, Form::Envelope, tried))
 }

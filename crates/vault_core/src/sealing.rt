@@ -2,10 +2,11 @@
 ghost use Rattle.std.specs.Prelude.{◌≡◌, ◌+◌, ◌<◌, ◌≤◌, ◌^◌, ℕ, take, length, OnOk};
 ghost use Rattle.vault_text.specs.Failures.{CountsFailure};
 ghost use Rattle.vault_core.specs.Form.{form_of};
-ghost use Rattle.vault_core.specs.Padding.{padded_length};
+ghost use Rattle.vault_aes.specs.Padding.{padded_length};
 ghost use Rattle.vault_core.specs.Sealing.{sealed, text_in};
 
 use crate::form::Form;
+use crate::secret::SealingSecret;
 use std::marker::Model;
 use vault_aes::{Key, ctr_apply, pad};
 use vault_kdf::{Meter, derive, hmac};
@@ -17,7 +18,7 @@ pub(crate) struct Sealed<'a> {
     label: &'a Label,
     salt: &'a Salt,
     tag: [u8; TAG_LENGTH],
-    cipher: &'a [u8],
+    ciphertext: &'a [u8],
 }
 
 impl<'a> Model for Sealed<'a> {
@@ -29,7 +30,7 @@ impl<'a> Model for Sealed<'a> {
       label = s.label.now;
       salt = s.salt.now;
       tag = s.tag;
-      cipher = s.cipher.now;
+      cipher = s.ciphertext.now;
     } };
 }
 
@@ -49,11 +50,11 @@ impl<'a> Sealed<'a> {
             label,
             salt,
             tag,
-            cipher,
+            ciphertext,
         } = self;
         match form {
-            Form::Envelope => write_envelope(sink, label, salt, tag, cipher),
-            Form::Block(name) => write_block(sink, name, label, salt, tag, cipher),
+            Form::Envelope => write_envelope(sink, label, salt, tag, ciphertext),
+            Form::Block(name) => write_block(sink, name, label, salt, tag, ciphertext),
         }
     }
 }
@@ -62,28 +63,25 @@ impl<'a> Sealed<'a> {
 pub(crate) fn seal<'a>(
     work: &'a mut [u8],
     n: usize,
-    label: &'a Label,
-    password: &[u8],
+    secret: &SealingSecret<'a, '_>,
     salt: &'a Salt,
     meter: &mut Meter,
 ) -> Sealed<'a>
     requires within { n ≤ length work.old }
     requires room { padded_length n ≤ length work.old }
     requires countable { meter.old < 2 ^ 63 }
-    ensures sealed { result
-        ≡ sealed (record { label = label.now; password = password.now }) salt.now
-        (take n work.old) }
+    ensures sealed { result ≡ sealed secret.now salt.now (take n work.old) }
     ensures counted { meter.new ≡ meter.old + 1 }
 {
-    let keys = derive(password, salt.as_bytes(), meter);
-    let padded = pad(work, n);
-    let cipher = &mut work[..padded];
-    ctr_apply(&Key::new(&keys.cipher), &keys.iv, cipher);
-    let tag = hmac(&keys.mac, cipher);
+    let keys = derive(secret.password, salt.as_bytes(), meter);
+    let padded_len = pad(work, n);
+    let ciphertext = &mut work[..padded_len];
+    ctr_apply(&Key::new(&keys.cipher), &keys.iv, ciphertext);
+    let tag = hmac(&keys.mac, ciphertext);
     Sealed {
-        label,
+        label: secret.label,
         salt,
         tag,
-        cipher,
+        ciphertext,
     }
 }

@@ -2,11 +2,11 @@
 ghost use Rattle.std.specs.Prelude.{◌≡◌, ◌<◌, ◌≤◌, ◌↔◌, [], ◌∷◌, ◌++◌, length, IsErr, IfOk};
 ghost use Rattle.std.specs.Prelude.{OnOk, OnErr};
 ghost use Rattle.std.specs.Option.{option_copied};
-ghost use Rattle.vault_core.specs.Choice.{choice};
+ghost use Rattle.vault_core.specs.Choice.{chosen_place};
 ghost use Rattle.vault_core.specs.Password.{IsPassword};
 ghost use Rattle.vault_core.specs.declared.label_rule.LabelRule.TheVariants.{Hint};
 
-use crate::choice::{ChoiceFault, choice};
+use crate::choice::{ChoiceFault, chosen_place};
 use crate::label_rule::LabelRule;
 use crate::limits::SECRET_COUNT_LIMIT;
 use crate::secret::Secret;
@@ -51,6 +51,7 @@ impl<'p> Secrets<'p> {
         }
     }
 
+    /// How many secrets it has.
     pub fn len(&self) -> usize
         ensures { result ≡ length self.now.secrets }
     {
@@ -103,9 +104,9 @@ impl<'p> Secrets<'p> {
     /// The place, from 0, of the secret to encrypt with: the first of the label, or the only one
     /// where no label is given.
     pub fn encrypt_choice(&self, label: Option<&Label>) -> Result<usize, ChoiceFault>
-        ensures choice { result ≡ choice self.now.secrets (option_copied label.entry) }
+        ensures choice { result ≡ chosen_place self.now.secrets (option_copied label.entry) }
         ensures within { IfOk result (λ place. place < length self.now.secrets) }
     {
-        choice(self.as_slice(), label)
+        chosen_place(self.as_slice(), label)
     }
 }

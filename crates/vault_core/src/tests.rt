@@ -58,12 +58,12 @@ fn encrypt(alloc: Global, plain: &[u8], secrets: &Secrets, form: Form) -> Result
     let mut meter = Meter::new();
     let mut src = MemSource::new(plain, 1000);
     let salt = Salt::new(&[0; 32]).unwrap();
-    let choice = secrets.encrypt_choice(None)?;
+    let place = secrets.encrypt_choice(None)?;
     let ready = prepare_encrypt(
         &mut src,
         work.as_mut_slice(),
         secrets,
-        choice,
+        place,
         form,
         &salt,
         &mut meter,

@@ -36,10 +36,11 @@ IsReaderOf Missing reader = ⊥
 IsReaderOf (Whole bytes) reader = reader ≡ new_reader bytes false
 IsReaderOf (Broken bytes) reader = reader ≡ new_reader bytes true
 
--- no byte is left, and the file ends there or breaks there
+-- no byte is left, and the file ends there
 abbrev pub IsAtEnd : ReaderState → Type 0
 IsAtEnd reader = (reader.left ≡ []) × (reader.breaks ≡ false)
 
+-- no byte is left, and the file breaks there
 abbrev pub IsAtBreak : ReaderState → Type 0
 IsAtBreak reader = (reader.left ≡ []) × (reader.breaks ≡ true)
 
@@ -72,6 +73,7 @@ new_store entries = record {
   output = record { held = []; stage = Unbegun; failures = 0; step = 2 ^ 64 - 1 };
 }
 
+-- whether the path is the one that was chosen for the output
 abbrev pub is_aimed_at : Option (List ℕ) → List ℕ → Bool
 is_aimed_at None path = false
 is_aimed_at (Some aim) path = bytes_eq aim path

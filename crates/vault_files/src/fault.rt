@@ -3,10 +3,13 @@ use thiserror::Error;
 /// Why a file gave no bytes.
 #[derive(Clone, Copy, Debug, PartialEq, Eq, Error)]
 pub enum FileFault {
+    /// No file stands at its path, or it cannot be opened.
     #[error("the file cannot be opened")]
     CannotOpen,
+    /// It was opened, and reading it failed.
     #[error("the file cannot be read")]
     CannotRead,
+    /// There is no memory to open it.
     #[error("out of memory")]
     Memory,
 }

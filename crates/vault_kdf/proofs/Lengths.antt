@@ -1,15 +1,14 @@
 -- How long what the definitions give is, also for the proofs of callers.
-use Rattle.std.proofs.Common.{◌≡◌, ℕ, zero, suc, ◌+◌, ◌-◌, ◌*◌, ◌≤◌, List, [], ◌∷◌, ◌++◌, length, drop, lit≤, refl, sym, ap, ◌∙◌, arith, add-one}
-use Rattle.std.specs.Int.{div_ceil, to_be_bytes, w32}
+use Rattle.std.proofs.Common.{◌≡◌, ℕ, zero, suc, ◌+◌, ◌-◌, ◌*◌, ◌≤◌, List, [], ◌∷◌, ◌++◌, length, refl, sym, ap, ◌∙◌, arith, add-one}
+use Rattle.std.specs.Int.{to_be_bytes, w32}
 use Rattle.std.specs.List.{concat}
-use Rattle.std.proofs.lemmas.List.{append-nil, length-append, length-drop, length-take-le}
+use Rattle.std.proofs.lemmas.List.{append-nil, length-append}
 use Rattle.std.proofs.lemmas.List.Folds.{concat-append}
 use Rattle.std.proofs.lemmas.List.FromFn.{map-range_with_len_more}
 use Rattle.sha2.proofs.Facts256.{length-sha256}
-use Rattle.vault_kdf.specs.Derivation.{block, blocks, iterate, iterates, pbkdf2}
+use Rattle.vault_kdf.specs.Derivation.{block, blocks, iterate, iterates}
 use Rattle.vault_kdf.specs.ExclusiveOr.{exclusive_or, exclusive_or_all}
 use Rattle.vault_kdf.specs.Hmac.{hmac}
-use Rattle.vault_kdf.specs.Keys.{vault_keys}
 use Rattle.vault_kdf.proofs.ExclusiveOrLemmas.{exclusive_or_all_push, length-exclusive_or}
 use Rattle.vault_kdf.proofs.Rounds.{iterate_more, iterates_more, length-iterates}
 
@@ -57,20 +56,3 @@ length-concat-blocks password salt c (suc l) some =
     rw add-one at (concat-blocks_more password salt c l) in
     ap length joined ∙ length-append (concat (blocks password salt c l)) (block password salt c (suc l))
     ∙ omega (arith, length-concat-blocks password salt c l some, length-block password salt c (suc l) some)
-
-pub length-pbkdf2 : (password salt : List ℕ) (c n : ℕ) → 1 ≤ c → length (pbkdf2 password salt c n) ≡ n
-unfolding pbkdf2
-length-pbkdf2 password salt c n some =
-    let joined : List ℕ = concat (blocks password salt c (div_ceil n 32)) in
-    length-take-le n joined (omega (arith, length-concat-blocks password salt c (div_ceil n 32) some))
-
-pub length-vault_keys : (password salt : List ℕ)
-    → (length (vault_keys password salt).cipher ≡ 32) × (length (vault_keys password salt).mac ≡ 32) × (length (vault_keys password salt).iv ≡ 16)
-unfolding vault_keys
-length-vault_keys password salt =
-    let bytes : List ℕ = pbkdf2 password salt 10000 80 in
-    let len : length bytes ≡ 80 = length-pbkdf2 password salt 10000 80 (lit≤ tt) in (
-      length-take-le 32 bytes (omega arith),
-      length-take-le 32 (drop 32 bytes) (omega (arith, length-drop 32 bytes)),
-      length-take-le 16 (drop 64 bytes) (omega (arith, length-drop 64 bytes)),
-    )

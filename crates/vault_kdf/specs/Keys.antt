@@ -1,3 +1,4 @@
+-- The keys of a vault.
 use Rattle.std.specs.Prelude.{ℕ, List, slice_range}
 use Rattle.vault_kdf.specs.Derivation.{pbkdf2}
 use Rattle.vault_kdf.specs.declared.keys.Keys.{Keys}

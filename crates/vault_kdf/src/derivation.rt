@@ -1,3 +1,4 @@
+//! PBKDF2 (RFC 8018, section 5.2).
 ghost use Rattle.std.specs.Prelude.{◌≡◌, ℕ, List, [], ◌≤◌, length};
 ghost use Rattle.vault_kdf.specs.Derivation.{block, pbkdf2};
 ghost use Rattle.vault_kdf.specs.Hmac.{StandsFor};

@@ -1,7 +1,9 @@
+//! Exclusive or of byte strings.
 ghost use Rattle.std.specs.Prelude.{◌≡◌};
 ghost use Rattle.vault_kdf.specs.ExclusiveOr.{exclusive_or};
 
-pub fn exclusive_or<const N: usize>(a: &[u8; N], b: &[u8; N]) -> [u8; N]
+/// Each byte is the exclusive or of the two at its place.
+pub(crate) fn exclusive_or<const N: usize>(a: &[u8; N], b: &[u8; N]) -> [u8; N]
     ensures { result ≡ exclusive_or a.now b.now }
 {
     let mut bytes = *a;

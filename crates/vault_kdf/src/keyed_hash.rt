@@ -1,3 +1,4 @@
+//! HMAC with SHA-256 (RFC 2104), piece by piece.
 ghost use Rattle.std.specs.Prelude.{◌≡◌, ℕ, List, [], ◌++◌};
 ghost use Rattle.vault_kdf.specs.Hmac.{hmac, padded_key};
 

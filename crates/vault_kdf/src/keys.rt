@@ -1,3 +1,4 @@
+//! The keys of a vault.
 ghost use Rattle.std.specs.Prelude.{◌≡◌, ◌+◌, ◌<◌, ◌^◌};
 ghost use Rattle.vault_kdf.specs.Keys.{vault_keys};
 

@@ -1,3 +1,4 @@
+//! The tag of a whole message.
 ghost use Rattle.std.specs.Prelude.{◌≡◌};
 ghost use Rattle.vault_kdf.specs.Hmac.{hmac};
 

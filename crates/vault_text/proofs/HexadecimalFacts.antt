@@ -139,6 +139,15 @@ option_map-append : (xs ys : List ℕ) (o : Option (List ℕ))
 option_map-append xs ys (Some zs) = ap Some (sym (append_assoc xs ys zs))
 option_map-append xs ys None = refl
 
+-- what a text spells that a new decoder was given
+pub Decodes-whole : (text bytes : List ℕ) (decoder : DecoderState) → Decodes new_decoder text bytes decoder
+    → unhex text ≡ option_map (λ rest. bytes ++ rest) (unhex_on decoder [])
+Decodes-whole text bytes decoder p = ap unhex (sym (append-nil text)) ∙ p.spelled []
+
+-- no digits
+pub Decodes-nothing : Decodes new_decoder [] [] new_decoder
+Decodes-nothing = record { spelled = λ more. sym (option_map-nil (unhex_on new_decoder more)) }
+
 -- digits that were taken first, and digits that were taken then
 pub Decodes-more : (a b c : DecoderState) (xs ys first second : List ℕ)
     → Decodes a xs first b → Decodes b ys second c → Decodes a (xs ++ ys) (first ++ second) c

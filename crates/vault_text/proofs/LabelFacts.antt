@@ -1,5 +1,5 @@
 -- Labels are text.
-use Rattle.std.proofs.Common.{◌≡◌, ℕ, ◌<◌, true, false, List, length, get_or, arith, inl, inr}
+use Rattle.std.proofs.Common.{◌≡◌, ℕ, suc, ◌<◌, ◌==◌, true, false, List, [], ◌∷◌, length, get_or, arith, refl, inl, inr}
 use Rattle.std.specs.List.{list_all}
 use Rattle.std.specs.Str.{IsAscii, IsUtf8}
 use Rattle.std.proofs.lemmas.Bool.{and_parts, cases_lt, false_from_ne_true}
@@ -8,6 +8,7 @@ use Rattle.std.proofs.lemmas.List.Elements.{All-get_or}
 use Rattle.std.proofs.lemmas.List.Sums.{AllPass-from_list_all}
 use Rattle.std.proofs.lemmas.Bool.Decides.{nat_tests}
 use Rattle.std.proofs.lemmas.Str.{IsUtf8-from_ascii}
+use Rattle.vault_text.specs.Header.{named_label}
 use Rattle.vault_text.specs.Label.{is_label, is_label_character}
 
 character-ascii : (c : ℕ) → is_label_character c ≡ true → c < 128
@@ -20,11 +21,13 @@ characters-ascii text h i =
       | inr past ↦ rw (get_or_past text i 0 past) (omega arith)
     ]
 
--- what is no text is no label
-pub no_text_is_no_label : (text : List ℕ) → (IsUtf8 text → ⊥) → is_label text ≡ false
-no_text_is_no_label text not_text =
-    false_from_ne_true (is_label text) (λ e.
+-- what is no text names no label
+pub no_text_is_no_label : (text : List ℕ) → (IsUtf8 text → ⊥) → is_label (named_label text) ≡ false
+no_text_is_no_label [] not_text = absurd (not_text (IsUtf8-from_ascii [] (characters-ascii [] refl)))
+no_text_is_no_label (c ∷ rest) not_text =
+    let some : (suc (length rest) == 0) ≡ false = grind (arith, nat_tests) in
+    rw some (false_from_ne_true (is_label (c ∷ rest)) (λ e.
     let fits = and_parts _ _ e in
     let starts = and_parts _ _ fits.0 in
     let characters = and_parts _ _ starts.0 in
-    not_text (IsUtf8-from_ascii text (characters-ascii text characters.1)))
+    not_text (IsUtf8-from_ascii (c ∷ rest) (characters-ascii (c ∷ rest) characters.1))))

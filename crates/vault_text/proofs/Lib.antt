@@ -17,3 +17,5 @@ pub mod WrittenBodyFacts
 pub mod WrittenHeaderFacts
 pub mod WrittenReadsBack
 pub mod WrittenVectors
+pub mod PartsFacts
+pub mod PieceFacts

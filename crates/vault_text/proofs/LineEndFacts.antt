@@ -5,7 +5,7 @@ use Rattle.std.specs.List.{list_all, position_or_len, starts_with}
 use Rattle.std.proofs.lemmas.Bool.{cases_Bool, and_parts, eqb-true, false_from_ne_true}
 use Rattle.std.proofs.lemmas.List.{append-nil}
 use Rattle.vault_text.specs.Header.{header_line, is_line_end}
-use Rattle.vault_text.specs.EnvelopeReader.{without_line_ends}
+use Rattle.vault_text.specs.Envelope.{without_line_ends}
 
 -- ---- one byte more
 
@@ -17,21 +17,8 @@ header_line-other b text other =
     let step : 1 + position_or_len is_line_end text ≡ suc (position_or_len is_line_end text) = omega arith in
     rw (other, step) refl
 
-without_line_ends-end : (b : ℕ) (text : List ℕ) → is_line_end b ≡ true → without_line_ends (b ∷ text) ≡ without_line_ends text
-without_line_ends-end b text end = rw end refl
-
 without_line_ends-other : (b : ℕ) (text : List ℕ) → is_line_end b ≡ false → without_line_ends (b ∷ text) ≡ b ∷ without_line_ends text
 without_line_ends-other b text other = rw other refl
-
-pub without_line_ends-append : (text more : List ℕ) → without_line_ends (text ++ more) ≡ without_line_ends text ++ without_line_ends more
-without_line_ends-append [] more = refl
-without_line_ends-append (b ∷ text) more =
-    elim (cases_Bool (is_line_end b)) [
-      | inl end ↦ rw (without_line_ends-end b (text ++ more) end, without_line_ends-end b text end) (without_line_ends-append text more)
-      | inr other ↦
-          rw (without_line_ends-other b (text ++ more) other, without_line_ends-other b text other)
-          (ap (λ rest. b ∷ rest) (without_line_ends-append text more))
-    ]
 
 -- ---- a text that has a line end, or none
 

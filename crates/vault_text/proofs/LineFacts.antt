@@ -1,12 +1,12 @@
 -- Text, cut at the first of some bytes.
-use Rattle.std.proofs.Common.{◌≡◌, ℕ, ◌+◌, ◌-◌, ◌<◌, ◌≤◌, ◌==◌, Bool, true, false, not, List, [], ◌∷◌, ◌++◌, length, take, drop, get_or, suc, cond, inl, inr, arith, refl}
-use Rattle.std.specs.List.{position_or_len, slice_split, after_first, count_by}
+use Rattle.std.proofs.Common.{◌≡◌, ℕ, ◌+◌, ◌-◌, ◌<◌, ◌≤◌, ◌==◌, Bool, true, false, not, List, [], ◌∷◌, ◌++◌, length, take, drop, get_or, suc, inl, inr, arith, refl}
+use Rattle.std.specs.List.{position_or_len, slice_split, before_first, list_all}
 use Rattle.std.proofs.lemmas.Bool.{cases_Bool, eqb-true}
 use Rattle.std.proofs.lemmas.List.{take_rest}
-use Rattle.std.proofs.lemmas.List.Sums.{passes_at_first, prefix_len_passes, split_at_first, sum_by-cons}
+use Rattle.std.proofs.lemmas.List.Sums.{passes_at_first, prefix_len_passes, split_at_first}
 use Rattle.std.proofs.lemmas.List.Splits.{slice_split_none, slice_split_first}
 
-not_true : (b : Bool) → not b ≡ true → b ≡ false
+pub not_true : (b : Bool) → not b ≡ true → b ≡ false
 not_true true h = cc h
 not_true false h = refl
 
@@ -31,30 +31,13 @@ byte_found byte text place e inside =
     let found : get_or text (position_or_len (λ b. b == byte) text) 0 ≡ byte = eqb-true _ byte (passes_at_first (λ b. b == byte) text 0 inside_text) in
     rw e (rw found at (split_at_first (λ b. b == byte) text 0 inside_text))
 
--- what is counted is the first, and what is counted behind it
-pub count_by-found : (p : ℕ → Bool) (text : List ℕ) → position_or_len p text < length text
-    → count_by p text ≡ 1 + count_by p (after_first p text)
-count_by-found p [] inside = absurd (omega arith)
-count_by-found p (x ∷ rest) inside =
+-- none stands before the first
+pub before_first-clean_front : (p : ℕ → Bool) (text : List ℕ) → list_all (λ b. not (p b)) (before_first p text) ≡ true
+before_first-clean_front p [] = refl
+before_first-clean_front p (x ∷ rest) =
     elim (cases_Bool (p x)) [
-      | inl found ↦ rw (sum_by-cons (λ b. cond (p b) 1 0) x rest, found) refl
+      | inl found ↦ rw found refl
       | inr other ↦
-          let step : 1 + position_or_len p rest + 1 ≡ suc (position_or_len p rest + 1) = omega arith in
-          let below : 1 + position_or_len p rest < suc (length rest) = rw other at inside in
-          let later = count_by-found p rest (omega arith) in
-          rw (sum_by-cons (λ b. cond (p b) 1 0) x rest, other, step) (omega (arith, later))
-    ]
-
--- nothing is counted where nothing is found
-pub count_by-absent : (p : ℕ → Bool) (text : List ℕ) → length text ≤ position_or_len p text → count_by p text ≡ 0
-count_by-absent p [] past = refl
-count_by-absent p (x ∷ rest) past =
-    elim (cases_Bool (p x)) [
-      | inl found ↦
-          let above : suc (length rest) ≤ 0 = rw found at past in
-          absurd (omega arith)
-      | inr other ↦
-          let above : suc (length rest) ≤ 1 + position_or_len p rest = rw other at past in
-          let later = count_by-absent p rest (omega arith) in
-          rw (sum_by-cons (λ b. cond (p b) 1 0) x rest, other) (omega (arith, later))
+          let step : 1 + position_or_len p rest ≡ suc (position_or_len p rest) = omega arith in
+          rw (other, step, other) (before_first-clean_front p rest)
     ]

@@ -1,7 +1,6 @@
 -- What holds of each payload that is read, also for the proofs of callers.
-use Rattle.std.proofs.Common.{◌≡◌, ℕ, ◌≤◌, Bool, true, false, not, List, length, Result, Ok, Err, refl, arith, inl, inr}
-use Rattle.std.specs.Prelude.{if◌then◌else◌, nat_eq, nat_lt, IfOk}
-use Rattle.std.specs.List.{starts_with}
+use Rattle.std.proofs.Common.{◌≡◌, ℕ, ◌≤◌, Bool, true, false, List, length, Result, Ok, Err, refl, arith, inl, inr}
+use Rattle.std.specs.Prelude.{if◌then◌else◌, nat_lt, IfOk}
 use Rattle.std.specs.Option.{ok_or}
 use Rattle.std.specs.Result.{result_ok}
 use Rattle.std.proofs.lemmas.Bool.{cases_Bool}
@@ -9,23 +8,22 @@ use Rattle.std.proofs.lemmas.Bool.Decides.{nat_tests}
 use Rattle.hex.specs.Hex.{IsBytes, decode_of}
 use Rattle.hex.specs.declared.FromHexError.{FromHexError}
 use Rattle.hex.proofs.HexLemmas.{decode_of-ok}
-use Rattle.vault_text.specs.Envelope.{Payload, body, read_body, read_within}
-use Rattle.vault_text.specs.Header.{header_line, marker, read_header}
+use Rattle.vault_text.specs.Envelope.{Payload, body, read_body, read_head, read_within}
 use Rattle.vault_text.specs.Hexadecimal.{unhex}
 use Rattle.vault_text.specs.InnerText.{Parts, cut, part_bytes, parts_of}
 use Rattle.vault_text.specs.Limits.{ciphertext_limit, envelope_limit}
 use Rattle.vault_text.specs.Steps.{◌>>=◌}
 use Rattle.vault_text.specs.declared.fault.TextFault.{TextFault}
-use Rattle.vault_text.specs.declared.fault.TextFault.TheVariants.{TooLong, NotVault, BadHex, BadPayload, CipherTooLong}
+use Rattle.vault_text.specs.declared.fault.TextFault.TheVariants.{TooLong, BadHex, BadPayload, CipherTooLong}
 
 -- ---- what steps answer
 
-IfOk-steps : {A B : Type 0} (r : Result A TextFault) (f : A → Result B TextFault) (P : B → Type 0)
+pub IfOk-steps : {A B : Type 0} (r : Result A TextFault) (f : A → Result B TextFault) (P : B → Type 0)
     → ((x : A) → r ≡ Ok x → IfOk (f x) P) → IfOk (r >>= f) P
 IfOk-steps (Ok x) f P h = h x refl
 IfOk-steps (Err fault) f P h = tt
 
-IfOk-if : {A : Type 0} (b : Bool) (x : A) (fault : TextFault) (P : A → Type 0) → P x → IfOk (if b then Ok x else Err fault) P
+pub IfOk-if : {A : Type 0} (b : Bool) (x : A) (fault : TextFault) (P : A → Type 0) → P x → IfOk (if b then Ok x else Err fault) P
 IfOk-if true x fault P h = h
 IfOk-if false x fault P h = tt
 
@@ -78,5 +76,4 @@ pub read_within-fits : (limit : ℕ) (input : List ℕ) → IfOk (read_within li
 unfolding read_within
 read_within-fits limit input =
     IfOk-unless (nat_lt (envelope_limit limit) (length input)) TooLong _ (HasFittingCipher limit) (
-    IfOk-unless (not (starts_with nat_eq input marker)) NotVault _ (HasFittingCipher limit) (
-    IfOk-steps (read_header (header_line input)) _ (HasFittingCipher limit) (λ label _. read_body-fits limit label (body input))))
+    IfOk-steps (read_head input) _ (HasFittingCipher limit) (λ label _. read_body-fits limit label (body input)))

@@ -1,19 +1,17 @@
 -- Digits that are decoded before a line end is looked for.
-use Rattle.std.proofs.Common.{◌≡◌, ℕ, ◌==◌, Bool, true, not, List, [], ◌∷◌, ◌++◌, Option, Some, None, refl, inl, inr, append_assoc}
+use Rattle.std.proofs.Common.{◌≡◌, ℕ, ◌==◌, Bool, true, not, List, [], ◌∷◌, ◌++◌, Option, Some, None, refl, inl, inr}
 use Rattle.std.specs.Prelude.{IfSome}
 use Rattle.std.specs.List.{list_all}
-use Rattle.std.specs.Option.{option_map, ok_or}
 use Rattle.std.proofs.lemmas.Bool.{cases_Bool, eqb-true}
 use Rattle.hex.specs.Hex.{hex_digit_value}
-use Rattle.vault_text.specs.EnvelopeReader.{BodyState, TakesBody, body_on, without_line_ends}
+use Rattle.vault_text.specs.EnvelopeReader.{BodyHas, BodyState}
+use Rattle.vault_text.specs.Envelope.{without_line_ends}
 use Rattle.vault_text.specs.Header.{is_line_end}
-use Rattle.vault_text.specs.Hexadecimal.{DecoderState, Decodes, unhex, unhex_on}
-use Rattle.vault_text.specs.InnerReader.{InnerState, TakesText, payload_on}
-use Rattle.vault_text.specs.Steps.{◌>>=◌}
-use Rattle.vault_text.specs.declared.fault.TextFault.TheVariants.{BadHex}
+use Rattle.vault_text.specs.Hexadecimal.{unhex}
+use Rattle.vault_text.specs.Pieces.{Takes, TakesUpTo}
 use Rattle.vault_text.proofs.CleanText.{filter-clean}
 use Rattle.vault_text.proofs.HexadecimalFacts.{byte_of, byte_of-pair, cons_found, pair_found, spelled_bytes, unhex-spelled_bytes}
-use Rattle.vault_text.proofs.LineEndFacts.{without_line_ends-append}
+use Rattle.std.proofs.lemmas.List.Elements.{filter-append}
 
 -- ---- digits are no line ends
 
@@ -57,23 +55,10 @@ without_line_ends-digits digits bytes spelled =
 
 -- ---- the body
 
--- digits that spell bytes, which the reader of the inner text takes
-pub TakesBody-decoded : (old new : DecoderState) (inner next : InnerState) (digits bytes : List ℕ)
-    → Decodes old digits bytes new → TakesText inner bytes next
-    → TakesBody (record { decoder = old; inner = inner }) digits (record { decoder = new; inner = next })
-TakesBody-decoded old new inner next digits bytes decoded taken = record {
-  same = λ label more. rw (decoded.spelled more) (read_on label (unhex_on new more));
-}
-  where
-    read_on : (label : List ℕ) (more : Option (List ℕ))
-        → (ok_or (option_map (λ rest. bytes ++ rest) more) BadHex >>= payload_on inner label) ≡ (ok_or more BadHex >>= payload_on next label)
-    read_on label None = refl
-    read_on label (Some rest) = taken.same label rest
-
 -- the front of a text, which spells bytes
-pub body_on-whole_line : (old new : BodyState) (text line rest bytes label more : List ℕ) → unhex line ≡ Some bytes
-    → TakesBody old line new → line ++ rest ≡ text
-    → body_on old label (without_line_ends text ++ more) ≡ body_on new label (without_line_ends rest ++ more)
-body_on-whole_line old new text line rest bytes label more spelled taken cut =
+pub TakesUpTo-whole_line : (limit : ℕ) (old new : BodyState) (text line rest bytes : List ℕ) → unhex line ≡ Some bytes
+    → Takes (BodyHas limit) old line new → line ++ rest ≡ text
+    → TakesUpTo (BodyHas limit) old (without_line_ends text) (without_line_ends rest) new
+TakesUpTo-whole_line limit old new text line rest bytes spelled taken cut =
     let clean = without_line_ends-digits line bytes spelled in
-    rw (← cut, without_line_ends-append line rest, clean, append_assoc) (taken.same label (without_line_ends rest ++ more))
+    (line, rw (← cut, filter-append (λ b. not (is_line_end b)) line rest, clean) refl, taken)

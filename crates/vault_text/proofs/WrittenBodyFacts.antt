@@ -1,6 +1,6 @@
 -- What is read in a body that was written.
 use Rattle.std.proofs.Common.{◌≡◌, ℕ, zero, suc, ◌+◌, ◌*◌, ◌≤◌, ◌==◌, Bool, true, false, not, List, [], ◌∷◌, ◌++◌, length, take, drop, inl, inr, arith, ap, sym, ◌∙◌, refl, Ok, Some, length-append, length-drop, length-take}
-use Rattle.std.specs.List.{after_first, before_first, count_by, filter, list_all}
+use Rattle.std.specs.List.{filter, list_all}
 use Rattle.std.specs.Prelude.{nat_le, nat_lt}
 use Rattle.std.specs.Result.{result_ok}
 use Rattle.std.proofs.lemmas.Bool.{cases_lt, le-leb, lt-leb, ltb-true}
@@ -18,8 +18,8 @@ use Rattle.vault_text.specs.Limits.{ciphertext_limit}
 use Rattle.vault_text.specs.declared.limits.TheConstants.{SALT_LIMIT, TAG_LENGTH}
 use Rattle.vault_text.specs.Written.{body_lines, inner_text, text_of_lines}
 use Rattle.vault_text.proofs.BodyFacts.{body_text-nil, body_text-step}
-use Rattle.vault_text.proofs.CleanText.{after_first-clean, before_first-clean, encode_lower-clean, position_or_len-clean}
-use Rattle.vault_text.proofs.LineFacts.{count_by-found}
+use Rattle.vault_text.proofs.CleanText.{encode_lower-clean}
+use Rattle.vault_text.proofs.PartsFacts.{cut-lines}
 
 -- ---- lines
 
@@ -78,38 +78,13 @@ inner_text-bytes salt tag cipher =
     bytes_from_test (inner_text salt tag cipher)
     (rw (list_all-append p (encode_lower salt) (10 ∷ (encode_lower tag ++ 10 ∷ encode_lower cipher)), a, list_all-append p (encode_lower tag) (10 ∷ encode_lower cipher), b, c) refl)
 
--- a text whose parts are known
-cut-parts : (text x rest y z : List ℕ) → nat_lt (count_by is_line_feed text) 2 ≡ false
-    → before_first is_line_feed text ≡ x → after_first is_line_feed text ≡ rest
-    → before_first is_line_feed rest ≡ y → after_first is_line_feed rest ≡ z
-    → cut text ≡ Some (record { salt = x; tag = y; cipher = z })
-unfolding cut
-cut-parts text x rest y z many before after between behind =
-    rw (many, before, after, between, behind) refl
-
 no_line_feed : (xs : List ℕ) → list_all (λ b. not (is_line_feed b)) (encode_lower xs) ≡ true
 no_line_feed xs = encode_lower-clean (λ b. not (is_line_feed b)) refl refl xs
 
 cut-inner_text : (salt tag cipher : List ℕ)
     → cut (inner_text salt tag cipher) ≡ Some (record { salt = encode_lower salt; tag = encode_lower tag; cipher = encode_lower cipher })
 cut-inner_text salt tag cipher =
-    let x = encode_lower salt in
-    let y = encode_lower tag in
-    let z = encode_lower cipher in
-    let rest = y ++ 10 ∷ z in
-    let text = x ++ 10 ∷ rest in
-    let before = before_first-clean is_line_feed x 10 rest (no_line_feed salt) refl in
-    let after = after_first-clean is_line_feed x 10 rest (no_line_feed salt) refl in
-    let between = before_first-clean is_line_feed y 10 z (no_line_feed tag) refl in
-    let behind = after_first-clean is_line_feed y 10 z (no_line_feed tag) refl in
-    let first = position_or_len-clean is_line_feed x 10 rest (no_line_feed salt) refl in
-    let second = position_or_len-clean is_line_feed y 10 z (no_line_feed tag) refl in
-    let size = length-append x (10 ∷ rest) in
-    let left = length-append y (10 ∷ z) in
-    let one = count_by-found is_line_feed text (omega arith) in
-    let two = count_by-found is_line_feed rest (omega arith) in
-    let later : count_by is_line_feed (after_first is_line_feed text) ≡ count_by is_line_feed rest = ap (count_by is_line_feed) after in
-    cut-parts text x rest y z (lt-leb _ _ (omega arith)) before after between behind
+    cut-lines (encode_lower salt) (encode_lower tag) (encode_lower cipher) (no_line_feed salt) (no_line_feed tag)
 
 -- ---- reading
 

@@ -1,5 +1,7 @@
--- The block of a vault in YAML: a literal block scalar with the tag `!vault`, whose text is the envelope.
-use Rattle.std.specs.Prelude.{ℕ, ◌==◌, if◌then◌else◌, List, [], ◌∷◌, ◌++◌, length, replicate, codes, Option, unwrap_or}
+-- The block of a vault in YAML: a literal block scalar with the tag `!vault`, whose text is the
+-- envelope.
+use Rattle.std.specs.Prelude.{ℕ, ◌==◌, if◌then◌else◌, List, [], ◌∷◌, ◌++◌, length, replicate}
+use Rattle.std.specs.Prelude.{codes, Option, unwrap_or}
 use Rattle.vault_text.specs.Written.{text_of_lines, written_lines}
 
 -- the name of a variable and a colon; nothing where the name is empty
@@ -10,11 +12,13 @@ key_of name = if length name == 0 then [] else name ++ codes ": "
 abbrev pub first_line : List ℕ → List ℕ
 first_line name = key_of name ++ codes "!vault |" ++ 10 ∷ []
 
--- what stands before each line of the envelope
+-- what stands before each line of the envelope: ten spaces
 abbrev pub block_indentation : List ℕ
 block_indentation = replicate 10 32
 
--- the first line, which names the variable where there is a name, and the indented lines of the envelope
+-- the first line, which names the variable where there is a name, and the indented lines of the
+-- envelope
 unfoldable pub block : Option (List ℕ) → List ℕ → List ℕ → List ℕ → List ℕ → List ℕ
 block name label salt tag cipher =
-    first_line (unwrap_or name []) ++ text_of_lines block_indentation (written_lines label salt tag cipher)
+    first_line (unwrap_or name [])
+    ++ text_of_lines block_indentation (written_lines label salt tag cipher)

@@ -1,5 +1,7 @@
--- The envelope of a vault, formats 1.1 and 1.2: a header line, and a body that spells the inner text.
-use Rattle.std.specs.Prelude.{ℕ, nat_lt, nat_eq, not, if◌then◌else◌, List, length, drop, filter, Result, Ok, Err}
+-- The envelope of a vault, formats 1.1 and 1.2: a header line, and a body that spells the inner
+-- text. It is read in nine steps, of which the first that fails tells the fault.
+use Rattle.std.specs.Prelude.{ℕ, nat_lt, nat_eq, not, if◌then◌else◌, List, length, drop, filter}
+use Rattle.std.specs.Prelude.{Result, Ok, Err}
 use Rattle.std.specs.List.{starts_with}
 use Rattle.std.specs.Option.{ok_or}
 use Rattle.vault_text.specs.Header.{marker, is_line_end, header_line, read_header}
@@ -9,7 +11,8 @@ use Rattle.vault_text.specs.Limits.{ciphertext_limit, envelope_limit}
 use Rattle.vault_text.specs.Steps.{◌>>=◌}
 use Rattle.vault_text.specs.declared.limits.TheConstants.{PLAINTEXT_LIMIT}
 use Rattle.vault_text.specs.declared.fault.TextFault.{TextFault}
-use Rattle.vault_text.specs.declared.fault.TextFault.TheVariants.{TooLong, NotVault, BadHex, CipherTooLong}
+use Rattle.vault_text.specs.declared.fault.TextFault.TheVariants.{TooLong, NotVault}
+use Rattle.vault_text.specs.declared.fault.TextFault.TheVariants.{BadHex, CipherTooLong}
 
 -- what an envelope holds
 pub record Payload : Type 0 where
@@ -18,24 +21,47 @@ pub record Payload : Type 0 where
   pub tag : List ℕ
   pub cipher : List ℕ
 
--- what follows the header line, without line ends
+-- a text, every CR and LF dropped
+abbrev pub without_line_ends : List ℕ → List ℕ
+without_line_ends text = filter (λ b. not (is_line_end b)) text
+
+-- the digits of the body: what follows the header line, without line ends
 abbrev pub body : List ℕ → List ℕ
-body input = filter (λ b. not (is_line_end b)) (drop (length (header_line input)) input)
+body input = without_line_ends (drop (length (header_line input)) input)
+
+-- steps 2 to 6: the label that the header line names
+abbrev pub read_head : List ℕ → Result (List ℕ) TextFault
+read_head input =
+    -- 2: the input begins as every vault does
+    if not (starts_with nat_eq input marker) then Err NotVault
+    -- 3 to 6
+    else read_header (header_line input)
+
+-- steps 8 and 9: the payload of an inner text, under the label of the header line
+abbrev pub read_inner : ℕ → List ℕ → List ℕ → Result Payload TextFault
+read_inner limit label text = do
+  -- 8: it has three parts that fit
+  parts ← parts_of text
+  -- 9: the ciphertext is no longer than the limit allows
+  if nat_lt (ciphertext_limit limit) (length parts.cipher) then Err CipherTooLong
+      else Ok (record { label = label; salt = parts.salt; tag = parts.tag; cipher = parts.cipher })
 
 -- steps 7 to 9: the payload of a body, under the label of the header line
 unfoldable pub read_body : ℕ → List ℕ → List ℕ → Result Payload TextFault
 read_body limit label digits = do
+  -- 7: it is hexadecimal
   inner ← ok_or (unhex digits) BadHex
-  parts ← parts_of inner
-  if nat_lt (ciphertext_limit limit) (length parts.cipher) then Err CipherTooLong
-      else Ok (record { label = label; salt = parts.salt; tag = parts.tag; cipher = parts.cipher })
+  -- 8 and 9
+  read_inner limit label inner
 
--- the payload of an envelope, or the first fault in the order of the nine steps, where the plaintext has this limit
+-- the payload of an envelope, or the fault of the first of the nine steps that fails, where the
+-- plaintext has this limit
 unfoldable pub read_within : ℕ → List ℕ → Result Payload TextFault
 read_within limit input =
+    -- 1: the input is no longer than the limit allows
     if nat_lt (envelope_limit limit) (length input) then Err TooLong
-    else if not (starts_with nat_eq input marker) then Err NotVault
-    else read_header (header_line input) >>= (λ label. read_body limit label (body input))
+    -- 2 to 6, then 7 to 9
+    else read_head input >>= (λ label. read_body limit label (body input))
 
 -- the payload of an envelope, or its first fault
 abbrev pub read : List ℕ → Result Payload TextFault

@@ -1,13 +1,15 @@
--- The header line of an envelope: `$ANSIBLE_VAULT`, the version, the cipher and perhaps a label, with
--- semicolons between them.
-use Rattle.std.specs.Prelude.{ℕ, ◌==◌, ◌&&◌, ◌||◌, nat_lt, nat_le, not, Bool, if◌then◌else◌, List, [], length, slice_index_or, codes, Result, Ok, Err}
+-- The header line of an envelope: `$ANSIBLE_VAULT`, the version, the cipher and perhaps a label,
+-- with semicolons between them.
+use Rattle.std.specs.Prelude.{ℕ, ◌==◌, ◌&&◌, ◌||◌, nat_lt, nat_le, not, Bool, if◌then◌else◌, List}
+use Rattle.std.specs.Prelude.{[], length, slice_index_or, codes, Result, Ok, Err}
 use Rattle.std.specs.List.{list_all, slice_split, before_first}
 use Rattle.std.specs.Str.{bytes_eq}
 use Rattle.vault_text.specs.Label.{is_label, default_label}
 use Rattle.vault_text.specs.Whitespace.{strip}
 use Rattle.vault_text.specs.declared.limits.TheConstants.{HEADER_LIMIT}
 use Rattle.vault_text.specs.declared.fault.TextFault.{TextFault}
-use Rattle.vault_text.specs.declared.fault.TextFault.TheVariants.{HeaderTooLong, BadHeader, BadVersion, BadCipher}
+use Rattle.vault_text.specs.declared.fault.TextFault.TheVariants.{HeaderTooLong, BadHeader}
+use Rattle.vault_text.specs.declared.fault.TextFault.TheVariants.{BadVersion, BadCipher}
 
 -- the bytes that every vault begins with
 abbrev pub marker : List ℕ
@@ -21,11 +23,11 @@ is_line_end b = b == 10 || b == 13
 abbrev pub header_line : List ℕ → List ℕ
 header_line input = before_first is_line_end input
 
--- the parts between semicolons
+-- the parts between semicolons, bytes 59
 abbrev pub parts_of_line : List ℕ → List (List ℕ)
 parts_of_line line = slice_split (λ b. b == 59) line
 
--- the part at a place, from 0, without whitespace at its ends; nothing where the line has no such part
+-- the part at a place, from 0, without whitespace at its ends; empty where there is no such part
 abbrev pub field : ℕ → List ℕ → List ℕ
 field place line = strip (slice_index_or (parts_of_line line) place [])
 
@@ -37,10 +39,11 @@ named_label text = if length text == 0 then default_label else text
 abbrev pub label_of : List ℕ → List ℕ
 label_of line = named_label (field 3 line)
 
+-- a byte of ASCII
 abbrev pub is_ascii : ℕ → Bool
 is_ascii b = nat_lt b 128
 
--- ASCII, three fields or more, and a label
+-- ASCII, three fields or more, and a fourth that names a label
 abbrev pub is_well_formed : List ℕ → Bool
 is_well_formed line =
     list_all is_ascii line && nat_le 3 (length (parts_of_line line)) && is_label (label_of line)
@@ -49,14 +52,19 @@ is_well_formed line =
 abbrev pub is_version : List ℕ → Bool
 is_version bytes = bytes_eq bytes (codes "1.1") || bytes_eq bytes (codes "1.2")
 
+-- the one cipher of both versions
 abbrev pub is_cipher : List ℕ → Bool
 is_cipher bytes = bytes_eq bytes (codes "AES256")
 
--- the label that a header line names, or its first fault
+-- steps 3 to 6: the label that a header line names, or its first fault
 unfoldable pub read_header : List ℕ → Result (List ℕ) TextFault
 read_header line =
+    -- 3: the line is no longer than the limit
     if nat_lt HEADER_LIMIT (length line) then Err HeaderTooLong
+    -- 4: it has the form of a header line
     else if not (is_well_formed line) then Err BadHeader
+    -- 5: its second field is the version
     else if not (is_version (field 1 line)) then Err BadVersion
+    -- 6: its third field is the cipher
     else if not (is_cipher (field 2 line)) then Err BadCipher
     else Ok (label_of line)

@@ -1,6 +1,7 @@
--- The inner text of an envelope, which its body spells in hexadecimal: the salt, the tag and the ciphertext,
--- each in hexadecimal itself, with LF between them.
-use Rattle.std.specs.Prelude.{ℕ, ◌==◌, ◌&&◌, nat_lt, nat_le, Bool, if◌then◌else◌, List, length, count_by, Option, Some, None, Result, Ok, Err}
+-- The inner text of an envelope, which its body spells in hexadecimal: the salt, the tag and the
+-- ciphertext, each in hexadecimal itself, with LF between them.
+use Rattle.std.specs.Prelude.{ℕ, ◌==◌, ◌&&◌, nat_lt, nat_le, Bool, if◌then◌else◌, List, length}
+use Rattle.std.specs.Prelude.{count_by, Option, Some, None, Result, Ok, Err}
 use Rattle.std.specs.List.{before_first, after_first}
 use Rattle.std.specs.Option.{ok_or}
 use Rattle.vault_text.specs.Hexadecimal.{unhex}
@@ -15,6 +16,7 @@ pub record Parts : Type 0 where
   pub tag : List ℕ
   pub cipher : List ℕ
 
+-- LF
 abbrev pub is_line_feed : ℕ → Bool
 is_line_feed b = b == 10
 
@@ -31,7 +33,8 @@ cut text =
 -- the parts, where the salt is short enough and the tag has 32 bytes
 abbrev pub fitting : Parts → Result Parts TextFault
 fitting parts =
-    if nat_le (length parts.salt) SALT_LIMIT && length parts.tag == TAG_LENGTH then Ok parts else Err BadPayload
+    if nat_le (length parts.salt) SALT_LIMIT && length parts.tag == TAG_LENGTH then Ok parts
+    else Err BadPayload
 
 -- the bytes of a part, where it is hexadecimal
 abbrev pub part_bytes : List ℕ → Result (List ℕ) TextFault
@@ -40,8 +43,11 @@ part_bytes digits = ok_or (unhex digits) BadPayload
 -- step 8: the bytes of the three parts, where each is hexadecimal and the parts fit
 unfoldable pub parts_of : List ℕ → Result Parts TextFault
 parts_of text = do
+  -- it has two LF
   digits ← ok_or (cut text) BadPayload
+  -- each part is hexadecimal
   salt ← part_bytes digits.salt
   tag ← part_bytes digits.tag
   cipher ← part_bytes digits.cipher
+  -- the salt is no longer than its limit, and the tag has its length
   fitting (record { salt = salt; tag = tag; cipher = cipher })

@@ -1,9 +1,10 @@
 -- The labels of vault ids.
-use Rattle.std.specs.Prelude.{ℕ, ◌-◌, ◌==◌, ◌&&◌, nat_le, not, Bool, List, length, slice_index, codes}
+use Rattle.std.specs.Prelude.{ℕ, ◌-◌, ◌==◌, ◌&&◌, nat_le, not, Bool, List, length, slice_index}
+use Rattle.std.specs.Prelude.{codes}
 use Rattle.std.specs.List.{list_all}
 use Rattle.vault_text.specs.declared.limits.TheConstants.{LABEL_LIMIT}
 
--- printable ASCII, and no semicolon, at which a header line is cut
+-- printable ASCII, and no semicolon (59), at which a header line is cut
 abbrev pub is_label_character : ℕ → Bool
 is_label_character c = nat_le 32 c && nat_le c 126 && not (c == 59)
 

@@ -15,7 +15,8 @@ WrittenReadsBack =
     → IsBytes salt → length salt ≤ SALT_LIMIT
     → IsBytes tag → length tag ≡ TAG_LENGTH
     → IsBytes cipher → length cipher ≤ ciphertext_limit limit
-    → read_within limit (written label salt tag cipher) ≡ Ok (record { label = label; salt = salt; tag = tag; cipher = cipher })
+    → read_within limit (written label salt tag cipher)
+    ≡ Ok (record { label = label; salt = salt; tag = tag; cipher = cipher })
 
 -- a larger limit changes no answer but the two that speak of a limit
 abbrev pub LargerLimits : Type 0
@@ -24,8 +25,8 @@ LargerLimits =
     → read_within smaller input ≢ Err TooLong → read_within smaller input ≢ Err CipherTooLong
     → read_within larger input ≡ read_within smaller input
 
--- a byte of the ciphertext takes four digits of an envelope: an input of at most four times the limit gets one answer
--- under it and under every larger one
+-- a byte of the ciphertext takes four digits of an envelope: an input of at most four times the
+-- limit gets one answer under it and under every larger one
 abbrev pub ShortInputs : Type 0
 ShortInputs =
     (smaller larger : ℕ) (input : List ℕ) → length input ≤ 4 * smaller → smaller ≤ larger

@@ -12,6 +12,7 @@ pub mod Header
 pub mod Hexadecimal
 pub mod InnerText
 pub mod Envelope
+pub mod Pieces
 pub mod InnerReader
 pub mod EnvelopeReader
 pub mod Written

@@ -36,6 +36,7 @@ pub record MemSinkState : Type 0 where
   pub failures : ℕ
   pub step : ℕ
 
+-- what a contract sees of it
 abbrev pub state_of : MemSinkState → SinkState
 state_of m = record { held = Some m.held; stage = m.stage; failures = m.failures }
 

@@ -30,6 +30,7 @@ pub record MemSourceState : Type 0 where
   pub ended : Bool
   pub step : ℕ
 
+-- what a contract sees of it
 abbrev pub state_of : MemSourceState → SourceState
 state_of m = record { left = Some m.left; ended = m.ended; failures = 0 }
 

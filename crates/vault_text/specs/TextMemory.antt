@@ -16,4 +16,5 @@ bytes_of (Reserved memory) = memory.now.items
 -- the text may grow to so many bytes where it lies
 abbrev pub HasRoom : Place → ℕ → Type 0
 HasRoom (Lent memory filled) limit = (limit ≡ length memory.now) × (filled ≤ limit)
-HasRoom (Reserved memory) limit = (limit ≤ vec_capacity memory.now) × (length memory.now.items ≤ limit)
+HasRoom (Reserved memory) limit =
+    (limit ≤ vec_capacity memory.now) × (length memory.now.items ≤ limit)

@@ -1,6 +1,7 @@
--- The envelope of a vault as it is written (Ansible Vault guide, payload formats 1.1 and 1.2): a header line, and
--- the digits of the inner text in lines of 80.
-use Rattle.std.specs.Prelude.{ℕ, ◌+◌, ◌-◌, ◌*◌, ◌/◌, if◌then◌else◌, List, [], ◌∷◌, ◌++◌, length, map, min, slice_range, codes}
+-- The envelope of a vault as it is written (Ansible Vault guide, payload formats 1.1 and 1.2): a
+-- header line, and the digits of the inner text in lines of 80.
+use Rattle.std.specs.Prelude.{ℕ, ◌+◌, ◌-◌, ◌*◌, ◌/◌, if◌then◌else◌, List, [], ◌∷◌, ◌++◌, length}
+use Rattle.std.specs.Prelude.{map, min, slice_range, codes}
 use Rattle.std.specs.List.{flat_map, join_with_byte, range_with_len}
 use Rattle.std.specs.Str.{bytes_eq}
 use Rattle.hex.specs.Hex.{encode_lower}
@@ -17,6 +18,7 @@ abbrev pub inner_text : List ℕ → List ℕ → List ℕ → List ℕ
 inner_text salt tag cipher =
     join_with_byte 10 (encode_lower salt ∷ encode_lower tag ∷ encode_lower cipher ∷ [])
 
+-- the digits of a full line
 abbrev pub digits_per_line : ℕ
 digits_per_line = 80
 

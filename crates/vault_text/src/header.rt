@@ -3,9 +3,8 @@
 ghost use Rattle.std.specs.Prelude.{◌≡◌, ◌==◌, ◌≤◌, ℕ, [], ◌∷◌, ◌++◌, length, nat_le, is_some};
 ghost use Rattle.std.specs.Prelude.{IfSome, IfNone};
 ghost use Rattle.std.specs.List.{before_first, list_all, position_or_len, slice_split};
-ghost use Rattle.vault_text.specs.Label.{is_label};
 ghost use Rattle.vault_text.specs.Header.{field, header_line, is_ascii, is_cipher, is_line_end};
-ghost use Rattle.vault_text.specs.Header.{is_version, named_label, parts_of_line, read_header};
+ghost use Rattle.vault_text.specs.Header.{is_version, parts_of_line, read_header};
 
 use crate::fault::TextFault;
 use crate::label::Label;
@@ -127,7 +126,7 @@ pub(crate) fn read_header(line: &[u8]) -> Result<Label, TextFault>
     let Some(fields) = fields_of(line) else {
         return Err(TextFault::BadHeader);
     };
-    let Some(label) = label_of(fields.label) else {
+    let Some(label) = Label::named_by_bytes(fields.label) else {
         return Err(TextFault::BadHeader);
     };
     if !is_version(fields.version) {
@@ -137,16 +136,4 @@ pub(crate) fn read_header(line: &[u8]) -> Result<Label, TextFault>
         return Err(TextFault::BadCipher);
     }
     Ok(label)
-}
-
-/// The label that the fourth field names, `default` where it is empty.
-fn label_of(field: &[u8]) -> Option<Label>
-    ensures allowed { is_some result ≡ is_label (named_label field.now) }
-    ensures label { IfSome result (λ label. label ≡ named_label field.now) }
-{
-    if field.is_empty() {
-        Some(Label::default_label())
-    } else {
-        Label::from_bytes(field)
-    }
 }

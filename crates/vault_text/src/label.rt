@@ -4,6 +4,7 @@ ghost use Rattle.std.specs.Str.{bytes_eq};
 ghost use Rattle.std.specs.Cmp.{on_equiv, on_per, partial_equiv_from_equiv};
 ghost use Rattle.std.specs.Cmp.Lexicographic.{nat_list_eq_equiv};
 ghost use Rattle.std.specs.List.{list_all};
+ghost use Rattle.vault_text.specs.Header.{named_label};
 ghost use Rattle.vault_text.specs.Label.{is_label, is_label_character, default_label};
 
 use crate::limits::LABEL_LIMIT;
@@ -71,13 +72,25 @@ impl Label {
         }
     }
 
-    /// The label that these bytes spell; None where they are not allowed as one.
-    pub(crate) fn from_bytes(bytes: &[u8]) -> Option<Self>
-        ensures allowed { is_some result ≡ is_label bytes.now }
-        ensures text { IfSome result (λ label. label ≡ bytes.now) }
+    /// The label of this text, `default` where it is empty.
+    pub fn named(text: &str) -> Result<Self, BadLabel>
+        ensures allowed { is_ok result ≡ is_label (named_label text.now) }
+        ensures text { IfOk result (λ label. label ≡ named_label text.now) }
+    {
+        if text.is_empty() {
+            Ok(Label::default_label())
+        } else {
+            Label::new(text)
+        }
+    }
+
+    /// The label that these bytes name; None where they are not allowed as one.
+    pub(crate) fn named_by_bytes(bytes: &[u8]) -> Option<Self>
+        ensures allowed { is_some result ≡ is_label (named_label bytes.now) }
+        ensures text { IfSome result (λ label. label ≡ named_label bytes.now) }
     {
         match str::from_utf8(bytes) {
-            Ok(text) => Label::new(text).ok(),
+            Ok(text) => Label::named(text).ok(),
             Err(_) => None,
         }
     }

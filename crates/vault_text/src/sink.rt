@@ -21,8 +21,11 @@ pub struct SinkFailed;
 /// How far the use of a sink has come.
 #[derive(Clone, Copy, Debug, PartialEq, Eq)]
 pub enum Stage {
+    /// `begin` was not answered Ok yet: nothing is taken.
     Unbegun,
+    /// Bytes are taken.
     Begun,
+    /// `finish` was answered Ok: all that was taken has been flushed.
     Finished,
 }
 

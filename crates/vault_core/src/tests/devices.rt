@@ -96,15 +96,13 @@ fn a_reader_that_fails(rt: HostRuntime) -> Result<(), Fail> {
     let mut src = ReadSource::new(Unreadable);
     let salt = Salt::new(&[0; 32]).unwrap();
     let label = Label::default_label();
-    let choice = secrets.encrypt_choice(None)?;
+    let place = secrets.encrypt_choice(None)?;
     let form = Form::Envelope;
     let unreadable = Some(Fault::Read(Role::Input));
 
     let decrypted = prepare_decrypt(&mut src, work, &secrets, &mut meter).err();
     assert_eq!(rt; decrypted, unreadable);
-    let encrypted = prepare_encrypt(
-        &mut src, work, &secrets, choice, form, &salt, &mut meter,
-    ).err();
+    let encrypted = prepare_encrypt(&mut src, work, &secrets, place, form, &salt, &mut meter).err();
     assert_eq!(rt; encrypted, unreadable);
     let rekeyed = prepare_rekey(&mut src, work, &secrets, &label, b"two", &salt, &mut meter).err();
     assert_eq!(rt; rekeyed, unreadable);

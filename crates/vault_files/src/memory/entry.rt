@@ -4,6 +4,7 @@ ghost use Rattle.vault_files.specs.Memory.{IsReaderOf};
 
 use super::reader::MemFileReader;
 use std::marker::Model;
+use vault_text::FailureCount;
 
 /// A file in memory, under its path.
 #[derive(Drop)]
@@ -57,7 +58,7 @@ impl<'a> MemFile<'a> {
             left: self.bytes,
             breaks: self.breaks,
             ended: false,
-            failures: 0,
+            failures: FailureCount::new(),
         }
     }
 }

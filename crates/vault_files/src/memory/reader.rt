@@ -1,5 +1,5 @@
 use std::marker::Model;
-use vault_text::{Source, SourceFailed};
+use vault_text::{FailureCount, Source, SourceFailed};
 
 /// A reader of a file in memory. Behind the bytes of a file that breaks, each call fails.
 #[derive(Drop)]
@@ -7,7 +7,7 @@ pub struct MemFileReader<'a> {
     pub(super) left: &'a [u8],
     pub(super) breaks: bool,
     pub(super) ended: bool,
-    pub(super) failures: u64,
+    pub(super) failures: FailureCount,
 }
 
 impl<'a> Model for MemFileReader<'a> {
@@ -42,14 +42,14 @@ impl<'a> Source for MemFileReader<'a> {
     ghost failures_stay = { λ s t xs g. g.failures_stay };
 
     fn fill(&mut self, buf: &mut [u8]) -> Result<usize, SourceFailed> {
-        if self.failures == u64::MAX {
+        if self.failures.is_last() {
             return Err(SourceFailed);
         }
         if self.ended {
             return Ok(0);
         }
         if self.left.is_empty() && self.breaks {
-            self.failures += 1;
+            self.failures.raise();
             return Err(SourceFailed);
         }
         let n = buf.len().min(self.left.len());

@@ -37,6 +37,7 @@ impl<'a> Model for MemFiles<'a> {
 }
 
 impl<'a> MemFiles<'a> {
+    /// These files, and an output that was not chosen yet.
     pub fn new(alloc: Global, entries: &'a [MemFile<'a>]) -> Self
         ensures { result ≡ new_store entries.now }
     {

@@ -1,6 +1,9 @@
 //! The body of an envelope, as it comes in pieces: the inner text in hexadecimal, in lines.
-ghost use Rattle.std.specs.Prelude.{◌≡◌, ◌<◌, ◌≤◌, ◌++◌, ℕ, List, [], IfNone, IfSome, length};
-ghost use Rattle.vault_text.specs.EnvelopeReader.{TakesBody, body_on, new_body, without_line_ends};
+ghost use Rattle.std.specs.Prelude.{◌≡◌, ◌<◌, ◌≤◌, ℕ, List, [], IfNone, IfSome, length};
+ghost use Rattle.vault_text.specs.Envelope.{read_body, without_line_ends};
+ghost use Rattle.vault_text.specs.EnvelopeReader.{BodyHas};
+ghost use Rattle.vault_text.specs.Limits.{ciphertext_limit};
+ghost use Rattle.vault_text.specs.Pieces.{Takes, TakesUpTo};
 
 use super::RUN_LIMIT;
 use super::inner_text::InnerReader;
@@ -34,7 +37,7 @@ impl<'a> Model for BodyReader<'a> {
 impl<'a> BodyReader<'a> {
     pub(super) fn new(memory: TextMemory<'a>) -> Self
         requires { memory.bytes ≡ [] }
-        ensures { result ≡ new_body memory.entry.limit }
+        ensures { BodyHas memory.entry.limit result [] }
     {
         BodyReader {
             decoder: HexDecoder::new(),
@@ -44,7 +47,8 @@ impl<'a> BodyReader<'a> {
 
     /// Takes the text that comes next, line ends among its digits.
     pub(super) fn extend(&mut self, text: &[u8])
-        ensures { TakesBody self.old (without_line_ends text.now) self.new }
+        ensures { (limit : ℕ) →
+            Takes (BodyHas limit) self.old (without_line_ends text.now) self.new }
     {
         let mut rest = text;
         while !rest.is_empty() {
@@ -56,9 +60,8 @@ impl<'a> BodyReader<'a> {
     fn extend_run<'t>(&mut self, text: &'t [u8]) -> &'t [u8]
         requires { 0 < length text.now }
         ensures shorter { length result.now < length text.now }
-        ensures taken { (label more : List ℕ) →
-            body_on self.old label (without_line_ends text.now ++ more)
-            ≡ body_on self.new label (without_line_ends result.now ++ more) }
+        ensures taken { (limit : ℕ) → TakesUpTo (BodyHas limit) self.old
+            (without_line_ends text.now) (without_line_ends result.now) self.new }
     {
         if is_line_end(text[0]) {
             return &text[1..];
@@ -75,9 +78,8 @@ impl<'a> BodyReader<'a> {
     /// what follows. This looks for no line end.
     fn extend_line<'t>(&mut self, text: &'t [u8]) -> Option<&'t [u8]>
         ensures shorter { IfSome result (λ rest. length rest.now < length text.now) }
-        ensures taken { IfSome result (λ rest. (label more : List ℕ) →
-            body_on self.old label (without_line_ends text.now ++ more)
-            ≡ body_on self.new label (without_line_ends rest.now ++ more)) }
+        ensures taken { IfSome result (λ rest. (limit : ℕ) → TakesUpTo (BodyHas limit) self.old
+            (without_line_ends text.now) (without_line_ends rest.now) self.new) }
         ensures untouched { IfNone result (self.new ≡ self.old) }
     {
         let (line, rest) = text.split_at_checked(LINE_DIGITS)?;
@@ -92,7 +94,7 @@ impl<'a> BodyReader<'a> {
     /// Takes the digits that come next.
     fn extend_digits(&mut self, digits: &[u8])
         requires { length digits.now ≤ DIGITS_LIMIT }
-        ensures { TakesBody self.old digits.now self.new }
+        ensures { (limit : ℕ) → Takes (BodyHas limit) self.old digits.now self.new }
     {
         let mut text = [0; RUN_LIMIT];
         let count = self.decoder.decode(digits, &mut text);
@@ -101,7 +103,8 @@ impl<'a> BodyReader<'a> {
 
     /// The payload under this label, where no digit follows.
     pub(super) fn finish(self, label: Label) -> Result<Payload<'a>, TextFault>
-        ensures { result ≡ body_on self.entry label [] }
+        ensures { (limit : ℕ) (digits : List ℕ) → BodyHas (ciphertext_limit limit) self.entry digits
+            → result ≡ read_body limit label digits }
     {
         let BodyReader { decoder, inner } = self;
         if !decoder.is_complete() {

@@ -1,7 +1,9 @@
 //! The ciphertext of the inner text.
-ghost use Rattle.std.specs.Prelude.{◌≡◌, ◌≤◌, [], MatchResult, Ok, Err, length};
-ghost use Rattle.vault_text.specs.InnerReader.{TakesDigits, new_part, part_on};
-ghost use Rattle.vault_text.specs.declared.fault.TextFault.TheVariants.{CipherTooLong};
+ghost use Rattle.std.specs.Prelude.{◌≡◌, ◌<◌, ◌≤◌, ℕ, List, [], MatchOption, MatchResult, Some, length};
+ghost use Rattle.vault_text.specs.Hexadecimal.{unhex};
+ghost use Rattle.vault_text.specs.InnerReader.{PartHas};
+ghost use Rattle.vault_text.specs.Pieces.{Takes};
+ghost use Rattle.vault_text.specs.declared.fault.TextFault.TheVariants.{BadPayload, CipherTooLong};
 
 use super::RUN_LIMIT;
 use crate::fault::TextFault;
@@ -34,7 +36,7 @@ impl<'a> Model for CipherPart<'a> {
 impl<'a> CipherPart<'a> {
     pub(super) fn new(memory: TextMemory<'a>) -> Self
         requires { memory.bytes ≡ [] }
-        ensures { result ≡ new_part memory.entry.limit }
+        ensures { PartHas memory.entry.limit result [] }
     {
         CipherPart {
             memory,
@@ -46,7 +48,7 @@ impl<'a> CipherPart<'a> {
     /// Takes the digits that come next.
     pub(super) fn extend(&mut self, digits: &[u8])
         requires { length digits.now ≤ RUN_LIMIT }
-        ensures { TakesDigits self.old digits.now self.new }
+        ensures { (limit : ℕ) → Takes (PartHas limit) self.old digits.now self.new }
     {
         let mut bytes = [0; RUN_LIMIT];
         let count = self.decoder.decode(digits, &mut bytes);
@@ -59,9 +61,11 @@ impl<'a> CipherPart<'a> {
 
     /// The ciphertext, where no digit follows.
     pub(super) fn finish(self) -> Result<&'a mut [u8], TextFault>
-        ensures { MatchResult result
-            (λ bytes. part_on CipherTooLong self.entry [] ≡ Ok bytes.now)
-            (λ fault. part_on CipherTooLong self.entry [] ≡ Err fault) }
+        ensures { (limit : ℕ) (digits : List ℕ) → PartHas limit self.entry digits
+            → MatchResult result
+            (λ bytes. (unhex digits ≡ Some bytes.now) × (length bytes.now ≤ limit))
+            (λ fault. MatchOption (unhex digits) (fault ≡ BadPayload)
+            (λ bytes. (fault ≡ CipherTooLong) × (limit < length bytes))) }
     {
         let CipherPart {
             memory,

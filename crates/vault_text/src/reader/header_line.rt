@@ -1,7 +1,8 @@
 //! The header line of an envelope, as it comes in pieces.
-ghost use Rattle.std.specs.Prelude.{◌≡◌, ℕ, List, ◌++◌, [], false};
-ghost use Rattle.vault_text.specs.EnvelopeReader.{head_of, line_on, digits_on, new_line};
-ghost use Rattle.vault_text.specs.EnvelopeReader.{without_line_ends};
+ghost use Rattle.std.specs.Prelude.{◌≡◌, ℕ, List, ◌++◌, []};
+ghost use Rattle.vault_text.specs.Envelope.{body, read_head, without_line_ends};
+ghost use Rattle.vault_text.specs.EnvelopeReader.{IsKept, LineHas};
+ghost use Rattle.vault_text.specs.Pieces.{Takes};
 
 use crate::fault::TextFault;
 use crate::header::{MARKER, before_line_end, read_header};
@@ -31,7 +32,7 @@ impl Model for HeaderLine {
 
 impl HeaderLine {
     pub(super) fn new() -> Self
-        ensures { result ≡ new_line }
+        ensures { LineHas result [] }
     {
         HeaderLine {
             kept: ArrayVec::new(),
@@ -41,11 +42,9 @@ impl HeaderLine {
 
     /// Takes what belongs to the header line, and answers what follows it.
     pub(super) fn extend<'t>(&mut self, text: &'t [u8]) -> &'t [u8]
-        ensures line { (rest : List ℕ) →
-            head_of (line_on self.old (text.now ++ rest)) ≡ head_of (line_on self.new rest) }
-        ensures digits { (rest : List ℕ) →
-            digits_on self.old (text.now ++ rest)
-            ≡ without_line_ends result.now ++ digits_on self.new rest }
+        ensures line { Takes LineHas self.old text.now self.new }
+        ensures body { (input : List ℕ) → LineHas self.old input →
+            body (input ++ text.now) ≡ body input ++ without_line_ends result.now }
     {
         if self.has_ended {
             return text;
@@ -59,8 +58,7 @@ impl HeaderLine {
     /// Keeps as many of the bytes as fit.
     fn keep(&mut self, bytes: &[u8])
         ensures ended { self.new.has_ended ≡ self.old.has_ended }
-        ensures line { (more : List ℕ) →
-            head_of (self.old.kept ++ (bytes.now ++ more)) ≡ head_of (self.new.kept ++ more) }
+        ensures line { Takes IsKept self.old.kept bytes.now self.new.kept }
     {
         let count = bytes.len().min(self.kept.remaining_capacity());
         // So many always fit.
@@ -69,7 +67,7 @@ impl HeaderLine {
 
     /// The label that the line names, where nothing follows.
     pub(super) fn finish(&self) -> Result<Label, TextFault>
-        ensures { result ≡ head_of (line_on self.now []) }
+        ensures { (input : List ℕ) → LineHas self.now input → result ≡ read_head input }
     {
         if !self.kept.as_slice().starts_with(MARKER) {
             return Err(TextFault::NotVault);

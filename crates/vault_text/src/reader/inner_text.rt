@@ -1,8 +1,11 @@
 //! The inner text of an envelope, as it comes in pieces: salt, tag and ciphertext in hexadecimal,
 //! with LF between them.
-ghost use Rattle.std.specs.Prelude.{◌≡◌, ◌<◌, ◌≤◌, ◌++◌, ℕ, List, [], length, IfNone, IfSome};
-ghost use Rattle.vault_text.specs.InnerReader.{GivesDigits, IsGiven, TakesText, next_part};
-ghost use Rattle.vault_text.specs.InnerReader.{payload_on};
+ghost use Rattle.std.specs.Prelude.{◌≡◌, ◌<◌, ◌≤◌, ◌++◌, ◌∷◌, ℕ, List, [], length};
+ghost use Rattle.std.specs.Prelude.{IfNone, IfSome};
+ghost use Rattle.vault_text.specs.Envelope.{read_inner};
+ghost use Rattle.vault_text.specs.InnerReader.{InnerHas, MayHave, next_part};
+ghost use Rattle.vault_text.specs.Limits.{ciphertext_limit};
+ghost use Rattle.vault_text.specs.Pieces.{Takes, TakesUpTo};
 
 use super::RUN_LIMIT;
 use super::cipher_part::CipherPart;
@@ -27,10 +30,10 @@ pub(super) enum Part {
 impl Part {
     /// What a text gives to the part, and what follows the LF that ends it, where there is one.
     fn split(self, text: &[u8]) -> (&[u8], Option<&[u8]>)
-        ensures whole { IfNone result.1 ((more : List ℕ)
-            → IsGiven self result.0.now self (text.now ++ more) more) }
-        ensures cut { IfSome result.1 (λ rest. (more : List ℕ)
-            → IsGiven self result.0.now (next_part self) (text.now ++ more) (rest.now ++ more)) }
+        ensures digits { MayHave self result.0.now }
+        ensures whole { IfNone result.1 (text.now ≡ result.0.now) }
+        ensures cut { IfSome result.1 (λ rest. text.now ≡ result.0.now ++ 10 ∷ rest.now) }
+        ensures early { IfSome result.1 (λ rest. self ≡ Part.Cipher → ⊥) }
         ensures bound { length result.0.now ≤ length text.now }
         ensures shorter { IfSome result.1 (λ rest. length rest.now < length text.now) }
     {
@@ -70,11 +73,9 @@ impl<'a> Model for InnerReader<'a> {
 }
 
 impl<'a> InnerReader<'a> {
-    ghost use Rattle.vault_text.specs.InnerReader.{new_inner};
-
     pub(super) fn new(memory: TextMemory<'a>) -> Self
         requires { memory.bytes ≡ [] }
-        ensures { result ≡ new_inner memory.entry.limit }
+        ensures { InnerHas memory.entry.limit result [] }
     {
         InnerReader {
             part: Part::Salt,
@@ -87,7 +88,7 @@ impl<'a> InnerReader<'a> {
     /// Takes the text that comes next.
     pub(super) fn extend(&mut self, text: &[u8])
         requires { length text.now ≤ RUN_LIMIT }
-        ensures { TakesText self.old text.now self.new }
+        ensures { (limit : ℕ) → Takes (InnerHas limit) self.old text.now self.new }
     {
         let mut rest = text;
         while !rest.is_empty() {
@@ -100,9 +101,8 @@ impl<'a> InnerReader<'a> {
         requires some { 0 < length text.now }
         requires short { length text.now ≤ RUN_LIMIT }
         ensures shorter { length result.now < length text.now }
-        ensures taken { (label more : List ℕ) →
-            payload_on self.old label (text.now ++ more)
-            ≡ payload_on self.new label (result.now ++ more) }
+        ensures taken { (limit : ℕ) →
+            TakesUpTo (InnerHas limit) self.old text.now result.now self.new }
     {
         let (digits, rest) = self.part.split(text);
         self.extend_digits(digits);
@@ -115,8 +115,10 @@ impl<'a> InnerReader<'a> {
 
     /// Gives digits to the part that comes next.
     fn extend_digits(&mut self, digits: &[u8])
-        requires { length digits.now ≤ RUN_LIMIT }
-        ensures { GivesDigits self.old digits.now self.new }
+        requires short { length digits.now ≤ RUN_LIMIT }
+        requires digits { MayHave self.old.part digits.now }
+        ensures part { self.new.part ≡ self.old.part }
+        ensures taken { (limit : ℕ) → Takes (InnerHas limit) self.old digits.now self.new }
     {
         match self.part {
             Part::Salt => self.salt.extend(digits),
@@ -127,7 +129,8 @@ impl<'a> InnerReader<'a> {
 
     /// The payload under this label, where no text follows.
     pub(super) fn finish(self, label: Label) -> Result<Payload<'a>, TextFault>
-        ensures { result ≡ payload_on self.entry label [] }
+        ensures { (limit : ℕ) (text : List ℕ) → InnerHas (ciphertext_limit limit) self.entry text
+            → result ≡ read_inner limit label text }
     {
         let InnerReader {
             part,

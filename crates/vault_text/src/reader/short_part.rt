@@ -1,6 +1,8 @@
 //! A part of the inner text that is short: the salt or the tag.
-ghost use Rattle.std.specs.Prelude.{◌≡◌, ◌≤◌, ℕ, [], MatchResult, Ok, Err, length};
-ghost use Rattle.vault_text.specs.InnerReader.{TakesDigits, new_part, part_on};
+ghost use Rattle.std.specs.Prelude.{◌≡◌, ◌<◌, ◌≤◌, ℕ, List, [], MatchResult, IfSome, Some, length};
+ghost use Rattle.vault_text.specs.Hexadecimal.{unhex};
+ghost use Rattle.vault_text.specs.InnerReader.{PartHas};
+ghost use Rattle.vault_text.specs.Pieces.{Takes};
 ghost use Rattle.vault_text.specs.declared.fault.TextFault.TheVariants.{BadPayload};
 
 use super::RUN_LIMIT;
@@ -33,7 +35,7 @@ impl<const LIMIT: usize> Model for ShortPart<LIMIT> {
 
 impl<const LIMIT: usize> ShortPart<LIMIT> {
     pub(super) fn new() -> Self
-        ensures { result ≡ new_part LIMIT }
+        ensures { PartHas LIMIT result [] }
     {
         ShortPart {
             bytes: ArrayVec::new(),
@@ -45,7 +47,7 @@ impl<const LIMIT: usize> ShortPart<LIMIT> {
     /// Takes the digits that come next.
     pub(super) fn extend(&mut self, digits: &[u8])
         requires { length digits.now ≤ RUN_LIMIT }
-        ensures { TakesDigits self.old digits.now self.new }
+        ensures { Takes (PartHas LIMIT) self.old digits.now self.new }
     {
         let mut bytes = [0; RUN_LIMIT];
         let count = self.decoder.decode(digits, &mut bytes);
@@ -56,9 +58,10 @@ impl<const LIMIT: usize> ShortPart<LIMIT> {
 
     /// The bytes of the part, where no digit follows.
     pub(super) fn finish(&self) -> Result<&[u8], TextFault>
-        ensures { MatchResult result
-            (λ bytes. part_on BadPayload self.now [] ≡ Ok bytes.now)
-            (λ fault. part_on BadPayload self.now [] ≡ Err fault) }
+        ensures { (digits : List ℕ) → PartHas LIMIT self.now digits → MatchResult result
+            (λ bytes. (unhex digits ≡ Some bytes.now) × (length bytes.now ≤ LIMIT))
+            (λ fault. (fault ≡ BadPayload)
+            × IfSome (unhex digits) (λ bytes. LIMIT < length bytes)) }
     {
         if self.is_long || !self.decoder.is_complete() {
             return Err(TextFault::BadPayload);

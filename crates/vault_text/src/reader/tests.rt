@@ -222,6 +222,15 @@ fn all_parts_of_an_envelope(rt: HostRuntime) -> Result<(), Fail> {
     Ok(())
 }
 
+/// Feeds the input in pieces of so many bytes.
+fn feed_in_steps(reader: &mut EnvelopeReader<'_>, input: &[u8], step: usize)
+    requires { 0 < step }
+{
+    for piece in input.chunks(step) {
+        reader.feed(piece);
+    }
+}
+
 /// Reads the input in pieces of `step` bytes, and perhaps a shorter last one.
 fn read_in_steps<'w>(
     work: &'w mut [u8],
@@ -232,9 +241,7 @@ fn read_in_steps<'w>(
     requires some { 0 < step }
 {
     let mut reader = EnvelopeReader::new(work);
-    for piece in input.chunks(step) {
-        reader.feed(piece);
-    }
+    feed_in_steps(&mut reader, input, step);
     reader.finish()
 }
 
@@ -319,6 +326,26 @@ fn memory_for_padding_alone(rt: HostRuntime) -> Result<(), Fail> {
     Ok(())
 }
 
+/// Reads the input in steps into reserved memory; the answer is that of the whole-list reader.
+fn read_into_reserved(
+    rt: &impl Abort,
+    alloc: Global,
+    input: &[u8],
+    step: usize,
+    whole: &Result<OwnedPayload, TextFault>,
+) -> Result<(), AllocError>
+    requires { 0 < step }
+{
+    let mut memory = Vec::with_capacity(alloc, WORK_LENGTH)?;
+    memory.extend_from_slice(b"what it held")?;
+    let mut reader = EnvelopeReader::in_memory(TextMemory::reserved(&mut memory, WORK_LENGTH));
+    feed_in_steps(&mut reader, input, step);
+    assert_same(rt, reader.finish(), whole);
+    assert_eq!(rt; memory.len(), 32);
+    assert_eq!(rt; memory.capacity(), WORK_LENGTH);
+    Ok(())
+}
+
 #[test]
 fn in_reserved_memory(rt: HostRuntime) -> Result<(), Fail> {
     let alloc = rt.alloc();
@@ -326,15 +353,7 @@ fn in_reserved_memory(rt: HostRuntime) -> Result<(), Fail> {
     let whole = read_envelope(alloc, input.as_slice())?;
     assert!(rt; whole.is_ok());
     for step in [1, 7, 4_096] {
-        let mut memory = Vec::with_capacity(alloc, WORK_LENGTH)?;
-        memory.extend_from_slice(b"what it held")?;
-        let mut reader = EnvelopeReader::in_memory(TextMemory::reserved(&mut memory, WORK_LENGTH));
-        for piece in input.chunks(step) {
-            reader.feed(piece);
-        }
-        assert_same(&rt, reader.finish(), &whole);
-        assert_eq!(rt; memory.len(), 32);
-        assert_eq!(rt; memory.capacity(), WORK_LENGTH);
+        read_into_reserved(&rt, alloc, input.as_slice(), step, &whole)?;
     }
     Ok(())
 }

@@ -1,16 +1,25 @@
-use Rattle.std.proofs.Common.{◌∙◌, arith}
-use Rattle.vault_aes.proofs.PaddingLemmas.{IsPadded-then_some, then_some-IsPadded}
+use Rattle.std.proofs.Common.{◌≡◌, ◌≤◌, ◌%◌, ◌∙◌, arith, ap, length, rules, slice_index, take, ◌-◌}
+use Rattle.std.specs.Option.{option_map}
+use Rattle.vault_aes.proofs.PaddingLemmas.{then_some-without_padding, without_padding-None}
 use Rattle.vault_aes.proofs.padding.unpad.Goals as goal
 
-pub returns-clause-found : goal.returns-clause-found
-returns-clause-found c =
-    let padded = c.args.padded.now in
-    let count = c.in_ok-count.field-0.now in
-    let not_empty = c.in_ok-count.ensures.item.3 in
-    rw c.then_some.ensures (IsPadded-then_some padded count c.all_are.result (omega (arith, c.if-count-eq0.false)) (omega arith) (omega (arith, not_empty.0)) c.if-padded-ne0.false c.all_are.ensures.0)
+pub returns-in_err-count-clause-plaintext : goal.returns-in_err-count-clause-plaintext
+returns-in_err-count-clause-plaintext c =
+    let text = c.args.padded.now in
+    rw c.from_residual.ensures (without_padding-None text (λ low high whole some. omega (arith, c.in_err-count.ensures.item)))
 
-pub returns-clause-every : goal.returns-clause-every
-returns-clause-every c = λ plain padding.
-    let padded = c.args.padded.now in
+pub returns-then-padded-ne0-clause-plaintext : goal.returns-then-padded-ne0-clause-plaintext
+returns-then-padded-ne0-clause-plaintext c =
+    let text = c.args.padded.now in
+    without_padding-None text (λ low high whole some.
+    let last : c.in_ok-count.field-0.now ≡ slice_index text (length text - 1) = c.in_ok-count.ensures.item.3.1 0 in
+    grind arith)
+
+pub returns-clause-plaintext : goal.returns-clause-plaintext
+returns-clause-plaintext c =
+    let text = c.args.padded.now in
     let count = c.in_ok-count.field-0.now in
-    c.then_some.ensures ∙ then_some-IsPadded plain padded count c.all_are.result padding (c.in_ok-count.ensures.item.3.1 0) c.all_are.ensures.1
+    let low : 1 ≤ count = omega arith in
+    let whole : length text % 16 ≡ 0 = search rules in
+    ap (option_map (λ n. take n text)) c.then_some.ensures
+    ∙ then_some-without_padding text count c.all_are.result (c.in_ok-count.ensures.item.3.1 0) low (omega arith) (omega (arith, c.in_ok-count.ensures.item.3.0)) whole c.all_are.ensures

@@ -3,9 +3,9 @@ use Rattle.std.specs.String.{string_bytes}
 use Rattle.vault_files.specs.Memory.{StoreState, file_at}
 use Rattle.vault_cli.specs.Embedding.{Embeds, change}
 use Rattle.vault_cli.specs.Program.{access_of, answer_to, asked_by, files_in, output_path, stdin_asked}
-use Rattle.vault_cli.proofs.EmbeddingFacts.{embeds, log-kept, memory_sink, memory_source, memory_store, taken}
-use Rattle.vault_cli.proofs.FrontFacts.{answer-front}
-use Rattle.vault_cli.proofs.MemoryFacts.{drives-in}
+use Rattle.vault_cli.proofs.facts.EmbeddingFacts.{embeds, log-kept, memory_sink, memory_source, memory_store, taken}
+use Rattle.vault_cli.proofs.facts.runs.FrontFacts.{answer-front}
+use Rattle.vault_cli.proofs.facts.MemoryFacts.{drives-in}
 use Rattle.vault_cli.proofs.embedding.drive_in_memory.Goals as goal
 
 pub returns-clause-answered : goal.returns-clause-answered

@@ -1,8 +1,8 @@
 use Rattle.std.proofs.Common.{Ok, Some, ap, map, refl, ◌∙◌}
 use Rattle.vault_cli.specs.Call.{sink, source}
-use Rattle.vault_cli.specs.Status.{status_of}
-use Rattle.vault_cli.proofs.DriveFacts.{drives-file, drives-no_memory, drives-refused, drives-stdin}
-use Rattle.vault_cli.proofs.EndingFacts.{store_between}
+use Rattle.vault_cli.specs.runs.Status.{status_of}
+use Rattle.vault_cli.proofs.facts.DriveFacts.{drives-file, drives-no_memory, drives-refused, drives-stdin}
+use Rattle.vault_cli.proofs.facts.runs.EndingFacts.{store_between}
 use Rattle.vault_cli.proofs.program.answer.Goals as goal
 
 pub returns-in-Err : goal.returns-in-Err

@@ -1,12 +1,9 @@
 use Rattle.std.proofs.Common.{refl, sym, ◌∙◌}
-use Rattle.std.specs.Box.{box_value}
-use Rattle.clap.specs.Words.{found_of, rows_of, subcommand_rows_of}
-use Rattle.clap.specs.declared.parser.matches.ArgMatches.{out-ArgMatches}
-use Rattle.clap.specs.declared.parser.matches.SubCommand.{out-SubCommand}
+use Rattle.clap.specs.Words.{subcommand_rows_of}
 use Rattle.vault_cli.specs.Call.{sink, source}
-use Rattle.vault_cli.specs.Settled.{asked}
-use Rattle.vault_cli.proofs.DriveFacts.{command-asked, drives-nothing, drives-settled, drives-unsettled}
-use Rattle.vault_cli.proofs.EndingFacts.{store_between}
+use Rattle.vault_cli.specs.request.Settled.{asked}
+use Rattle.vault_cli.proofs.facts.DriveFacts.{command-asked, drives-nothing, drives-settled, drives-unsettled}
+use Rattle.vault_cli.proofs.facts.runs.EndingFacts.{store_between}
 use Rattle.vault_cli.proofs.program.carry_out.Goals as goal
 
 pub returns-then-not-has_command : goal.returns-then-not-has_command
@@ -16,8 +13,7 @@ returns-then-not-has_command g c = record {
       (sink g.E.Sink c.args.err.now c.args.err.now) _ c.args.files.now c.requires.files_unbegun refl refl refl
       (g.met.F.FileSystem.opens_none c.args.files.now)
       (asked (subcommand_rows_of c.args.matches.now))
-      (sym (command-asked (λ b. (out-SubCommand (box_value b)).name.now) (λ b. rows_of (found_of (out-SubCommand (box_value b)).matches))
-      (out-ArgMatches c.args.matches.now).subcommand) ∙ sym c.if-not-has_command.ensures) refl refl;
+      (sym (command-asked (subcommand_rows_of c.args.matches.now)) ∙ sym c.if-not-has_command.ensures) refl refl;
 }
 
 pub returns-in-Ok : goal.returns-in-Ok
@@ -26,8 +22,7 @@ returns-in-Ok g c = record {
       (source g.S.Source c.args.src.now c.answer.new.src) (sink g.K.Sink c.args.out.now c.answer.new.out)
       (sink g.E.Sink c.args.err.now c.answer.new.err) c.answer.result
       (asked (subcommand_rows_of c.args.matches.now)) c.in-Ok.request
-      (sym (command-asked (λ b. (out-SubCommand (box_value b)).name.now) (λ b. rows_of (found_of (out-SubCommand (box_value b)).matches))
-      (out-ArgMatches c.args.matches.now).subcommand) ∙ sym c.if-not-has_command.ensures)
+      (sym (command-asked (subcommand_rows_of c.args.matches.now)) ∙ sym c.if-not-has_command.ensures)
       c.in-Ok.ensures c.answer.ensures.drives;
 }
 
@@ -39,7 +34,6 @@ returns-in-Err g c = record {
       (g.met.F.FileSystem.opens_none c.args.files.now)
       (g.met.S.Source.gives_none c.args.src.now) (g.met.F.FileSystem.meets_some c.args.files.now)
       (asked (subcommand_rows_of c.args.matches.now)) c.in-Err.fault
-      (sym (command-asked (λ b. (out-SubCommand (box_value b)).name.now) (λ b. rows_of (found_of (out-SubCommand (box_value b)).matches))
-      (out-ArgMatches c.args.matches.now).subcommand) ∙ sym c.if-not-has_command.ensures)
+      (sym (command-asked (subcommand_rows_of c.args.matches.now)) ∙ sym c.if-not-has_command.ensures)
       c.in-Err.ensures c.report.ensures.status c.report.ensures.line;
 }

@@ -1,25 +1,25 @@
 use Rattle.std.proofs.Common.{◌≡◌, map, inl, inr, refl, sym, ap, ◌∙◌}
 use Rattle.vault_text.specs.Limits.{limit_of}
 use Rattle.vault_cli.specs.Call.{sink, source}
-use Rattle.vault_cli.specs.Outcome.{text_of_request}
-use Rattle.vault_cli.specs.Status.{status_of}
-use Rattle.vault_cli.specs.StoredTask.{task_in}
-use Rattle.vault_cli.specs.declared.status.Status.TheVariants.{DeviceFailed, OutOfMemory, Refused}
-use Rattle.vault_cli.proofs.RefusedAlone.{alone-performed, alone-prepared}
-use Rattle.vault_cli.proofs.RunFacts.{ends-performed, ends-unprepared, finishes-ready, finishes-refused, source-failed}
+use Rattle.vault_cli.specs.runs.Outcome.{text_of_request}
+use Rattle.vault_cli.specs.runs.Status.{status_of}
+use Rattle.vault_cli.specs.runs.StoredTask.{task_in}
+use Rattle.vault_cli.specs.declared.runs.status.Status.TheVariants.{DeviceFailed, OutOfMemory, Refused}
+use Rattle.vault_cli.proofs.facts.request.RefusedAlone.{alone-performed, alone-prepared}
+use Rattle.vault_cli.proofs.facts.runs.RunFacts.{ends-performed, ends-unprepared, finishes-ready, finishes-refused, source-failed}
 use Rattle.vault_cli.proofs.runs.run_in.Goals as goal
 
 pub returns-in-Err-clause-ends : goal.returns-in-Err-clause-ends
 returns-in-Err-clause-ends g c =
     ends-unprepared (source g.S.Source c.args.src.now c.args.src.now) (sink g.K.Sink c.args.out.now c.args.out.now)
     (sink g.E.Sink c.args.err.now c.report.new.err) c.report.result
-    (limit_of c.args.memory.limit) c.args.request.now (map (λ file. file.items) c.args.secret_files.now) c.args.salt.now
-    c.in-Err.fault c.in-Err.ensures.prepared c.report.ensures.status refl refl c.report.ensures.line
+    (limit_of c.args.job.memory.limit) c.args.job.request.now (map (λ file. file.items) c.args.job.secret_files.now) c.args.job.salt.now
+    c.in-Err.fault c.in-Err.ensures.refused c.report.ensures.status refl refl c.report.ensures.line
 
 pub returns-in-Err-clause-memory_suffices : goal.returns-in-Err-clause-memory_suffices
 returns-in-Err-clause-memory_suffices g c = λ memory.
-    let contents = map (λ file. file.items) c.args.secret_files.now in
-    let alone = (alone-prepared c.args.request.now contents c.args.salt.now).status c.in-Err.fault c.in-Err.ensures.prepared in
+    let contents = map (λ file. file.items) c.args.job.secret_files.now in
+    let alone = (alone-prepared c.args.job.request.now contents c.args.job.salt.now).status c.in-Err.fault c.in-Err.ensures.refused in
     let other : Refused ≡ OutOfMemory = sym alone ∙ sym c.report.ensures.status ∙ memory in
     absurd cc
 
@@ -31,8 +31,8 @@ returns-in-Ok-perform-clause-ends g c =
     let (input, gave, bound, (unfailed, (whole, is))) = c.in-Ok-perform.ensures.answer in
     let done = finishes-ready src out err c.deliver.result c.in-Ok-perform.ready c.deliver.ensures.status c.deliver.ensures.written
     c.deliver.ensures.silent c.deliver.ensures.intact c.deliver.ensures.failed c.deliver.ensures.prefix _ is in
-    ends-performed src out err c.deliver.result (limit_of c.args.memory.limit) c.args.request.now
-    (map (λ file. file.items) c.args.secret_files.now) c.args.salt.now (task_in c.in-Ok.task) c.in-Ok.ensures.prepared
+    ends-performed src out err c.deliver.result (limit_of c.args.job.memory.limit) c.args.job.request.now
+    (map (λ file. file.items) c.args.job.secret_files.now) c.args.job.salt.now (task_in c.in-Ok.task) c.in-Ok.ensures.prepared
     input gave bound c.in-Ok-perform.ensures.unread (inr (inr (unfailed, whole, done)))
 
 pub returns-in-Err-perform-clause-ends : goal.returns-in-Err-perform-clause-ends
@@ -44,8 +44,8 @@ returns-in-Err-perform-clause-ends g c =
     let fault = c.in-Err-perform.fault in
     let report = c.report-in-Err-perform.ensures in
     let (input, gave, bound, cases) = c.in-Err-perform.ensures.answer in
-    ends-performed src out err result (limit_of c.args.memory.limit) c.args.request.now
-    (map (λ file. file.items) c.args.secret_files.now) c.args.salt.now (task_in c.in-Ok.task) c.in-Ok.ensures.prepared
+    ends-performed src out err result (limit_of c.args.job.memory.limit) c.args.job.request.now
+    (map (λ file. file.items) c.args.job.secret_files.now) c.args.job.salt.now (task_in c.in-Ok.task) c.in-Ok.ensures.prepared
     input gave bound c.in-Err-perform.ensures.unread (elim cases [
       | inl (unread, (unnamed, front)) ↦
           inr (inl (source-failed src out err result fault unread report.status refl report.line, unnamed, front))
@@ -56,7 +56,7 @@ returns-in-Err-perform-clause-ends g c =
 
 pub returns-in-Err-perform-clause-memory_suffices : goal.returns-in-Err-perform-clause-memory_suffices
 returns-in-Err-perform-clause-memory_suffices g c = λ memory.
-    let limit = limit_of c.args.memory.limit in
+    let limit = limit_of c.args.job.memory.limit in
     let task = task_in c.in-Ok.task in
     let status = c.report-in-Err-perform.ensures.status in
     let (input, gave, bound, cases) = c.in-Err-perform.ensures.answer in
@@ -65,7 +65,7 @@ returns-in-Err-perform-clause-memory_suffices g c = λ memory.
           let wrong : DeviceFailed ≡ OutOfMemory = sym (ap status_of unread) ∙ sym status ∙ memory in
           absurd cc
       | inr (other, (whole, is)) ↦
-          let alone = (alone-performed limit task (text_of_request c.args.request.now input)).status c.in-Err-perform.fault (sym is) in
+          let alone = (alone-performed limit task (text_of_request c.args.job.request.now input)).status c.in-Err-perform.fault (sym is) in
           let wrong : Refused ≡ OutOfMemory = sym alone ∙ sym status ∙ memory in
           absurd cc
     ]

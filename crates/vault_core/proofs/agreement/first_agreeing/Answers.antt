@@ -3,8 +3,7 @@ use Rattle.std.specs.Prelude.{find}
 use Rattle.std.proofs.lemmas.List.{at_drop_all}
 use Rattle.std.specs.Option.{option_map}
 use Rattle.vault_core.specs.Agreement.{agrees, keys_of, tries}
-use Rattle.vault_core.specs.TriedPart.{tried_part}
-use Rattle.vault_core.proofs.AgreementLemmas.{agrees-None, agrees-Some, is_in_part-no, is_in_part-yes, tried_part-drop_no, tried_part-drop_yes, tries-cons_no, tries-cons_yes, tries-nil}
+use Rattle.vault_core.proofs.AgreementLemmas.{agrees-None, agrees-Some, tried_part, tried_part-drop_no, tried_part-drop_yes, tries-cons_no, tries-cons_yes, tries-nil}
 use Rattle.vault_core.proofs.agreement.first_agreeing.Goals as goal
 use Rattle.vault_core.proofs.agreement.first_agreeing.Goals.{else-has_label-labelled-via-else-has_label-labelled, else-has_label-labelled-via-then-has_label-labelled+in-None-1}
 
@@ -17,7 +16,7 @@ returns-in-loop-secret-clause-keys c =
     let secret = c.secret-item.result in
     let agreed = agrees-Some payload secret c.in-Some.keys c.in-Some.ensures.keys in
     let has_label = rw c.label.ensures at c.has_label.ensures in
-    let in_part = is_in_part-yes c.args.labelled payload.label secret _ has_label c.if-has_label-labelled.true in
+    let in_part = rw has_label at c.if-has_label-labelled.true in
     let next = tried_part-drop_yes c.args.labelled payload.label c.args.secrets.now c.loop-secret.secret-index secret c.loop-secret-test.true c.secret-item.is in_part in
     let found : find (agrees payload) (tried_part c.args.labelled payload.label (drop c.loop-secret.secret-index c.args.secrets.now)) ≡ Some secret =
     rw (next, agreed.0) refl in
@@ -29,7 +28,7 @@ returns-in-loop-secret-clause-counted c =
     let secret = c.secret-item.result in
     let agreed = agrees-Some payload secret c.in-Some.keys c.in-Some.ensures.keys in
     let has_label = rw c.label.ensures at c.has_label.ensures in
-    let in_part = is_in_part-yes c.args.labelled payload.label secret _ has_label c.if-has_label-labelled.true in
+    let in_part = rw has_label at c.if-has_label-labelled.true in
     let next = tried_part-drop_yes c.args.labelled payload.label c.args.secrets.now c.loop-secret.secret-index secret c.loop-secret-test.true c.secret-item.is in_part in
     let once = ap (tries payload) next ∙ tries-cons_yes payload secret _ agreed.0 in
     let counted = c.loop-secret.invariant.counted in
@@ -43,7 +42,7 @@ loop-secret-preserved c =
     let kept = c.loop-secret.invariant in
     elim c.else-has_label-labelled.branch [
       | else-has_label-labelled-via-else-has_label-labelled w ↦
-          let in_part = is_in_part-no c.args.labelled payload.label secret _ has_label w.if-has_label-labelled.false in
+          let in_part = rw has_label at w.if-has_label-labelled.false in
           let next = tried_part-drop_no c.args.labelled payload.label c.args.secrets.now c.loop-secret.secret-index secret c.loop-secret-test.true c.secret-item.is in_part in
           record {
             found = ap (find (agrees payload)) (sym next) ∙ kept.found;
@@ -51,7 +50,7 @@ loop-secret-preserved c =
             few = omega (arith, w.meter-is, kept.few);
           }
       | else-has_label-labelled-via-then-has_label-labelled+in-None-1 w ↦
-          let in_part = is_in_part-yes c.args.labelled payload.label secret _ has_label w.if-has_label-labelled.true in
+          let in_part = rw has_label at w.if-has_label-labelled.true in
           let next = tried_part-drop_yes c.args.labelled payload.label c.args.secrets.now c.loop-secret.secret-index secret c.loop-secret-test.true c.secret-item.is in_part in
           let none : w.keys_if_agreeing.result ≡ None = search rules in
           let differs = agrees-None payload secret (sym none ∙ w.keys_if_agreeing.ensures.keys) in

@@ -1,7 +1,7 @@
 use Rattle.std.proofs.Common.{◌≡◌, ◌+◌, ◌≤◌, drop}
 use Rattle.std.specs.Prelude.{find}
 use Rattle.vault_core.specs.Agreement.{agrees, tries}
-use Rattle.vault_core.specs.TriedPart.{tried_part}
+use Rattle.vault_core.proofs.AgreementLemmas.{tried_part}
 use Rattle.vault_core.proofs.agreement.first_agreeing.Given as goal
 
 abbrev pub invariant-loop-secret : goal.invariant-loop-secret

@@ -19,7 +19,7 @@ returns-in_err-read_plaintext g c =
         elim read.2 [
           | inl unreadable ↦ inl (unreadable.0, (unreadable.1, refl))
           | inr refused ↦
-              let long = encryption-too_long (limit_of c.args.memory.limit) c.args.secrets.now.secrets c.args.choice (form_of c.args.form) c.args.salt.now input refused.1.1.1 in
+              let long = encryption-too_long (limit_of c.args.memory.limit) c.args.secrets.now.secrets c.args.place (form_of c.args.form) c.args.salt.now input refused.1.1.1 in
               inr (refused.0, (refused.1.0, ap Err refused.1.1.0 ∙ sym long, omega arith))
         ],
       );
@@ -40,7 +40,7 @@ returns g c =
         read.0,
         read.1,
         UnlessUnreadable-from _ _ _ _ c.encrypt_plaintext.result
-            (λ fault refused. encryption-is_no_read limit secrets c.args.choice form salt input fault (sym answer ∙ refused))
+            (λ fault refused. encryption-is_no_read limit secrets c.args.place form salt input fault (sym answer ∙ refused))
             read.2.0 (read.2.1.0, answer, c.encrypt_plaintext.ensures.counted),
       );
     }

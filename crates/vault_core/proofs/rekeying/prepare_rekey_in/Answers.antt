@@ -2,7 +2,6 @@ use Rattle.std.proofs.Common.{◌≡◌, ◌+◌, arith, inl, inr, refl, sym, �
 use Rattle.std.proofs.lemmas.Result.{err_from_is_err_and}
 use Rattle.vault_text.specs.Limits.{limit_of}
 use Rattle.vault_core.specs.Decryption.{decryption_derivations}
-use Rattle.vault_core.specs.Secrets.{Secret}
 use Rattle.vault_core.proofs.DecryptionLemmas.{UnlessUnreadable-from, decryption_derivations-Err, decryption_derivations-Ok}
 use Rattle.vault_core.proofs.RekeyingLemmas.{rekeying-no_payload, rekeying-payload, resealing-is_no_read}
 use Rattle.vault_core.proofs.rekeying.prepare_rekey_in.Goals as goal
@@ -13,7 +12,7 @@ returns-in_err-payload g c =
     let read = c.in_err-payload.ensures in
     let limit = limit_of c.args.memory.limit in
     let secrets = c.args.secrets.now in
-    let new : Secret = record { label = c.args.new.now; password = c.args.password.now } in
+    let new = c.args.new.now in
     rw (p.1, p.2) (record {
       answer = (
         read.0,
@@ -34,7 +33,7 @@ returns g c =
     let read = c.in_ok-payload.ensures in
     let limit = limit_of c.args.memory.limit in
     let secrets = c.args.secrets.now in
-    let new : Secret = record { label = c.args.new.now; password = c.args.password.now } in
+    let new = c.args.new.now in
     let payload = c.in_ok-payload.payload in
     record {
       answer = (

@@ -5,27 +5,26 @@ use Rattle.vault_core.specs.Encryption.{is_vault}
 use Rattle.vault_core.specs.Form.{Envelope}
 use Rattle.vault_core.specs.Ready.{Ready}
 use Rattle.vault_core.specs.Sealing.{sealed, text_in}
-use Rattle.vault_core.specs.Secrets.{Secret}
 use Rattle.vault_core.proofs.RekeyingLemmas.{resealing-Err, resealing-sealed, resealing-vault}
 use Rattle.vault_core.proofs.rekeying.rekey_payload.Goals as goal
 
-pub returns-in_err-body-clause-answer : goal.returns-in_err-body-clause-answer
-returns-in_err-body-clause-answer c =
+pub returns-in_err-padded-clause-answer : goal.returns-in_err-padded-clause-answer
+returns-in_err-padded-clause-answer c =
     let p = err_from_is_err_and c.from_residual.result c.from_residual.ensures.1 in
-    let new : Secret = record { label = c.args.new.now; password = c.args.password.now } in
-    rw (p.1, p.2) (sym (resealing-Err c.args.secrets.now new c.args.salt.now c.args.payload _ c.in_err-body.ensures.opened))
+    let new = c.args.new.now in
+    rw (p.1, p.2) (sym (resealing-Err c.args.secrets.now new c.args.salt.now c.args.payload _ c.in_err-padded.ensures.opened))
 
 pub returns-then-is_vault-clause-answer : goal.returns-then-is_vault-clause-answer
 returns-then-is_vault-clause-answer c =
-    let new : Secret = record { label = c.args.new.now; password = c.args.password.now } in
-    let marked = ap (λ (opened : Ready). is_vault opened.output) (sym c.body.view_is) ∙ sym c.if-is_vault.ensures in
-    sym (resealing-vault c.args.secrets.now new c.args.salt.now c.args.payload c.in_ok-body.field-0 c.in_ok-body.ensures.opened marked)
+    let new = c.args.new.now in
+    let marked = ap (λ (opened : Ready). is_vault opened.output) (sym c.padded.view_is) ∙ sym c.if-is_vault.ensures in
+    sym (resealing-vault c.args.secrets.now new c.args.salt.now c.args.payload c.in_ok-padded.field-0 c.in_ok-padded.ensures.opened marked)
 
 pub returns-clause-answer : goal.returns-clause-answer
 returns-clause-answer c =
-    let new : Secret = record { label = c.args.new.now; password = c.args.password.now } in
-    let plain = ap (λ (opened : Ready). is_vault opened.output) (sym c.body.view_is) ∙ sym c.if-is_vault.ensures in
-    let answer = resealing-sealed c.args.secrets.now new c.args.salt.now c.args.payload c.in_ok-body.field-0 c.in_ok-body.ensures.opened plain in
-    let written = c.vault.ensures ∙ ap (λ (vault : Payload). record { output = text_in Envelope vault; tried = c.body.inside.tried }) c.seal-vault.ensures.sealed in
-    let opened = ap (λ (opened : Ready). record { output = text_in Envelope (sealed new c.args.salt.now opened.output); tried = opened.tried }) c.body.view_is in
+    let new = c.args.new.now in
+    let plain = ap (λ (opened : Ready). is_vault opened.output) (sym c.padded.view_is) ∙ sym c.if-is_vault.ensures in
+    let answer = resealing-sealed c.args.secrets.now new c.args.salt.now c.args.payload c.in_ok-padded.field-0 c.in_ok-padded.ensures.opened plain in
+    let written = c.vault.ensures ∙ ap (λ (vault : Payload). record { output = text_in Envelope vault; tried = c.padded.inside.tried }) c.seal-vault.ensures.sealed in
+    let opened = ap (λ (opened : Ready). record { output = text_in Envelope (sealed new c.args.salt.now opened.output); tried = opened.tried }) c.padded.view_is in
     ap Ok (written ∙ opened) ∙ sym answer

@@ -7,4 +7,4 @@ pub returns-clause-nothing : goal.returns-clause-nothing
 returns-clause-nothing c =
     let limit = limit_of c.room.result in
     let room : ciphertext_limit limit ≡ c.args.memory.limit = omega (arith, c.requires.room, c.room.ensures, ap length c.requires.empty) in
-    rw (c.new.ensures, c.new-2.ensures) (rw room at (StandsFor-nothing limit))
+    StandsFor-nothing limit _ _ c.new.ensures (rw room c.new-2.ensures)

@@ -1,0 +1,11 @@
+pub mod line
+pub mod request
+pub mod runs
+pub mod ProgramFacts
+pub mod DriveFacts
+pub mod MemoryFacts
+pub mod EmbeddingFacts
+pub mod ProgramSamples
+pub mod LawFacts
+pub mod LawProofs
+pub mod ProgramLawProofs

@@ -1,0 +1,4 @@
+pub mod ExplainedFacts
+pub mod NamedFacts
+pub mod ParsedFacts
+pub mod ParsedSamples

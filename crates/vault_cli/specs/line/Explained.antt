@@ -1,0 +1,48 @@
+-- What the program says where its words are no command line.
+use Rattle.std.specs.Prelude.{◌≡◌, ◌≢◌, ◌⊎◌, ℕ, List, [], Some}
+use Rattle.clap.specs.Words.{IsAmong, Kinds}
+use Rattle.clap.specs.declared.error.kind.ErrorKind.{ErrorKind}
+use Rattle.clap.specs.declared.error.kind.ErrorKind.TheVariants.{DisplayHelp, DisplayVersion}
+use Rattle.clap.specs.declared.error.kind.ErrorKind.TheVariants.{OutOfMemory}
+use Rattle.vault_cli.specs.Call.{SinkCall}
+use Rattle.vault_cli.specs.runs.Ending.{Finishes, LacksMemory, to_sink}
+use Rattle.vault_cli.specs.runs.Reports.{Reports}
+use Rattle.vault_cli.specs.declared.runs.status.Status.{Status}
+use Rattle.vault_cli.specs.declared.runs.status.Status.TheVariants.{ParseFault, Success}
+
+-- the user asked for help or for the version
+abbrev pub IsHelp : ErrorKind → Type 0
+IsHelp kind = (kind ≡ DisplayHelp) ⊎ (kind ≡ DisplayVersion)
+
+-- the words are wrong
+abbrev pub IsMistake : ErrorKind → Type 0
+IsMistake kind = (kind ≢ DisplayHelp) × (kind ≢ DisplayVersion) × (kind ≢ OutOfMemory)
+
+module _ {K E : Type 0} (out : SinkCall K) (err : SinkCall E) (result : Status) where
+  -- there was no memory
+  abbrev pub HasNoMemory : Type 0
+  HasNoMemory = LacksMemory (to_sink out) err result
+
+  -- a text on standard output, or a prefix of it where standard output failed
+  abbrev pub Shows : Type 0
+  Shows = (text : List ℕ)
+      × Finishes (to_sink out) err result
+      (record { output = Some text; line = []; status = Success })
+
+  -- a text on standard error alone
+  pub record Rejects : Type 0 where
+    pub status : result ≡ ParseFault
+    pub output : out.new ≡ out.old
+    pub text : (text : List ℕ) × Reports err text
+
+  -- help and the version are shown, and a mistake is rejected
+  abbrev pub Explained : ErrorKind → Type 0
+  Explained kind = (IsHelp kind × Shows) ⊎ (IsMistake kind × Rejects)
+
+  -- or there was no memory to say so
+  abbrev pub Explains : ErrorKind → Type 0
+  Explains kind = HasNoMemory ⊎ Explained kind
+
+  -- an error of one of these kinds is explained
+  abbrev pub ExplainsOneOf : Kinds → Type 0
+  ExplainsOneOf kinds = HasNoMemory ⊎ ((kind : ErrorKind) × IsAmong kind kinds × Explained kind)

@@ -1,0 +1,9 @@
+pub mod Ending
+pub mod Found
+pub mod Gathered
+pub mod Outcome
+pub mod ReportLine
+pub mod Reports
+pub mod Status
+pub mod StoredTask
+pub mod Task

@@ -1,0 +1,108 @@
+-- The task of a request: the passwords, step 1, the place of the secret that seals, step 2, and the
+-- salt, step 3.
+use Rattle.std.specs.Prelude.{ℕ, ◌<◌, nat_lt, if◌then◌else◌, List, [], ◌∷◌, length, take}
+use Rattle.std.specs.Prelude.{slice_index_or, Option, Some, None, Result, Ok, Err}
+use Rattle.std.specs.Result.{result_map_both}
+use Rattle.vault_core.specs.Choice.{chosen_place}
+use Rattle.vault_core.specs.Fault.{of_choice, of_secret}
+use Rattle.vault_core.specs.Form.{Form, Envelope, Block}
+use Rattle.vault_text.specs.Steps.{◌>>=◌}
+use Rattle.vault_core.specs.Password.{password_of}
+use Rattle.vault_core.specs.Secrets.{Secret, SecretList}
+use Rattle.vault_core.specs.declared.fault.Fault.{Fault}
+use Rattle.vault_core.specs.declared.fault.Fault.TheVariants.{NeedNewSecret, SaltShort, SecretEmpty}
+use Rattle.vault_cli.specs.request.Request.{Request, SecretFile}
+use Rattle.vault_cli.specs.declared.limits.TheConstants.{SEALING_SALT_LENGTH}
+use Rattle.vault_cli.specs.declared.line.command_name.CommandName.{CommandName}
+use Rattle.vault_cli.specs.declared.line.command_name.CommandName.TheVariants.{Encrypt, Decrypt}
+use Rattle.vault_cli.specs.declared.line.command_name.CommandName.TheVariants.{View, Rekey}
+use Rattle.vault_cli.specs.declared.line.command_name.CommandName.TheVariants.{EncryptString}
+
+-- what is to be done with the input: to seal it in a form, under the secret at a place; to open it;
+-- to open it and to seal it again under a new secret
+pub data Task : Type 0 where
+  Seal : (secrets : List Secret) (place : ℕ) (form : Form) (salt : List ℕ) → Task
+  Open : (secrets : SecretList) → Task
+  Reseal : (secrets : SecretList) (new : Secret) (salt : List ℕ) → Task
+
+-- the place of a task is in its list
+abbrev pub HasPlace : Task → Type 0
+HasPlace (Seal secrets place form salt) = place < length secrets
+HasPlace (Open secrets) = Unit {0}
+HasPlace (Reseal secrets new salt) = Unit {0}
+
+-- the password in a file that holds these bytes
+abbrev pub password_in : List ℕ → Result (List ℕ) Fault
+password_in bytes = result_map_both (λ password. password) of_secret (password_of bytes)
+
+-- the secret of a password file that holds these bytes
+abbrev pub secret_in : SecretFile → List ℕ → Result Secret Fault
+secret_in file bytes = do
+  password ← password_in bytes
+  Ok (record { label = file.label; password = password })
+
+-- step 1: the secrets of password files, in their order, or the first fault; a file without
+-- contents, which no run has, gives no password
+unfoldable pub secrets_of : List SecretFile → List (List ℕ) → Result (List Secret) Fault
+secrets_of [] contents = Ok []
+secrets_of (file ∷ files) [] = Err SecretEmpty
+secrets_of (file ∷ files) (bytes ∷ contents) = do
+  secret ← secret_in file bytes
+  secrets ← secrets_of files contents
+  Ok (secret ∷ secrets)
+
+-- the secrets of a request, and its rule for labels
+abbrev pub secret_list_of : Request → List (List ℕ) → Result SecretList Fault
+secret_list_of request contents = do
+  secrets ← secrets_of request.secret_files contents
+  Ok (record { secrets = secrets; rule = request.rule })
+
+-- step 1 of `rekey`: its new secret, which a settled request names
+abbrev pub new_secret_in : Option SecretFile → List ℕ → Result Secret Fault
+new_secret_in None bytes = Err NeedNewSecret
+new_secret_in (Some file) bytes = secret_in file bytes
+
+-- step 2: the place of the secret that encrypts
+abbrev pub place_of : List Secret → Option (List ℕ) → Result ℕ Fault
+place_of secrets label = result_map_both (λ place. place) of_choice (chosen_place secrets label)
+
+-- step 3: the bytes of the salt text where there is one, else the first 32 of the salt
+abbrev pub salt_of : Option (List ℕ) → List ℕ → Result (List ℕ) Fault
+salt_of (Some text) salt = Ok text
+salt_of None salt =
+    if nat_lt (length salt) SEALING_SALT_LENGTH then Err SaltShort
+    else Ok (take SEALING_SALT_LENGTH salt)
+
+-- steps 2 and 3 of `encrypt` and `encrypt_string`
+abbrev pub seal_of : Request → List Secret → Form → List ℕ → Result Task Fault
+seal_of request secrets form salt = do
+  place ← place_of secrets request.choice
+  used ← salt_of request.salt_text salt
+  Ok (Seal secrets place form used)
+
+-- the last of step 1, and step 3, of `rekey`, whose last password file holds these bytes
+abbrev pub reseal_of : Request → SecretList → List ℕ → List ℕ → Result Task Fault
+reseal_of request secrets last salt = do
+  new ← new_secret_in request.new_secret last
+  used ← salt_of request.salt_text salt
+  Ok (Reseal secrets new used)
+
+-- the task of each command, of the secrets without the new one, of what the last password file
+-- holds, and of a salt
+abbrev pub task_of : CommandName → Request → SecretList → List ℕ → List ℕ → Result Task Fault
+task_of Encrypt request list last salt = seal_of request list.secrets Envelope salt
+task_of EncryptString request list last salt =
+    seal_of request list.secrets (Block request.name) salt
+task_of Decrypt request list last salt = Ok (Open list)
+task_of View request list last salt = Ok (Open list)
+task_of Rekey request list last salt = reseal_of request list last salt
+
+-- steps 1 to 3: the task of a request, of the contents of its password files, of which that of the
+-- new secret is the last, and of a salt, or the first fault
+unfoldable pub prepared : Request → List (List ℕ) → List ℕ → Result Task Fault
+prepared request contents salt = do
+  -- step 1
+  list ← secret_list_of request contents
+  -- steps 2 and 3
+  let last = slice_index_or contents (length request.secret_files) [] in
+      task_of request.command request list last salt

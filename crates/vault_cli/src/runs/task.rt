@@ -1,0 +1,160 @@
+//! What is to be done with the input of a request: how that is prepared, and how it is performed.
+ghost use Rattle.std.specs.Prelude.{◌≡◌, ℕ, ◌+◌, ◌≤◌, List, [], length, map, slice_index_or, true};
+ghost use Rattle.std.specs.Prelude.{IfErr, IfOk};
+ghost use Rattle.vault_core.specs.Form.{form_of};
+ghost use Rattle.vault_core.specs.Input.{IsWhole, UnlessUnreadable};
+ghost use Rattle.vault_text.specs.Limits.{IsWorkLength, limit_of};
+ghost use Rattle.vault_cli.specs.runs.Outcome.{performed, task_limit};
+ghost use Rattle.vault_cli.specs.line.CommandName.{rekeys};
+ghost use Rattle.vault_cli.specs.request.Request.{files_of};
+ghost use Rattle.vault_cli.specs.runs.StoredTask.{task_in};
+ghost use Rattle.vault_cli.specs.runs.Task.{HasPlace, prepared, reseal_of, salt_of, seal_of};
+
+use crate::limits::SEALING_SALT_LENGTH;
+use crate::line::CommandName;
+use crate::request::Request;
+use crate::runs::passwords::{new_secret_in, secrets_of};
+use vault_core::{
+    Fault, Form, Ready, SealingSecret, Secrets, prepare_decrypt_in, prepare_encrypt_in,
+    prepare_rekey_in,
+};
+use vault_kdf::Meter;
+use vault_text::{Salt, Source, TextMemory};
+
+/// What is to be done with the input, once passwords, secret and salt are found.
+#[derive(Drop)]
+pub(crate) enum Task<'p> {
+    /// To encrypt it with the secret at a place of the list, counted from 0.
+    Seal {
+        secrets: Secrets<'p>,
+        place: usize,
+        form: Form<'p>,
+        salt: Salt,
+    },
+    /// To decrypt it.
+    Open {
+        secrets: Secrets<'p>,
+    },
+    /// To decrypt it, and to encrypt the plaintext with another secret.
+    Reseal {
+        secrets: Secrets<'p>,
+        new: SealingSecret<'p, 'p>,
+        salt: Salt,
+    },
+}
+
+/// Finds the passwords of a request, the secret that seals and the salt; faults come in this order.
+#[tactic(auto, unfolding(crate::specs::runs::Task::prepared))]
+pub(crate) fn prepare<'p>(
+    request: &'p Request,
+    secret_files: &'p [Vec<u8>],
+    salt: &[u8],
+) -> Result<Task<'p>, Fault>
+    requires { length secret_files.now ≡ length (files_of request.now) }
+    ensures prepared { let contents = map (λ file. file.items) secret_files.now in
+        IfOk result (λ task. prepared request.now contents salt.now ≡ Ok (task_in task)) }
+    ensures refused { let contents = map (λ file. file.items) secret_files.now in
+        IfErr result (λ fault. prepared request.now contents salt.now ≡ Err fault) }
+    ensures place { IfOk result (λ task. HasPlace (task_in task)) }
+{
+    let secrets = secrets_of(request, secret_files)?;
+    match request.command() {
+        CommandName::Encrypt => seal(request, secrets, Form::Envelope, salt),
+        CommandName::EncryptString => seal(request, secrets, Form::Block(request.name()), salt),
+        CommandName::Decrypt | CommandName::View => Ok(Task::Open { secrets }),
+        CommandName::Rekey => reseal(request, secrets, secret_files, salt),
+    }
+}
+
+/// The task of a request that encrypts.
+fn seal<'p>(
+    request: &'p Request,
+    secrets: Secrets<'p>,
+    form: Form<'p>,
+    salt: &[u8],
+) -> Result<Task<'p>, Fault>
+    ensures place { IfOk result (λ task. HasPlace (task_in task)) }
+    ensures sealed { IfOk result (λ task.
+        seal_of request.now secrets.entry.secrets (form_of form.entry) salt.now
+        ≡ Ok (task_in task)) }
+    ensures refused { IfErr result (λ fault.
+        seal_of request.now secrets.entry.secrets (form_of form.entry) salt.now ≡ Err fault) }
+{
+    let place = secrets.encrypt_choice(request.choice())?;
+    let salt = salt_of(request, salt)?;
+    Ok(Task::Seal {
+        secrets,
+        place,
+        form,
+        salt,
+    })
+}
+
+/// The task of `rekey`.
+fn reseal<'p>(
+    request: &'p Request,
+    secrets: Secrets<'p>,
+    secret_files: &'p [Vec<u8>],
+    salt: &[u8],
+) -> Result<Task<'p>, Fault>
+    requires command { rekeys request.now.command ≡ true }
+    requires files { length secret_files.now ≡ length (files_of request.now) }
+    ensures place { IfOk result (λ task. HasPlace (task_in task)) }
+    ensures resealed { let contents = map (λ file. file.items) secret_files.now in
+        let last = slice_index_or contents (length request.now.secret_files) [] in
+        IfOk result (λ task.
+        reseal_of request.now secrets.entry last salt.now ≡ Ok (task_in task)) }
+    ensures refused { let contents = map (λ file. file.items) secret_files.now in
+        let last = slice_index_or contents (length request.now.secret_files) [] in
+        IfErr result (λ fault. reseal_of request.now secrets.entry last salt.now ≡ Err fault) }
+{
+    let new = new_secret_in(request, secret_files)?;
+    let salt = salt_of(request, salt)?;
+    Ok(Task::Reseal { secrets, new, salt })
+}
+
+/// The salt of a request: its salt text, or the first 32 bytes of the salt.
+fn salt_of(request: &Request, salt: &[u8]) -> Result<Salt, Fault>
+    ensures { result ≡ salt_of request.now.salt_text salt.now }
+{
+    let bytes = match request.salt_text() {
+        Some(text) => text.as_bytes(),
+        None if salt.len() < SEALING_SALT_LENGTH => return Err(Fault::SaltShort),
+        None => &salt[..SEALING_SALT_LENGTH],
+    };
+    Ok(Salt::new(bytes).unwrap())
+}
+
+impl<'p> Task<'p> {
+    /// Reads the input into the memory, and does with it there what is to be done.
+    pub(crate) fn perform<'a, S: Source>(
+        &'a self,
+        src: &mut S,
+        memory: TextMemory<'a>,
+    ) -> Result<Ready<'a>, Fault>
+        requires empty { memory.bytes ≡ [] }
+        requires room { IsWorkLength memory.limit }
+        requires place { HasPlace (task_in self.now) }
+        ensures answer { let limit = limit_of memory.entry.limit in
+            let bound = task_limit limit (task_in self.now) in
+            (input : List ℕ) × S.gives src.old input src.new × (length input ≤ bound + 1)
+            × UnlessUnreadable (S.failures src.old) (S.failures src.new) result
+            (length input ≤ bound)
+            (IsWhole bound (S.ended src.new) input
+            × (result ≡ performed limit (task_in self.now) input)) }
+    {
+        let mut meter = Meter::new();
+        match self {
+            Task::Seal {
+                secrets,
+                place,
+                form,
+                salt,
+            } => prepare_encrypt_in(src, memory, secrets, *place, *form, salt, &mut meter),
+            Task::Open { secrets } => prepare_decrypt_in(src, memory, secrets, &mut meter),
+            Task::Reseal { secrets, new, salt } => {
+                prepare_rekey_in(src, memory, secrets, new, salt, &mut meter)
+            }
+        }
+    }
+}

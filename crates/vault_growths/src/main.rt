@@ -1,0 +1,149 @@
+//! One run of a command line over memory, for a test that refuses each growth in turn:
+//! `vault_growths drive WORD..` by `drive_in_memory`, `vault_growths run WORD..` by `run`. The
+//! password files are `one` and `two`; standard input, of at most 4,096 bytes, is the input. Prints
+//! the status, how many bytes the output, the message and the file `kept` hold, and these bytes.
+#![tactic(auto)]
+
+ghost use Rattle.std.specs.Prelude.{◌≡◌, IfOk, length, vec_len};
+ghost use Rattle.vault_cli.specs.Request.{files_of};
+
+use std::alloc::{AllocError, Global};
+use std::io::{ErrorKind, Write};
+use std::{env, io};
+use vault_cli::{
+    Fault, LoggedFiles, MemFile, MemSink, MemSource, ReadSource, Request, Status, drive_in_memory,
+    has_command, parse, report, run, settle,
+};
+use vault_text::{Stage, fill_up};
+
+const INPUT_LIMIT: usize = 4_096;
+
+fn usage() -> io::Error {
+    io::Error::new(
+        ErrorKind::InvalidInput,
+        "usage: vault_growths drive|run WORD..",
+    )
+}
+
+/// The contents of the password files of a request.
+fn contents_of(
+    alloc: Global,
+    files: &LoggedFiles<'_>,
+    request: &Request,
+) -> Result<Vec<Vec<u8>>, AllocError> {
+    let mut contents = Vec::new(alloc);
+    for i in 0..request.files() {
+        let content = files.content(request.path(i)).unwrap_or(&[]);
+        contents.push(Vec::from_slice(alloc, content)?)?;
+    }
+    Ok(contents)
+}
+
+/// The request of words that are right, and the contents of its password files: where there is
+/// none, memory lacks.
+fn gather(
+    alloc: Global,
+    files: &LoggedFiles<'_>,
+    words: &[String],
+) -> Result<(Request, Vec<Vec<u8>>), Fault>
+    ensures { IfOk result (λ found. vec_len found.1 ≡ length (files_of found.0)) }
+{
+    let Ok(matches) = parse(alloc, words) else {
+        return Err(Fault::Memory);
+    };
+    if !has_command(&matches) {
+        return Err(Fault::Memory);
+    }
+    let request = settle(alloc, &matches)?;
+    let contents = contents_of(alloc, files, &request)?;
+    if contents.len() != request.files() {
+        return Err(Fault::Memory);
+    }
+    Ok((request, contents))
+}
+
+/// Runs the request of these words, with a salt of zeros.
+fn run_words(
+    alloc: Global,
+    files: &LoggedFiles<'_>,
+    words: &[String],
+    src: &mut MemSource<'_>,
+    out: &mut MemSink,
+    err: &mut MemSink,
+) -> Status
+    requires out_unbegun { out.old.stage ≡ Stage.Unbegun }
+    requires err_unbegun { err.old.stage ≡ Stage.Unbegun }
+{
+    let mut work = [0; INPUT_LIMIT];
+    match gather(alloc, files, words) {
+        Ok((request, contents)) => {
+            run(
+                &request,
+                contents.as_slice(),
+                &[0; 32],
+                &mut work,
+                src,
+                out,
+                err,
+            )
+        }
+        Err(fault) => report(fault, err),
+    }
+}
+
+/// Prints what a run left: its status, output, message and the file `kept`.
+fn print(
+    rt: &HostRuntime,
+    status: Status,
+    output: &[u8],
+    message: &[u8],
+    kept: &[u8],
+) -> io::Result<()> {
+    let (output_length, message_length) = (output.len(), message.len());
+    println!(rt;
+        "{} {output_length} {message_length} {}",
+        status.code(),
+        kept.len()
+    )?;
+    let mut stdout = rt.stdout();
+    stdout.write_all(output)?;
+    stdout.write_all(message)?;
+    stdout.write_all(kept)?;
+    stdout.flush()
+}
+
+/// Runs the words, of which the first names the call, over this input.
+fn answer(rt: &HostRuntime, words: &[String], input: &[u8]) -> io::Result<()> {
+    let alloc = rt.alloc();
+    let entries = [
+        MemFile::whole("one", b"one\n"),
+        MemFile::whole("two", b"two\n"),
+        MemFile::whole("salt", &[0; 32]),
+        MemFile::whole("kept", b"kept\n"),
+    ];
+    let mut files = LoggedFiles::new(alloc, &entries, usize::MAX);
+    let mut src = MemSource::new(input, INPUT_LIMIT);
+    // One byte a call, so that the sinks of a short run grow often.
+    let mut out = MemSink::new(alloc, 1);
+    let mut err = MemSink::new(alloc, 1);
+    let status = match words {
+        [call, ..] if call.as_str() == "drive" => {
+            drive_in_memory(&mut files, alloc, words, &mut src, &mut out, &mut err)
+        }
+        _ => run_words(alloc, &files, words, &mut src, &mut out, &mut err),
+    };
+    let kept = files.content("kept").unwrap_or(&[]);
+    print(rt, status, out.bytes(), err.bytes(), kept)
+}
+
+fn main(rt: HostRuntime) -> io::Result<()> {
+    let words: Vec<String> = env::args(&rt)?.collect(rt.alloc())?;
+    let [_, words @ ..] = words.as_slice() else {
+        return Err(usage());
+    };
+    let mut input = [0; INPUT_LIMIT];
+    match fill_up(&mut ReadSource::new(rt.stdin()), &mut input) {
+        Ok(n) => answer(&rt, words, &input[..n]),
+        Err(_) => Err(usage()),
+    }
+}

@@ -1,0 +1,5 @@
+use Rattle.vault_text.proofs.InnerFacts.{PartHas-nothing}
+use Rattle.vault_text.proofs.reader.cipher_part.CipherPart.new.Goals as goal
+
+pub returns : goal.returns
+returns c = rw (c.requires, c.new.ensures) (PartHas-nothing c.args.memory.limit)
