@@ -1,6 +1,5 @@
-pub mod line
-pub mod request
 pub mod runs
+pub mod ExplainedFacts
 pub mod ProgramFacts
 pub mod DriveFacts
 pub mod MemoryFacts

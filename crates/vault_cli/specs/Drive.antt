@@ -8,7 +8,7 @@ use Rattle.vault_cli.specs.runs.Found.{AtPath, secret_paths}
 use Rattle.vault_cli.specs.runs.Outcome.{Outcome}
 use Rattle.vault_cli.specs.Opened.{opened_of}
 use Rattle.vault_cli.specs.Program.{Files, access_of, output_path, stdin_asked}
-use Rattle.vault_cli.specs.request.Request.{Request}
+use Rattle.vault_request.specs.Request.{Request}
 use Rattle.vault_cli.specs.declared.runs.status.Status.{Status}
 use Rattle.vault_cli.specs.declared.runs.status.Status.TheVariants.{OutOfMemory}
 

@@ -1,35 +1,18 @@
 -- Laws of the outcomes, which hold under every limit, of all requests, password files, salts and
 -- inputs.
-use Rattle.std.specs.Prelude.{◌≡◌, ◌≢◌, ◌⊎◌, ℕ, ◌≤◌, List, [], ◌∷◌, length, Some, None, IfSome}
-use Rattle.std.specs.Prelude.{true, Ok}
-use Rattle.std.specs.List.{AllByRecursion}
-use Rattle.clap.specs.Walk.{Row}
-use Rattle.vault_text.specs.Label.{is_label}
+use Rattle.std.specs.Prelude.{◌≡◌, ◌⊎◌, ℕ, ◌≤◌, List, [], ◌∷◌, length, Some, IfSome}
+use Rattle.std.specs.Prelude.{Ok}
 use Rattle.vault_core.specs.Form.{Envelope}
 use Rattle.vault_core.specs.Laws.{IsBytes, IsTriedFirst}
 use Rattle.vault_core.specs.Secrets.{Secret, SecretList, secret_at}
 use Rattle.vault_core.specs.declared.label_rule.LabelRule.{LabelRule}
 use Rattle.vault_cli.specs.runs.Outcome.{outcome_within, room_limit, text_of_request}
-use Rattle.vault_cli.specs.request.Request.{IsSettled, Request, files_of}
-use Rattle.vault_cli.specs.request.Settled.{settled}
+use Rattle.vault_request.specs.Laws.{IsRequest}
+use Rattle.vault_request.specs.Request.{Request}
 use Rattle.vault_cli.specs.runs.Task.{Seal, Open, Reseal, prepared}
-use Rattle.vault_cli.specs.declared.line.command_name.CommandName.{CommandName}
-use Rattle.vault_cli.specs.declared.line.command_name.CommandName.TheVariants.{Encrypt, Decrypt}
-use Rattle.vault_cli.specs.declared.line.command_name.CommandName.TheVariants.{View, Rekey}
-use Rattle.vault_cli.specs.declared.line.command_name.CommandName.TheVariants.{EncryptString}
+use Rattle.vault_request.specs.declared.command_name.CommandName.TheVariants.{Encrypt, Decrypt}
+use Rattle.vault_request.specs.declared.command_name.CommandName.TheVariants.{View, Rekey}
 use Rattle.vault_cli.specs.declared.runs.status.Status.TheVariants.{Refused, Success}
-
--- what a request that was settled is: its labels are labels, and only `encrypt_string` has a STRING
-pub record IsRequest (request : Request) : Type 0 where
-  pub settled : IsSettled request
-  pub labels : AllByRecursion (λ file. is_label file.label ≡ true) (files_of request)
-  pub string : request.command ≢ EncryptString → request.string ≡ None
-
--- what settles a request makes one of these
-abbrev pub SettledRequests : Type 0
-SettledRequests =
-    (command : CommandName) (rows : List Row) (request : Request)
-    → settled command rows ≡ Ok request → IsRequest request
 
 -- an outcome is a success, or a refusal: it tells of no device, and of no want of memory
 abbrev pub OutcomesAreDecided : Type 0

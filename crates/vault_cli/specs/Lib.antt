@@ -1,7 +1,6 @@
-pub mod line
-pub mod request
 pub mod runs
 pub mod Call
+pub mod Explained
 pub mod Program
 pub mod Opened
 pub mod Drive

@@ -7,7 +7,7 @@ use Rattle.vault_core.specs.declared.fault.Role.TheVariants.{Secret}
 use Rattle.vault_core.specs.declared.limits.TheConstants.{PASSWORD_FILE_LIMIT}
 use Rattle.vault_cli.specs.runs.Found.{contents_of, front_in, secret_paths}
 use Rattle.vault_cli.specs.Program.{Files, salt_in}
-use Rattle.vault_cli.specs.request.Request.{Request}
+use Rattle.vault_request.specs.Request.{Request}
 
 -- none behind a step that refuses
 abbrev pub behind : {T : Type 0} → Result T Fault → List (List ℕ) → List (List ℕ)

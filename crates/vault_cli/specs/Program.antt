@@ -2,25 +2,25 @@
 -- input.
 use Rattle.std.specs.Prelude.{ℕ, ◌+◌, List, [], map, Option, Some, None, Result, Ok, Err}
 use Rattle.std.specs.Option.{option_map}
-use Rattle.clap.specs.Words.{Text, subcommand_of}
+use Rattle.clap.specs.Words.{Text}
 use Rattle.vault_files.specs.File.{Finding}
 use Rattle.vault_files.specs.File.Finding.{Missing, Whole, Broken}
 use Rattle.vault_files.specs.declared.access.Access.{Access}
-use Rattle.vault_files.specs.declared.access.Access.TheVariants.{Kept}
+use Rattle.vault_files.specs.declared.access.Access.TheVariants.{Kept, OwnerOnly}
 use Rattle.vault_text.specs.Steps.{◌>>=◌}
 use Rattle.vault_text.specs.declared.limits.TheConstants.{PLAINTEXT_LIMIT}
 use Rattle.vault_core.specs.Ready.{Ready}
 use Rattle.vault_core.specs.declared.fault.Fault.{Fault}
 use Rattle.vault_core.specs.declared.fault.Fault.TheVariants.{CannotOpen}
 use Rattle.vault_core.specs.declared.fault.Role.TheVariants.{Input, Salt}
-use Rattle.vault_cli.specs.line.CommandLine.{vault_app}
-use Rattle.vault_cli.specs.line.CommandName.{output_access}
 use Rattle.vault_cli.specs.runs.Found.{contents_of, front_in, secret_paths}
 use Rattle.vault_cli.specs.runs.Outcome.{Outcome, answered, asked_for, input_limit, ready_by}
 use Rattle.vault_cli.specs.runs.Outcome.{refused}
-use Rattle.vault_cli.specs.request.Request.{Request}
-use Rattle.vault_cli.specs.request.Settled.{asked}
+use Rattle.vault_request.specs.Request.{Request}
+use Rattle.vault_request.specs.Settled.{asked_by}
 use Rattle.vault_cli.specs.runs.Task.{Task, prepared}
+use Rattle.vault_request.specs.declared.command_name.CommandName.{CommandName}
+use Rattle.vault_request.specs.declared.command_name.CommandName.TheVariants.{Decrypt, View}
 use Rattle.vault_cli.specs.declared.limits.TheConstants.{SEALING_SALT_LENGTH}
 use Rattle.vault_cli.specs.declared.runs.status.Status.TheVariants.{ParseFault}
 
@@ -64,10 +64,6 @@ ready_of request files stdin =
     ready_by PLAINTEXT_LIMIT (task_over request files) request.string
     (input_in (input_limit PLAINTEXT_LIMIT request.command + 1) files.input stdin)
 
--- the request of words, or the fault of their options, where they name a command
-abbrev pub asked_by : List Text → Option (Result Request Fault)
-asked_by words = asked (subcommand_of vault_app words)
-
 -- the answer to what was asked; words without a fault name a command, which is a law, so that the
 -- first case never comes
 abbrev pub answer_to : Option (Result Request Fault) → Files → List ℕ → Outcome
@@ -85,7 +81,13 @@ output_path None = None
 output_path (Some (Err fault)) = None
 output_path (Some (Ok request)) = request.output
 
--- who may read what stands there already
+-- who may read an output that stands there already: plaintext is for its owner
+abbrev pub output_access : CommandName → Access
+output_access Decrypt = OwnerOnly
+output_access View = OwnerOnly
+output_access _ = Kept
+
+-- the same of what was asked
 abbrev pub access_of : Option (Result Request Fault) → Access
 access_of None = Kept
 access_of (Some (Err fault)) = Kept

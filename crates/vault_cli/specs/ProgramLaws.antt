@@ -1,6 +1,6 @@
 -- Laws of the program: from the words of one run to those of another, from file to file.
-use Rattle.std.specs.Prelude.{◌≡◌, ◌≢◌, ℕ, List, [], ◌∷◌, Option, Some, None, IfSome, Ok}
-use Rattle.clap.specs.Words.{Text, fault_of}
+use Rattle.std.specs.Prelude.{◌≡◌, ℕ, List, [], ◌∷◌, Option, Some, None, IfSome, Ok}
+use Rattle.clap.specs.Words.{Text}
 use Rattle.vault_files.specs.File.{Finding}
 use Rattle.vault_files.specs.File.Finding.{Whole}
 use Rattle.vault_core.specs.Form.{Envelope}
@@ -10,18 +10,13 @@ use Rattle.vault_core.specs.declared.label_rule.LabelRule.{LabelRule}
 use Rattle.vault_cli.specs.Embedding.{stands_after}
 use Rattle.vault_cli.specs.runs.Found.{contents_of}
 use Rattle.vault_cli.specs.Laws.{OpensWith}
-use Rattle.vault_cli.specs.line.CommandLine.{vault_app}
 use Rattle.vault_cli.specs.runs.Outcome.{Outcome, outcome}
-use Rattle.vault_cli.specs.Program.{Files, asked_by, files_in, output_path, program, salt_in}
-use Rattle.vault_cli.specs.request.Request.{Request}
+use Rattle.vault_request.specs.Settled.{asked_by}
+use Rattle.vault_cli.specs.Program.{Files, files_in, output_path, program, salt_in}
+use Rattle.vault_request.specs.Request.{Request}
 use Rattle.vault_cli.specs.runs.Task.{Seal, Reseal, prepared}
-use Rattle.vault_cli.specs.declared.line.command_name.CommandName.TheVariants.{Encrypt, Rekey}
+use Rattle.vault_request.specs.declared.command_name.CommandName.TheVariants.{Encrypt, Rekey}
 use Rattle.vault_cli.specs.declared.runs.status.Status.TheVariants.{Success}
-
--- words without a fault name a command, so that each line of words asks for something, or is
--- explained
-abbrev pub WordsNameACommand : Type 0
-WordsNameACommand = (words : List Text) → fault_of vault_app words ≡ [] → asked_by words ≢ None
 
 -- the input is a file that can be read to its end, or else standard input
 abbrev pub IsInput : Option Finding → List ℕ → List ℕ → Type 0

@@ -4,11 +4,12 @@ ghost use Rattle.std.specs.String.{string_bytes};
 ghost use Rattle.clap.specs.Words.{fault_of};
 ghost use Rattle.vault_files.specs.Memory.{file_at};
 ghost use Rattle.vault_cli.specs.Call.{sink};
-ghost use Rattle.vault_cli.specs.line.CommandLine.{vault_app};
+ghost use Rattle.vault_request.specs.CommandLine.{vault_app};
 ghost use Rattle.vault_cli.specs.Embedding.{Embeds, Logs, Taken, change};
-ghost use Rattle.vault_cli.specs.line.Explained.{ExplainsOneOf};
+ghost use Rattle.vault_cli.specs.Explained.{ExplainsOneOf};
 ghost use Rattle.vault_cli.specs.Opened.{opened_of};
-ghost use Rattle.vault_cli.specs.Program.{asked_by, files_in, output_path, program, stdin_asked};
+ghost use Rattle.vault_request.specs.Settled.{asked_by};
+ghost use Rattle.vault_cli.specs.Program.{files_in, output_path, program, stdin_asked};
 
 use crate::program::drive;
 use crate::runs::Status;

@@ -1,15 +1,11 @@
 //! Laws of the outcomes and of the program, each the contract of a function that does nothing but
 //! name the laws that it stands on.
 ghost use Rattle.vault_cli.specs.Laws.{EncryptThenDecrypt, OutcomesAreDecided};
-ghost use Rattle.vault_cli.specs.Laws.{RekeyKeepsThePlaintext, SettledRequests, ShortTexts};
+ghost use Rattle.vault_cli.specs.Laws.{RekeyKeepsThePlaintext, ShortTexts};
 ghost use Rattle.vault_cli.specs.ProgramLaws.{ProgramEncryptsThenDecrypts, ProgramIsOutcome};
-ghost use Rattle.vault_cli.specs.ProgramLaws.{ProgramKeepsThePlaintext, WordsNameACommand};
-ghost use Rattle.vault_cli.specs.ProgramLaws.{WrittenIsRead};
+ghost use Rattle.vault_cli.specs.ProgramLaws.{ProgramKeepsThePlaintext, WrittenIsRead};
 
-/// What settles a request makes one that the laws below speak of.
-pub fn settled_requests()
-    ensures { SettledRequests }
-{}
+use vault_request::laws::settled_requests;
 
 /// An outcome is a success or a refusal, so that a run answers `DeviceFailed` only where its source or
 /// its sink failed.
@@ -38,11 +34,6 @@ pub fn short_texts()
 {
     vault_core::laws::short_inputs();
 }
-
-/// Words without a fault name a command.
-pub fn words_name_a_command()
-    ensures { WordsNameACommand }
-{}
 
 /// On files that can be read the program answers with the outcome.
 pub fn program_is_outcome()

@@ -1,4 +1,4 @@
-//! The command line of `ansible-vault`: requests, and the whole run of one.
+//! The whole run of a request, and of a command line of `ansible-vault`.
 //!
 //! ```rust
 //! let mut words = Vec::new(alloc);
@@ -22,19 +22,20 @@
 #![tactic(auto)]
 
 mod embedding;
+mod explaining;
 pub mod laws;
 mod limits;
-mod line;
 mod program;
-mod request;
 mod runs;
 
 pub use embedding::drive_in_memory;
-pub use limits::{SALT_TEXT_LIMIT, SEALING_SALT_LENGTH};
-pub use line::{CommandName, command, parse, reject_words};
+pub use explaining::reject_words;
+pub use limits::SEALING_SALT_LENGTH;
 pub use program::drive;
-pub use request::{Request, has_command, settle};
 pub use runs::{Status, report, run};
 pub use vault_core::{Fault, LabelRule, Role, SECRET_COUNT_LIMIT};
 pub use vault_files::{FileSystem, HostFiles, LoggedFiles, MemFile, MemFiles};
+pub use vault_request::{
+    CommandName, Request, SALT_TEXT_LIMIT, command, has_command, parse, settle,
+};
 pub use vault_text::{MemSink, MemSource, ReadSource, WriteSink};

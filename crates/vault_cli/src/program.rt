@@ -4,25 +4,24 @@ ghost use Rattle.std.specs.String.{string_bytes};
 ghost use Rattle.clap.specs.Words.{fault_of, subcommand_rows_of};
 ghost use Rattle.vault_text.specs.declared.limits.TheConstants.{CIPHERTEXT_LIMIT, PLAINTEXT_LIMIT};
 ghost use Rattle.vault_cli.specs.Call.{sink, source, store};
-ghost use Rattle.vault_cli.specs.line.CommandLine.{vault_app};
-ghost use Rattle.vault_cli.specs.line.CommandName.{output_access};
+ghost use Rattle.vault_request.specs.CommandLine.{vault_app};
 ghost use Rattle.vault_cli.specs.Drive.{Drives};
 ghost use Rattle.vault_cli.specs.runs.Ending.{Ends, to_path};
-ghost use Rattle.vault_cli.specs.line.Explained.{ExplainsOneOf};
+ghost use Rattle.vault_cli.specs.Explained.{ExplainsOneOf};
 ghost use Rattle.vault_cli.specs.runs.Found.{AtPath, asked_paths, secret_paths};
 ghost use Rattle.vault_cli.specs.runs.Gathered.{ContentsMet, RefusedBy, SaltMet};
 ghost use Rattle.vault_cli.specs.runs.Outcome.{input_asked, outcome};
-ghost use Rattle.vault_cli.specs.Program.{answer_to, asked_by, program};
-ghost use Rattle.vault_cli.specs.request.Request.{files_of};
-ghost use Rattle.vault_cli.specs.request.Settled.{asked};
+ghost use Rattle.vault_cli.specs.Program.{answer_to, output_access, program};
+ghost use Rattle.vault_request.specs.Request.{files_of};
+ghost use Rattle.vault_request.specs.Settled.{asked, asked_by};
 
-use crate::line::{explain, parse};
-use crate::request::{Request, has_command, settle};
+use crate::explaining::explain;
 use crate::runs::{Gathered, Job, Status, gather, report, run_in};
 use clap::ArgMatches;
 use std::alloc::Global;
 use vault_core::Fault;
-use vault_files::FileSystem;
+use vault_files::{Access, FileSystem};
+use vault_request::{CommandName, Request, has_command, parse, settle};
 use vault_text::{CIPHERTEXT_LIMIT, Sink, Source, Stage, TextMemory};
 
 /// All that the program does: parses the words, of which the first is the program's name, settles
@@ -161,8 +160,18 @@ fn send<F: FileSystem, S: Source, K: Sink, E: Sink>(
     let Some(path) = request.output() else {
         return run_in(job, src, out, err);
     };
-    match files.aim(alloc, path, request.command().output_access()) {
+    match files.aim(alloc, path, output_access(request.command())) {
         Ok(()) => run_in(job, src, files, err),
         Err(error) => report(Fault::from(error), err),
+    }
+}
+
+/// Who may read an output that stands there already: plaintext is for its owner.
+fn output_access(command: CommandName) -> Access
+    ensures { result ≡ output_access command }
+{
+    match command {
+        CommandName::Decrypt | CommandName::View => Access::OwnerOnly,
+        _ => Access::Kept,
     }
 }

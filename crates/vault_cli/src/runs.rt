@@ -11,7 +11,7 @@ ghost use Rattle.vault_cli.specs.runs.ReportLine.{line_of};
 ghost use Rattle.vault_cli.specs.runs.Outcome.{input_asked, outcome_within};
 ghost use Rattle.vault_cli.specs.runs.Outcome.{performed, task_limit, text_of_request};
 ghost use Rattle.vault_cli.specs.runs.Reports.{Reports};
-ghost use Rattle.vault_cli.specs.request.Request.{files_of};
+ghost use Rattle.vault_request.specs.Request.{files_of};
 ghost use Rattle.vault_cli.specs.runs.StoredTask.{task_in};
 ghost use Rattle.vault_cli.specs.runs.Task.{HasPlace};
 
@@ -21,12 +21,12 @@ mod report_line;
 mod status;
 mod task;
 
-use crate::request::Request;
 pub(crate) use gathering::{Gathered, gather};
 pub use report_line::report;
 pub use status::Status;
 use task::{Task, prepare};
 use vault_core::{Fault, Ready};
+use vault_request::Request;
 use vault_text::{MemSource, Sink, Source, Stage, TextMemory};
 
 /// What a run works on beside its input: a request, the contents of its password files, in their

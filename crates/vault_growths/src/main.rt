@@ -5,7 +5,7 @@
 #![tactic(auto)]
 
 ghost use Rattle.std.specs.Prelude.{◌≡◌, IfOk, length, vec_len};
-ghost use Rattle.vault_cli.specs.Request.{files_of};
+ghost use Rattle.vault_request.specs.Request.{files_of};
 
 use std::alloc::{AllocError, Global};
 use std::io::{ErrorKind, Write};

@@ -3,7 +3,6 @@ use Rattle.std.proofs.Common.{◌≡◌, ℕ, ◌+◌, ◌<◌, ◌≤◌, ◌�
 use Rattle.std.specs.Prelude.{IfSome, is_some}
 use Rattle.std.specs.Result.{result_map_both}
 use Rattle.std.proofs.lemmas.Bool.{false≢true}
-use Rattle.clap.specs.Walk.{Row, Text}
 use Rattle.vault_text.specs.Failures.{HasRisen}
 use Rattle.vault_text.specs.declared.limits.TheConstants.{PLAINTEXT_LIMIT}
 use Rattle.vault_text.specs.declared.sink.Stage.TheVariants.{Unbegun}
@@ -13,7 +12,6 @@ use Rattle.vault_core.specs.declared.fault.Fault.{Fault}
 use Rattle.vault_core.specs.declared.fault.Fault.TheVariants.{Memory, Read}
 use Rattle.vault_core.specs.declared.fault.Role.TheVariants.{Input}
 use Rattle.vault_cli.specs.Call.{SinkCall, SourceCall, StoreCall, files_from}
-use Rattle.vault_cli.specs.line.CommandName.{output_access}
 use Rattle.vault_cli.specs.Drive.{AllMet, Drives, EndsOver}
 use Rattle.vault_cli.specs.runs.Ending.{Ends, EndsUnasked, Finishes, LacksMemory, Output, to_path}
 use Rattle.vault_cli.specs.runs.Found.{AtPath, asked_paths, fault_in, secret_paths}
@@ -21,10 +19,10 @@ use Rattle.vault_cli.specs.runs.Gathered.{ContentsMet, RefusedBy, SaltMet}
 use Rattle.vault_cli.specs.runs.ReportLine.{line_of}
 use Rattle.vault_cli.specs.runs.Outcome.{Outcome, answered, asked_for, input_asked, input_limit, outcome, outcome_within, ready_by, refused}
 use Rattle.vault_cli.specs.Opened.{opened_of}
-use Rattle.vault_cli.specs.Program.{Files, access_of, answer_to, input_in, opening_of, output_path, task_over, unless_file}
+use Rattle.vault_cli.specs.Program.{Files, access_of, answer_to, input_in, opening_of, output_access, output_path, task_over, unless_file}
 use Rattle.vault_cli.specs.runs.Reports.{Says}
-use Rattle.vault_cli.specs.request.Request.{Request}
-use Rattle.vault_cli.specs.request.Settled.{Settles, asked, command_in}
+use Rattle.vault_request.specs.Request.{Request}
+use Rattle.vault_request.specs.Settled.{Settles}
 use Rattle.vault_cli.specs.runs.Status.{status_of}
 use Rattle.vault_cli.specs.runs.Task.{Task, prepared}
 use Rattle.vault_cli.specs.declared.runs.status.Status.{Status}
@@ -32,7 +30,6 @@ use Rattle.vault_cli.specs.declared.runs.status.Status.TheVariants.{OutOfMemory,
 use Rattle.vault_cli.proofs.facts.runs.EndingFacts.{alone-answered, alone-memory, ends-memory}
 use Rattle.vault_cli.proofs.facts.runs.FoundFacts.{Met-some}
 use Rattle.vault_cli.proofs.facts.ProgramFacts.{one-some, opened-all, opening-broken, opening-read, task-found}
-use Rattle.vault_cli.proofs.facts.request.SettlingFacts.{is_some-map}
 
 -- files for each request
 pub some-met : (meets : List ℕ → Finding → Type 0) → ((path : List ℕ) → (file : Finding) × meets path file)
@@ -279,7 +276,3 @@ module _ {F R S K E : Type 0} (files : StoreCall F R) (src : SourceCall S) (out 
       let same : request ≡ other = cc in
       subst (λ (r : Request). AskedDrives (Some (Ok r))) same h
   drives-settled (Some (Ok other)) request some (inr e) h = absurd cc
-
--- a parse asks for something where it names a command
-pub command-asked : (parse : Option (Text × List Row)) → is_some (command_in parse) ≡ is_some (asked parse)
-command-asked parse = is_some-map _ (command_in parse)

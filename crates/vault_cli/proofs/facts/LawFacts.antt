@@ -14,13 +14,13 @@ use Rattle.vault_core.specs.Ready.{Ready}
 use Rattle.vault_core.specs.Secrets.{Secret, SecretList, secret_at}
 use Rattle.vault_core.specs.declared.fault.Fault.{Fault}
 use Rattle.vault_core.specs.declared.fault.Fault.TheVariants.{SaltShort}
-use Rattle.vault_cli.specs.Laws.{IsRequest}
+use Rattle.vault_request.specs.Laws.{IsRequest}
 use Rattle.vault_cli.specs.runs.Outcome.{answered, text_of_request}
-use Rattle.vault_cli.specs.request.Request.{IsSaltText, Request, SecretFile}
+use Rattle.vault_request.specs.Request.{IsSaltText, Request, SecretFile}
 use Rattle.vault_cli.specs.runs.Task.{Task, Seal, Open, Reseal, new_secret_in, password_in, place_of, prepared, salt_of, seal_of, secret_in, secrets_of, secret_list_of, task_of}
 use Rattle.vault_cli.specs.declared.limits.TheConstants.{SEALING_SALT_LENGTH}
-use Rattle.vault_cli.specs.declared.line.command_name.CommandName.{CommandName}
-use Rattle.vault_cli.specs.declared.line.command_name.CommandName.TheVariants as command
+use Rattle.vault_request.specs.declared.command_name.CommandName.{CommandName}
+use Rattle.vault_request.specs.declared.command_name.CommandName.TheVariants as command
 use Rattle.vault_cli.proofs.facts.runs.TaskFacts.{chosen_place-within}
 
 -- an outcome with an output is an answer

@@ -10,16 +10,16 @@ use Rattle.vault_core.specs.Secrets.{Secret, SecretList}
 use Rattle.vault_core.specs.declared.fault.Fault.{Fault}
 use Rattle.vault_cli.specs.Laws.{EncryptThenDecrypt, OpensWith, OutcomesAreDecided, RekeyKeepsThePlaintext, ShortTexts}
 use Rattle.vault_cli.specs.runs.Outcome.{Outcome, answered, input_limit, outcome_within, performed, ready_by, room_limit, task_limit, text_of_request}
-use Rattle.vault_cli.specs.request.Request.{Request}
+use Rattle.vault_request.specs.Request.{Request}
 use Rattle.vault_cli.specs.runs.Task.{Task, Seal, Open, Reseal, prepared}
 use Rattle.vault_core.specs.declared.label_rule.LabelRule.TheVariants.{Hint}
-use Rattle.vault_cli.specs.declared.line.command_name.CommandName.{CommandName}
-use Rattle.vault_cli.specs.declared.line.command_name.CommandName.TheVariants as command
+use Rattle.vault_request.specs.declared.command_name.CommandName.{CommandName}
+use Rattle.vault_request.specs.declared.command_name.CommandName.TheVariants as command
 use Rattle.vault_cli.proofs.facts.LawFacts.{answered-some, sound-prepared, text-input}
 use Rattle.vault_cli.proofs.facts.runs.OutcomeFacts.{outcome-performed, ready-text}
 use Rattle.vault_cli.specs.declared.runs.status.Status.TheVariants.{Refused, Success}
 use Rattle.vault_core.specs.Ready.{Ready}
-use Rattle.vault_cli.proofs.facts.request.RefusedAlone.{IsRefusedAlone, alone-err, alone-performed, alone-prepared}
+use Rattle.vault_cli.proofs.facts.runs.RefusedAlone.{IsRefusedAlone, alone-err, alone-performed, alone-prepared}
 use Rattle.vault_cli.proofs.facts.runs.TaskFacts.{limit-prepared}
 
 -- what a request that opens answers

@@ -7,7 +7,7 @@ use Rattle.vault_cli.specs.Call.{SinkCall, SourceCall, StoreCall}
 use Rattle.vault_cli.specs.Drive.{AllMet, IsDriven}
 use Rattle.vault_cli.specs.runs.Found.{AtPath, secret_paths}
 use Rattle.vault_cli.specs.Program.{Files, answer_to, files_in}
-use Rattle.vault_cli.specs.request.Request.{Request}
+use Rattle.vault_request.specs.Request.{Request}
 use Rattle.vault_cli.specs.declared.runs.status.Status.{Status}
 
 -- files that are each the one at its path

@@ -13,11 +13,11 @@ use Rattle.vault_cli.specs.runs.Found.{AtPath, asked_paths, contents_of, front_i
 use Rattle.vault_cli.specs.runs.Gathered.{ContentsMet, FrontMet, RefusedBy, SaltMet, SecretsRefuse}
 use Rattle.vault_cli.specs.Opened.{behind, opened_of, secrets_opened}
 use Rattle.vault_cli.specs.Program.{Files, input_in, opening_of, salt_in, task_over}
-use Rattle.vault_cli.specs.request.Request.{Request}
+use Rattle.vault_request.specs.Request.{Request}
 use Rattle.vault_cli.specs.runs.Task.{prepared}
 use Rattle.vault_cli.specs.declared.limits.TheConstants.{SEALING_SALT_LENGTH}
 use Rattle.vault_cli.proofs.facts.runs.FoundFacts.{memory-or}
-use Rattle.vault_cli.proofs.facts.request.Pieces.{TakesPrefix, prefix_behind, prefix_longer}
+use Rattle.vault_cli.proofs.facts.runs.Pieces.{TakesPrefix, prefix_behind, prefix_longer}
 
 -- a file that gave bytes can be opened
 pub opening-read : (file : Finding) (n : ℕ) (stdin given : List ℕ) → input_in n (Some file) stdin ≡ Ok given → opening_of (Some file) ≡ Ok tt

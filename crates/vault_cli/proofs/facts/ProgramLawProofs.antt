@@ -10,17 +10,17 @@ use Rattle.vault_files.specs.File.{Finding}
 use Rattle.vault_files.specs.File.Finding.{Whole}
 use Rattle.vault_core.specs.declared.fault.Fault.{Fault}
 use Rattle.vault_core.proofs.SealedOpens.{bytes_eq-same}
-use Rattle.vault_cli.specs.line.CommandLine.{vault_app}
+use Rattle.vault_request.specs.CommandLine.{vault_app}
 use Rattle.vault_cli.specs.Embedding.{stands_after}
 use Rattle.vault_cli.specs.Laws as outcomes
-use Rattle.vault_cli.specs.Laws.{IsRequest, SettledRequests}
+use Rattle.vault_request.specs.Laws.{IsRequest, SettledRequests}
 use Rattle.vault_cli.specs.runs.Outcome.{Outcome, answered, asked_for, input_limit, outcome, outcome_within, ready_by}
-use Rattle.vault_cli.specs.Program.{answer_to, asked_by, files_in, input_in, opening_of, output_path, task_over}
+use Rattle.vault_cli.specs.Program.{answer_to, files_in, input_in, opening_of, output_path, task_over}
 use Rattle.vault_cli.specs.ProgramLaws.{ProgramEncryptsThenDecrypts, IsInput, ProgramIsOutcome, ProgramKeepsThePlaintext, Run, WrittenIsRead, answer}
-use Rattle.vault_cli.specs.request.Request.{Request}
-use Rattle.vault_cli.specs.request.Settled.{asked, command_in, settled}
+use Rattle.vault_request.specs.Request.{Request}
+use Rattle.vault_request.specs.Settled.{asked, asked_by, command_in, settled}
 use Rattle.vault_cli.specs.runs.Task.{Task}
-use Rattle.vault_cli.specs.declared.line.command_name.CommandName.{CommandName}
+use Rattle.vault_request.specs.declared.command_name.CommandName.{CommandName}
 use Rattle.vault_cli.proofs.facts.runs.FrontFacts.{IsOfFront, limit-over, task-front}
 use Rattle.vault_cli.proofs.facts.ProgramFacts.{task-found}
 

@@ -11,11 +11,12 @@ use Rattle.vault_core.specs.declared.fault.Fault.TheVariants.{AlreadyVault, Cann
 use Rattle.vault_core.specs.declared.fault.Role.TheVariants.{Input, Salt, Secret}
 use Rattle.vault_files.specs.File.{Finding}
 use Rattle.vault_files.specs.File.Finding.{Missing, Whole, Broken}
-use Rattle.vault_cli.specs.line.CommandLine.{vault_app}
+use Rattle.vault_request.specs.CommandLine.{vault_app}
 use Rattle.vault_cli.specs.runs.Found.{contents_of}
 use Rattle.vault_cli.specs.runs.Outcome.{Outcome, refused}
-use Rattle.vault_cli.specs.Program.{asked_by, output_path, program, task_over}
-use Rattle.vault_cli.specs.request.Refusal.{refusal}
+use Rattle.vault_request.specs.Settled.{asked_by}
+use Rattle.vault_cli.specs.Program.{output_path, program, task_over}
+use Rattle.vault_request.specs.Refusal.{refusal}
 use Rattle.vault_cli.specs.runs.Task.{prepared, secrets_of}
 
 -- what the words behind the program's name are answered

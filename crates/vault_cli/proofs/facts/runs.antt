@@ -1,3 +1,5 @@
+pub mod Pieces
+pub mod RefusedAlone
 pub mod FoundFacts
 pub mod EndingFacts
 pub mod FrontFacts

@@ -11,7 +11,7 @@ use Rattle.vault_files.specs.File.{Finding, front}
 use Rattle.vault_files.specs.declared.fault.FileFault.{FileFault}
 use Rattle.vault_files.specs.declared.fault.FileFault.TheVariants as file
 use Rattle.vault_text.specs.Steps.{◌>>=◌}
-use Rattle.vault_cli.specs.request.Request.{Request, files_of}
+use Rattle.vault_request.specs.Request.{Request, files_of}
 
 -- what is found at a path, where there is one
 abbrev pub AtPath : {A : Type 0} → (List ℕ → A → Type 0) → Option (List ℕ) → Option A → Type 0

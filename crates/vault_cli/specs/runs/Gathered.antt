@@ -8,7 +8,7 @@ use Rattle.vault_cli.specs.Drive.{AllMet}
 use Rattle.vault_cli.specs.runs.Found.{AtPath, contents_of, front_in}
 use Rattle.vault_cli.specs.Opened.{opened_of, secrets_opened}
 use Rattle.vault_cli.specs.Program.{Files, salt_in, task_over}
-use Rattle.vault_cli.specs.request.Request.{Request}
+use Rattle.vault_request.specs.Request.{Request}
 
 -- a file that may be met gives this answer
 abbrev pub FrontMet : (Finding → Type 0) → Role → ℕ → Result (List ℕ) Fault → Type 0

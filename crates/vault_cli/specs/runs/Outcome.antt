@@ -12,14 +12,14 @@ use Rattle.vault_text.specs.Steps.{◌>>=◌}
 use Rattle.vault_core.specs.Ready.{Ready}
 use Rattle.vault_core.specs.Rekeying.{rekeying}
 use Rattle.vault_core.specs.declared.fault.Fault.{Fault}
-use Rattle.vault_cli.specs.line.CommandName.{encrypts}
+use Rattle.vault_request.specs.CommandName.{encrypts}
 use Rattle.vault_cli.specs.runs.ReportLine.{line_of}
-use Rattle.vault_cli.specs.request.Request.{Request}
+use Rattle.vault_request.specs.Request.{Request}
 use Rattle.vault_cli.specs.runs.Status.{status_of}
 use Rattle.vault_cli.specs.runs.Task.{Task, Seal, Open, Reseal, prepared}
-use Rattle.vault_cli.specs.declared.line.command_name.CommandName.{CommandName}
-use Rattle.vault_cli.specs.declared.line.command_name.CommandName.TheVariants.{Encrypt, Decrypt}
-use Rattle.vault_cli.specs.declared.line.command_name.CommandName.TheVariants.{Rekey}
+use Rattle.vault_request.specs.declared.command_name.CommandName.{CommandName}
+use Rattle.vault_request.specs.declared.command_name.CommandName.TheVariants.{Encrypt, Decrypt}
+use Rattle.vault_request.specs.declared.command_name.CommandName.TheVariants.{Rekey}
 use Rattle.vault_cli.specs.declared.runs.status.Status.{Status}
 use Rattle.vault_cli.specs.declared.runs.status.Status.TheVariants.{Success}
 

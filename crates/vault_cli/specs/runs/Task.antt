@@ -11,12 +11,12 @@ use Rattle.vault_core.specs.Password.{password_of}
 use Rattle.vault_core.specs.Secrets.{Secret, SecretList}
 use Rattle.vault_core.specs.declared.fault.Fault.{Fault}
 use Rattle.vault_core.specs.declared.fault.Fault.TheVariants.{NeedNewSecret, SaltShort, SecretEmpty}
-use Rattle.vault_cli.specs.request.Request.{Request, SecretFile}
+use Rattle.vault_request.specs.Request.{Request, SecretFile}
 use Rattle.vault_cli.specs.declared.limits.TheConstants.{SEALING_SALT_LENGTH}
-use Rattle.vault_cli.specs.declared.line.command_name.CommandName.{CommandName}
-use Rattle.vault_cli.specs.declared.line.command_name.CommandName.TheVariants.{Encrypt, Decrypt}
-use Rattle.vault_cli.specs.declared.line.command_name.CommandName.TheVariants.{View, Rekey}
-use Rattle.vault_cli.specs.declared.line.command_name.CommandName.TheVariants.{EncryptString}
+use Rattle.vault_request.specs.declared.command_name.CommandName.{CommandName}
+use Rattle.vault_request.specs.declared.command_name.CommandName.TheVariants.{Encrypt, Decrypt}
+use Rattle.vault_request.specs.declared.command_name.CommandName.TheVariants.{View, Rekey}
+use Rattle.vault_request.specs.declared.command_name.CommandName.TheVariants.{EncryptString}
 
 -- what is to be done with the input: to seal it in a form, under the secret at a place; to open it;
 -- to open it and to seal it again under a new secret

@@ -7,13 +7,13 @@ ghost use Rattle.vault_core.specs.declared.fault.Role.TheVariants.{Input};
 ghost use Rattle.vault_cli.specs.runs.Found.{AtPath, asked_paths, fault_in, secret_paths};
 ghost use Rattle.vault_cli.specs.runs.Gathered.{ContentsMet, FrontMet, SaltMet};
 ghost use Rattle.vault_cli.specs.runs.Gathered.{RefusedBy, SecretsRefuse};
-ghost use Rattle.vault_cli.specs.request.Request.{files_of};
+ghost use Rattle.vault_request.specs.Request.{files_of};
 
 use crate::limits::SEALING_SALT_LENGTH;
-use crate::request::Request;
 use std::alloc::Global;
 use vault_core::{Fault, PASSWORD_FILE_LIMIT, Role};
 use vault_files::{FileFault, FileSystem, read_front};
+use vault_request::Request;
 use vault_text::{Source, Stage};
 
 /// What a request needs of its files: the contents of its password files, its salt, and its input

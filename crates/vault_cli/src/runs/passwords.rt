@@ -1,12 +1,12 @@
 //! The secrets of a request, out of its password files.
 ghost use Rattle.std.specs.Prelude.{◌≡◌, length, map, slice_index_or, true, [], IfOk, IfErr};
 ghost use Rattle.vault_core.specs.Password.{IsPassword};
-ghost use Rattle.vault_cli.specs.line.CommandName.{rekeys};
-ghost use Rattle.vault_cli.specs.request.Request.{files_of};
+ghost use Rattle.vault_request.specs.CommandName.{rekeys};
+ghost use Rattle.vault_request.specs.Request.{files_of};
 ghost use Rattle.vault_cli.specs.runs.Task.{new_secret_in, password_in, secret_list_of};
 
-use crate::request::Request;
 use vault_core::{Fault, SealingSecret, Secrets, password_of};
+use vault_request::Request;
 
 /// The secrets of a request without the new one of `rekey`: the password of each file under the
 /// file's label, and the rule for labels.

@@ -5,20 +5,19 @@ ghost use Rattle.vault_core.specs.Form.{form_of};
 ghost use Rattle.vault_core.specs.Input.{IsWhole, UnlessUnreadable};
 ghost use Rattle.vault_text.specs.Limits.{IsWorkLength, limit_of};
 ghost use Rattle.vault_cli.specs.runs.Outcome.{performed, task_limit};
-ghost use Rattle.vault_cli.specs.line.CommandName.{rekeys};
-ghost use Rattle.vault_cli.specs.request.Request.{files_of};
+ghost use Rattle.vault_request.specs.CommandName.{rekeys};
+ghost use Rattle.vault_request.specs.Request.{files_of};
 ghost use Rattle.vault_cli.specs.runs.StoredTask.{task_in};
 ghost use Rattle.vault_cli.specs.runs.Task.{HasPlace, prepared, reseal_of, salt_of, seal_of};
 
 use crate::limits::SEALING_SALT_LENGTH;
-use crate::line::CommandName;
-use crate::request::Request;
 use crate::runs::passwords::{new_secret_in, secrets_of};
 use vault_core::{
     Fault, Form, Ready, SealingSecret, Secrets, prepare_decrypt_in, prepare_encrypt_in,
     prepare_rekey_in,
 };
 use vault_kdf::Meter;
+use vault_request::{CommandName, Request};
 use vault_text::{Salt, Source, TextMemory};
 
 /// What is to be done with the input, once passwords, secret and salt are found.

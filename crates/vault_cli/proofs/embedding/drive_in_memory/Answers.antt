@@ -2,7 +2,8 @@ use Rattle.std.proofs.Common.{◌≡◌, inl, inr, ap, map, subst, ◌∙◌}
 use Rattle.std.specs.String.{string_bytes}
 use Rattle.vault_files.specs.Memory.{StoreState, file_at}
 use Rattle.vault_cli.specs.Embedding.{Embeds, change}
-use Rattle.vault_cli.specs.Program.{access_of, answer_to, asked_by, files_in, output_path, stdin_asked}
+use Rattle.vault_request.specs.Settled.{asked_by}
+use Rattle.vault_cli.specs.Program.{access_of, answer_to, files_in, output_path, stdin_asked}
 use Rattle.vault_cli.proofs.facts.EmbeddingFacts.{embeds, log-kept, memory_sink, memory_source, memory_store, taken}
 use Rattle.vault_cli.proofs.facts.runs.FrontFacts.{answer-front}
 use Rattle.vault_cli.proofs.facts.MemoryFacts.{drives-in}

@@ -14,8 +14,8 @@ use Rattle.vault_files.specs.File.{Finding, Met}
 use Rattle.vault_cli.specs.runs.Found.{contents_of, front_in}
 use Rattle.vault_cli.specs.runs.Gathered.{ContentsMet, FrontMet, SecretsRefuse}
 use Rattle.vault_cli.specs.Opened.{behind, secrets_opened}
-use Rattle.vault_cli.specs.request.Request.{SecretFile}
-use Rattle.vault_cli.proofs.facts.request.Pieces.{TakesPrefix, prefix_longer}
+use Rattle.vault_request.specs.Request.{SecretFile}
+use Rattle.vault_cli.proofs.facts.runs.Pieces.{TakesPrefix, prefix_longer}
 
 -- contents in front of those that are still found
 abbrev pub with_contents : List (List ℕ) → Result (List (List ℕ)) Fault → Result (List (List ℕ)) Fault

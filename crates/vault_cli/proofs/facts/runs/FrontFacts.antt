@@ -7,7 +7,7 @@ use Rattle.vault_core.specs.declared.fault.Fault.{Fault}
 use Rattle.vault_cli.specs.runs.Found.{contents_of}
 use Rattle.vault_cli.specs.runs.Outcome.{Outcome, answered, asked_for, input_limit, ready_by}
 use Rattle.vault_cli.specs.Program.{Files, answer_to, opening_of, salt_in, stdin_asked, task_over}
-use Rattle.vault_cli.specs.request.Request.{Request}
+use Rattle.vault_request.specs.Request.{Request}
 use Rattle.vault_cli.specs.runs.Task.{Task}
 use Rattle.vault_cli.proofs.facts.runs.TaskFacts.{HasLimit, limit-next, limit-prepared, performed-front}
 

@@ -2,8 +2,8 @@
 use Rattle.std.proofs.Common.{◌≡◌, ℕ, List, Option, Some, None, Ok, Err, ap, refl}
 use Rattle.std.specs.Prelude.{unwrap_or}
 use Rattle.vault_core.specs.declared.fault.Fault.{Fault}
-use Rattle.vault_cli.specs.runs.Outcome.{answered, input_asked, outcome_within, performed, ready_by, refused, text_of_request}
-use Rattle.vault_cli.specs.request.Request.{Request}
+use Rattle.vault_cli.specs.runs.Outcome.{answered, outcome_within, performed, ready_by, refused, text_of_request}
+use Rattle.vault_request.specs.Request.{Request}
 use Rattle.vault_cli.specs.runs.Task.{Task, prepared}
 
 -- a task is performed on the STRING, or else on the input

@@ -12,7 +12,7 @@ use Rattle.vault_cli.specs.runs.Ending.{Ends, Finishes, LacksMemory, SourceFails
 use Rattle.vault_cli.specs.runs.ReportLine.{line_of}
 use Rattle.vault_cli.specs.runs.Outcome.{answered, asked_for, input_asked, input_limit, outcome_within, performed, ready_by, task_limit}
 use Rattle.vault_cli.specs.runs.Reports.{Says}
-use Rattle.vault_cli.specs.request.Request.{Request}
+use Rattle.vault_request.specs.Request.{Request}
 use Rattle.vault_cli.specs.runs.Status.{status_of}
 use Rattle.vault_cli.specs.runs.Task.{Task, prepared}
 use Rattle.vault_cli.specs.declared.runs.status.Status.{Status}

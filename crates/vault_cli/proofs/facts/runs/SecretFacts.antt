@@ -8,7 +8,7 @@ use Rattle.vault_text.specs.Steps.{◌>>=◌}
 use Rattle.vault_core.specs.Secrets.{Secret}
 use Rattle.vault_core.specs.declared.fault.Fault.{Fault}
 use Rattle.vault_cli.specs.runs.Task.{password_in, secret_in, secrets_of}
-use Rattle.vault_cli.specs.request.Request.{Request, SecretFile, files_of}
+use Rattle.vault_request.specs.Request.{Request, SecretFile, files_of}
 
 -- secrets in front of those that are still found
 abbrev pub with_front : List Secret → Result (List Secret) Fault → Result (List Secret) Fault

@@ -19,10 +19,10 @@ use Rattle.vault_core.specs.declared.fault.Fault.{Fault}
 use Rattle.vault_core.specs.declared.fault.Fault.TheVariants.{TooLong}
 use Rattle.vault_core.specs.declared.choice.ChoiceFault.TheVariants.{UnknownEncryptId}
 use Rattle.vault_cli.specs.runs.Outcome.{input_limit, performed, task_limit}
-use Rattle.vault_cli.specs.request.Request.{Request}
+use Rattle.vault_request.specs.Request.{Request}
 use Rattle.vault_cli.specs.runs.Task.{Task, Seal, Open, Reseal, new_secret_in, place_of, prepared, salt_of, seal_of, secret_list_of, task_of}
-use Rattle.vault_cli.specs.declared.line.command_name.CommandName.{CommandName}
-use Rattle.vault_cli.specs.declared.line.command_name.CommandName.TheVariants as command
+use Rattle.vault_request.specs.declared.command_name.CommandName.{CommandName}
+use Rattle.vault_request.specs.declared.command_name.CommandName.TheVariants as command
 
 -- what was found
 found : {A : Type 0} {E : Type 0} (o : Option A) (e : E) (x : A) → ok_or o e ≡ Ok x → o ≡ Some x

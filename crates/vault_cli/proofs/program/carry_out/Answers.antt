@@ -1,8 +1,8 @@
-use Rattle.std.proofs.Common.{refl, sym, ◌∙◌}
+use Rattle.std.proofs.Common.{refl, sym}
 use Rattle.clap.specs.Words.{subcommand_rows_of}
 use Rattle.vault_cli.specs.Call.{sink, source}
-use Rattle.vault_cli.specs.request.Settled.{asked}
-use Rattle.vault_cli.proofs.facts.DriveFacts.{command-asked, drives-nothing, drives-settled, drives-unsettled}
+use Rattle.vault_request.specs.Settled.{asked}
+use Rattle.vault_cli.proofs.facts.DriveFacts.{drives-nothing, drives-settled, drives-unsettled}
 use Rattle.vault_cli.proofs.facts.runs.EndingFacts.{store_between}
 use Rattle.vault_cli.proofs.program.carry_out.Goals as goal
 
@@ -13,7 +13,7 @@ returns-then-not-has_command g c = record {
       (sink g.E.Sink c.args.err.now c.args.err.now) _ c.args.files.now c.requires.files_unbegun refl refl refl
       (g.met.F.FileSystem.opens_none c.args.files.now)
       (asked (subcommand_rows_of c.args.matches.now))
-      (sym (command-asked (subcommand_rows_of c.args.matches.now)) ∙ sym c.if-not-has_command.ensures) refl refl;
+      (sym c.if-not-has_command.ensures) refl refl;
 }
 
 pub returns-in-Ok : goal.returns-in-Ok
@@ -22,7 +22,7 @@ returns-in-Ok g c = record {
       (source g.S.Source c.args.src.now c.answer.new.src) (sink g.K.Sink c.args.out.now c.answer.new.out)
       (sink g.E.Sink c.args.err.now c.answer.new.err) c.answer.result
       (asked (subcommand_rows_of c.args.matches.now)) c.in-Ok.request
-      (sym (command-asked (subcommand_rows_of c.args.matches.now)) ∙ sym c.if-not-has_command.ensures)
+      (sym c.if-not-has_command.ensures)
       c.in-Ok.ensures c.answer.ensures.drives;
 }
 
@@ -34,6 +34,6 @@ returns-in-Err g c = record {
       (g.met.F.FileSystem.opens_none c.args.files.now)
       (g.met.S.Source.gives_none c.args.src.now) (g.met.F.FileSystem.meets_some c.args.files.now)
       (asked (subcommand_rows_of c.args.matches.now)) c.in-Err.fault
-      (sym (command-asked (subcommand_rows_of c.args.matches.now)) ∙ sym c.if-not-has_command.ensures)
+      (sym c.if-not-has_command.ensures)
       c.in-Err.ensures c.report.ensures.status c.report.ensures.line;
 }

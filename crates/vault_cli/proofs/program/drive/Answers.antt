@@ -3,11 +3,11 @@ use Rattle.std.specs.String.{string_bytes}
 use Rattle.clap.specs.Words.{fault_of}
 use Rattle.clap.specs.Values.{kind_of}
 use Rattle.vault_cli.specs.Call.{sink, source}
-use Rattle.vault_cli.specs.line.CommandLine.{vault_app}
-use Rattle.vault_cli.specs.Program.{asked_by}
+use Rattle.vault_request.specs.CommandLine.{vault_app}
+use Rattle.vault_request.specs.Settled.{asked_by}
 use Rattle.vault_cli.proofs.facts.DriveFacts.{drives-no_memory}
 use Rattle.vault_cli.proofs.facts.runs.EndingFacts.{store_between}
-use Rattle.vault_cli.proofs.facts.line.ExplainedFacts.{explains-memory, explains-one}
+use Rattle.vault_cli.proofs.facts.ExplainedFacts.{explains-memory, explains-one}
 use Rattle.vault_cli.proofs.program.drive.Goals as goal
 
 pub returns-in-Err-clause-answered : goal.returns-in-Err-clause-answered

@@ -4,7 +4,7 @@ use Rattle.vault_text.specs.Limits.{limit_of}
 use Rattle.vault_text.specs.declared.limits.TheConstants.{PLAINTEXT_LIMIT}
 use Rattle.vault_files.specs.declared.access.Access.{Access}
 use Rattle.vault_cli.specs.Call.{sink, source}
-use Rattle.vault_cli.specs.line.CommandName.{output_access}
+use Rattle.vault_cli.specs.Program.{output_access}
 use Rattle.vault_cli.specs.runs.Ending.{Ends, to_path, to_sink}
 use Rattle.vault_cli.specs.runs.Outcome.{input_asked, outcome, outcome_within}
 use Rattle.vault_cli.specs.runs.Status.{status_of}

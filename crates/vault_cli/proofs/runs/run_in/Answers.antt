@@ -5,7 +5,7 @@ use Rattle.vault_cli.specs.runs.Outcome.{text_of_request}
 use Rattle.vault_cli.specs.runs.Status.{status_of}
 use Rattle.vault_cli.specs.runs.StoredTask.{task_in}
 use Rattle.vault_cli.specs.declared.runs.status.Status.TheVariants.{DeviceFailed, OutOfMemory, Refused}
-use Rattle.vault_cli.proofs.facts.request.RefusedAlone.{alone-performed, alone-prepared}
+use Rattle.vault_cli.proofs.facts.runs.RefusedAlone.{alone-performed, alone-prepared}
 use Rattle.vault_cli.proofs.facts.runs.RunFacts.{ends-performed, ends-unprepared, finishes-ready, finishes-refused, source-failed}
 use Rattle.vault_cli.proofs.runs.run_in.Goals as goal
 

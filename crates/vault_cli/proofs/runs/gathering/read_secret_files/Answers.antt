@@ -4,9 +4,9 @@ use Rattle.std.proofs.lemmas.Result.{err_from_is_err_and}
 use Rattle.vault_core.specs.declared.fault.Role.TheVariants.{Secret}
 use Rattle.vault_core.specs.declared.limits.TheConstants.{PASSWORD_FILE_LIMIT}
 use Rattle.vault_cli.specs.runs.Found.{secret_paths}
-use Rattle.vault_cli.specs.request.Request.{files_of}
+use Rattle.vault_request.specs.Request.{files_of}
 use Rattle.vault_cli.proofs.facts.runs.FoundFacts.{at_limit, ContentsMet-all, FrontMet-back, GivesFront-more, GivesFront-none, length-paths, memory-or, path_at, secrets-no_memory, secrets-refuse, split_at, take_one_more}
-use Rattle.vault_cli.proofs.facts.request.Pieces.{prefix_behind}
+use Rattle.vault_cli.proofs.facts.runs.Pieces.{prefix_behind}
 use Rattle.vault_cli.proofs.runs.gathering.read_secret_files.Goals as goal
 
 pub loop-i-init : goal.loop-i-init

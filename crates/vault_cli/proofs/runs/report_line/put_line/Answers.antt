@@ -1,7 +1,7 @@
 use Rattle.std.proofs.Common.{◌≡◌, [], ◌∷◌, ◌++◌, codes, ◌∙◌}
 use Rattle.vault_core.specs.Fault.{text_of}
 use Rattle.vault_cli.specs.runs.ReportLine.{line_of}
-use Rattle.vault_cli.proofs.facts.request.Pieces.{prefix_behind, prefix_longer, prefix_of_all, taken_and_none, always_ok}
+use Rattle.vault_cli.proofs.facts.runs.Pieces.{prefix_behind, prefix_longer, prefix_of_all, taken_and_none, always_ok}
 use Rattle.vault_cli.proofs.runs.report_line.put_line.Goals as goal
 
 pub returns-in_err-put_all-clause-prefix : goal.returns-in_err-put_all-clause-prefix

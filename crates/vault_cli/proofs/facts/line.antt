@@ -1,4 +1,0 @@
-pub mod ExplainedFacts
-pub mod NamedFacts
-pub mod ParsedFacts
-pub mod ParsedSamples

@@ -1,5 +1,0 @@
-use Rattle.vault_cli.proofs.facts.line.NamedFacts.{words_name_a_command}
-use Rattle.vault_cli.proofs.laws.words_name_a_command.Goals as goal
-
-pub returns : goal.returns
-returns c = words_name_a_command

@@ -1,8 +1,0 @@
-use Rattle.vault_cli.proofs.facts.line.ParsedFacts.{fails_as, parsed_as}
-use Rattle.vault_cli.proofs.line.parsing.parse.Goals as goal
-
-pub returns-in-Ok-clause-matches : goal.returns-in-Ok-clause-matches
-returns-in-Ok-clause-matches c = parsed_as _ _ c.try_get_matches_from.result c.in-Ok.ensures.shape c.try_get_matches_from.ensures.matches
-
-pub returns-in-Ok-clause-kinds : goal.returns-in-Ok-clause-kinds
-returns-in-Ok-clause-kinds c = fails_as _ _ c.try_get_matches_from.result c.in-Ok.ensures.shape c.try_get_matches_from.ensures.kinds

@@ -1,9 +1,0 @@
-use Rattle.std.proofs.Common.{◌≡◌, ◌++◌, None, drop, map, take}
-use Rattle.vault_cli.specs.request.Settled.{file_of_id}
-use Rattle.vault_cli.specs.request.VaultId.{first_fault}
-use Rattle.vault_cli.proofs.request.settling.add_ids.Given as goal
-
-abbrev pub invariant-loop-id : goal.invariant-loop-id
-invariant-loop-id l =
-    (l.files.items ≡ l.fn.files.items ++ map file_of_id (map (λ id. id.now) (take l.id-index l.ids)))
-    × (first_fault (map (λ id. id.now) (drop l.id-index l.ids)) ≡ None)

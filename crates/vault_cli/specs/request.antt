@@ -1,5 +1,0 @@
-pub mod Options
-pub mod Refusal
-pub mod Request
-pub mod Settled
-pub mod VaultId

@@ -1,0 +1,78 @@
+//! What the program says where its words are no command line.
+ghost use Rattle.std.specs.Prelude.{◌≡◌, ◌≢◌, ℕ, take, OnOk};
+ghost use Rattle.std.specs.IoError.{error_kind};
+ghost use Rattle.std.specs.declared.io.ErrorKind.TheVariants.{OutOfMemory};
+ghost use Rattle.clap.specs.Values.{kind_of};
+ghost use Rattle.vault_core.specs.declared.fault.Fault.TheVariants.{Memory};
+ghost use Rattle.vault_text.specs.Failures.{CountsFailure};
+ghost use Rattle.vault_cli.specs.Call.{sink};
+ghost use Rattle.vault_cli.specs.Explained.{Explains};
+ghost use Rattle.vault_cli.specs.runs.ReportLine.{line_of, not_text_line};
+ghost use Rattle.vault_cli.specs.runs.Reports.{Reports};
+
+use crate::runs::{Status, report};
+use clap::Error;
+use clap::error::ErrorKind;
+use std::alloc::Global;
+use std::io;
+use vault_core::Fault;
+use vault_text::{Sink, SinkFailed, Stage, put_all};
+
+/// What the program says where its arguments are no text, or there is no memory for them. A failure
+/// of `err` changes nothing else.
+pub fn reject_words<E: Sink>(error: &io::Error, err: &mut E) -> Status
+    requires { E.stage err.old ≡ Stage.Unbegun }
+    ensures memory { error_kind error.now ≡ OutOfMemory
+        → (result ≡ Status.OutOfMemory)
+        × Reports (sink E.Sink err.old err.new) (line_of Memory) }
+    ensures no_text { error_kind error.now ≢ OutOfMemory
+        → (result ≡ Status.ParseFault)
+        × Reports (sink E.Sink err.old err.new) not_text_line }
+{
+    if matches!(error.kind(), io::ErrorKind::OutOfMemory) {
+        return report(Fault::Memory, err);
+    }
+    let _ = write_text(b"error: an argument is not UTF-8\n", err);
+    Status::ParseFault
+}
+
+/// Writes what the parser says: help and the version to `out`, a mistake to `err`.
+pub(crate) fn explain<K: Sink, E: Sink>(
+    alloc: Global,
+    error: &Error,
+    out: &mut K,
+    err: &mut E,
+) -> Status
+    requires out_unbegun { K.stage out.old ≡ Stage.Unbegun }
+    requires err_unbegun { E.stage err.old ≡ Stage.Unbegun }
+    ensures explains { Explains (sink K.Sink out.old out.new) (sink E.Sink err.old err.new)
+        result (kind_of error.now) }
+{
+    if matches!(error.kind(), ErrorKind::OutOfMemory) {
+        return report(Fault::Memory, err);
+    }
+    let Ok(text) = error.to_string(alloc) else {
+        return report(Fault::Memory, err);
+    };
+    if error.use_stderr() {
+        let _ = write_text(text.as_bytes(), err);
+        return Status::ParseFault;
+    }
+    match write_text(text.as_bytes(), out) {
+        Ok(()) => Status::Success,
+        Err(SinkFailed) => report(Fault::Write, err),
+    }
+}
+
+/// Begins the sink, puts the text and finishes.
+fn write_text<K: Sink>(text: &[u8], sink: &mut K) -> Result<(), SinkFailed>
+    requires { K.stage sink.old ≡ Stage.Unbegun }
+    ensures text { OnOk result (K.takes sink.old text.now sink.new) }
+    ensures finished { OnOk result (K.stage sink.new ≡ Stage.Finished) }
+    ensures prefix { (n : ℕ) × K.takes sink.old (take n text.now) sink.new }
+    ensures failed { CountsFailure (K.failures sink.old) (K.failures sink.new) result }
+{
+    sink.begin()?;
+    put_all(sink, text)?;
+    sink.finish()
+}

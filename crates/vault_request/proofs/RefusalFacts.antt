@@ -1,0 +1,82 @@
+-- What is known of options that are not refused.
+use Rattle.std.proofs.Common.{◌≡◌, ℕ, ◌+◌, ◌≤◌, ◌==◌, ◌||◌, nat_lt, true, List, ◌++◌, length, map, Option, Some, None, inl, inr, arith, rules, tests, refl}
+use Rattle.std.proofs.lemmas.Bool.{cases_Bool}
+use Rattle.std.proofs.lemmas.List.{length-append, length-map}
+use Rattle.std.specs.Option.{option_map, option_or}
+use Rattle.std.specs.Prelude.{IfSome, is_some}
+use Rattle.vault_core.specs.declared.fault.Fault.{Fault}
+use Rattle.vault_core.specs.declared.fault.Fault.TheVariants.{BadSalt, TooManySecrets}
+use Rattle.vault_core.specs.declared.limits.TheConstants.{SECRET_COUNT_LIMIT}
+use Rattle.vault_request.specs.CommandName.{rekeys}
+use Rattle.vault_request.specs.Options.{Options}
+use Rattle.vault_request.specs.Refusal.{label_fault, count_fault, mismatch_fault, name_fault, new_secret_fault, output_fault, refusal, rekey_fault, salt_fault}
+use Rattle.vault_request.specs.Request.{IsSaltText}
+use Rattle.vault_request.specs.Settled.{file_of_id, new_secret_of, plain_file}
+use Rattle.vault_request.specs.VaultId.{first_fault, or_later}
+use Rattle.vault_request.specs.declared.limits.TheConstants.{SALT_TEXT_LIMIT}
+
+pub neither : (first later : Option Fault) → or_later first later ≡ None → (first ≡ None) × (later ≡ None)
+neither None later e = (refl, e)
+neither (Some fault) later e = cc
+
+pub record IsAllowed (given : Options) : Type 0 where
+  pub count : count_fault given ≡ None
+  pub ids : first_fault given.vault_ids ≡ None
+  pub label : label_fault given.encrypt_vault_id ≡ None
+  pub rekey : rekey_fault given ≡ None
+  pub salt : salt_fault given.salt_text given.salt_file ≡ None
+
+pub allowed : (given : Options) → refusal given ≡ None → IsAllowed given
+unfolding refusal
+allowed given e =
+    let a = neither (count_fault given) _ e in
+    let b = neither (first_fault given.vault_ids) _ a.1 in
+    let c = neither (label_fault given.encrypt_vault_id) _ b.1 in
+    let d = neither (rekey_fault given) _ c.1 in
+    let f = neither (mismatch_fault given) _ d.1 in
+    let g = neither (name_fault given.name) _ f.1 in
+    let h = neither (name_fault given.stdin_name) _ g.1 in
+    let i = neither (output_fault given) _ h.1 in
+    let j = neither (salt_fault given.salt_text given.salt_file) _ i.1 in
+    record { count = a.0; ids = b.0; label = c.0; rekey = d.0; salt = j.0 }
+
+-- there are at most so many secrets
+pub few_files : (given : Options) → count_fault given ≡ None
+    → length (map file_of_id given.vault_ids ++ map plain_file given.password_files) ≤ SECRET_COUNT_LIMIT
+few_files given e =
+    elim (cases_Bool (nat_lt SECRET_COUNT_LIMIT (length given.vault_ids + length given.password_files))) [
+      | inl many ↦ let wrong : Some TooManySecrets ≡ None = rw many at e in cc
+      | inr few ↦
+          let limit : length given.vault_ids + length given.password_files ≤ SECRET_COUNT_LIMIT = search (rules, tests, few) in
+          omega (
+            arith,
+            limit,
+            length-append (map file_of_id given.vault_ids) (map plain_file given.password_files),
+            length-map given.vault_ids file_of_id,
+            length-map given.password_files plain_file,
+          )
+    ]
+
+-- a salt text has its length
+pub salt_texts : (text path : Option (List ℕ)) → salt_fault text path ≡ None → IfSome text IsSaltText
+salt_texts None path e = tt
+salt_texts (Some text) (Some path) e = cc
+salt_texts (Some text) None e =
+    elim (cases_Bool (length text == 0 || nat_lt SALT_TEXT_LIMIT (length text))) [
+      | inl bad ↦ let wrong : Some BadSalt ≡ None = rw bad at e in cc
+      | inr good ↦ record { some = search (rules, tests, good); limit = search (rules, tests, good) }
+    ]
+
+-- `rekey` has its new secret, and no other command has one
+pub new_secrets : (given : Options) → rekey_fault given ≡ None → is_some (new_secret_of given) ≡ rekeys given.command
+new_secrets given e =
+    elim (cases_Bool (rekeys given.command)) [
+      | inl does ↦ rw does (some_new given.new_vault_id given.new_password_file (rw does at e))
+      | inr other ↦ rw other refl
+    ]
+  where
+    some_new : (id path : Option (List ℕ)) → new_secret_fault id path ≡ None
+        → is_some (option_or (option_map file_of_id id) (option_map plain_file path)) ≡ true
+    some_new None None h = cc
+    some_new None (Some path) h = refl
+    some_new (Some id) path h = refl

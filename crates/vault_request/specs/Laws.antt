@@ -1,0 +1,28 @@
+-- Laws of requests.
+use Rattle.std.specs.Prelude.{◌≡◌, ◌≢◌, List, [], None, true, Ok}
+use Rattle.std.specs.List.{AllByRecursion}
+use Rattle.clap.specs.Walk.{Row}
+use Rattle.clap.specs.Words.{Text, fault_of}
+use Rattle.vault_text.specs.Label.{is_label}
+use Rattle.vault_request.specs.CommandLine.{vault_app}
+use Rattle.vault_request.specs.Request.{IsSettled, Request, files_of}
+use Rattle.vault_request.specs.Settled.{asked_by, settled}
+use Rattle.vault_request.specs.declared.command_name.CommandName.{CommandName}
+use Rattle.vault_request.specs.declared.command_name.CommandName.TheVariants.{EncryptString}
+
+-- words without a fault name a command, so that each line of words asks for something, or is
+-- explained
+abbrev pub WordsNameACommand : Type 0
+WordsNameACommand = (words : List Text) → fault_of vault_app words ≡ [] → asked_by words ≢ None
+
+-- what a request that was settled is: its labels are labels, and only `encrypt_string` has a STRING
+pub record IsRequest (request : Request) : Type 0 where
+  pub settled : IsSettled request
+  pub labels : AllByRecursion (λ file. is_label file.label ≡ true) (files_of request)
+  pub string : request.command ≢ EncryptString → request.string ≡ None
+
+-- what settles a request makes one of these
+abbrev pub SettledRequests : Type 0
+SettledRequests =
+    (command : CommandName) (rows : List Row) (request : Request)
+    → settled command rows ≡ Ok request → IsRequest request

@@ -1,0 +1,8 @@
+pub mod CommandName
+pub mod CommandLine
+pub mod Options
+pub mod VaultId
+pub mod Request
+pub mod Refusal
+pub mod Settled
+pub mod Laws

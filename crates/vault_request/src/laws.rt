@@ -1,0 +1,13 @@
+//! Laws of requests, each the contract of a function that does nothing.
+ghost use Rattle.vault_request.specs.Laws.{SettledRequests, WordsNameACommand};
+
+/// Words without a fault name a command.
+pub fn words_name_a_command()
+    ensures { WordsNameACommand }
+{}
+
+/// What settles a request makes one whose labels are labels, and which has a STRING only where its
+/// command takes one.
+pub fn settled_requests()
+    ensures { SettledRequests }
+{}

@@ -1,0 +1,33 @@
+//! The command line of `ansible-vault`, and what it asks for.
+//!
+//! ```rust
+//! let mut words = Vec::new(alloc);
+//! for word in ["ansible-vault", "view", "--vault-id=dev@dev.password", "vault.yml"] {
+//!     words.push(String::from_str(alloc, word)?)?;
+//! }
+//! let matches = parse(alloc, words.as_slice())?;
+//! assert!(rt; has_command(&matches));
+//! let request = settle(alloc, &matches)?;
+//! assert_eq!(rt; request.command(), CommandName::View);
+//! assert_eq!(rt; request.input(), Some("vault.yml"));
+//! ```
+#![tactic(auto)]
+
+mod arguments;
+mod command_line;
+mod command_name;
+pub mod laws;
+mod limits;
+mod options;
+mod parsing;
+mod refusals;
+mod request;
+mod settling;
+mod vault_id;
+
+pub use command_line::command;
+pub use command_name::CommandName;
+pub use limits::SALT_TEXT_LIMIT;
+pub use parsing::parse;
+pub use request::Request;
+pub use settling::{has_command, settle};

@@ -1,0 +1,132 @@
+//! The values under the options of a command.
+ghost use Rattle.std.specs.Prelude.{◌≡◌, map};
+ghost use Rattle.std.specs.Option.{option_copied};
+ghost use Rattle.clap.specs.Words.{first_of, found_of, rows_of};
+ghost use Rattle.vault_request.specs.Options.{is_given, not_dash, options_of, rule_of, value_if};
+
+use crate::command_name::CommandName;
+use clap::ArgMatches;
+use std::marker::Model;
+use vault_core::LabelRule;
+
+/// What a command was given, where it has the option.
+#[derive(Drop)]
+pub(crate) struct Options<'m, 'a> {
+    pub command: CommandName,
+    pub vault_ids: &'m [&'a str],
+    pub password_files: &'m [&'a str],
+    pub encrypt_vault_id: Option<&'a str>,
+    pub new_vault_id: Option<&'a str>,
+    pub new_password_file: Option<&'a str>,
+    pub name: Option<&'a str>,
+    pub stdin_name: Option<&'a str>,
+    pub string: Option<&'a str>,
+    pub salt_file: Option<&'a str>,
+    pub salt_text: Option<&'a str>,
+    pub rule: LabelRule,
+    pub file: Option<&'a str>,
+    pub output: Option<&'a str>,
+}
+
+impl<'m, 'a> Model for Options<'m, 'a> {
+    ghost use Rattle.std.specs.Prelude.{map};
+    ghost use Rattle.std.specs.Option.{option_copied};
+    ghost use Rattle.vault_request.specs.Options.{Options};
+
+    ghost Value = { Options };
+
+    ghost view = { λ o. record {
+      command = o.command;
+      vault_ids = map (λ id. id.now) o.vault_ids.now;
+      password_files = map (λ path. path.now) o.password_files.now;
+      encrypt_vault_id = option_copied o.encrypt_vault_id;
+      new_vault_id = option_copied o.new_vault_id;
+      new_password_file = option_copied o.new_password_file;
+      name = option_copied o.name;
+      stdin_name = option_copied o.stdin_name;
+      string = option_copied o.string;
+      salt_file = option_copied o.salt_file;
+      salt_text = option_copied o.salt_text;
+      rule = o.rule;
+      file = option_copied o.file;
+      output = option_copied o.output;
+    } };
+}
+
+impl<'m, 'a> Options<'m, 'a> {
+    /// What the matches give to their command, beside the values of its repeated options.
+    pub(crate) fn of(
+        command: CommandName,
+        given: &ArgMatches<'a>,
+        vault_ids: &'m [&'a str],
+        password_files: &'m [&'a str],
+    ) -> Self
+        ensures { result ≡ record (options_of command (rows_of (found_of given.now))) {
+          vault_ids = map (λ id. id.now) vault_ids.now;
+          password_files = map (λ path. path.now) password_files.now;
+        } }
+    {
+        let rekeys = command.rekeys();
+        let takes_string = command.takes_string();
+        Options {
+            command,
+            vault_ids,
+            password_files,
+            encrypt_vault_id: value_if(command.encrypts(), given, "encrypt-vault-id"),
+            new_vault_id: value_if(rekeys, given, "new-vault-id"),
+            new_password_file: value_if(rekeys, given, "new-vault-password-file"),
+            name: value_if(takes_string, given, "name"),
+            stdin_name: value_if(takes_string, given, "stdin-name"),
+            string: not_dash(value_if(takes_string, given, "STRING")),
+            salt_file: value_if(command.seals(), given, "salt-file"),
+            salt_text: value_if(command.seals(), given, "salt"),
+            rule: rule_of(command, given),
+            file: not_dash(value_if(!takes_string, given, "FILE")),
+            output: value_if(command.has_output(), given, "output"),
+        }
+    }
+}
+
+fn value<'a>(given: &ArgMatches<'a>, option: &str) -> Option<&'a str>
+    ensures { option_copied result ≡ first_of option.now (rows_of (found_of given.now)) }
+{
+    given.get_str(option)
+}
+
+/// The value under an option, where the command has it.
+fn value_if<'a>(has: bool, given: &ArgMatches<'a>, option: &str) -> Option<&'a str>
+    ensures { option_copied result
+        ≡ value_if has option.now (rows_of (found_of given.now)) }
+{
+    if has { value(given, option) } else { None }
+}
+
+/// `-` names no file.
+pub(crate) fn not_dash(word: Option<&str>) -> Option<&str>
+    ensures { option_copied result ≡ not_dash (option_copied word.entry) }
+{
+    match word {
+        Some(word) if word != "-" => Some(word),
+        _ => None,
+    }
+}
+
+/// Whether a flag was given, under which the parser puts `true`.
+fn is_given(given: &ArgMatches<'_>, flag: &str) -> bool
+    ensures { result ≡ is_given flag.now (rows_of (found_of given.now)) }
+{
+    match value(given, flag) {
+        Some(value) => value == "true",
+        None => false,
+    }
+}
+
+fn rule_of(command: CommandName, given: &ArgMatches<'_>) -> LabelRule
+    ensures { result ≡ rule_of command (rows_of (found_of given.now)) }
+{
+    if !command.encrypts() && is_given(given, "require-id-match") {
+        LabelRule::Required
+    } else {
+        LabelRule::Hint
+    }
+}
