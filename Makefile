@@ -3,7 +3,7 @@ DESTDIR ?=
 # The processor that the program is built for, as x86-64-v3; empty: x86-64-v2, as rt has it.
 CPU ?=
 
-VERSION := $(shell sed -n 's/^const VERSION: &str = "\(.*\)";$$/\1/p' crates/vault_cli/src/line/command_line.rt)
+VERSION := $(shell sed -n 's/^const VERSION: &str = "\(.*\)";$$/\1/p' crates/vault_request/src/command_line.rt)
 SOURCES := $(shell find crates/*/src crates/*/specs crates/*/proofs) crates.txt
 
 SHARE := $(DESTDIR)$(PREFIX)/share

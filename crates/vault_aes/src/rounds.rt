@@ -1,5 +1,5 @@
-//! The steps of the cipher (FIPS 197, 5.1) on the state's four columns, each a word with its byte of
-//! row 0 the highest.
+//! The steps of the cipher (FIPS 197, 5.1) on the state's four columns, each a word with its byte
+//! of row 0 the highest.
 ghost use Rattle.std.specs.Prelude.{◌≡◌, ℕ, ◌+◌, ◌≤◌, List};
 ghost use Rattle.std.specs.Int.{w32, to_be_bytes};
 ghost use Rattle.vault_aes.specs.Cipher.{add_round_key, round, rounds, shift_rows, sub_bytes};

@@ -1,5 +1,5 @@
-//! The label of an envelope as a hint and as binding: which secrets are tried, and how many keys are
-//! derived for that.
+//! The label of an envelope as a hint and as binding: which secrets are tried, and how many keys
+//! are derived for that.
 use std::test::Fail;
 use vault_cli::Fault;
 use vault_core::{LabelRule, Secrets, password_of, prepare_decrypt};
@@ -16,8 +16,8 @@ const A_AND_B: &[(&str, &[u8])] = &[("a", ONE), ("b", TWO)];
 
 const NONE_FITS: Result<usize, Fault> = Err(Fault::NoSecretFits);
 
-/// The place of the secret that opens the vault, counted from 1 in the order of trying, or the fault;
-/// and how many keys were derived.
+/// The place of the secret that opens the vault, counted from 1 in the order of trying, or the
+/// fault; and how many keys were derived.
 fn decrypted(
     vault: &[u8],
     files: &[(&str, &[u8])],

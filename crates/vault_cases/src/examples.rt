@@ -1,10 +1,11 @@
 //! The examples of the crates' first pages, line for line.
 use std::test::Fail;
 use vault_aes::{Key, ctr_apply};
-use vault_cli::{Status, has_command, parse, run, settle};
+use vault_cli::{Status, run};
 use vault_core::{Form, Secrets, password_of, prepare_encrypt};
 use vault_files::{Access, FileSystem, MemFile, MemFiles};
 use vault_kdf::{Hmac, Meter, derive, hmac};
+use vault_request::{CommandName, parse, settle};
 use vault_text::{Label, MemSink, MemSource, Salt, Sink, TAG_LENGTH, put_all, write_envelope};
 
 #[test]
@@ -81,6 +82,25 @@ fn of_vault_files(rt: HostRuntime) -> Result<(), Fail> {
 }
 
 #[test]
+fn of_vault_request(rt: HostRuntime) -> Result<(), Fail> {
+    let alloc = rt.alloc();
+    let mut words = Vec::new(alloc);
+    for word in [
+        "ansible-vault",
+        "view",
+        "--vault-id=dev@dev.password",
+        "vault.yml",
+    ] {
+        words.push(String::from_str(alloc, word)?)?;
+    }
+    let matches = parse(alloc, words.as_slice())?;
+    let request = settle(alloc, &matches)?;
+    assert_eq!(rt; request.command(), CommandName::View);
+    assert_eq!(rt; request.input(), Some("vault.yml"));
+    Ok(())
+}
+
+#[test]
 fn of_vault_cli(rt: HostRuntime) -> Result<(), Fail> {
     let alloc = rt.alloc();
     let mut words = Vec::new(alloc);
@@ -94,7 +114,6 @@ fn of_vault_cli(rt: HostRuntime) -> Result<(), Fail> {
         words.push(String::from_str(alloc, word)?)?;
     }
     let matches = parse(alloc, words.as_slice())?;
-    assert!(rt; has_command(&matches));
     let request = settle(alloc, &matches)?;
     let mut secret_files = Vec::new(alloc);
     secret_files.push(Vec::from_slice(alloc, b"password\n")?)?;

@@ -136,8 +136,8 @@ fn refuse_one_byte_more(rt: HostRuntime) -> Result<(), Fail> {
     Ok(())
 }
 
-/// How line ends without end are refused that come in steps, without a request; and how many bytes of
-/// them are read.
+/// How line ends without end are refused that come in steps, without a request; and how many bytes
+/// of them are read.
 fn endless_line_ends(alloc: Global, step: usize) -> Result<(Option<Fault>, usize), Fail> {
     let mut work = work_memory(alloc)?;
     let mut reader = CountingReader::with_line_feeds(HEADER_LINE, usize::MAX, step);

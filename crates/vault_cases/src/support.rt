@@ -6,7 +6,7 @@ use std::alloc::{AllocError, Global};
 use std::io::Read;
 use std::test::Fail;
 use vault_cli::{
-    Fault, MemFile, MemFiles, Request, Status, drive, drive_in_memory, has_command, parse, run,
+    Fault, MemFile, MemFiles, Request, Status, drive, drive_in_memory, parse, run,
     settle,
 };
 use vault_files::LoggedFiles;
@@ -33,9 +33,6 @@ pub fn line_of(alloc: Global, words: &[&str]) -> Result<Vec<String>, AllocError>
 pub fn settled(alloc: Global, words: &[&str]) -> Result<Result<Request, Fault>, Fail> {
     let line = line_of(alloc, words)?;
     let matches = parse(alloc, line.as_slice())?;
-    if !has_command(&matches) {
-        return Err(Fail::from("the words name no command"));
-    }
     Ok(settle(alloc, &matches))
 }
 

@@ -23,8 +23,8 @@ AllMet meets (Some (Ok request)) files =
 module _ {F R S K E : Type 0} (files : StoreCall F R) (src : SourceCall S) (out : SinkCall K)
     (err : SinkCall E) (result : Status)
     (asks : Option (Result Request Fault)) (answers : Files → List ℕ → Outcome) where
-  -- the paths were opened that are opened of these files, or, where there was no memory, the first
-  -- of them
+  -- the paths were opened that are opened of these files, or, where there was no memory, a front of
+  -- that list
   abbrev pub IsOpenedFor : Files → F → Type 0
   IsOpenedFor found opened =
       files.opens files.old (opened_of asks found) opened

@@ -50,7 +50,7 @@ Taken None src = src.new ≡ src.old
 Taken (Some limit) src =
     (n : ℕ) × (n ≤ limit + 1) × (src.new.left ≡ drop n src.old.left)
 
--- these paths stand behind a log, or, where there was no memory, the first of them
+-- these paths stand behind a log, or, where there was no memory, a front of them
 abbrev pub Logs : Status → Change (List (List ℕ)) → List (List ℕ) → Type 0
 Logs result log paths =
     (log.new ≡ log.old ++ paths)

@@ -23,13 +23,13 @@ module _ {K E : Type 0} (out : SinkCall K) (err : SinkCall E) (result : Status) 
   abbrev pub HasNoMemory : Type 0
   HasNoMemory = LacksMemory (to_sink out) err result
 
-  -- a text on standard output, or a prefix of it where standard output failed
+  -- some text, perhaps an empty one, on standard output, or a prefix of it where that failed
   abbrev pub Shows : Type 0
   Shows = (text : List ℕ)
       × Finishes (to_sink out) err result
       (record { output = Some text; line = []; status = Success })
 
-  -- a text on standard error alone
+  -- some text on standard error alone
   pub record Rejects : Type 0 where
     pub status : result ≡ ParseFault
     pub output : out.new ≡ out.old

@@ -1,4 +1,4 @@
--- Which paths are opened: each that is asked for, in order, up to the first that refuses.
+-- Which paths are opened, in order: up to the first that cannot be opened or read, this one too.
 use Rattle.std.specs.Prelude.{ℕ, ◌+◌, List, [], ◌∷◌, ◌++◌, option_to_list, Option, Some, None}
 use Rattle.std.specs.Prelude.{Result, Ok, Err}
 use Rattle.vault_files.specs.File.{Finding}

@@ -6,7 +6,6 @@
 //!     words.push(String::from_str(alloc, word)?)?;
 //! }
 //! let matches = parse(alloc, words.as_slice())?;
-//! assert!(rt; has_command(&matches));
 //! let request = settle(alloc, &matches)?;
 //! let mut secret_files = Vec::new(alloc);
 //! secret_files.push(Vec::from_slice(alloc, b"password\n")?)?;
@@ -35,7 +34,5 @@ pub use program::drive;
 pub use runs::{Status, report, run};
 pub use vault_core::{Fault, LabelRule, Role, SECRET_COUNT_LIMIT};
 pub use vault_files::{FileSystem, HostFiles, LoggedFiles, MemFile, MemFiles};
-pub use vault_request::{
-    CommandName, Request, SALT_TEXT_LIMIT, command, has_command, parse, settle,
-};
+pub use vault_request::{CommandName, Request, SALT_TEXT_LIMIT, command, parse, settle};
 pub use vault_text::{MemSink, MemSource, ReadSource, WriteSink};

@@ -1,5 +1,5 @@
 //! What the program does with its arguments, its files and its standard streams.
-ghost use Rattle.std.specs.Prelude.{◌≡◌, ◌≢◌, [], Ok, Some, IfErr, IfOk, OnOk, length, map, vec_len};
+ghost use Rattle.std.specs.Prelude.{◌≡◌, ◌≢◌, [], Ok, Some, is_some, length, map, true};
 ghost use Rattle.std.specs.String.{string_bytes};
 ghost use Rattle.clap.specs.Words.{fault_of, subcommand_rows_of};
 ghost use Rattle.vault_text.specs.declared.limits.TheConstants.{CIPHERTEXT_LIMIT, PLAINTEXT_LIMIT};
@@ -8,8 +8,6 @@ ghost use Rattle.vault_request.specs.CommandLine.{vault_app};
 ghost use Rattle.vault_cli.specs.Drive.{Drives};
 ghost use Rattle.vault_cli.specs.runs.Ending.{Ends, to_path};
 ghost use Rattle.vault_cli.specs.Explained.{ExplainsOneOf};
-ghost use Rattle.vault_cli.specs.runs.Found.{AtPath, asked_paths, secret_paths};
-ghost use Rattle.vault_cli.specs.runs.Gathered.{ContentsMet, RefusedBy, SaltMet};
 ghost use Rattle.vault_cli.specs.runs.Outcome.{input_asked, outcome};
 ghost use Rattle.vault_cli.specs.Program.{answer_to, output_access, program};
 ghost use Rattle.vault_request.specs.Request.{files_of};
@@ -21,7 +19,7 @@ use clap::ArgMatches;
 use std::alloc::Global;
 use vault_core::Fault;
 use vault_files::{Access, FileSystem};
-use vault_request::{CommandName, Request, has_command, parse, settle};
+use vault_request::{CommandName, Request, parse, settle};
 use vault_text::{CIPHERTEXT_LIMIT, Sink, Source, Stage, TextMemory};
 
 /// All that the program does: parses the words, of which the first is the program's name, settles
@@ -69,6 +67,7 @@ fn carry_out<F: FileSystem, S: Source, K: Sink, E: Sink>(
     out: &mut K,
     err: &mut E,
 ) -> Status
+    requires asks { is_some (asked (subcommand_rows_of matches.now)) ≡ true }
     requires files_unbegun { F.stage files.old ≡ Stage.Unbegun }
     requires out_unbegun { K.stage out.old ≡ Stage.Unbegun }
     requires err_unbegun { E.stage err.old ≡ Stage.Unbegun }
@@ -77,9 +76,6 @@ fn carry_out<F: FileSystem, S: Source, K: Sink, E: Sink>(
         (sink K.Sink out.old out.new) (sink E.Sink err.old err.new) result
         asked (answer_to asked) }
 {
-    if !has_command(matches) {
-        return Status::ParseFault;
-    }
     match settle(alloc, matches) {
         Ok(request) => answer(files, alloc, &request, src, out, err),
         Err(fault) => report(fault, err),
@@ -172,6 +168,6 @@ fn output_access(command: CommandName) -> Access
 {
     match command {
         CommandName::Decrypt | CommandName::View => Access::OwnerOnly,
-        _ => Access::Kept,
+        CommandName::Encrypt | CommandName::EncryptString | CommandName::Rekey => Access::Kept,
     }
 }

@@ -104,8 +104,8 @@ pub fn run<'r, S: Source, K: Sink, E: Sink>(
     requires out_unbegun { K.stage out.old ≡ Stage.Unbegun }
     requires err_unbegun { E.stage err.old ≡ Stage.Unbegun }
 
-    // What the source gave decides all, unless a device fails; it is left alone where the passwords,
-    // the secret or the salt are refused, and where there is a STRING.
+    // What the source gave decides all, unless a device fails; it is left alone where the
+    // passwords, the secret or the salt are refused, and where there is a STRING.
     ensures ends { let contents = map (λ file. file.items) secret_files.now in
         let limit = limit_of (length work.old) in
         Ends (to_sink (sink K.Sink out.old out.new)) (sink E.Sink err.old err.new) result

@@ -32,7 +32,7 @@ Met meets [] (file ∷ files) = ⊥
 Met meets (path ∷ paths) [] = ⊥
 Met meets (path ∷ paths) (file ∷ files) = meets path file × Met meets paths files
 
--- the first, or the second where memory lacked
+-- the first; where memory lacked, the first or the second
 abbrev pub UnlessMemory : {T : Type 0} → Result T FileFault → Type 0 → Type 0 → Type 0
 UnlessMemory (Err Memory) done undone = done ⊎ undone
 UnlessMemory (Err CannotOpen) done undone = done

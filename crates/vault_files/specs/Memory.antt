@@ -30,7 +30,7 @@ pub record ReaderState : Type 0 where
 abbrev pub new_reader : List ℕ → Bool → ReaderState
 new_reader bytes breaks = record { left = bytes; breaks = breaks; ended = false; failures = 0 }
 
--- a reader of the whole file
+-- a reader that stands at the front of a file
 abbrev pub IsReaderOf : Finding → ReaderState → Type 0
 IsReaderOf Missing reader = ⊥
 IsReaderOf (Whole bytes) reader = reader ≡ new_reader bytes false

@@ -1,5 +1,5 @@
 //! What a program asks of its files.
-ghost use Rattle.std.specs.Prelude.{◌≡◌, ◌≢◌, ℕ, ◌<◌, ◌≤◌, ◌⊎◌, ◌++◌, List, [], ◌∷◌, Bool, IsTrue};
+ghost use Rattle.std.specs.Prelude.{◌≡◌, ◌≢◌, ℕ, ◌<◌, ◌≤◌, ◌⊎◌, ◌++◌, List, [], ◌∷◌, IsTrue};
 ghost use Rattle.std.specs.Prelude.{length, take};
 ghost use Rattle.std.specs.Prelude.{Ok, Err, IfOk, IfErr, OnOk, OnErr};
 ghost use Rattle.vault_text.specs.Failures.{HasRisen};
@@ -26,7 +26,7 @@ pub trait FileSystem: Sink {
     // What was opened at a path.
     ghost opened: { Self → List ℕ → Self.Reader → Type 0 };
 
-    // Between two states these paths were opened, in this order.
+    // Between two states it was asked to open these paths, in this order.
     ghost opens: { Self → List (List ℕ) → Self → Type 0 };
 
     // The same files, the output at this path, for those who may read it.

@@ -12,7 +12,7 @@ use std::io::{ErrorKind, Write};
 use std::{env, io};
 use vault_cli::{
     Fault, LoggedFiles, MemFile, MemSink, MemSource, ReadSource, Request, Status, drive_in_memory,
-    has_command, parse, report, run, settle,
+    parse, report, run, settle,
 };
 use vault_text::{Stage, fill_up};
 
@@ -51,9 +51,6 @@ fn gather(
     let Ok(matches) = parse(alloc, words) else {
         return Err(Fault::Memory);
     };
-    if !has_command(&matches) {
-        return Err(Fault::Memory);
-    }
     let request = settle(alloc, &matches)?;
     let contents = contents_of(alloc, files, &request)?;
     if contents.len() != request.files() {

@@ -1,18 +1,21 @@
 -- Words without a fault name a command.
-use Rattle.std.proofs.Common.{◌≡◌, List, [], ◌∷◌, Bool, true, false, Option, Some, None, refl, sym, ap, ◌∙◌}
+use Rattle.std.proofs.Common.{◌≡◌, List, [], ◌∷◌, Bool, true, false, Option, Some, None, Result, Ok, Err, refl, sym, ap, ◌∙◌}
 use Rattle.std.proofs.lemmas.Bool.{false≢true}
 use Rattle.std.specs.List.{AllByRecursion, find}
 use Rattle.std.specs.Option.{option_map}
-use Rattle.std.specs.Prelude.{cond, is_some}
+use Rattle.std.specs.Prelude.{cond, is_some, IfOk}
 use Rattle.clap.specs.Faults.{built_fault, check_fault, defaults_fault, entered_fault, settle_fault, walk_fault}
 use Rattle.clap.specs.Kinds.{Kinds, check_kinds, or_else}
 use Rattle.clap.specs.Simple.{App, Shape, argument_words, built, entered, label_of, names_of, rows_at}
 use Rattle.clap.specs.Walk.{Row, Text, answers_to, finished, nothing_held, settled, stop_after, walk, walk_from}
+use Rattle.clap.specs.Words.{FailsBy, fault_of, subcommand_of, subcommand_rows_of}
+use Rattle.clap.specs.declared.error.Error.{Error}
+use Rattle.clap.specs.declared.parser.matches.ArgMatches.{ArgMatches}
 use Rattle.clap.proofs.OnLiterals.{clap_on_literals}
 use Rattle.vault_request.specs.CommandLine.{vault_app}
 use Rattle.vault_request.specs.CommandName.{command_of}
 use Rattle.vault_request.specs.Laws.{WordsNameACommand}
-use Rattle.vault_request.specs.Settled.{asked, command_in}
+use Rattle.vault_request.specs.Settled.{asked, asked_by, command_in}
 use Rattle.vault_request.proofs.SettlingFacts.{is_some-map}
 
 -- ---- a level without a fault has its subcommand, where one is required
@@ -79,9 +82,17 @@ commands-named : AllByRecursion NamesCommand (built vault_app).subs
 unfolding clap_on_literals vault_app
 commands-named = (refl, (refl, (refl, (refl, (refl, tt)))))
 
-pub words_name_a_command : WordsNameACommand
-words_name_a_command words e none =
+asks : (words : List Text) → fault_of vault_app words ≡ [] → is_some (asked_by words) ≡ true
+asks words e =
     let app = built vault_app in
     let given = argument_words vault_app words in
-    let some = entered-asked app (stop_after app.top.rules (names_of app) given) commands-named (has-command app given command-required e) in
-    false≢true (sym (ap is_some none) ∙ some)
+    entered-asked app (stop_after app.top.rules (names_of app) given) commands-named (has-command app given command-required e)
+
+pub words_name_a_command : WordsNameACommand
+words_name_a_command words e none = false≢true (sym (ap is_some none) ∙ asks words e)
+
+-- what parses asks for something
+pub parsed_asks : (words : List Text) (r : Result ArgMatches Error) → FailsBy (fault_of vault_app words) r
+    → IfOk r (λ m. subcommand_rows_of m ≡ subcommand_of vault_app words) → IfOk r (λ m. is_some (asked (subcommand_rows_of m)) ≡ true)
+parsed_asks words (Ok m) kinds matches = ap (λ parse. is_some (asked parse)) matches ∙ asks words kinds
+parsed_asks words (Err error) kinds matches = tt

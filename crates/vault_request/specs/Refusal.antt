@@ -52,7 +52,7 @@ mismatch_fault given =
 abbrev pub is_control : ℕ → Bool
 is_control byte = nat_lt byte 32 || byte == 127
 
--- a variable's name fits on one line of YAML
+-- a variable's name holds no control byte of ASCII
 abbrev pub name_fault : Option (List ℕ) → Option Fault
 name_fault None = None
 name_fault (Some name) = refused_if (list_any is_control name) BadName
@@ -63,7 +63,7 @@ output_fault given =
     refused_if (has_output given.command && is_some given.file && not (is_some given.output))
     OutputNeeded
 
--- a salt comes from a text or from a file, and a text has its length
+-- a salt comes from a text of 1 to 64 bytes or from a file, not from both
 abbrev pub salt_fault : Option (List ℕ) → Option (List ℕ) → Option Fault
 salt_fault None path = None
 salt_fault (Some text) None =

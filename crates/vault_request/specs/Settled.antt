@@ -31,7 +31,8 @@ new_secret_of given =
     (option_map plain_file given.new_password_file)
     else None
 
--- a salt text stands in the place of the salt file
+-- the salt file, `/dev/urandom` where none is given; none beside a salt text, nor where no salt is
+-- used
 abbrev pub salt_path_of : Options → Option (List ℕ)
 salt_path_of given =
     if is_some given.salt_text then None

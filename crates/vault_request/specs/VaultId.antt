@@ -24,7 +24,7 @@ label_part id = if has_at_sign id then before_first is_at_sign id else []
 abbrev pub source_of_id : List ℕ → List ℕ
 source_of_id id = if has_at_sign id then after_first is_at_sign id else id
 
--- nothing before the `@` names the label `default`
+-- the label `default` where nothing stands before an `@`, or where there is none
 abbrev pub label_of_id : List ℕ → List ℕ
 label_of_id id = named_label (label_part id)
 

@@ -6,7 +6,6 @@
 //!     words.push(String::from_str(alloc, word)?)?;
 //! }
 //! let matches = parse(alloc, words.as_slice())?;
-//! assert!(rt; has_command(&matches));
 //! let request = settle(alloc, &matches)?;
 //! assert_eq!(rt; request.command(), CommandName::View);
 //! assert_eq!(rt; request.input(), Some("vault.yml"));
@@ -30,4 +29,4 @@ pub use command_name::CommandName;
 pub use limits::SALT_TEXT_LIMIT;
 pub use parsing::parse;
 pub use request::Request;
-pub use settling::{has_command, settle};
+pub use settling::settle;

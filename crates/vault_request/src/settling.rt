@@ -1,12 +1,12 @@
 //! From the matches of a command line to a request.
 ghost use Rattle.std.specs.Prelude.{◌≡◌, ◌++◌, ◌⊎◌, true, Some, None, map, is_some};
-ghost use Rattle.std.specs.Prelude.{IfSome, IfOk, IfErr, OnOk, OnErr};
+ghost use Rattle.std.specs.Prelude.{IfSome, IfOk, IfErr, OnOk};
 ghost use Rattle.std.specs.Option.{option_copied, option_map};
 ghost use Rattle.std.specs.String.{string_bytes};
 ghost use Rattle.clap.specs.Words.{found_of, rows_of, subcommand_rows_of};
 ghost use Rattle.vault_request.specs.Refusal.{label_fault, refusal, rekey_fault};
-ghost use Rattle.vault_request.specs.Settled.{Settles, asked, command_in, file_of_id, new_secret_of};
-ghost use Rattle.vault_request.specs.Settled.{plain_file, request_of, salt_path_of, settled_by};
+ghost use Rattle.vault_request.specs.Settled.{Settles, asked, command_in, file_of_id};
+ghost use Rattle.vault_request.specs.Settled.{new_secret_of, plain_file, request_of, salt_path_of, settled_by};
 ghost use Rattle.vault_request.specs.VaultId.{fault_of_id, first_fault};
 ghost use Rattle.vault_core.specs.declared.fault.Fault.TheVariants.{Memory};
 
@@ -30,13 +30,6 @@ fn command_in<'m, 'a>(matches: &'m ArgMatches<'a>) -> Option<(CommandName, &'m A
     let (name, given) = matches.subcommand()?;
     let command = CommandName::named(name)?;
     Some((command, given))
-}
-
-/// Whether the matches hold a command.
-pub fn has_command(matches: &ArgMatches<'_>) -> bool
-    ensures { result ≡ is_some (asked (subcommand_rows_of matches.now)) }
-{
-    command_in(matches).is_some()
 }
 
 /// The password file of a vault id.

@@ -1,5 +1,5 @@
--- The header line of an envelope: `$ANSIBLE_VAULT`, the version, the cipher and perhaps a label,
--- with semicolons between them.
+-- The header line of an envelope, with semicolons between its fields: one that begins with
+-- `$ANSIBLE_VAULT`, the version, the cipher and perhaps a label. Later fields are ignored.
 use Rattle.std.specs.Prelude.{ℕ, ◌==◌, ◌&&◌, ◌||◌, nat_lt, nat_le, not, Bool, if◌then◌else◌, List}
 use Rattle.std.specs.Prelude.{[], length, slice_index_or, codes, Result, Ok, Err}
 use Rattle.std.specs.List.{list_all, slice_split, before_first}
@@ -43,7 +43,7 @@ label_of line = named_label (field 3 line)
 abbrev pub is_ascii : ℕ → Bool
 is_ascii b = nat_lt b 128
 
--- ASCII, three fields or more, and a fourth that names a label
+-- ASCII, three fields or more, and a label in the fourth, where that is not empty
 abbrev pub is_well_formed : List ℕ → Bool
 is_well_formed line =
     list_all is_ascii line && nat_le 3 (length (parts_of_line line)) && is_label (label_of line)

@@ -1,6 +1,6 @@
 //! The header line of an envelope: `$ANSIBLE_VAULT;1.1;AES256`, or format 1.2 with a label behind
 //! one more semicolon.
-ghost use Rattle.std.specs.Prelude.{◌≡◌, ◌==◌, ◌≤◌, ℕ, [], ◌∷◌, ◌++◌, length, nat_le, is_some};
+ghost use Rattle.std.specs.Prelude.{◌≡◌, ◌==◌, ◌≤◌, [], ◌∷◌, ◌++◌, length, nat_le, is_some};
 ghost use Rattle.std.specs.Prelude.{IfSome, IfNone};
 ghost use Rattle.std.specs.List.{before_first, list_all, position_or_len, slice_split};
 ghost use Rattle.vault_text.specs.Header.{field, header_line, is_ascii, is_cipher, is_line_end};

@@ -1,5 +1,5 @@
 //! What an envelope holds.
-ghost use Rattle.std.specs.Prelude.{◌≡◌, ℕ, List, length};
+ghost use Rattle.std.specs.Prelude.{◌≡◌};
 
 use crate::label::Label;
 use crate::limits::TAG_LENGTH;

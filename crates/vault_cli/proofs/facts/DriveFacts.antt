@@ -244,12 +244,6 @@ module _ {F R S K E : Type 0} (files : StoreCall F R) (src : SourceCall S) (out 
           let (found, met) = some-met (files.meets files.old) some asks in
           (found, met, (opened, (inr (status, (0, unopened)), memory-alone none asks found status line)))
 
-      -- nothing was asked
-      pub drives-nothing : (asks : Option (Result Request Fault)) → is_some asks ≡ false → result ≡ ParseFault → Says err [] → AskedDrives asks
-      drives-nothing (Some settled) none status line = absurd (false≢true (sym none))
-      drives-nothing None none status line =
-          (record { secrets = []; salt = None; input = None }, tt, (opened, (inl unopened, answered-alone None _ refl status line)))
-
       -- the options are refused, or there was no memory for the request
       pub drives-unsettled : src.gives src.old [] src.new → ((path : List ℕ) → (file : Finding) × files.meets files.old path file)
           → (asks : Option (Result Request Fault)) (fault : Fault) → is_some asks ≡ true → IfSome asks (λ settled. Settles settled (Err fault))

@@ -1,7 +1,7 @@
 -- What a run of a request answers, as a function of the request, the password files, the salt and
 -- the input: five steps, of which the first that refuses decides. Steps 1 to 3, the passwords, the
--- place and the salt, stand with the tasks; step 4 is the length of the text, and step 5 what
--- becomes of it.
+-- place and the salt, stand with the tasks; then the text is read; step 4 is its length, and step 5
+-- what becomes of it.
 use Rattle.std.specs.Prelude.{ℕ, ◌*◌, if◌then◌else◌, List, [], Option, Some, None, unwrap_or}
 use Rattle.std.specs.Prelude.{Result, Ok, Err}
 use Rattle.vault_text.specs.Limits.{envelope_limit}

@@ -103,6 +103,6 @@ unfoldable pub prepared : Request → List (List ℕ) → List ℕ → Result Ta
 prepared request contents salt = do
   -- step 1
   list ← secret_list_of request contents
-  -- steps 2 and 3
+  -- the new password of `rekey`, and steps 2 and 3
   let last = slice_index_or contents (length request.secret_files) [] in
       task_of request.command request list last salt

@@ -1,5 +1,5 @@
 //! The one line on standard error that says why a run was refused.
-ghost use Rattle.std.specs.Prelude.{◌≡◌, ◌++◌, ◌∷◌, [], ℕ, take, OnOk, codes};
+ghost use Rattle.std.specs.Prelude.{◌≡◌, ℕ, take, OnOk};
 ghost use Rattle.vault_text.specs.Failures.{CountsFailure};
 ghost use Rattle.vault_cli.specs.Call.{sink};
 ghost use Rattle.vault_cli.specs.runs.ReportLine.{line_of};

@@ -1,4 +1,4 @@
-ghost use Rattle.std.specs.Prelude.{◌≡◌, [], None, MatchOption};
+ghost use Rattle.std.specs.Prelude.{◌≡◌, None, MatchOption};
 ghost use Rattle.std.specs.Option.{option_map};
 ghost use Rattle.vault_files.specs.File.Finding.{Missing};
 ghost use Rattle.vault_files.specs.Memory.{bytes_of, file_at, new_store, stands_at};

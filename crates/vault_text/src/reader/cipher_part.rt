@@ -1,5 +1,6 @@
 //! The ciphertext of the inner text.
-ghost use Rattle.std.specs.Prelude.{◌≡◌, ◌<◌, ◌≤◌, ℕ, List, [], MatchOption, MatchResult, Some, length};
+ghost use Rattle.std.specs.Prelude.{◌≡◌, ◌<◌, ◌≤◌, ℕ, List, [], MatchOption, MatchResult, Some};
+ghost use Rattle.std.specs.Prelude.{length};
 ghost use Rattle.vault_text.specs.Hexadecimal.{unhex};
 ghost use Rattle.vault_text.specs.InnerReader.{PartHas};
 ghost use Rattle.vault_text.specs.Pieces.{Takes};

@@ -1,4 +1,4 @@
-ghost use Rattle.std.specs.Prelude.{◌≡◌, ◌+◌, ◌<◌, ◌≤◌, [], IsErr, IfOk, OnOk, OnErr};
+ghost use Rattle.std.specs.Prelude.{◌≡◌, ◌<◌, ◌≤◌, [], IsErr, IfOk, OnOk, OnErr};
 ghost use Rattle.std.specs.Prelude.{length, min};
 ghost use Rattle.vault_text.specs.Failures.{CountsFailure, IsLast};
 ghost use Rattle.vault_text.specs.Sink.{taken, has_begun};

@@ -1,20 +1,10 @@
-use Rattle.std.proofs.Common.{refl, sym}
+use Rattle.std.proofs.Common.{refl}
 use Rattle.clap.specs.Words.{subcommand_rows_of}
 use Rattle.vault_cli.specs.Call.{sink, source}
 use Rattle.vault_request.specs.Settled.{asked}
-use Rattle.vault_cli.proofs.facts.DriveFacts.{drives-nothing, drives-settled, drives-unsettled}
+use Rattle.vault_cli.proofs.facts.DriveFacts.{drives-settled, drives-unsettled}
 use Rattle.vault_cli.proofs.facts.runs.EndingFacts.{store_between}
 use Rattle.vault_cli.proofs.program.carry_out.Goals as goal
-
-pub returns-then-not-has_command : goal.returns-then-not-has_command
-returns-then-not-has_command g c = record {
-  drives = drives-nothing (store_between g.F.Sink g.F.FileSystem c.args.files.now c.args.files.now)
-      (source g.S.Source c.args.src.now c.args.src.now) (sink g.K.Sink c.args.out.now c.args.out.now)
-      (sink g.E.Sink c.args.err.now c.args.err.now) _ c.args.files.now c.requires.files_unbegun refl refl refl
-      (g.met.F.FileSystem.opens_none c.args.files.now)
-      (asked (subcommand_rows_of c.args.matches.now))
-      (sym c.if-not-has_command.ensures) refl refl;
-}
 
 pub returns-in-Ok : goal.returns-in-Ok
 returns-in-Ok g c = record {
@@ -22,7 +12,7 @@ returns-in-Ok g c = record {
       (source g.S.Source c.args.src.now c.answer.new.src) (sink g.K.Sink c.args.out.now c.answer.new.out)
       (sink g.E.Sink c.args.err.now c.answer.new.err) c.answer.result
       (asked (subcommand_rows_of c.args.matches.now)) c.in-Ok.request
-      (sym c.if-not-has_command.ensures)
+      c.requires.asks
       c.in-Ok.ensures c.answer.ensures.drives;
 }
 
@@ -34,6 +24,6 @@ returns-in-Err g c = record {
       (g.met.F.FileSystem.opens_none c.args.files.now)
       (g.met.S.Source.gives_none c.args.src.now) (g.met.F.FileSystem.meets_some c.args.files.now)
       (asked (subcommand_rows_of c.args.matches.now)) c.in-Err.fault
-      (sym c.if-not-has_command.ensures)
+      c.requires.asks
       c.in-Err.ensures c.report.ensures.status c.report.ensures.line;
 }
