@@ -17,6 +17,10 @@ const TWO: &[&[u8]] = &[b"one\n", b"two\n"];
 
 const ZEROS: &[u8; 32] = &[0; 32];
 
+const READ_FAILED: &[u8] = b"ERROR! the input cannot be read\n";
+
+const WRITE_FAILED: &[u8] = b"ERROR! the output cannot be written\n";
+
 const DECRYPT: &[&str] = &["decrypt", "--vault-id=f1"];
 
 const ENCRYPT: &[&str] = &["encrypt", "--vault-id=f1"];
@@ -47,6 +51,8 @@ fn assert_reads_told(
             !is_whole,
             "{words:?} {calls}"
         );
+        let line: &[u8] = if is_whole { b"" } else { READ_FAILED };
+        assert_eq!(rt; ran.message.as_slice(), line, "{words:?} {calls}");
         assert_eq!(rt; ran.begun, is_whole, "{words:?} {calls}");
         assert_eq!(rt; src.asked_after, 0, "{words:?} {calls}");
     }
@@ -134,6 +140,8 @@ fn assert_writes_told(
             !is_whole,
             "{words:?} {calls}"
         );
+        let line: &[u8] = if is_whole { b"" } else { WRITE_FAILED };
+        assert_eq!(rt; err.bytes(), line, "{words:?} {calls}");
         assert_eq!(rt; out.device.begun(), calls > 0, "{words:?} {calls}");
         let taken = calls.saturating_sub(1).min(output.len());
         assert_eq!(rt; out.device.bytes().len(), taken, "{words:?} {calls}");

@@ -1,4 +1,5 @@
 //! Runs whose devices fail.
+use crate::commands::run_words_between;
 use crate::devices::{CountingReader, NarrowWriter};
 use crate::support::{EMPTY_ENVELOPE, line_of, run_decrypt};
 use std::test::Fail;
@@ -105,7 +106,7 @@ fn keeps_the_status_where_the_message_fails(rt: HostRuntime) -> Result<(), Fail>
         let mut src = MemSource::new(b"", 1);
         let mut out = MemSink::new(alloc, 100);
         let mut err = FailingSink::new(alloc, 1, calls);
-        let status = run_decrypt(alloc, b"first\n", &mut src, &mut out, &mut err)?;
+        let status = run_words_between(alloc, &["view"], &[], &[], &mut src, &mut out, &mut err)?;
         assert_eq!(rt; status, Status::Refused, "{calls}");
         assert_eq!(rt; err.bytes().len(), length, "{calls}");
         assert!(rt; message.starts_with(err.bytes()), "{calls}");

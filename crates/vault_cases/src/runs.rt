@@ -1,6 +1,7 @@
 //! Runs that give the plaintext.
+use crate::commands::run_words;
 use crate::devices::CountingReader;
-use crate::support::{run_decrypt, run_program, run_program_on};
+use crate::support::{EMPTY_ENVELOPE, run_decrypt, run_program, run_program_on};
 use std::test::Fail;
 use vault_cli::{MemFile, Status};
 use vault_made::envelope;
@@ -56,6 +57,21 @@ fn refuses_another_password(rt: HostRuntime) -> Result<(), Fail> {
         "ERROR! no secret decrypts this vault\n"
     );
     assert_eq!(rt; refused.output.len(), 0);
+    Ok(())
+}
+
+#[test]
+fn refuses_without_secrets(rt: HostRuntime) -> Result<(), Fail> {
+    let cases: [(&[u8], &[u8]); 2] = [
+        (b"", b"ERROR! input is not vault encrypted data\n"),
+        (EMPTY_ENVELOPE, b"ERROR! no secret decrypts this vault\n"),
+    ];
+    for (input, message) in cases {
+        let refused = run_words(rt.alloc(), &["view"], &[], &[], input)?;
+        assert_eq!(rt; refused.status, Status::Refused);
+        assert_eq!(rt; refused.message.as_slice(), message);
+        assert!(rt; !refused.begun);
+    }
     Ok(())
 }
 

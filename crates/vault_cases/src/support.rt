@@ -6,8 +6,7 @@ use std::alloc::{AllocError, Global};
 use std::io::Read;
 use std::test::Fail;
 use vault_cli::{
-    Fault, MemFile, MemFiles, Request, Status, drive, drive_in_memory, parse, run,
-    settle,
+    Fault, MemFile, MemFiles, Request, Status, drive, drive_in_memory, parse, run, settle,
 };
 use vault_files::LoggedFiles;
 use vault_text::{

@@ -72,10 +72,12 @@ pub trait FileSystem: Sink {
     // Something may be met at each path.
     ghost meets_some: { (s : Self) (path : List ℕ) → (file : Finding) × meets s path file };
 
-    // What a reader gave to its end, or up to a limit, is the front of a file that may be met.
+    // What a reader gave to its end, or up to a limit, without a failure, is the front of a file
+    // that may be met.
     ghost front_met: { (s : Self) (path : List ℕ) (r t : Self.Reader) (xs : List ℕ) (n : ℕ)
         → opened s path r → Self.Reader.gives r xs t → length xs ≤ n
-        → IsTrue (Self.Reader.ended t) ⊎ (length xs ≡ n) → Answers (meets s path) n (Ok xs) };
+        → IsTrue (Self.Reader.ended t) ⊎ (length xs ≡ n)
+        → Self.Reader.failures t ≡ Self.Reader.failures r → Answers (meets s path) n (Ok xs) };
 
     // Where it failed before that, such a file breaks there.
     ghost break_met: { (s : Self) (path : List ℕ) (r t : Self.Reader) (xs : List ℕ) (n : ℕ)

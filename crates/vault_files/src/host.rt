@@ -180,7 +180,7 @@ impl<'a, R: Files> FileSystem for HostFiles<'a, R> {
 
     ghost meets_some = { λ s path. (Missing, tt) };
 
-    ghost front_met = { λ s path r t xs n opened gives fits end. front-any xs n fits };
+    ghost front_met = { λ s path r t xs n opened gives fits end unfailed. front-any xs n fits };
 
     ghost break_met = { λ s path r t xs n opened gives short risen.
         break-any n (Prim.omega (arith, short)) };

@@ -70,7 +70,7 @@ module _ (meets : List ℕ → Finding → Type 0) (request : Request) (contents
 module _ {R : Type 0} (meets : List ℕ → Finding → Type 0) (opened : List ℕ → R → Type 0) (reader : SourceCall R) where
   abbrev pub FrontLaw : Type 0
   FrontLaw = (path : List ℕ) (r t : R) (xs : List ℕ) (n : ℕ) → opened path r → reader.gives r xs t → length xs ≤ n
-      → IsTrue (reader.ended t) ⊎ (length xs ≡ n) → Answers (meets path) n (Ok xs)
+      → IsTrue (reader.ended t) ⊎ (length xs ≡ n) → reader.failures t ≡ reader.failures r → Answers (meets path) n (Ok xs)
 
   abbrev pub BreakLaw : Type 0
   BreakLaw = (path : List ℕ) (r t : R) (xs : List ℕ) (n : ℕ) → opened path r → reader.gives r xs t → length xs < n
@@ -82,10 +82,11 @@ module _ {R : Type 0} (meets : List ℕ → Finding → Type 0) (opened : List �
       × ((stdin : List ℕ) → input_in n (Some file) stdin ≡ answer)
 
   input-read : FrontLaw → (path : Option (List ℕ)) (t : R) (xs : List ℕ) (n : ℕ) → AtPath opened path (Some reader.old)
-      → reader.gives reader.old xs t → length xs ≤ n → IsTrue (reader.ended t) ⊎ (length xs ≡ n) → InputMet path n (Ok xs)
-  input-read law None t xs n at given fits end = absurd at
-  input-read law (Some path) t xs n at given fits end =
-      let a = law path reader.old t xs n at given fits end in
+      → reader.gives reader.old xs t → length xs ≤ n → IsTrue (reader.ended t) ⊎ (length xs ≡ n)
+      → reader.failures t ≡ reader.failures reader.old → InputMet path n (Ok xs)
+  input-read law None t xs n at given fits end unfailed = absurd at
+  input-read law (Some path) t xs n at given fits end unfailed =
+      let a = law path reader.old t xs n at given fits end unfailed in
       let same : (stdin : List ℕ) → input_in n (Some a.file) stdin ≡ Ok xs = λ stdin. ap (result_map_both (λ bytes. bytes) (fault_in Input)) a.same in
       (a.file, a.met, opening-read a.file n [] xs (same []), same)
 
@@ -162,13 +163,13 @@ module _ {F R S K E : Type 0} (files : StoreCall F R) (src : SourceCall S) (out 
 
       file-ends : (prepares : Result Task Fault) (string : Option (List ℕ)) → FileSent prepares string → FileEnds prepares string
       file-ends (Err fault) string (unread, ends) =
-          let (file, met, opening, same) = input-read (files.meets files.old) reads reader front_law request.input reader.old [] 0 at none (omega arith) (inr refl) in
+          let (file, met, opening, same) = input-read (files.meets files.old) reads reader front_law request.input reader.old [] 0 at none (omega arith) (inr refl) refl in
           (file, met, opening, ends)
       file-ends (Ok task) (Some string) (unread, ends) =
-          let (file, met, opening, same) = input-read (files.meets files.old) reads reader front_law request.input reader.old [] 0 at none (omega arith) (inr refl) in
+          let (file, met, opening, same) = input-read (files.meets files.old) reads reader front_law request.input reader.old [] 0 at none (omega arith) (inr refl) refl in
           (file, met, opening, ends)
       file-ends (Ok task) None (input, (given, fits, inl memory)) =
-          let (file, met, opening, same) = input-read (files.meets files.old) reads reader front_law request.input reader.old [] 0 at none (omega arith) (inr refl) in
+          let (file, met, opening, same) = input-read (files.meets files.old) reads reader front_law request.input reader.old [] 0 at none (omega arith) (inr refl) refl in
           (file, met, opening, inl memory)
       file-ends (Ok task) None (input, (given, fits, inr (inl (u, short)))) =
           let (file, met, opening, same) = input-broken (files.meets files.old) reads reader break_law request.input reader.new input
@@ -181,7 +182,7 @@ module _ {F R S K E : Type 0} (files : StoreCall F R) (src : SourceCall S) (out 
           )
       file-ends (Ok task) None (input, (given, fits, inr (inr ((stay, whole), done)))) =
           let (file, met, opening, same) = input-read (files.meets files.old) reads reader front_law request.input reader.new input
-          (input_limit PLAINTEXT_LIMIT request.command + 1) at given fits whole in (
+          (input_limit PLAINTEXT_LIMIT request.command + 1) at given fits whole stay in (
             file,
             met,
             opening,

@@ -132,7 +132,8 @@ impl<'a> FileSystem for MemFiles<'a> {
 
     ghost meets_some = { λ s path. (file_at s.entries path, refl) };
 
-    ghost front_met = { λ s path. front-met (file_at s.entries path) };
+    ghost front_met = { λ s path r t xs n opened gives fits end unfailed.
+        front-met (file_at s.entries path) r t xs n opened gives fits end };
 
     ghost break_met = { λ s path. break-met (file_at s.entries path) };
 
