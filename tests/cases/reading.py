@@ -24,6 +24,7 @@ def format_faults(cases: Cases) -> None:
         ("a salt of 257 bytes", spelled(bytes(257), bytes(32), b""), Fault.BAD_PAYLOAD),
         ("ciphertext over the limit", spelled(b"", bytes(32), bytes(CIPHERTEXT_LIMIT + 1)), Fault.CIPHER_TOO_LONG),
         ("a bad digit in an input at the limit", (HEADER + b"\nzz").ljust(ENVELOPE_LIMIT, b"\n"), Fault.BAD_HEX),
+        ("a bad digit past an old limit", (HEADER + b"\nzz").ljust(6_299_649, b"\n"), Fault.BAD_HEX),
         ("one byte over the limit", (HEADER + b"\nzz").ljust(ENVELOPE_LIMIT + 1, b"\n"), Fault.TOO_LONG),
         ("too many newlines", b"\n" * (ENVELOPE_LIMIT + 1), Fault.TOO_LONG),
     ]
@@ -76,7 +77,7 @@ def plaintexts(cases: Cases) -> None:
     right = by_file(cases.file(b"right\n"))
     every_byte = bytes(range(256))
     whole = every_byte * (PLAINTEXT_LIMIT // 256)
-    for size in (0, 1, 15, 16, 17, 31, 32, 33, 255, 65_536, PLAINTEXT_LIMIT - 1, PLAINTEXT_LIMIT):
+    for size in (0, 1, 15, 16, 17, 31, 32, 33, 255, 65_536, 1_048_592, PLAINTEXT_LIMIT - 1, PLAINTEXT_LIMIT):
         cases.opens(f"plaintext of {size} bytes", right, seal(b"right", whole[:size]), whole[:size])
     texts = [
         ("every byte", every_byte),

@@ -28,6 +28,7 @@ def required_label(cases: Cases) -> None:
     ]
     for name, options, vault in opening:
         cases.opens(f"required: {name}", [*options, FLAG], vault, TEXT)
+    cases.opens("required: no bytes", [*by_file(one), FLAG], seal(b"one", b""), b"")
     for name, options, vault, fault in refused:
         cases.refuses(f"required: {name}", [FLAG, *options], vault, fault)
         if fault is Fault.NO_SECRET_FITS and "capitals" not in name:

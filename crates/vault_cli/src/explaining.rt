@@ -18,8 +18,8 @@ use std::io;
 use vault_core::Fault;
 use vault_text::{Sink, SinkFailed, Stage, put_all};
 
-/// What the program says where its arguments are no text, or there is no memory for them. A failure
-/// of `err` changes nothing else.
+/// Says on `err` that an argument is not UTF-8, or that there is no memory for the arguments, and
+/// answers the status of that. A failure of `err` changes nothing else.
 pub fn reject_words<E: Sink>(error: &io::Error, err: &mut E) -> Status
     requires { E.stage err.old ≡ Stage.Unbegun }
     ensures memory { error_kind error.now ≡ OutOfMemory

@@ -1,5 +1,5 @@
-//! Laws of the outcomes and of the program, each the contract of a function that does nothing but
-//! name the laws that it stands on.
+//! Laws of the outcomes and of the program, each the contract of a function that does nothing, or
+//! only names the laws that it rests on.
 ghost use Rattle.vault_cli.specs.Laws.{EncryptThenDecrypt, OutcomesAreDecided};
 ghost use Rattle.vault_cli.specs.Laws.{RekeyKeepsThePlaintext, ShortTexts};
 ghost use Rattle.vault_cli.specs.ProgramLaws.{ProgramEncryptsThenDecrypts, ProgramIsOutcome};
@@ -27,8 +27,8 @@ pub fn rekey_keeps_the_plaintext()
     vault_core::laws::rekeyed_decrypts();
 }
 
-/// A text that has room wherever so much plaintext does, is answered alike under that limit and
-/// under each larger one.
+/// A text that fits wherever so much plaintext does gets the same outcome under that limit and under
+/// every larger one.
 pub fn short_texts()
     ensures { ShortTexts }
 {

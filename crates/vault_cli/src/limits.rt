@@ -1,4 +1,4 @@
 //! Limits of a run.
 
-/// Bytes of a salt that is no text.
+/// How many bytes of the salt file are the salt.
 pub const SEALING_SALT_LENGTH: usize = 32;

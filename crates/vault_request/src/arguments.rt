@@ -60,7 +60,7 @@ pub(crate) fn require_id_match<'a>(alloc: Global) -> Arg<'a>
         .action(ArgAction::SetTrue)
         .help(
             "Try only the secrets with the label of the encrypted file; by default the others are \
-             tried behind them",
+             tried after them",
         )
 }
 

@@ -1,4 +1,4 @@
 //! Limits of the command line.
 
-/// Bytes of the text of `--salt`.
+/// The longest text of `--salt`, in bytes.
 pub const SALT_TEXT_LIMIT: usize = 64;

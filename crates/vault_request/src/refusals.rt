@@ -1,4 +1,4 @@
-//! Why options are refused, before anything grows.
+//! Why options are refused, before memory is asked for.
 ghost use Rattle.std.specs.Prelude.{◌≡◌};
 ghost use Rattle.std.specs.List.{list_any};
 ghost use Rattle.std.specs.Option.{option_copied};

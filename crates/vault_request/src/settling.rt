@@ -168,7 +168,8 @@ fn settled_by(alloc: Global, options: &Options<'_, '_>) -> Result<Request, Fault
     request_of(alloc, options)
 }
 
-/// The request that the matches of a command settle, or the first fault of its options.
+/// The request that the matches of a command, as `parse` gives them, settle, or the first fault of
+/// its options.
 pub fn settle(alloc: Global, matches: &ArgMatches<'_>) -> Result<Request, Fault>
     requires { is_some (asked (subcommand_rows_of matches.now)) ≡ true }
     ensures { IfSome (asked (subcommand_rows_of matches.now)) (λ settled. Settles settled result) }

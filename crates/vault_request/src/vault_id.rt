@@ -7,7 +7,7 @@ ghost use Rattle.vault_request.specs.VaultId.{label_part, source_of_id};
 use vault_core::Fault;
 use vault_text::Label;
 
-/// The parts before and behind the first `@`; all is source where there is none.
+/// The parts before and after the first `@`; all is source where there is none.
 fn split(id: &str) -> (&str, &str)
     ensures label { result.0.now ≡ label_part id.now }
     ensures source { result.1.now ≡ source_of_id id.now }
