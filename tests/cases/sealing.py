@@ -37,6 +37,8 @@ def worked(cases: Cases) -> None:
     cases.check("nothing: first lines", (lines[0], lines[1], lines[2][:50]), (HEADER, b"30" * 40, b"30" * 24 + b"0a"))
     for size, length in ((15, 355), (16, 419)):
         cases.check(f"{size} bytes: length", len(b"\n".join(run(f"encrypt {size} bytes", options, b"a" * size))), length)
+    longest = run("encrypt all that is taken", options, b"a" * PLAINTEXT_LIMIT)[1:-1]
+    cases.check("the longest: lines and digits", (len(longest), sum(map(len, longest))), (838_865, 67_109_188))
     labelled = run("encrypt for dev", [*by_id(right[1], "dev"), *options[2:]], b"a" * 15)
     cases.check("dev: length and header", (len(b"\n".join(labelled)), labelled[0]), (359, MAGIC + b";1.2;AES256;dev"))
     texts = [("abc", 48, [25] + [80] * 5 + [0]), ("a", 0, [25, 80, 80, 40, 0]), ("a" * 64, 0, [25] + [80] * 5 + [52, 0])]

@@ -37,8 +37,6 @@ fn take_the_longest_plaintext(rt: HostRuntime) -> Result<(), Fail> {
     let status = run_at_the_limit(alloc, ENCRYPT, b"one\n", &mut src, &mut out, &mut err)?;
     assert_eq!(rt; status, Status::Success);
     assert_eq!(rt; out.bytes().len(), 67_948_079);
-    let body_lines = out.bytes().iter().filter(|&&byte| byte == b'\n').count() - 1;
-    assert_eq!(rt; body_lines, 838_865);
     assert!(rt; !err.begun());
     Ok(())
 }

@@ -1,5 +1,5 @@
 -- From what was sent, and from the files that were met, to how the program ends.
-use Rattle.std.proofs.Common.{◌≡◌, ℕ, ◌+◌, ◌<◌, ◌≤◌, ◌⊎◌, inl, inr, List, [], true, false, Option, Some, None, Result, Ok, Err, IsTrue, length, arith, refl, sym, ap, ◌∙◌, subst}
+use Rattle.std.proofs.Common.{◌≡◌, ℕ, ◌+◌, ◌<◌, ◌≤◌, ◌⊎◌, inl, inr, List, [], true, Option, Some, None, Result, Ok, Err, IsTrue, length, arith, refl, sym, ap, ◌∙◌, subst}
 use Rattle.std.specs.Prelude.{IfSome, is_some}
 use Rattle.std.specs.Result.{result_map_both}
 use Rattle.std.proofs.lemmas.Bool.{false≢true}
@@ -26,7 +26,7 @@ use Rattle.vault_request.specs.Settled.{Settles}
 use Rattle.vault_cli.specs.runs.Status.{status_of}
 use Rattle.vault_cli.specs.runs.Task.{Task, prepared}
 use Rattle.vault_cli.specs.declared.runs.status.Status.{Status}
-use Rattle.vault_cli.specs.declared.runs.status.Status.TheVariants.{OutOfMemory, ParseFault}
+use Rattle.vault_cli.specs.declared.runs.status.Status.TheVariants.{OutOfMemory}
 use Rattle.vault_cli.proofs.facts.runs.EndingFacts.{alone-answered, alone-memory, ends-memory}
 use Rattle.vault_cli.proofs.facts.runs.FoundFacts.{Met-some}
 use Rattle.vault_cli.proofs.facts.ProgramFacts.{one-some, opened-all, opening-broken, opening-read, task-found}
