@@ -27,8 +27,8 @@ pub fn rekey_keeps_the_plaintext()
     vault_core::laws::rekeyed_decrypts();
 }
 
-/// A text that fits wherever so much plaintext does gets the same outcome under that limit and under
-/// every larger one.
+/// A text that fits wherever so much plaintext does gets the same outcome under that limit and
+/// under every larger one.
 pub fn short_texts()
     ensures { ShortTexts }
 {

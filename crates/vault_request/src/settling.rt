@@ -6,7 +6,8 @@ ghost use Rattle.std.specs.String.{string_bytes};
 ghost use Rattle.clap.specs.Words.{found_of, rows_of, subcommand_rows_of};
 ghost use Rattle.vault_request.specs.Refusal.{label_fault, refusal, rekey_fault};
 ghost use Rattle.vault_request.specs.Settled.{Settles, asked, command_in, file_of_id};
-ghost use Rattle.vault_request.specs.Settled.{new_secret_of, plain_file, request_of, salt_path_of, settled_by};
+ghost use Rattle.vault_request.specs.Settled.{new_secret_of, plain_file, request_of};
+ghost use Rattle.vault_request.specs.Settled.{salt_path_of, settled_by};
 ghost use Rattle.vault_request.specs.VaultId.{fault_of_id, first_fault};
 ghost use Rattle.vault_core.specs.declared.fault.Fault.TheVariants.{Memory};
 

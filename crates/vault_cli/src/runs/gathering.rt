@@ -25,8 +25,8 @@ pub(crate) struct Gathered<R: Source + Drop> {
     pub input: Option<R>,
 }
 
-/// Reads the password files and the salt file, and opens the input file, up to the first of them that
-/// refuses.
+/// Reads the password files and the salt file, and opens the input file, up to the first of them
+/// that refuses.
 pub(crate) fn gather<F: FileSystem>(
     files: &mut F,
     alloc: Global,
