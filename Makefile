@@ -18,7 +18,7 @@ ZSH_COMPLETION := $(SHARE)/zsh/$(ZSH_FOLDER)/_ansible-vault
 PROGRAM_TESTS := with_ansible growths hostile end_to_end with_strace with_valgrind workflows options_agree first_page
 OTHER_TESTS := package cipher_reads_its_tables completions audit_agrees documents_agree progress
 
-.PHONY: all check test fuzz bench install uninstall package clean FORCE test-growths_in_memory $(PROGRAM_TESTS:%=test-%) $(OTHER_TESTS:%=test-%)
+.PHONY: all check test fuzz bench install uninstall package clean FORCE test-growths_in_memory test-fuzz $(PROGRAM_TESTS:%=test-%) $(OTHER_TESTS:%=test-%)
 
 all: bin/ansible-vault
 
@@ -50,14 +50,16 @@ check:
 # Four at a time, those first that take longest; each prints what it has to say when it is through.
 test: all bin/vault_growths
 	tools/dead_names
-	@$(MAKE) --no-print-directory --jobs=4 --output-sync=target $(PROGRAM_TESTS:%=test-%) test-growths_in_memory $(OTHER_TESTS:%=test-%)
-	tests/fuzz bin/ansible-vault --seed 1 --runs 6000 --seconds 60
+	@$(MAKE) --no-print-directory --jobs=4 --output-sync=target $(PROGRAM_TESTS:%=test-%) test-growths_in_memory test-fuzz $(OTHER_TESTS:%=test-%)
 
 $(PROGRAM_TESTS:%=test-%): test-%: all
 	tests/$* bin/ansible-vault
 
 test-growths_in_memory: bin/vault_growths
 	tests/growths_in_memory bin/vault_growths
+
+test-fuzz: all
+	tests/fuzz bin/ansible-vault --seed 1 --runs 6000 --seconds 120
 
 $(OTHER_TESTS:%=test-%): test-%:
 	tests/$*
