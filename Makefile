@@ -43,7 +43,7 @@ bin/processor: FORCE
 # The gate, and then the tests of the program that was built and of the cipher's tables.
 check:
 	@mkdir -p bin
-	@echo "Proving every crate and its tests from nothing, and trying the must-fail edits; it takes the better part of an hour"
+	@echo "Proving every crate and its tests from nothing, and trying the must-fail edits; it takes about an hour"
 	@tools/progress.py bin/ci.log all rt ci
 	@$(MAKE) --no-print-directory test
 
