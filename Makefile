@@ -6,19 +6,36 @@ CPU ?=
 VERSION := $(shell sed -n 's/^const VERSION: &str = "\(.*\)";$$/\1/p' crates/vault_request/src/command_line.rt)
 SOURCES := $(shell find crates/*/src crates/*/specs crates/*/proofs) crates.txt
 
-SHARE := $(DESTDIR)$(PREFIX)/share
-# Where Debian's tools look.
-PAGE := $(SHARE)/man/man1/ansible-vault.1
-BASH_COMPLETION := $(SHARE)/bash-completion/completions/ansible-vault
-FISH_COMPLETION := $(SHARE)/fish/vendor_completions.d/ansible-vault.fish
-ZSH_FOLDER := $(if $(filter /usr,$(PREFIX)),vendor-completions,site-functions)
-ZSH_COMPLETION := $(SHARE)/zsh/$(ZSH_FOLDER)/_ansible-vault
+# What is installed, below the prefix, where Debian's tools look. Python finds what the companions share
+# beside the files that the links lead to.
+TOP := $(DESTDIR)$(PREFIX)
+COMPANIONS := edit rotate check textconv hook
+LIBRARY := lib/ansible-vault
+PAGES := share/man/man1
+BASH_FOLDER := share/bash-completion/completions
+FISH_FOLDER := share/fish/vendor_completions.d
+ZSH_FOLDER := share/zsh/$(if $(filter /usr,$(PREFIX)),vendor-completions,site-functions)
+DOCUMENTS := share/doc/ansible-vault
+INSTALLED := bin/ansible-vault $(PAGES)/ansible-vault.1 $(BASH_FOLDER)/ansible-vault \
+	$(FISH_FOLDER)/ansible-vault.fish $(ZSH_FOLDER)/_ansible-vault \
+	$(DOCUMENTS)/coming-from-ansible.md $(DOCUMENTS)/workflows.md \
+	$(COMPANIONS:%=$(LIBRARY)/ansible-vault-%) \
+	$(patsubst companions/%,$(LIBRARY)/%,$(wildcard companions/ansible_vault_companions/*.py))
+# Each with what it leads to, behind the colon.
+LINKS := $(foreach name,$(COMPANIONS),\
+	bin/ansible-vault-$(name):../$(LIBRARY)/ansible-vault-$(name) \
+	$(PAGES)/ansible-vault-$(name).1:ansible-vault.1 \
+	$(BASH_FOLDER)/ansible-vault-$(name):ansible-vault \
+	$(FISH_FOLDER)/ansible-vault-$(name).fish:ansible-vault.fish)
+LINK_PATHS := $(foreach link,$(LINKS),$(firstword $(subst :, ,$(link))))
+# The sums of the files that were installed, so that no other is uninstalled.
+SUMS := $(LIBRARY)/installed.sha256
 
 # What is run with the program that was built, and what needs none.
-PROGRAM_TESTS := with_ansible growths hostile end_to_end with_strace with_valgrind workflows options_agree first_page
+PROGRAM_TESTS := faults with_ansible growths hostile end_to_end with_strace with_valgrind companions workflows options_agree first_page left_out
 OTHER_TESTS := package cipher_reads_its_tables completions audit_agrees documents_agree progress
 
-.PHONY: all check test fuzz bench install uninstall package clean FORCE test-growths_in_memory test-fuzz $(PROGRAM_TESTS:%=test-%) $(OTHER_TESTS:%=test-%)
+.PHONY: all check test fuzz faults bench install uninstall unowned package clean FORCE test-growths_in_memory test-fuzz $(PROGRAM_TESTS:%=test-%) $(OTHER_TESTS:%=test-%)
 
 all: bin/ansible-vault
 
@@ -40,11 +57,17 @@ bin/processor: FORCE
 	@mkdir -p bin
 	@echo '$(CPU)' | cmp -s - $@ || echo '$(CPU)' > $@
 
-# The gate, and then the tests of the program that was built and of the cipher's tables.
-check:
-	@mkdir -p bin
-	@echo "Proving every crate and its tests from nothing, and trying the must-fail edits; it takes about an hour"
+# The gate, and then the tests of the program that was built and of the cipher's tables. The programs
+# that the gate builds are those of `make`, but for another processor. They are as old as the
+# gate's beginning: a source that changes meanwhile is newer.
+check: bin/processor
+	@echo "Proving every crate and its tests from nothing, and trying the must-fail edits; it takes about 40 minutes on four cores"
+	@touch bin/gate-begun
 	@tools/progress.py bin/ci.log all rt ci
+	@$(if $(CPU),,cp crates/ansible_vault/out/ansible_vault bin/ansible-vault)
+	@$(if $(CPU),,touch -r bin/gate-begun bin/ansible-vault)
+	@cp crates/vault_growths/out/vault_growths bin/vault_growths
+	@touch -r bin/gate-begun bin/vault_growths
 	@$(MAKE) --no-print-directory test
 
 # Four at a time, those first that take longest; each prints what it has to say when it is through.
@@ -68,6 +91,10 @@ $(OTHER_TESTS:%=test-%): test-%:
 fuzz: all
 	tests/fuzz bin/ansible-vault
 
+# Every call of the system refused in turn, and the other disturbances of a run.
+faults: all
+	tests/faults bin/ansible-vault --share 1
+
 bench: all
 	bench/commands.py bin/ansible-vault --chart docs/speed.svg
 	bench/parts.py bin/ansible-vault
@@ -75,18 +102,46 @@ bench: all
 	bench/counter_mode.py
 	bench/key_derivation.py
 
-install: all
-	install -D -m 0755 bin/ansible-vault $(DESTDIR)$(PREFIX)/bin/ansible-vault
-	install -D -m 0644 man/ansible-vault.1 $(PAGE)
-	install -D -m 0644 completions/ansible-vault.bash $(BASH_COMPLETION)
-	install -D -m 0644 completions/ansible-vault.zsh $(ZSH_COMPLETION)
-	install -D -m 0644 completions/ansible-vault.fish $(FISH_COMPLETION)
+install: unowned all
+	install -D -m 0755 bin/ansible-vault $(TOP)/bin/ansible-vault
+	install -D -m 0644 man/ansible-vault.1 $(TOP)/$(PAGES)/ansible-vault.1
+	install -D -m 0644 completions/ansible-vault.bash $(TOP)/$(BASH_FOLDER)/ansible-vault
+	install -D -m 0644 completions/ansible-vault.zsh $(TOP)/$(ZSH_FOLDER)/_ansible-vault
+	install -D -m 0644 completions/ansible-vault.fish $(TOP)/$(FISH_FOLDER)/ansible-vault.fish
+	install -d $(TOP)/$(DOCUMENTS) $(TOP)/$(LIBRARY)/ansible_vault_companions
+	install -m 0644 docs/coming-from-ansible.md docs/workflows.md $(TOP)/$(DOCUMENTS)
+	install -m 0644 companions/ansible_vault_companions/*.py $(TOP)/$(LIBRARY)/ansible_vault_companions
+	install -m 0755 $(COMPANIONS:%=companions/ansible-vault-%) $(TOP)/$(LIBRARY)
+	@for link in $(LINKS); do ln -sf $${link#*:} $(TOP)/$${link%:*} || exit 1; done
+	@cd $(TOP) && sha256sum $(INSTALLED) >> $(SUMS)
+	@$(if $(DESTDIR),,echo "Type next: hash -r; ansible-vault --version")
 
+# Where the system itself is installed to, no file of a package is overwritten.
+unowned:
+	@$(if $(DESTDIR),,! command -v dpkg > /dev/null || \
+	dpkg -S $(addprefix $(TOP)/,$(INSTALLED) $(LINK_PATHS)) 2> /dev/null | { \
+		! read -r owned || { \
+			echo "$${owned#*: } belongs to the package $${owned%%: *}: give another PREFIX, or make package" >&2; \
+			exit 1; \
+		}; \
+	})
+
+# What is no longer as it was installed is left, and told.
 uninstall:
-	rm -f $(DESTDIR)$(PREFIX)/bin/ansible-vault $(PAGE)
-	rm -f $(BASH_COMPLETION) $(ZSH_COMPLETION) $(FISH_COMPLETION)
+	@test -f $(TOP)/$(SUMS) || { echo "nothing is installed below $(TOP)" >&2; exit 1; }
+	@cd $(TOP) && while read -r sum path; do \
+		! echo "$$sum  $$path" | sha256sum --check --status 2> /dev/null || rm "$$path" || exit 1; \
+	done < $(SUMS)
+	@cd $(TOP) && for link in $(LINKS); do \
+		[ "$$(readlink $${link%:*})" != $${link#*:} ] || rm $${link%:*} || exit 1; \
+	done
+	@cd $(TOP) && for path in $$(cut -c 67- $(SUMS) | sort -u) $(LINK_PATHS); do \
+		[ ! -e $$path ] && [ ! -L $$path ] || echo "left, since it was changed: $(TOP)/$$path"; \
+	done
+	@cd $(TOP) && rm $(SUMS) && \
+		rmdir --ignore-fail-on-non-empty $(DOCUMENTS) $(LIBRARY)/ansible_vault_companions $(LIBRARY)
 
-# A Debian package of the program, in bin/.
+# A Debian package of the program and its companions, in bin/.
 package: all
 	tools/package.py $(VERSION)
 

@@ -1,10 +1,16 @@
-# Completion of ansible-vault's commands, options and files for fish.
+# Completion of ansible-vault's commands, options and files for fish, and of its companions.
 
-# The files behind the label of a vault id.
+# The files behind the label of a vault id, which may be typed with a quote or with backslashes.
 function __ansible_vault_ids
-    set -l value (commandline -ct | string replace -r '^--[a-z-]*=' '')
+    set -l typed (commandline -ct | string replace -r '^--[a-z-]*=' '')
+    set -l value (string replace -r '^["\']' '' -- $typed)
+    test "$value" = "$typed"; and set value (string unescape -- $typed)
     set -l label (string match -r '^[^@]*@' -- $value)
-    __fish_complete_path (string replace -r '^[^@]*@' '' -- $value) | string replace -r '^' "$label"
+    set -l start (string replace -r '^[^@]*@' '' -- $value)
+    for path in "$start"*
+        test -d $path; and set path $path/
+        printf '%s\n' "$label$path"
+    end
 end
 
 set -l commands encrypt decrypt view rekey encrypt_string
@@ -43,3 +49,23 @@ complete -c ansible-vault -n "$given encrypt_string" -l stdin-name -x \
 complete -c ansible-vault -n "$given encrypt decrypt rekey encrypt_string" -l output -r -F \
     -d 'The file to write'
 complete -c ansible-vault -n "$given encrypt decrypt view rekey" -F
+
+for name in edit rotate check textconv hook
+    complete -c ansible-vault-$name -f
+    complete -c ansible-vault-$name -s h -l help -d 'Print help'
+end
+for name in edit rotate check textconv
+    complete -c ansible-vault-$name -F
+    complete -c ansible-vault-$name -l vault-id -x -a '(__ansible_vault_ids)' \
+        -d 'A password file, with the label of its secret'
+    complete -c ansible-vault-$name -l vault-password-file -r -F \
+        -d 'A password file for the label default'
+end
+complete -c ansible-vault-edit -l encrypt-vault-id -x \
+    -d 'The label of the secret for a new vault'
+complete -c ansible-vault-rotate -l new-vault-id -x -a '(__ansible_vault_ids)' \
+    -d 'The password file of a new secret, with its label'
+complete -c ansible-vault-rotate -l new-vault-password-file -r -F \
+    -d 'The password file of a new secret for the label default'
+complete -c ansible-vault-rotate -l dry-run -d 'Write nothing, and tell what would be done'
+complete -c ansible-vault-rotate -l jobs -x -d 'How many files at once'

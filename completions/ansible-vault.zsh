@@ -1,5 +1,5 @@
-#compdef ansible-vault
-# Completion of ansible-vault's commands, options and files for zsh.
+#compdef ansible-vault ansible-vault-edit ansible-vault-rotate ansible-vault-check ansible-vault-textconv ansible-vault-hook
+# Completion of ansible-vault's commands, options and files for zsh, and of its companions.
 
 # A file, behind a label and `@` where there is one.
 _ansible_vault_id() {
@@ -18,7 +18,7 @@ _ansible_vault_commands() {
     _describe command commands
 }
 
-# The options and the positional of a command.
+# The options and the positional of a command, or of a companion.
 _ansible_vault_arguments() {
     local -a help=('(- *)'{-h,--help}'[print help]')
     local -a secrets=(
@@ -41,13 +41,26 @@ _ansible_vault_arguments() {
     )
     local -a output=('--output=[the file to write]:file:_files')
     local -a file=('1:file:_files')
+    local -a new_secrets=(
+        '*--new-vault-id=[a new password file, with its label]:[label@]file:_ansible_vault_id'
+        '*--new-vault-password-file=[a new password file for the label default]:file:_files'
+    )
+    local -a rotation=(
+        '--dry-run[write nothing, and tell what would be done]'
+        '--jobs=[how many files at once]:number: '
+    )
 
     case $1 in
-        encrypt) _arguments -s $help $secrets $choice $salt $output $file ;;
-        decrypt) _arguments -s $help $secrets $binding $output $file ;;
-        view) _arguments -s $help $secrets $binding $file ;;
-        rekey) _arguments -s $help $secrets $renewal $binding $salt $output $file ;;
-        encrypt_string) _arguments -s $help $secrets $choice $salt $names $output '1:text: ' ;;
+        encrypt) _arguments -s -S $help $secrets $choice $salt $output $file ;;
+        decrypt) _arguments -s -S $help $secrets $binding $output $file ;;
+        view) _arguments -s -S $help $secrets $binding $file ;;
+        rekey) _arguments -s -S $help $secrets $renewal $binding $salt $output $file ;;
+        encrypt_string) _arguments -s -S $help $secrets $choice $salt $names $output '1:text: ' ;;
+        edit) _arguments -s -S $help $secrets $choice $file ;;
+        rotate) _arguments -s -S $help $secrets $new_secrets $rotation '*:path:_files' ;;
+        check) _arguments -s -S $help $secrets '*:path:_files' ;;
+        textconv) _arguments -s -S $help $secrets $file ;;
+        hook) _arguments -s -S $help ;;
     esac
 }
 
@@ -62,4 +75,8 @@ _ansible_vault() {
     [[ $state == arguments ]] && _ansible_vault_arguments $line[1]
 }
 
-_ansible_vault "$@"
+if [[ $service == ansible-vault-* ]]; then
+    _ansible_vault_arguments ${service#ansible-vault-}
+else
+    _ansible_vault "$@"
+fi

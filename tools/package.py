@@ -2,7 +2,8 @@
 """Builds the Debian package bin/ansible-vault_VERSION_ARCHITECTURE.deb: tools/package.py VERSION.
 
 It holds what `make install` puts below /usr, and its documents. Whatever another package has at the
-same paths, as Ansible's packages do, steps aside for as long as this package is installed.
+same paths, as Ansible's packages do, steps aside for as long as this package is installed. The same
+program makes the same bytes: all times are SOURCE_DATE_EPOCH, by default the date in CHANGELOG.md.
 """
 
 import gzip
@@ -74,14 +75,29 @@ def packed(path: Path, text: str) -> None:
     path.write_bytes(gzip.compress(text.encode(), 9, mtime=0))
 
 
-def debian_changelog(version: str) -> str:
-    """The entries of CHANGELOG.md from this version on, in Debian's form."""
+def pack_pages(pages: Path) -> None:
+    """The page, and the links to it, under the names that Debian has for packed ones."""
+    for page in list(pages.iterdir()):
+        name = page.with_name(page.name + ".gz")
+        if page.is_symlink():
+            name.symlink_to(f"{os.readlink(page)}.gz")
+        else:
+            packed(name, page.read_text())
+        page.unlink()
+
+
+def entries_from(version: str) -> list[tuple[str, str, str]]:
+    """Version, date and text of the entries of CHANGELOG.md, from this version on."""
     _, *parts = re.split(r"^## (\S+), (\d+-\d+-\d+)\n", (ROOT / "CHANGELOG.md").read_text(), flags=re.MULTILINE)
     entries = list(zip(parts[::3], parts[1::3], parts[2::3]))
     versions = [each for each, _, _ in entries]
     if version not in versions:
         raise SystemExit(f"CHANGELOG.md has no entry `## {version}, DATE`")
-    return "\n".join(debian_entry(*entry) for entry in entries[versions.index(version) :])
+    return entries[versions.index(version) :]
+
+
+def debian_changelog(version: str) -> str:
+    return "\n".join(debian_entry(*entry) for entry in entries_from(version))
 
 
 def debian_entry(version: str, date: str, text: str) -> str:
@@ -96,11 +112,11 @@ def lay_out(folder: Path, version: str) -> None:
     subprocess.run(["make", "-s", "-C", str(ROOT), "install", "PREFIX=/usr", f"DESTDIR={folder}"], check=True)
     strip = ["strip", "--strip-unneeded", "--remove-section=.comment", "--remove-section=.note"]
     subprocess.run([*strip, str(folder / "usr/bin" / NAME)], check=True)
-    page = folder / "usr/share/man/man1/ansible-vault.1"
-    packed(page.with_suffix(".1.gz"), page.read_text())
-    page.unlink()
+    (folder / "usr/lib" / NAME / "installed.sha256").unlink()
+    pack_pages(folder / "usr/share/man/man1")
+    for program in (folder / "usr/lib" / NAME).glob(f"{NAME}-*"):
+        program.write_text(re.sub(r"\A#!.* python3 ", "#!/usr/bin/python3 ", program.read_text()))
     documents = folder / "usr/share/doc" / NAME
-    documents.mkdir(parents=True)
     (documents / "copyright").write_text((PARTS / "copyright").read_text())
     packed(documents / "changelog.gz", debian_changelog(version))
 
@@ -113,7 +129,7 @@ def diversions(when: str, change: str) -> str:
 
 
 def lay_out_control(folder: Path, version: str, architecture: str) -> None:
-    files = [path for path in sorted(folder.rglob("*")) if path.is_file()]
+    files = [path for path in sorted(folder.rglob("*")) if path.is_file() and not path.is_symlink()]
     sums = [f"{hashlib.md5(path.read_bytes()).hexdigest()}  {path.relative_to(folder)}\n" for path in files]
     fields = {
         "version": version,
@@ -135,6 +151,17 @@ def lay_out_control(folder: Path, version: str, architecture: str) -> None:
         (control / name).chmod(0o755)
 
 
+def build_time(version: str) -> int:
+    """Seconds since 1970 at which everything in the package was made."""
+    _, date, _ = entries_from(version)[0]
+    return int(os.environ.get("SOURCE_DATE_EPOCH") or printed("date", "-u", "-d", date, "+%s"))
+
+
+def set_times(folder: Path, seconds: int) -> None:
+    for path in [folder, *folder.rglob("*")]:
+        os.utime(path, (seconds, seconds), follow_symlinks=False)
+
+
 def main() -> None:
     os.umask(0o022)
     version = sys.argv[1]
@@ -145,7 +172,10 @@ def main() -> None:
         folder.chmod(0o755)
         lay_out(folder, version)
         lay_out_control(folder, version, architecture)
-        subprocess.run(["dpkg-deb", "--root-owner-group", "--build", str(folder), str(package)], check=True)
+        seconds = build_time(version)
+        set_times(folder, seconds)
+        command = ["dpkg-deb", "--root-owner-group", "--build", str(folder), str(package)]
+        subprocess.run(command, check=True, env=os.environ | {"SOURCE_DATE_EPOCH": str(seconds)})
 
 
 if __name__ == "__main__":

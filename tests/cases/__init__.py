@@ -5,10 +5,10 @@ import stat
 import subprocess
 from pathlib import Path
 
+from lib.limits import SECONDS
 from lib.outcome import Outcome
 from model.faults import Fault
 
-SECONDS = 60
 TEXT = b"secret: value\n"
 READING = ("view", "decrypt")
 # The user and group that own nothing.
@@ -55,6 +55,17 @@ class Cases(Outcome):
         except PermissionError:
             return f"/dev/{name}"
         return path
+
+    def program_for_all(self) -> str | None:
+        """A copy of the program that everybody may run; None where nobody else comes to the folder of the
+        tests."""
+        copy = self.file(Path(self.program).read_bytes(), 0o755)
+        self.folder.chmod(0o755)
+        try:
+            subprocess.run([copy, "--version"], capture_output=True, timeout=SECONDS, check=True, user=NOBODY, group=NOBODY)
+        except PermissionError:
+            return None
+        return copy
 
     def done(self, words, stdin=b"") -> subprocess.CompletedProcess:
         return subprocess.run([self.program, *words], input=stdin, capture_output=True, timeout=SECONDS)

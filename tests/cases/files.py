@@ -173,34 +173,14 @@ def order(cases: Cases) -> None:
             cases.refused(f"{sample.command}, {name}", [*words, *out], fault, NOT_ASKED)
 
 
-def closed_streams(cases: Cases) -> None:
-    """Files that get the numbers of closed streams hold what they should."""
-    for sample in with_output(cases):
-        is_string = sample.command == "encrypt_string"
-        for redirections in (">&-", "2>&-", ">&- 2>&-", "<&- >&- 2>&-"):
-            given, path = cases.file(sample.stdin), cases.path()
-            words = [*sample.words, "--output", path] + ([] if is_string else [given])
-            script = f'exec "$0" "$@" {redirections}'
-            done = subprocess.run(["sh", "-c", script, cases.program, *words], input=sample.stdin, capture_output=True, timeout=SECONDS)
-            status = 3 if is_string and redirections.startswith("<") else 0
-            name = f"{sample.command} by names {redirections}"
-            cases.check(f"{name}: status and streams", (done.returncode, done.stdout, done.stderr), (status, b"", b""))
-            if status == 0:
-                cases.check(f"{name}: output", Path(path).read_bytes(), sample.output)
-            cases.check(f"{name}: input", Path(given).read_bytes(), sample.stdin)
-            cases.check(f"{name}: password file", Path(sample.words[2]).read_bytes(), b"right\n")
-
-
 def without_rights(cases: Cases) -> None:
     """Files that may neither be read nor written; root runs the program as somebody else, since nothing
     keeps root from them."""
     other = {"user": NOBODY, "group": NOBODY} if os.geteuid() == 0 else {}
-    runs = lambda words, stdin: subprocess.run([cases.program, *words], input=stdin, capture_output=True, timeout=SECONDS, **other)
-    cases.folder.chmod(0o755)
-    try:
-        runs(["--version"], b"")
-    except PermissionError:
+    program = cases.program_for_all() if other else cases.program
+    if program is None:
         return cases.left_out("files without rights", "nobody else may run the program where it lies")
+    runs = lambda words, stdin: subprocess.run([program, *words], input=stdin, capture_output=True, timeout=SECONDS, **other)
     locked, folder = cases.file(OLD, 0), cases.path()
     os.mkdir(folder, 0o555)
     for sample in with_files(cases):
@@ -230,6 +210,5 @@ GROUPS = [
     onto_a_password_file,
     refused_leaves_outputs,
     order,
-    closed_streams,
     without_rights,
 ]

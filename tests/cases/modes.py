@@ -54,8 +54,10 @@ def new_files(cases: Cases) -> None:
 
 
 def masked_new_file(cases: Cases) -> None:
-    [sample] = [sample for sample in with_output(cases) if sample.command == "encrypt"]
-    written(cases, "to a new file", "277", sample, cases.path(), oct(0o400))
+    """The umask takes from the mode, but for plaintext, whose mode is set."""
+    for sample in with_output(cases):
+        wanted = oct(0o600 if sample.command == "decrypt" else 0o400)
+        written(cases, "to a new file", "277", sample, cases.path(), wanted)
 
 
 def old_files(cases: Cases) -> None:
@@ -140,14 +142,13 @@ def of_another_owner(cases: Cases) -> None:
     """Whose mode cannot be changed gets no plaintext; the program runs as somebody else for that."""
     if os.geteuid() != 0:
         return cases.left_out("a file of another owner", "that takes the rights of root")
-    cases.folder.chmod(0o755)
+    program = cases.program_for_all()
+    if program is None:
+        return cases.left_out("a file of another owner", "nobody else may run the program where it lies")
     for sample in with_output(cases):
         path = cases.file(OLD, 0o666)
-        words = [cases.program, *sample.words, "--output", path]
-        try:
-            done = subprocess.run(words, input=sample.stdin, capture_output=True, timeout=SECONDS, user=NOBODY, group=NOBODY)
-        except PermissionError:
-            return cases.left_out("a file of another owner", "nobody else may run the program where it lies")
+        words = [program, *sample.words, "--output", path]
+        done = subprocess.run(words, input=sample.stdin, capture_output=True, timeout=SECONDS, user=NOBODY, group=NOBODY)
         keeps = sample.command != "decrypt"
         wanted = (0, b"", sample.output) if keeps else (Fault.NOT_WRITTEN.status, Fault.NOT_WRITTEN.line, b"")
         found = (done.returncode, done.stderr, Path(path).read_bytes())

@@ -3,60 +3,44 @@
 import subprocess
 
 from cases import SECONDS, Cases
+from cases.texts import MISTAKES, PROGRAM, help_path, mistakes_path, stored_mistakes
+from lib.paths import version
 from model.faults import Fault
-from model.options import COMMON, FLAGS, OPTIONS
+from model.options import COMMON, OPTIONS
 
 
-def texts(cases: Cases) -> None:
-    usage = lambda text: b"Usage: ansible-vault" in text
-    cases.run("help", ["--help"], out=lambda text: usage(text) and all(name.encode() in text for name in OPTIONS))
-    cases.run("version", ["--version"], out=lambda text: text.startswith(b"ansible-vault "))
-    cases.run("no command", [], status=2, err=usage)
-    for command in OPTIONS:
-        options = COMMON | OPTIONS[command]
-        names = lambda text: f"Usage: ansible-vault {command}".encode() in text and all(option.encode() in text for option in options)
-        cases.run(f"help of {command}", [command, "--help"], out=names)
-    cases.run("an argument that is not UTF-8", [b"view", b"\xff"], status=2, err=b"error: an argument is not UTF-8\n")
+def helps(cases: Cases) -> None:
+    """Help is told whole, and a mistake behind it changes nothing."""
+    for name in MISTAKES:
+        command = [] if name == PROGRAM else [name]
+        text = help_path(name).read_bytes()
+        for words in (["--help"], ["-h"], ["--help", "--loud"], ["-h", "--version"]):
+            cases.run(f"help of {name} by {words}", [*command, *words], out=text)
+        named = OPTIONS if name == PROGRAM else COMMON | OPTIONS[name]
+        cases.check(f"the help of {name} names all", [each for each in named if each.encode() not in text], [])
     with open("/dev/full", "wb") as full:
         cases.run_streams("help to a full device", ["--help"], 3, Fault.NOT_WRITTEN.line, stdin=subprocess.DEVNULL, stdout=full, stderr=subprocess.PIPE)
 
 
-def refused_words(cases: Cases) -> None:
-    cases.no_command_line("an unknown command", ["show"], b"show")
-    cases.no_command_line("the command help", ["help"], b"help")
-    every = COMMON.union(*OPTIONS.values())
-    for command in OPTIONS:
-        cases.no_command_line(f"{command}, an unknown option", [command, "--loud"], b"--loud")
-        cases.no_command_line(f"{command}, too many arguments", [command, "x", "y"], b"")
-        for option in COMMON | OPTIONS[command]:
-            valued(cases, command, option)
-        for option in every - COMMON - OPTIONS[command]:
-            cases.no_command_line(f"{command} has no {option}", [command, option, "x"], option.encode())
+def versions(cases: Cases) -> None:
+    text = f"ansible-vault {version()}\n".encode()
+    for words in (["--version"], ["-V"], ["--version", "--loud"], ["-V", "--help"], ["-Vh"]):
+        cases.run(f"version by {words}", words, out=text)
 
 
-# What Ansible's tool has and this one has not, by itself and behind each command.
-LEFT_OUT = [["create"], ["edit"]]
-LEFT_OUT_OPTIONS = ["--ask-vault-password", "--ask-vault-pass", "-J", "--vault-pass-file=x", "--vault-pass=x", "-v"]
-LEFT_OUT_BEHIND = {"rekey": ["--encrypt-vault-id=x"], "encrypt_string": ["--prompt", "-p", "--show-input"]}
+def mistakes(cases: Cases) -> None:
+    """Each has the stored text, which names the word that is wrong."""
+    for name, each_mistake in MISTAKES.items():
+        stored = stored_mistakes(name)
+        cases.check(f"{mistakes_path(name).name} has each line", list(stored), [each.line for each in each_mistake])
+        for mistake in each_mistake:
+            text = stored.get(mistake.line, "")
+            cases.holds(f"the text of `{mistake.line}` names {mistake.named!r}", mistake.named in text, text)
+            cases.run(f"`{mistake.line}`", mistake.words, status=2, err=text.encode())
 
 
-def left_out(cases: Cases) -> None:
-    runs = LEFT_OUT + [[command, option] for command in OPTIONS for option in LEFT_OUT_OPTIONS]
-    runs += [[command, option] for command, options in LEFT_OUT_BEHIND.items() for option in options]
-    for words in runs:
-        cases.no_command_line(f"left out: {words}", words, words[-1].partition("=")[0].encode())
-
-
-def valued(cases: Cases, command: str, option: str) -> None:
-    """An option without its value, with one that it doesn't take, and given twice."""
-    if option in FLAGS:
-        cases.no_command_line(f"{command}, {option} with a value", [command, f"{option}=x"], option.encode())
-        twice = [option, option]
-    else:
-        cases.no_command_line(f"{command}, {option} without a value", [command, option], option.encode())
-        twice = [option, "x", option, "x"]
-    if option not in COMMON:
-        cases.no_command_line(f"{command}, {option} twice", [command, *twice], option.encode())
+def not_utf8(cases: Cases) -> None:
+    cases.run("an argument that is not UTF-8", [b"view", b"\xff"], status=2, err=b"error: an argument is not UTF-8\n")
 
 
 def endless_pipe(cases: Cases) -> None:
@@ -67,8 +51,9 @@ def endless_pipe(cases: Cases) -> None:
 
 
 GROUPS = [
-    texts,
-    refused_words,
-    left_out,
+    helps,
+    versions,
+    mistakes,
+    not_utf8,
     endless_pipe,
 ]

@@ -1,9 +1,8 @@
-"""Standard streams that fail, end early, are closed or without end."""
+"""Standard streams that fail, end early or are without end."""
 
 import os
 import subprocess
 import tempfile
-from pathlib import Path
 
 from cases import SECONDS, TEXT, Cases, by_file
 from cases.samples import Sample, samples
@@ -12,9 +11,6 @@ from model.vaults import ENVELOPE_LIMIT, HEADER, PLAINTEXT_LIMIT, seal
 
 FULL = "/dev/full"
 LARGE = 1 << 20
-# How a shell closes streams; the status, None where the system may give the output's number to no
-# file at all or drop the bytes; and whether the output comes.
-CLOSED = [("<&-", 3, False), (">&-", None, False), ("2>&-", 0, True), (">&- 2>&-", None, False), ("<&- >&- 2>&-", 3, False)]
 
 
 def without_secrets(cases: Cases) -> None:
@@ -81,17 +77,6 @@ def full_standard_error(cases: Cases) -> None:
         cases.check(f"{sample.command}, full standard error", (done.returncode, done.stdout), (0, sample.output))
 
 
-def closed_streams(cases: Cases) -> None:
-    for sample in samples(cases):
-        secret = sample.words[2].rpartition("@")[2]
-        for redirections, status, comes in CLOSED:
-            done = shell(cases, sample.words, redirections, sample.stdin)
-            name = f"{sample.command} {redirections}"
-            cases.check(f"{name}: status", done.returncode in ((0, 3) if status is None else (status,)), True)
-            cases.check(f"{name}: output", done.stdout, sample.output if comes else b"")
-            cases.check(f"{name}: password file", Path(secret).read_bytes(), b"right\n")
-
-
 def single_bytes(cases: Cases) -> None:
     """Input from a pipe into which each byte is written alone."""
     for sample in samples(cases):
@@ -125,7 +110,6 @@ GROUPS = [
     nothing_to_write,
     bounded_reading,
     full_standard_error,
-    closed_streams,
     single_bytes,
     leaving_reader,
 ]

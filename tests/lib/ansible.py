@@ -6,7 +6,7 @@ import os
 import shutil
 import subprocess
 
-SECONDS = 60
+from lib.limits import SECONDS
 
 
 def is_ansible(path: str) -> bool:

@@ -2,19 +2,12 @@
 
 import os
 import subprocess
-from pathlib import Path
 
-SOURCE = Path(__file__).resolve().parent / "refuse_growth.c"
-# Where the library tells that it refused a growth.
+from lib.limits import SECONDS
+
+# The library that stands before the system's allocator, and where it tells that it refused a growth.
+LIBRARY = "refuse_growth"
 TOLD = 3
-SECONDS = 60
-
-
-def build_library(folder: str) -> str:
-    """The library that stands before the system's allocator."""
-    library = os.path.join(folder, "refuse_growth.so")
-    subprocess.run(["cc", "-shared", "-fPIC", "-O1", "-o", library, str(SOURCE)], check=True)
-    return library
 
 
 def run_refusing(library: str, words: list[str], stdin: bytes, number: int):

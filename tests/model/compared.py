@@ -8,12 +8,12 @@ import tempfile
 from pathlib import Path
 from typing import Iterable
 
+from lib.limits import SECONDS
 from model.answers import SALT_LENGTH, Answer, CannotOpen, HostFiles, answer, refusal
 from model.faults import Fault
 from model.options import SALT_FILE
 from model.random_requests import Case
 
-SECONDS = 120
 OWNER_ALONE = oct(0o600)
 FULL_DEVICE = "/dev/full"
 

@@ -1,4 +1,4 @@
-"""What bash, zsh and fish offer for a command line of the program."""
+"""What bash, zsh and fish offer for a command line of the program or of a companion."""
 
 import os
 import pathlib
@@ -12,7 +12,7 @@ HERE = pathlib.Path(__file__).resolve().parent
 COMPLETIONS = HERE.parent.parent / "completions"
 NAME = "ansible-vault"
 # Seconds after which a shell is taken to wait.
-PAUSE = 5
+PAUSE = 60
 
 # Calls the function as readline does: with the words cut at `=` and `@` too, and with the text that
 # a match replaces, which keeps its `@`.
@@ -22,7 +22,8 @@ text=$2
 shift 2
 COMP_WORDS=("$@")
 COMP_CWORD=$(($# - 1))
-_ansible_vault ansible-vault "$text"
+[[ $(complete -p "$1") =~ -F\ ([^ ]+) ]]
+"${BASH_REMATCH[1]}" "$1" "$text"
 printf '%s\\n' "${COMPREPLY[@]}"
 """
 
@@ -90,7 +91,7 @@ def fish(line: str, folder: pathlib.Path) -> set[str]:
     script = COMPLETIONS / f"{NAME}.fish"
     # What fish brings along for the other tool of this name is dropped first.
     text = 'complete -C "$argv[2] " >/dev/null; complete -e $argv[2]; source $argv[1]; complete -C "$argv[3]"'
-    found = printed(["fish", "--no-config", "-c", text, str(script), NAME, line], folder)
+    found = printed(["fish", "--no-config", "-c", text, str(script), line.split(" ")[0], line], folder)
     return {match.split("\t")[0] for match in found}
 
 

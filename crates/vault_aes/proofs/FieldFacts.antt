@@ -1,7 +1,8 @@
 -- The field and the S-box at the values that the standard gives.
 use Rattle.std.proofs.Common.{◌≡◌, ℕ, zero, suc, ◌<◌, ◌==◌, Bool, true, ◌&&◌, refl, arith, inl, inr}
 use Rattle.std.proofs.lemmas.Bool.{and_parts, cases_lt}
-use Rattle.vault_aes.specs.Field.{polynomial_product, remainder, mul, repeated_square, product_of_squares, inverse}
+use Rattle.vault_aes.specs.Field.{polynomial_product, remainder, mul, repeated_square}
+use Rattle.vault_aes.specs.Field.{product_of_squares, inverse}
 use Rattle.vault_aes.specs.SubstitutionBox.{number_of_bits, s_box}
 
 -- a test passes at each number below n
@@ -41,18 +42,22 @@ inverse-0 = refl
 -- ---- the S-box
 
 pub s_box-00 : s_box 0x00 ≡ 0x63
-unfolding polynomial_product remainder mul repeated_square product_of_squares inverse number_of_bits s_box
+unfolding polynomial_product remainder mul repeated_square product_of_squares inverse number_of_bits
+    s_box
 s_box-00 = refl
 
 pub s_box-01 : s_box 0x01 ≡ 0x7c
-unfolding polynomial_product remainder mul repeated_square product_of_squares inverse number_of_bits s_box
+unfolding polynomial_product remainder mul repeated_square product_of_squares inverse number_of_bits
+    s_box
 s_box-01 = refl
 
 -- the example of FIPS 197, 5.1.1
 pub s_box-53 : s_box 0x53 ≡ 0xed
-unfolding polynomial_product remainder mul repeated_square product_of_squares inverse number_of_bits s_box
+unfolding polynomial_product remainder mul repeated_square product_of_squares inverse number_of_bits
+    s_box
 s_box-53 = refl
 
 pub s_box-ff : s_box 0xff ≡ 0x16
-unfolding polynomial_product remainder mul repeated_square product_of_squares inverse number_of_bits s_box
+unfolding polynomial_product remainder mul repeated_square product_of_squares inverse number_of_bits
+    s_box
 s_box-ff = refl

@@ -2,8 +2,11 @@
 use Rattle.std.proofs.Common.{◌≡◌, ℕ, ◌<◌, ◌==◌, Bool, true, ◌&&◌, List, [], ◌∷◌, refl, slice_index}
 use Rattle.std.proofs.lemmas.Bool.{and_parts, eqb-true}
 use Rattle.std.specs.Int.{w32, to_be_bytes}
-use Rattle.vault_aes.specs.declared.tables.TheConstants.{FIRST_ROW_COLUMNS, FOURTH_ROW_COLUMNS, S_BOX, SECOND_ROW_COLUMNS, THIRD_ROW_COLUMNS}
-use Rattle.vault_aes.specs.Field.{polynomial_product, remainder, mul, repeated_square, product_of_squares, inverse}
+use Rattle.vault_aes.specs.declared.tables.TheConstants.{FIRST_ROW_COLUMNS, FOURTH_ROW_COLUMNS}
+use Rattle.vault_aes.specs.declared.tables.TheConstants.{S_BOX, SECOND_ROW_COLUMNS}
+use Rattle.vault_aes.specs.declared.tables.TheConstants.{THIRD_ROW_COLUMNS}
+use Rattle.vault_aes.specs.Field.{polynomial_product, remainder, mul, repeated_square}
+use Rattle.vault_aes.specs.Field.{product_of_squares, inverse}
 use Rattle.vault_aes.specs.SubstitutionBox.{number_of_bits, s_box}
 use Rattle.vault_aes.specs.Cipher.{entry, mixing_matrix, word_byte}
 use Rattle.vault_aes.specs.Columns.{mixed_column}
@@ -13,7 +16,8 @@ abbrev is_substituted : ℕ → Bool
 is_substituted x = slice_index S_BOX x == s_box x
 
 is_substituted-all : all_below is_substituted 256 ≡ true
-unfolding polynomial_product remainder mul repeated_square product_of_squares inverse number_of_bits s_box
+unfolding polynomial_product remainder mul repeated_square product_of_squares inverse number_of_bits
+    s_box
 is_substituted-all = refl
 
 pub slice_index-S_BOX : (x : ℕ) → x < 256 → slice_index S_BOX x ≡ s_box x
@@ -22,12 +26,17 @@ slice_index-S_BOX x lt = eqb-true _ _ (all_below-at is_substituted 256 x is_subs
 -- the four bytes of a word
 abbrev has_bytes : ℕ → ℕ → ℕ → ℕ → ℕ → Bool
 has_bytes word a b c d =
-    (word_byte word 0 == a) && (word_byte word 1 == b) && (word_byte word 2 == c) && (word_byte word 3 == d)
+    (word_byte word 0 == a) && (word_byte word 1 == b) && (word_byte word 2 == c)
+    && (word_byte word 3 == d)
 
-to_be_bytes-has_bytes : (word a b c d : ℕ) → has_bytes word a b c d ≡ true → to_be_bytes w32 word ≡ a ∷ b ∷ c ∷ d ∷ []
+to_be_bytes-has_bytes : (word a b c d : ℕ) → has_bytes word a b c d ≡ true
+    → to_be_bytes w32 word ≡ a ∷ b ∷ c ∷ d ∷ []
 to_be_bytes-has_bytes word a b c d all =
-    let three = and_parts ((word_byte word 0 == a) && (word_byte word 1 == b) && (word_byte word 2 == c)) (word_byte word 3 == d) all in
-    let two = and_parts ((word_byte word 0 == a) && (word_byte word 1 == b)) (word_byte word 2 == c) three.0 in
+    let three = and_parts
+    ((word_byte word 0 == a) && (word_byte word 1 == b) && (word_byte word 2 == c))
+    (word_byte word 3 == d) all in
+    let two = and_parts ((word_byte word 0 == a) && (word_byte word 1 == b)) (word_byte word 2 == c)
+    three.0 in
     let one = and_parts (word_byte word 0 == a) (word_byte word 1 == b) two.0 in
     let first = eqb-true (word_byte word 0) a one.0 in
     let second = eqb-true (word_byte word 1) b one.1 in
@@ -38,48 +47,65 @@ to_be_bytes-has_bytes word a b c d all =
 -- the entry of a table at x is the column of x in row k
 abbrev is_mixed : List ℕ → ℕ → ℕ → Bool
 is_mixed table k x =
-    has_bytes (slice_index table x) (mul (entry mixing_matrix 0 k) (s_box x)) (mul (entry mixing_matrix 1 k) (s_box x))
+    has_bytes (slice_index table x) (mul (entry mixing_matrix 0 k) (s_box x))
+    (mul (entry mixing_matrix 1 k) (s_box x))
     (mul (entry mixing_matrix 2 k) (s_box x)) (mul (entry mixing_matrix 3 k) (s_box x))
 
-to_be_bytes-is_mixed : (table : List ℕ) (k x : ℕ) → all_below (is_mixed table k) 256 ≡ true → x < 256
+to_be_bytes-is_mixed : (table : List ℕ) (k x : ℕ) → all_below (is_mixed table k) 256 ≡ true
+    → x < 256
     → to_be_bytes w32 (slice_index table x) ≡ mixed_column x k
 to_be_bytes-is_mixed table k x all lt =
-    to_be_bytes-has_bytes (slice_index table x) (mul (entry mixing_matrix 0 k) (s_box x)) (mul (entry mixing_matrix 1 k) (s_box x))
-    (mul (entry mixing_matrix 2 k) (s_box x)) (mul (entry mixing_matrix 3 k) (s_box x)) (all_below-at (is_mixed table k) 256 x all lt)
+    to_be_bytes-has_bytes (slice_index table x) (mul (entry mixing_matrix 0 k) (s_box x))
+    (mul (entry mixing_matrix 1 k) (s_box x))
+    (mul (entry mixing_matrix 2 k) (s_box x)) (mul (entry mixing_matrix 3 k) (s_box x))
+    (all_below-at (is_mixed table k) 256 x all lt)
 
 is_mixed-FIRST_ROW_COLUMNS : all_below (is_mixed FIRST_ROW_COLUMNS 0) 256 ≡ true
-unfolding polynomial_product remainder mul repeated_square product_of_squares inverse number_of_bits s_box
+unfolding polynomial_product remainder mul repeated_square product_of_squares inverse number_of_bits
+    s_box
 is_mixed-FIRST_ROW_COLUMNS = refl
 
-pub to_be_bytes-FIRST_ROW_COLUMNS : (x : ℕ) → x < 256 → to_be_bytes w32 (slice_index FIRST_ROW_COLUMNS x) ≡ mixed_column x 0
-to_be_bytes-FIRST_ROW_COLUMNS x lt = to_be_bytes-is_mixed FIRST_ROW_COLUMNS 0 x is_mixed-FIRST_ROW_COLUMNS lt
+pub to_be_bytes-FIRST_ROW_COLUMNS : (x : ℕ) → x < 256
+    → to_be_bytes w32 (slice_index FIRST_ROW_COLUMNS x) ≡ mixed_column x 0
+to_be_bytes-FIRST_ROW_COLUMNS x lt =
+    to_be_bytes-is_mixed FIRST_ROW_COLUMNS 0 x is_mixed-FIRST_ROW_COLUMNS lt
 
 is_mixed-SECOND_ROW_COLUMNS : all_below (is_mixed SECOND_ROW_COLUMNS 1) 256 ≡ true
-unfolding polynomial_product remainder mul repeated_square product_of_squares inverse number_of_bits s_box
+unfolding polynomial_product remainder mul repeated_square product_of_squares inverse number_of_bits
+    s_box
 is_mixed-SECOND_ROW_COLUMNS = refl
 
-pub to_be_bytes-SECOND_ROW_COLUMNS : (x : ℕ) → x < 256 → to_be_bytes w32 (slice_index SECOND_ROW_COLUMNS x) ≡ mixed_column x 1
-to_be_bytes-SECOND_ROW_COLUMNS x lt = to_be_bytes-is_mixed SECOND_ROW_COLUMNS 1 x is_mixed-SECOND_ROW_COLUMNS lt
+pub to_be_bytes-SECOND_ROW_COLUMNS : (x : ℕ) → x < 256
+    → to_be_bytes w32 (slice_index SECOND_ROW_COLUMNS x) ≡ mixed_column x 1
+to_be_bytes-SECOND_ROW_COLUMNS x lt =
+    to_be_bytes-is_mixed SECOND_ROW_COLUMNS 1 x is_mixed-SECOND_ROW_COLUMNS lt
 
 is_mixed-THIRD_ROW_COLUMNS : all_below (is_mixed THIRD_ROW_COLUMNS 2) 256 ≡ true
-unfolding polynomial_product remainder mul repeated_square product_of_squares inverse number_of_bits s_box
+unfolding polynomial_product remainder mul repeated_square product_of_squares inverse number_of_bits
+    s_box
 is_mixed-THIRD_ROW_COLUMNS = refl
 
-pub to_be_bytes-THIRD_ROW_COLUMNS : (x : ℕ) → x < 256 → to_be_bytes w32 (slice_index THIRD_ROW_COLUMNS x) ≡ mixed_column x 2
-to_be_bytes-THIRD_ROW_COLUMNS x lt = to_be_bytes-is_mixed THIRD_ROW_COLUMNS 2 x is_mixed-THIRD_ROW_COLUMNS lt
+pub to_be_bytes-THIRD_ROW_COLUMNS : (x : ℕ) → x < 256
+    → to_be_bytes w32 (slice_index THIRD_ROW_COLUMNS x) ≡ mixed_column x 2
+to_be_bytes-THIRD_ROW_COLUMNS x lt =
+    to_be_bytes-is_mixed THIRD_ROW_COLUMNS 2 x is_mixed-THIRD_ROW_COLUMNS lt
 
 is_mixed-FOURTH_ROW_COLUMNS : all_below (is_mixed FOURTH_ROW_COLUMNS 3) 256 ≡ true
-unfolding polynomial_product remainder mul repeated_square product_of_squares inverse number_of_bits s_box
+unfolding polynomial_product remainder mul repeated_square product_of_squares inverse number_of_bits
+    s_box
 is_mixed-FOURTH_ROW_COLUMNS = refl
 
-pub to_be_bytes-FOURTH_ROW_COLUMNS : (x : ℕ) → x < 256 → to_be_bytes w32 (slice_index FOURTH_ROW_COLUMNS x) ≡ mixed_column x 3
-to_be_bytes-FOURTH_ROW_COLUMNS x lt = to_be_bytes-is_mixed FOURTH_ROW_COLUMNS 3 x is_mixed-FOURTH_ROW_COLUMNS lt
+pub to_be_bytes-FOURTH_ROW_COLUMNS : (x : ℕ) → x < 256
+    → to_be_bytes w32 (slice_index FOURTH_ROW_COLUMNS x) ≡ mixed_column x 3
+to_be_bytes-FOURTH_ROW_COLUMNS x lt =
+    to_be_bytes-is_mixed FOURTH_ROW_COLUMNS 3 x is_mixed-FOURTH_ROW_COLUMNS lt
 
 abbrev is_unit : ℕ → Bool
 is_unit x = mul 1 (s_box x) == s_box x
 
 is_unit-all : all_below is_unit 256 ≡ true
-unfolding polynomial_product remainder mul repeated_square product_of_squares inverse number_of_bits s_box
+unfolding polynomial_product remainder mul repeated_square product_of_squares inverse number_of_bits
+    s_box
 is_unit-all = refl
 
 -- 1 is the unit of the product, at the bytes of the S-box

@@ -1,8 +1,15 @@
 -- The padding of RFC 5652, section 6.3, for blocks of 16 bytes, put on and taken off again.
-use Rattle.std.specs.Prelude.{ℕ, ◌+◌, ◌-◌, ◌%◌, List, ◌++◌, length, replicate, take, map, find}
-use Rattle.std.specs.Prelude.{Option}
+use Rattle.std.specs.Prelude.{◌≡◌, ℕ, ◌+◌, ◌-◌, ◌%◌, ◌≤◌, List, ◌++◌, length, replicate, take}
+use Rattle.std.specs.Prelude.{map, find, Option}
 use Rattle.std.specs.List.{range_with_len}
 use Rattle.std.specs.Str.{bytes_eq}
+
+-- the text is the plaintext and behind it some bytes, 1 to 16 of them, each of the value of their
+-- count, so that there are whole blocks
+abbrev pub IsPadded : List ℕ → List ℕ → Type 0
+IsPadded plaintext text =
+    (count : ℕ) × (1 ≤ count) × (count ≤ 16)
+    × (text ≡ plaintext ++ replicate count count) × (length text % 16 ≡ 0)
 
 -- the length of n bytes with their padding: the next multiple of 16 above n
 abbrev pub padded_length : ℕ → ℕ

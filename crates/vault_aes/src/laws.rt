@@ -1,19 +1,25 @@
 //! Laws of the definitions, each the contract of a function that does nothing, and readers of the
-//! cipher's tables.
-ghost use Rattle.std.specs.Prelude.{◌≡◌, ℕ, ◌%◌, List, [], ◌∷◌, length, Some};
+//! cipher's tables and of the key schedule.
+ghost use Rattle.std.specs.Prelude.{◌≡◌, ℕ, List, [], ◌∷◌, length, Some};
 ghost use Rattle.vault_aes.specs.CounterMode.{counter_mode};
 ghost use Rattle.vault_aes.specs.Field.{mul};
-ghost use Rattle.vault_aes.specs.Padding.{padded, without_padding};
+ghost use Rattle.vault_aes.specs.KeyExpansion.{key_schedule};
+ghost use Rattle.vault_aes.specs.Padding.{IsPadded, padded, without_padding};
 ghost use Rattle.vault_aes.specs.SubstitutionBox.{s_box};
 
+use crate::key_expansion::expanded;
 use crate::tables::{
     first_row_column, fourth_row_column, second_row_column, substituted, third_row_column,
 };
 
-/// Padding fills up whole blocks, and what is taken off is what was put on.
+/// Each plaintext has one padded text, each text is that of one plaintext at most, and what is
+/// taken off is what was put on.
 pub fn one_padding()
-    ensures whole_blocks { (plaintext : List ℕ) → length (padded plaintext) % 16 ≡ 0 }
-    ensures once { (one other : List ℕ) → padded one ≡ padded other → one ≡ other }
+    ensures exists { (plaintext : List ℕ) → IsPadded plaintext (padded plaintext) }
+    ensures unique { (plaintext text : List ℕ) → IsPadded plaintext text
+        → text ≡ padded plaintext }
+    ensures once { (one other text : List ℕ) → IsPadded one text → IsPadded other text
+        → one ≡ other }
     ensures put_on { (plaintext : List ℕ) → without_padding (padded plaintext) ≡ Some plaintext }
     ensures taken_off { (plaintext text : List ℕ) → without_padding text ≡ Some plaintext
         → padded plaintext ≡ text }
@@ -53,4 +59,11 @@ pub fn table_s(x: u8) -> u8
     ensures { result ≡ s_box x }
 {
     substituted(x)
+}
+
+/// The words of the key schedule, of which `Key::new` makes a key.
+pub fn schedule_words(key: &[u8; 32]) -> [u32; 60]
+    ensures { result ≡ key_schedule key.now }
+{
+    expanded(key)
 }

@@ -24,6 +24,3 @@ mod tables;
 pub use counter_mode::ctr_apply;
 pub use key::Key;
 pub use padding::{pad, unpad};
-
-#[cfg(test)]
-mod tests;

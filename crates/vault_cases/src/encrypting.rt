@@ -1,9 +1,9 @@
 //! Runs of `encrypt` and `encrypt_string`.
-use crate::commands::{Ran, run_words, run_words_from};
-use crate::support::EMPTY_ENVELOPE;
 use std::process::Abort;
 use std::test::Fail;
 use vault_cli::Status;
+use vault_made::EMPTY_ENVELOPE;
+use vault_runs::{Ran, Trial};
 use vault_text::FailingSource;
 
 const FIRST: &[&[u8]] = &[b"one\n"];
@@ -18,14 +18,14 @@ const DECRYPT: &[&str] = &["decrypt", "--vault-password-file", "f1"];
 fn assert_refused(rt: &impl Abort, ran: &Ran, text: &[u8]) {
     assert_eq!(rt; ran.status, Status::Refused, "{text:?}");
     assert!(rt; !ran.begun, "{text:?}");
-    assert!(rt; ran.message.as_slice().starts_with(b"ERROR! "), "{text:?}");
-    assert!(rt; ran.message.as_slice().ends_with(text), "{text:?}");
+    assert!(rt; ran.message.as_bytes().starts_with(b"ERROR! "), "{text:?}");
+    assert!(rt; ran.message.as_bytes().ends_with(text), "{text:?}");
 }
 
 #[test]
 fn encrypts_nothing(rt: HostRuntime) -> Result<(), Fail> {
     let alloc = rt.alloc();
-    let sealed = run_words(alloc, ENCRYPT, FIRST, ZEROS, b"")?;
+    let sealed = Trial::new(ENCRYPT, FIRST, ZEROS).run_on(alloc, b"")?;
     assert_eq!(rt; sealed.status, Status::Success);
     assert_eq!(rt; sealed.output.len(), 355);
     let mut lines = sealed.output.split(|byte| *byte == b'\n');
@@ -38,7 +38,7 @@ fn encrypts_nothing(rt: HostRuntime) -> Result<(), Fail> {
     );
     let second = lines.next().unwrap_or(b"");
     assert!(rt; second.starts_with(b"3030303030303030303030303030303030303030303030300a"));
-    let opened = run_words(alloc, DECRYPT, FIRST, b"", sealed.output.as_slice())?;
+    let opened = Trial::new(DECRYPT, FIRST, b"").run_on(alloc, sealed.output.as_slice())?;
     assert_eq!(rt; opened.status, Status::Success);
     assert!(rt; opened.begun && opened.output.is_empty() && opened.message.is_empty());
     Ok(())
@@ -49,13 +49,13 @@ fn pads_whole_blocks(rt: HostRuntime) -> Result<(), Fail> {
     let alloc = rt.alloc();
     for (length, written) in [(15, 355), (16, 419)] {
         let plain = vec![in alloc; b'a'; length]?;
-        let sealed = run_words(alloc, ENCRYPT, FIRST, ZEROS, plain.as_slice())?;
+        let sealed = Trial::new(ENCRYPT, FIRST, ZEROS).run_on(alloc, plain.as_slice())?;
         assert_eq!(rt; sealed.output.len(), written, "{length}");
-        let opened = run_words(alloc, DECRYPT, FIRST, b"", sealed.output.as_slice())?;
+        let opened = Trial::new(DECRYPT, FIRST, b"").run_on(alloc, sealed.output.as_slice())?;
         assert_eq!(rt; opened.output.as_slice(), plain.as_slice(), "{length}");
     }
     let words = ["encrypt", "--vault-id", "dev@f1"];
-    let labelled = run_words(alloc, &words, FIRST, ZEROS, b"aaaaaaaaaaaaaaa")?;
+    let labelled = Trial::new(&words, FIRST, ZEROS).run_on(alloc, b"aaaaaaaaaaaaaaa")?;
     assert_eq!(rt; labelled.output.len(), 359);
     assert!(rt;
         labelled
@@ -70,28 +70,28 @@ fn pads_whole_blocks(rt: HostRuntime) -> Result<(), Fail> {
 fn refuses_to_encrypt(rt: HostRuntime) -> Result<(), Fail> {
     let alloc = rt.alloc();
     let two: [&[u8]; 2] = [b"one\n", b"two\n"];
-    let refused = run_words(alloc, ENCRYPT, FIRST, ZEROS, EMPTY_ENVELOPE)?;
+    let refused = Trial::new(ENCRYPT, FIRST, ZEROS).run_on(alloc, EMPTY_ENVELOPE)?;
     assert_refused(
         &rt,
         &refused,
         b" the plaintext is already vault encrypted data\n",
     );
-    let refused = run_words(alloc, ENCRYPT, FIRST, &[0; 31], b"")?;
+    let refused = Trial::new(ENCRYPT, FIRST, &[0; 31]).run_on(alloc, b"")?;
     assert_refused(&rt, &refused, b" the salt has fewer than 32 bytes\n");
-    let refused = run_words(alloc, &["encrypt"], &[], ZEROS, b"")?;
+    let refused = Trial::new(&["encrypt"], &[], ZEROS).run_on(alloc, b"")?;
     assert_refused(&rt, &refused, b" no secret was given to encrypt with\n");
     let words = ["encrypt", "--vault-id", "a@f1", "--vault-id", "b@f2"];
-    let refused = run_words(alloc, &words, &two, ZEROS, b"")?;
+    let refused = Trial::new(&words, &two, ZEROS).run_on(alloc, b"")?;
     assert_refused(&rt, &refused, b"choose one with --encrypt-vault-id\n");
     let words = ["encrypt", "--vault-id", "a@f1", "--encrypt-vault-id", "x"];
-    let refused = run_words(alloc, &words, FIRST, ZEROS, b"")?;
+    let refused = Trial::new(&words, FIRST, ZEROS).run_on(alloc, b"")?;
     assert_refused(
         &rt,
         &refused,
         b" no secret has the label of --encrypt-vault-id\n",
     );
     let long = vec![in alloc; b'a'; 65_537]?;
-    let refused = run_words(alloc, ENCRYPT, FIRST, ZEROS, long.as_slice())?;
+    let refused = Trial::new(ENCRYPT, FIRST, ZEROS).run_on(alloc, long.as_slice())?;
     assert_refused(&rt, &refused, b" input is longer than the limit\n");
     Ok(())
 }
@@ -109,14 +109,14 @@ fn chooses_a_secret(rt: HostRuntime) -> Result<(), Fail> {
         "--encrypt-vault-id",
         "b",
     ];
-    let sealed = run_words(alloc, &words, &two, ZEROS, b"text")?;
+    let sealed = Trial::new(&words, &two, ZEROS).run_on(alloc, b"text")?;
     assert!(rt;
         sealed
             .output
             .as_slice()
             .starts_with(b"$ANSIBLE_VAULT;1.2;AES256;b\n")
     );
-    let opened = run_words(alloc, DECRYPT, &[b"two\n"], b"", sealed.output.as_slice())?;
+    let opened = Trial::new(DECRYPT, &[b"two\n"], b"").run_on(alloc, sealed.output.as_slice())?;
     assert_eq!(rt; opened.output.as_slice(), b"text".as_slice());
     Ok(())
 }
@@ -127,16 +127,16 @@ fn takes_a_salt_text(rt: HostRuntime) -> Result<(), Fail> {
     let alloc = rt.alloc();
     let words = ["encrypt", "--vault-password-file", "f1", "--salt", "abc"];
     let plain = [b'a'; 48].as_slice();
-    let sealed = run_words(alloc, &words, FIRST, b"", plain)?;
+    let sealed = Trial::new(&words, FIRST, b"").run_on(alloc, plain)?;
     assert_eq!(rt; sealed.output.len(), 431);
     let body = b"$ANSIBLE_VAULT;1.1;AES256\n3631363236330a".as_slice();
     assert!(rt; sealed.output.as_slice().starts_with(body));
-    let opened = run_words(alloc, DECRYPT, FIRST, b"", sealed.output.as_slice())?;
+    let opened = Trial::new(DECRYPT, FIRST, b"").run_on(alloc, sealed.output.as_slice())?;
     assert_eq!(rt; opened.output.as_slice(), plain);
     let longest = "aaaaaaaaaaaaaaaaaaaaaaaaaaaaaaaaaaaaaaaaaaaaaaaaaaaaaaaaaaaaaaaa";
     for (text, written) in [("a", 229), (longest, 484)] {
         let words = ["encrypt", "--vault-password-file", "f1", "--salt", text];
-        let sealed = run_words(alloc, &words, FIRST, b"", b"")?;
+        let sealed = Trial::new(&words, FIRST, b"").run_on(alloc, b"")?;
         assert_eq!(rt; sealed.output.len(), written, "{text}");
     }
     Ok(())
@@ -167,13 +167,13 @@ fn writes_a_block(rt: HostRuntime) -> Result<(), Fail> {
     ];
     for (words, length, front) in cases {
         let mut unread = FailingSource::new(b"", 1, 0);
-        let sealed = run_words_from(alloc, words, FIRST, ZEROS, &mut unread)?;
+        let sealed = Trial::new(words, FIRST, ZEROS).run_from(alloc, &mut unread)?;
         assert_eq!(rt; sealed.status, Status::Success, "{words:?}");
         assert_eq!(rt; sealed.output.len(), length, "{words:?}");
         assert!(rt; sealed.output.as_slice().starts_with(front), "{words:?}");
     }
     let words = ["encrypt_string", "--vault-id", "f1", ""];
-    let refused = run_words(alloc, &words, FIRST, ZEROS, b"text")?;
+    let refused = Trial::new(&words, FIRST, ZEROS).run_on(alloc, b"text")?;
     assert_refused(&rt, &refused, b" the string to encrypt is empty\n");
     Ok(())
 }

@@ -2,6 +2,7 @@
 use std::test::Fail;
 use vault_aes::{Key, ctr_apply};
 use vault_cli::{Status, run};
+use vault_common::Fault;
 use vault_core::{Form, Secrets, password_of, prepare_encrypt};
 use vault_files::{Access, FileSystem, MemFile, MemFiles};
 use vault_kdf::{Hmac, Meter, derive, hmac};
@@ -48,11 +49,17 @@ fn of_vault_text(rt: HostRuntime) -> Result<(), Fail> {
 }
 
 #[test]
+fn of_vault_common(rt: HostRuntime) {
+    assert_eq!(rt; Fault::NoSecretFits.number(), 20);
+    assert_eq!(rt; Fault::NoSecretFits.text(), "no secret decrypts this vault");
+}
+
+#[test]
 fn of_vault_core(rt: HostRuntime) -> Result<(), Fail> {
     let alloc = rt.alloc();
     let mut secrets = Secrets::new();
     secrets.push(Label::new("dev")?, password_of(b"secret\n")?)?;
-    let place = secrets.encrypt_choice(None)?;
+    let index = secrets.encrypt_choice(None)?;
     let salt = Salt::new(b"a salt of its own").unwrap();
     let mut work = [0; 64];
     let mut src = MemSource::new(b"plaintext", 4_096);
@@ -60,7 +67,7 @@ fn of_vault_core(rt: HostRuntime) -> Result<(), Fail> {
     let mut meter = Meter::new();
     let form = Form::Envelope;
     prepare_encrypt(
-        &mut src, &mut work, &secrets, place, form, &salt, &mut meter,
+        &mut src, &mut work, &secrets, index, form, &salt, &mut meter,
     )?
     .write_to(&mut sink)?;
     assert!(rt; sink.bytes().starts_with(b"$ANSIBLE_VAULT;1.2;AES256;dev\n"));

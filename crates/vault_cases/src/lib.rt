@@ -1,30 +1,12 @@
-//! Tests that cross crates.
+//! Tests of whole runs: of one request, and of the program.
 #![tactic(auto)]
 
-#[cfg(test)]
-mod asked_once;
-#[cfg(test)]
-mod binding_labels;
-#[cfg(test)]
-mod commands;
-#[cfg(test)]
-mod damage;
-#[cfg(test)]
-mod devices;
-#[cfg(test)]
-mod each_byte;
-#[cfg(test)]
-mod each_call;
 #[cfg(test)]
 mod embedding;
 #[cfg(test)]
 mod encrypting;
 #[cfg(test)]
 mod examples;
-#[cfg(test)]
-mod failures;
-#[cfg(test)]
-mod limits;
 #[cfg(test)]
 mod opening;
 #[cfg(test)]
@@ -34,10 +16,4 @@ mod program;
 #[cfg(test)]
 mod rekeying;
 #[cfg(test)]
-mod requests;
-#[cfg(test)]
 mod runs;
-#[cfg(test)]
-mod support;
-#[cfg(test)]
-mod watched;

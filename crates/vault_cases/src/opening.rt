@@ -1,10 +1,8 @@
 //! Which files a run opens, and in which order.
-use crate::support::line_of;
 use std::alloc::Global;
 use std::test::Fail;
-use vault_cli::{MemFile, Status, drive};
-use vault_files::LoggedFiles;
-use vault_text::{MemSink, MemSource};
+use vault_cli::{MemFile, MemFiles, MemSource, Status};
+use vault_runs::{Ran, run_program};
 
 fn entries() -> [MemFile<'static>; 4] {
     [
@@ -18,8 +16,7 @@ fn entries() -> [MemFile<'static>; 4] {
 /// What a run left, and the paths that it opened, each with a space behind it.
 #[derive(Drop)]
 struct Opened {
-    status: Status,
-    message: Vec<u8>,
+    ran: Ran,
     paths: String,
 }
 
@@ -30,28 +27,14 @@ fn run_over(
     words: &[&str],
     limit: usize,
 ) -> Result<Opened, Fail> {
-    let line = line_of(alloc, words)?;
-    let mut files = LoggedFiles::new(alloc, entries, limit);
-    let mut out = MemSink::new(alloc, 4_096);
-    let mut err = MemSink::new(alloc, 4_096);
-    let status = drive(
-        &mut files,
-        alloc,
-        line.as_slice(),
-        &mut MemSource::new(b"", 1),
-        &mut out,
-        &mut err,
-    );
+    let mut files = MemFiles::with_limit(alloc, entries, limit);
+    let ran = run_program(alloc, &mut files, words, &mut MemSource::new(b"", 1))?;
     let mut paths = String::new(alloc);
     for path in files.log() {
         paths.push_str(path.as_str())?;
         paths.push_str(" ")?;
     }
-    Ok(Opened {
-        status,
-        message: Vec::from_slice(alloc, err.bytes())?,
-        paths,
-    })
+    Ok(Opened { ran, paths })
 }
 
 const ENCRYPT: &[&str] = &[
@@ -95,7 +78,7 @@ fn opens_in_order(rt: HostRuntime) -> Result<(), Fail> {
     ];
     for (words, paths, status) in cases {
         let opened = run_over(rt.alloc(), &entries(), words, usize::MAX)?;
-        assert_eq!(rt; opened.status, status, "{words:?}");
+        assert_eq!(rt; opened.ran.status, status, "{words:?}");
         assert_eq!(rt; opened.paths.as_str(), paths, "{words:?}");
     }
     Ok(())
@@ -118,7 +101,7 @@ fn opens_nothing_after_a_missing_file(rt: HostRuntime) -> Result<(), Fail> {
     ];
     for (words, paths) in cases {
         let opened = run_over(rt.alloc(), &entries(), words, usize::MAX)?;
-        assert_eq!(rt; opened.status, Status::DeviceFailed, "{words:?}");
+        assert_eq!(rt; opened.ran.status, Status::DeviceFailed, "{words:?}");
         assert_eq!(rt; opened.paths.as_str(), paths, "{words:?}");
     }
     Ok(())
@@ -136,10 +119,10 @@ fn ends_where_memory_lacks_for_a_file(rt: HostRuntime) -> Result<(), Fail> {
     for (limit, paths) in cases {
         for words in [ENCRYPT, REKEY] {
             let opened = run_over(rt.alloc(), &entries(), words, limit)?;
-            assert_eq!(rt; opened.status, Status::OutOfMemory, "{limit}");
+            assert_eq!(rt; opened.ran.status, Status::OutOfMemory, "{limit}");
             assert_eq!(rt;
-                opened.message.as_slice(),
-                b"ERROR! out of memory\n".as_slice(),
+                opened.ran.message.as_str(),
+                "ERROR! out of memory\n",
                 "{limit}"
             );
             assert_eq!(rt; opened.paths.as_str(), paths, "{limit}");

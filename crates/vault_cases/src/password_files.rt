@@ -1,8 +1,20 @@
 //! Password files of whole runs of the program.
-use crate::devices::CountingReader;
-use crate::support::{EMPTY_ENVELOPE, run_program};
+use std::alloc::Global;
 use std::test::Fail;
-use vault_cli::{MemFile, Status};
+use vault_cli::{MemFile, MemFiles, ReadSource, Status};
+use vault_made::{CountingReader, EMPTY_ENVELOPE};
+use vault_runs::{Ran, run_program};
+
+/// Runs the program on these words over these files and this input.
+fn ran_over(
+    alloc: Global,
+    files: &[MemFile],
+    words: &[&str],
+    stdin: &mut CountingReader,
+) -> Result<Ran, Fail> {
+    let mut files = MemFiles::new(alloc, files);
+    run_program(alloc, &mut files, words, &mut ReadSource::new(&mut *stdin))
+}
 
 fn files() -> [MemFile<'static>; 6] {
     [
@@ -53,7 +65,7 @@ fn refuses_before_the_input_is_read(rt: HostRuntime) -> Result<(), Fail> {
             path,
         ];
         let mut stdin = CountingReader::with_line_feeds(b"", usize::MAX, 65_536);
-        let refused = run_program(alloc, &files(), &words, &mut stdin)?;
+        let refused = ran_over(alloc, &files(), &words, &mut stdin)?;
         assert_eq!(rt; refused.status, status, "{path}");
         assert_eq!(rt; refused.message.as_str(), line.as_str(), "{path}");
         assert_eq!(rt; refused.output.len(), 0, "{path}");
@@ -67,7 +79,7 @@ fn refuses_before_the_input_is_read(rt: HostRuntime) -> Result<(), Fail> {
 fn asks_for_no_more_than_is_taken(rt: HostRuntime) -> Result<(), Fail> {
     let files = [MemFile::broken("endless", &[b'a'; 4_097])];
     let mut stdin = CountingReader::new(b"", 1);
-    let refused = run_program(
+    let refused = ran_over(
         rt.alloc(),
         &files,
         &["view", "--vault-id", "endless"],
@@ -84,7 +96,7 @@ fn asks_for_no_more_than_is_taken(rt: HostRuntime) -> Result<(), Fail> {
 fn opens_all_before_one_is_refused(rt: HostRuntime) -> Result<(), Fail> {
     let words = ["view", "--vault-id", "empty", "--vault-id", "missing"];
     let mut stdin = CountingReader::new(b"", 1);
-    let refused = run_program(rt.alloc(), &files(), &words, &mut stdin)?;
+    let refused = ran_over(rt.alloc(), &files(), &words, &mut stdin)?;
     assert_eq!(rt;
         refused.message.as_str(),
         "ERROR! a password file cannot be opened\n"
@@ -98,7 +110,7 @@ fn takes_the_longest_password(rt: HostRuntime) -> Result<(), Fail> {
     let files = [MemFile::whole("longest", &[b'a'; 4_096])];
     let mut stdin = CountingReader::new(b"", 1);
     let words = ["view", "--vault-id", "longest"];
-    let refused = run_program(rt.alloc(), &files, &words, &mut stdin)?;
+    let refused = ran_over(rt.alloc(), &files, &words, &mut stdin)?;
     assert_eq!(rt;
         refused.message.as_str(),
         "ERROR! input is not vault encrypted data\n"

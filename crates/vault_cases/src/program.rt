@@ -1,7 +1,15 @@
 //! Whole runs of the program that need no password file.
-use crate::support::{EMPTY_ENVELOPE, run_program_on};
+use std::alloc::Global;
 use std::test::Fail;
-use vault_cli::Status;
+use vault_cli::{MemFiles, MemSource, Status};
+use vault_made::EMPTY_ENVELOPE;
+use vault_runs::{Ran, run_program};
+
+/// Runs the program on these words and this input, where there is no file.
+fn ran_alone(alloc: Global, words: &[&str], input: &[u8]) -> Result<Ran, Fail> {
+    let mut files = MemFiles::new(alloc, &[]);
+    run_program(alloc, &mut files, words, &mut MemSource::new(input, 4_096))
+}
 
 #[test]
 fn refuses_without_secrets(rt: HostRuntime) -> Result<(), Fail> {
@@ -11,7 +19,7 @@ fn refuses_without_secrets(rt: HostRuntime) -> Result<(), Fail> {
     ];
     for (input, message) in cases {
         for command in ["view", "decrypt"] {
-            let refused = run_program_on(rt.alloc(), &[], &[command], input)?;
+            let refused = ran_alone(rt.alloc(), &[command], input)?;
             assert_eq!(rt; refused.status, Status::Refused, "{command}");
             assert_eq!(rt; refused.message.as_str(), message, "{command}");
             assert_eq!(rt; refused.output.len(), 0, "{command}");
@@ -29,7 +37,7 @@ fn explains_the_command_line(rt: HostRuntime) -> Result<(), Fail> {
         (&["--version"], b"ansible-vault "),
     ];
     for (words, text) in asked {
-        let told = run_program_on(alloc, &[], words, b"")?;
+        let told = ran_alone(alloc, words, b"")?;
         assert_eq!(rt; told.status, Status::Success, "{words:?}");
         assert_eq!(rt; told.message.as_str(), "", "{words:?}");
         assert!(rt;
@@ -46,7 +54,7 @@ fn explains_the_command_line(rt: HostRuntime) -> Result<(), Fail> {
         &["--vault-id", "one", "view"],
     ];
     for words in wrong {
-        let refused = run_program_on(alloc, &[], words, b"")?;
+        let refused = ran_alone(alloc, words, b"")?;
         assert_eq!(rt; refused.status, Status::ParseFault, "{words:?}");
         assert_eq!(rt; refused.output.len(), 0, "{words:?}");
         assert_ne!(rt; refused.message.len(), 0, "{words:?}");
@@ -63,7 +71,7 @@ fn ends_with_each_status(rt: HostRuntime) -> Result<(), Fail> {
         (&["view", "--vault-id", "missing"], 3),
     ];
     for (words, code) in cases {
-        let ended = run_program_on(rt.alloc(), &[], words, b"")?;
+        let ended = ran_alone(rt.alloc(), words, b"")?;
         assert_eq!(rt; ended.status.code(), code, "{words:?}");
     }
     Ok(())

@@ -1,8 +1,8 @@
 //! Runs of `rekey`, and of commands with a label that is required.
-use crate::commands::run_words;
 use std::test::Fail;
 use vault_cli::Status;
 use vault_made::envelope;
+use vault_runs::Trial;
 
 const NO_SECRET_FITS: &[u8] = b"ERROR! no secret decrypts this vault\n";
 
@@ -17,11 +17,8 @@ fn rekeys(rt: HostRuntime) -> Result<(), Fail> {
         "--new-vault-id",
         "prod@f2",
     ];
-    let rekeyed = run_words(
+    let rekeyed = Trial::new(&words, &[b"one\n", b"two\n"], &[1; 32]).run_on(
         alloc,
-        &words,
-        &[b"one\n", b"two\n"],
-        &[1; 32],
         vault.as_slice(),
     )?;
     assert_eq!(rt; rekeyed.status, Status::Success);
@@ -70,9 +67,9 @@ fn rekeys(rt: HostRuntime) -> Result<(), Fail> {
         ),
     ];
     for (words, files, status, message) in cases {
-        let ran = run_words(alloc, words, files, &[1; 32], rekeyed.output.as_slice())?;
+        let ran = Trial::new(words, files, &[1; 32]).run_on(alloc, rekeyed.output.as_slice())?;
         assert_eq!(rt; ran.status, status, "{words:?}");
-        assert_eq!(rt; ran.message.as_slice(), message, "{words:?}");
+        assert_eq!(rt; ran.message.as_bytes(), message, "{words:?}");
         assert!(rt; ran.output.is_empty(), "{words:?}");
     }
     Ok(())
@@ -93,10 +90,10 @@ fn requires_a_label(rt: HostRuntime) -> Result<(), Fail> {
     ];
     for (label, password) in [("a", b"two".as_slice()), ("c", b"one".as_slice())] {
         let vault = envelope(alloc, label, password, &[7; 32], b"text")?;
-        let shown = run_words(alloc, &hint, &files, b"", vault.as_slice())?;
+        let shown = Trial::new(&hint, &files, b"").run_on(alloc, vault.as_slice())?;
         assert_eq!(rt; shown.output.as_slice(), b"text".as_slice(), "{label}");
-        let refused = run_words(alloc, &required, &files, b"", vault.as_slice())?;
-        assert_eq!(rt; refused.message.as_slice(), NO_SECRET_FITS, "{label}");
+        let refused = Trial::new(&required, &files, b"").run_on(alloc, vault.as_slice())?;
+        assert_eq!(rt; refused.message.as_bytes(), NO_SECRET_FITS, "{label}");
     }
     Ok(())
 }

@@ -1,11 +1,10 @@
 //! Runs that give the plaintext.
-use crate::commands::run_words;
-use crate::devices::CountingReader;
-use crate::support::{EMPTY_ENVELOPE, run_decrypt, run_program, run_program_on};
 use std::test::Fail;
-use vault_cli::{MemFile, Status};
-use vault_made::envelope;
-use vault_text::{MemSink, MemSource};
+use vault_cli::{MemFile, MemFiles, MemSink, MemSource, ReadSource, Status};
+use vault_made::{CountingReader, EMPTY_ENVELOPE, envelope};
+use vault_runs::{Trial, run_program};
+
+const DECRYPT: &[&str] = &["decrypt", "--vault-password-file", "one"];
 
 fn files() -> [MemFile<'static>; 2] {
     [
@@ -36,7 +35,9 @@ fn shows_plaintext(rt: HostRuntime) -> Result<(), Fail> {
     ];
     for (words, step) in cases {
         let mut stdin = CountingReader::new(vault.as_slice(), step);
-        let shown = run_program(alloc, &files(), words, &mut stdin)?;
+        let files = files();
+        let mut files = MemFiles::new(alloc, &files);
+        let shown = run_program(alloc, &mut files, words, &mut ReadSource::new(&mut stdin))?;
         assert_eq!(rt; shown.status, Status::Success, "{words:?}");
         assert_eq!(rt; shown.output.as_slice(), plaintext, "{words:?}");
         assert_eq!(rt; shown.message.as_str(), "", "{words:?}");
@@ -50,7 +51,10 @@ fn refuses_another_password(rt: HostRuntime) -> Result<(), Fail> {
     let alloc = rt.alloc();
     let vault = envelope(alloc, "dev", b"second", &[7; 32], b"key: value\n")?;
     let words = ["view", "--vault-id", "dev@one"];
-    let refused = run_program_on(alloc, &files(), &words, vault.as_slice())?;
+    let files = files();
+    let mut files = MemFiles::new(alloc, &files);
+    let mut src = MemSource::new(vault.as_slice(), 4_096);
+    let refused = run_program(alloc, &mut files, &words, &mut src)?;
     assert_eq!(rt; refused.status, Status::Refused);
     assert_eq!(rt;
         refused.message.as_str(),
@@ -67,9 +71,9 @@ fn refuses_without_secrets(rt: HostRuntime) -> Result<(), Fail> {
         (EMPTY_ENVELOPE, b"ERROR! no secret decrypts this vault\n"),
     ];
     for (input, message) in cases {
-        let refused = run_words(rt.alloc(), &["view"], &[], &[], input)?;
+        let refused = Trial::new(&["view"], &[], &[]).run_on(rt.alloc(), input)?;
         assert_eq!(rt; refused.status, Status::Refused);
-        assert_eq!(rt; refused.message.as_slice(), message);
+        assert_eq!(rt; refused.message.as_bytes(), message);
         assert!(rt; !refused.begun);
     }
     Ok(())
@@ -84,7 +88,8 @@ fn runs_at_any_step(rt: HostRuntime) -> Result<(), Fail> {
         let mut src = MemSource::new(vault.as_slice(), step);
         let mut out = MemSink::new(alloc, step);
         let mut err = MemSink::new(alloc, step);
-        let status = run_decrypt(alloc, b"first\n", &mut src, &mut out, &mut err)?;
+        let trial = Trial::new(DECRYPT, &[b"first\n"], &[]);
+        let status = trial.run_between(alloc, &mut src, &mut out, &mut err)?;
         assert_eq!(rt; status, Status::Success, "{step}");
         assert_eq!(rt; out.bytes(), plaintext, "{step}");
         assert!(rt; !err.begun(), "{step}");
@@ -96,12 +101,9 @@ fn runs_at_any_step(rt: HostRuntime) -> Result<(), Fail> {
 fn gives_empty_plaintext(rt: HostRuntime) -> Result<(), Fail> {
     let alloc = rt.alloc();
     let vault = envelope(alloc, "default", b"first", &[7; 32], b"")?;
-    let mut src = MemSource::new(vault.as_slice(), 100);
-    let mut out = MemSink::new(alloc, 100);
-    let mut err = MemSink::new(alloc, 100);
-    let status = run_decrypt(alloc, b"first", &mut src, &mut out, &mut err)?;
-    assert_eq!(rt; status, Status::Success);
-    assert_eq!(rt; out.bytes().len(), 0);
-    assert!(rt; out.begun() && !err.begun());
+    let shown = Trial::new(DECRYPT, &[b"first"], &[]).run_on(alloc, vault.as_slice())?;
+    assert_eq!(rt; shown.status, Status::Success);
+    assert!(rt; shown.begun && shown.output.is_empty());
+    assert_eq!(rt; shown.message.as_str(), "");
     Ok(())
 }

@@ -1,9 +1,9 @@
 -- How the program ends over its files and its standard streams.
 use Rattle.std.specs.Prelude.{◌≡◌, ◌⊎◌, ℕ, List, take, Option, Some, None, Result, Ok, Err}
 use Rattle.vault_files.specs.File.{Finding, Met}
-use Rattle.vault_core.specs.declared.fault.Fault.{Fault}
+use Rattle.vault_common.specs.declared.fault.Fault.{Fault}
 use Rattle.vault_cli.specs.Call.{SinkCall, SourceCall, StoreCall, files_from}
-use Rattle.vault_cli.specs.runs.Ending.{Ends, to_path}
+use Rattle.vault_cli.specs.runs.Ending.{EndsUnlessMemory, to_path}
 use Rattle.vault_cli.specs.runs.Found.{AtPath, secret_paths}
 use Rattle.vault_cli.specs.runs.Outcome.{Outcome}
 use Rattle.vault_cli.specs.Opened.{opened_of}
@@ -34,7 +34,8 @@ module _ {F R S K E : Type 0} (files : StoreCall F R) (src : SourceCall S) (out 
   -- from there on it ended with the answer to what was asked, or told why not
   abbrev pub EndsOver : Files → F → Type 0
   EndsOver found opened =
-      Ends (to_path (output_path asks) (access_of asks) (files_from opened files) out) err result
+      EndsUnlessMemory
+      (to_path (output_path asks) (access_of asks) (files_from opened files) out) err result
       src (stdin_asked asks found) (answers found)
 
   -- both

@@ -8,7 +8,7 @@ use Rattle.vault_text.specs.declared.sink.Stage.TheVariants.{Finished}
 use Rattle.vault_files.specs.File.{Finding}
 use Rattle.vault_files.specs.File.Finding.{Whole}
 use Rattle.vault_files.specs.Memory.{StoreState, file_at, is_aimed_at, stands_at}
-use Rattle.vault_core.specs.declared.fault.Fault.TheVariants.{Memory, Write}
+use Rattle.vault_common.specs.declared.fault.Fault.TheVariants.{Memory, Write}
 use Rattle.vault_cli.specs.runs.ReportLine.{line_of}
 use Rattle.vault_cli.specs.runs.Outcome.{Outcome}
 use Rattle.vault_cli.specs.declared.runs.status.Status.{Status}
@@ -28,15 +28,15 @@ abbrev pub Holds : Change MemSinkState → List ℕ → Type 0
 Holds sink bytes = (sink.new.held ≡ sink.old.held ++ bytes) × (sink.new.stage ≡ Finished)
 
 -- a growth was refused: it holds the first of them
-abbrev pub HoldsFront : Change MemSinkState → List ℕ → Type 0
-HoldsFront sink bytes =
+abbrev pub HoldsPrefix : Change MemSinkState → List ℕ → Type 0
+HoldsPrefix sink bytes =
     HasRisen sink.old.failures sink.new.failures
     × ((n : ℕ) × (sink.new.held ≡ sink.old.held ++ take n bytes))
 
 -- a line, or nothing to say, for which the sink is left alone
 abbrev pub Told : Change MemSinkState → List ℕ → Type 0
 Told err [] = err.new ≡ err.old
-Told err (byte ∷ line) = Holds err (byte ∷ line) ⊎ HoldsFront err (byte ∷ line)
+Told err (byte ∷ line) = Holds err (byte ∷ line) ⊎ HoldsPrefix err (byte ∷ line)
 
 -- standard output, where the output goes to a path or there, and there is one or none
 abbrev pub Received : Option (List ℕ) → Option (List ℕ) → Change MemSinkState → Type 0
@@ -50,7 +50,7 @@ Taken None src = src.new ≡ src.old
 Taken (Some limit) src =
     (n : ℕ) × (n ≤ limit + 1) × (src.new.left ≡ drop n src.old.left)
 
--- these paths stand behind a log, or, where there was no memory, a front of them
+-- these paths stand behind a log, or, where there was no memory, a prefix of them
 abbrev pub Logs : Status → Change (List (List ℕ)) → List (List ℕ) → Type 0
 Logs result log paths =
     (log.new ≡ log.old ++ paths)
@@ -88,7 +88,7 @@ module _ (result : Status) (files : Change StoreState) (out err : Change MemSink
 
   -- a growth of the output was refused: the first of these bytes were written, or it was not begun
   abbrev pub IsCut : Option (List ℕ) → List ℕ → Type 0
-  IsCut None bytes = HoldsFront out bytes × IsKept
+  IsCut None bytes = HoldsPrefix out bytes × IsKept
   IsCut (Some aim) bytes =
       HasRisen files.old.output.failures files.new.output.failures × (out.new ≡ out.old)
       × (IsKept

@@ -1,20 +1,25 @@
--- What the program says where its words are no command line.
-use Rattle.std.specs.Prelude.{◌≡◌, ◌≢◌, ◌⊎◌, ℕ, List, [], Some}
+-- What the program says where its arguments are no command line.
+use Rattle.std.specs.Prelude.{◌≡◌, ◌≢◌, ◌⊎◌, ℕ, false, List, [], All, Some}
 use Rattle.clap.specs.Words.{IsAmong, Kinds}
 use Rattle.clap.specs.declared.error.kind.ErrorKind.{ErrorKind}
 use Rattle.clap.specs.declared.error.kind.ErrorKind.TheVariants.{DisplayHelp, DisplayVersion}
 use Rattle.clap.specs.declared.error.kind.ErrorKind.TheVariants.{OutOfMemory}
+use Rattle.vault_request.specs.Refusal.{is_control}
 use Rattle.vault_cli.specs.Call.{SinkCall}
 use Rattle.vault_cli.specs.runs.Ending.{Finishes, LacksMemory, to_sink}
 use Rattle.vault_cli.specs.runs.Reports.{Reports}
 use Rattle.vault_cli.specs.declared.runs.status.Status.{Status}
 use Rattle.vault_cli.specs.declared.runs.status.Status.TheVariants.{ParseFault, Success}
 
+-- a line end, or no control byte
+abbrev pub IsShown : ℕ → Type 0
+IsShown byte = (byte ≡ 10) ⊎ (is_control byte ≡ false)
+
 -- the user asked for help or for the version
 abbrev pub IsHelp : ErrorKind → Type 0
 IsHelp kind = (kind ≡ DisplayHelp) ⊎ (kind ≡ DisplayVersion)
 
--- the words are wrong
+-- the arguments are wrong
 abbrev pub IsMistake : ErrorKind → Type 0
 IsMistake kind = (kind ≢ DisplayHelp) × (kind ≢ DisplayVersion) × (kind ≢ OutOfMemory)
 
@@ -29,11 +34,11 @@ module _ {K E : Type 0} (out : SinkCall K) (err : SinkCall E) (result : Status) 
       × Finishes (to_sink out) err result
       (record { output = Some text; line = []; status = Success })
 
-  -- some text on standard error alone
+  -- some text, without a control byte but line ends, on standard error alone
   pub record Rejects : Type 0 where
     pub status : result ≡ ParseFault
     pub output : out.new ≡ out.old
-    pub text : (text : List ℕ) × Reports err text
+    pub text : (text : List ℕ) × All IsShown text × Reports err text
 
   -- help and the version are shown, and a mistake is rejected
   abbrev pub Explained : ErrorKind → Type 0

@@ -5,7 +5,7 @@ use Rattle.std.specs.Prelude.{Ok}
 use Rattle.vault_core.specs.Form.{Envelope}
 use Rattle.vault_core.specs.Laws.{IsBytes, IsTriedFirst}
 use Rattle.vault_core.specs.Secrets.{Secret, SecretList, secret_at}
-use Rattle.vault_core.specs.declared.label_rule.LabelRule.{LabelRule}
+use Rattle.vault_common.specs.declared.label_rule.LabelRule.{LabelRule}
 use Rattle.vault_cli.specs.runs.Outcome.{outcome_within, room_limit, text_of_request}
 use Rattle.vault_request.specs.Laws.{IsRequest}
 use Rattle.vault_request.specs.Request.{Request}
@@ -34,13 +34,13 @@ abbrev pub EncryptThenDecrypt : Type 0
 EncryptThenDecrypt =
     (limit : ℕ) (encrypting opening : Request) (contents other_contents : List (List ℕ))
     (salt other_salt input envelope : List ℕ)
-    (list : List Secret) (place : ℕ) (used : List ℕ) (secrets : SecretList)
+    (list : List Secret) (index : ℕ) (used : List ℕ) (secrets : SecretList)
     → IsRequest encrypting → encrypting.command ≡ Encrypt
     → IfSome encrypting.salt_text IsBytes → IsBytes salt → IsBytes input
-    → prepared encrypting contents salt ≡ Ok (Seal list place Envelope used)
+    → prepared encrypting contents salt ≡ Ok (Seal list index Envelope used)
     → (outcome_within limit encrypting contents salt input).output ≡ Some envelope
     → OpensWith opening other_contents other_salt secrets
-    → IsTriedFirst secrets (secret_at place list)
+    → IsTriedFirst secrets (secret_at index list)
     → outcome_within limit opening other_contents other_salt envelope
     ≡ record { output = Some input; line = []; status = Success }
 

@@ -2,8 +2,8 @@
 use Rattle.std.specs.Prelude.{ℕ, ◌+◌, List, [], ◌∷◌, ◌++◌, option_to_list, Option, Some, None}
 use Rattle.std.specs.Prelude.{Result, Ok, Err}
 use Rattle.vault_files.specs.File.{Finding}
-use Rattle.vault_core.specs.declared.fault.Fault.{Fault}
-use Rattle.vault_core.specs.declared.fault.Role.TheVariants.{Secret}
+use Rattle.vault_common.specs.declared.fault.Fault.{Fault}
+use Rattle.vault_common.specs.declared.fault.Role.TheVariants.{Secret}
 use Rattle.vault_core.specs.declared.limits.TheConstants.{PASSWORD_FILE_LIMIT}
 use Rattle.vault_cli.specs.runs.Found.{contents_of, front_in, secret_paths}
 use Rattle.vault_cli.specs.Program.{Files, salt_in}
@@ -21,7 +21,7 @@ secrets_opened (path ∷ paths) [] = []
 secrets_opened (path ∷ paths) (file ∷ files) =
     path ∷ behind (front_in Secret (PASSWORD_FILE_LIMIT + 1) file) (secrets_opened paths files)
 
--- of all files of a request: none where no request was made of the words
+-- of all files of a request: none where no request was made of the arguments
 abbrev pub opened_of : Option (Result Request Fault) → Files → List (List ℕ)
 opened_of None files = []
 opened_of (Some (Err fault)) files = []

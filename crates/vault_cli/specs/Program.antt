@@ -1,5 +1,5 @@
--- What the program answers, as a function of its words, the files that it meets, and its standard
--- input.
+-- What the program answers, as a function of its arguments, the files that it finds, and its
+-- standard input.
 use Rattle.std.specs.Prelude.{ℕ, ◌+◌, List, [], map, Option, Some, None, Result, Ok, Err}
 use Rattle.std.specs.Option.{option_map}
 use Rattle.clap.specs.Words.{Text}
@@ -10,12 +10,12 @@ use Rattle.vault_files.specs.declared.access.Access.TheVariants.{Kept, OwnerOnly
 use Rattle.vault_text.specs.Steps.{◌>>=◌}
 use Rattle.vault_text.specs.declared.limits.TheConstants.{PLAINTEXT_LIMIT}
 use Rattle.vault_core.specs.Ready.{Ready}
-use Rattle.vault_core.specs.declared.fault.Fault.{Fault}
-use Rattle.vault_core.specs.declared.fault.Fault.TheVariants.{CannotOpen}
-use Rattle.vault_core.specs.declared.fault.Role.TheVariants.{Input, Salt}
+use Rattle.vault_common.specs.declared.fault.Fault.{Fault}
+use Rattle.vault_common.specs.declared.fault.Fault.TheVariants.{CannotOpen}
+use Rattle.vault_common.specs.declared.fault.Role.TheVariants.{Input, Salt}
 use Rattle.vault_cli.specs.runs.Found.{contents_of, front_in, secret_paths}
 use Rattle.vault_cli.specs.runs.Outcome.{Outcome, answered, asked_for, input_limit, ready_by}
-use Rattle.vault_cli.specs.runs.Outcome.{refused}
+use Rattle.vault_cli.specs.runs.Outcome.{reported}
 use Rattle.vault_request.specs.Request.{Request}
 use Rattle.vault_request.specs.Settled.{asked_by}
 use Rattle.vault_cli.specs.runs.Task.{Task, prepared}
@@ -24,8 +24,8 @@ use Rattle.vault_request.specs.declared.command_name.CommandName.TheVariants.{De
 use Rattle.vault_cli.specs.declared.limits.TheConstants.{SEALING_SALT_LENGTH}
 use Rattle.vault_cli.specs.declared.runs.status.Status.TheVariants.{ParseFault}
 
--- the files that a request names, as they are met: its password files, in order, its salt file and
--- its input file
+-- the files that a request names, as they are found: its password files, in order, its salt file
+-- and its input file
 pub record Files : Type 0 where
   pub secrets : List Finding
   pub salt : Option Finding
@@ -37,11 +37,11 @@ salt_in None = Ok []
 salt_in (Some file) = front_in Salt SEALING_SALT_LENGTH file
 
 -- whether the input file can be opened
-abbrev pub opening_of : Option Finding → Result (Unit {0}) Fault
-opening_of None = Ok tt
-opening_of (Some Missing) = Err (CannotOpen Input)
-opening_of (Some (Whole bytes)) = Ok tt
-opening_of (Some (Broken bytes)) = Ok tt
+abbrev pub input_file_opened : Option Finding → Result (Unit {0}) Fault
+input_file_opened None = Ok tt
+input_file_opened (Some Missing) = Err (CannotOpen Input)
+input_file_opened (Some (Whole bytes)) = Ok tt
+input_file_opened (Some (Broken bytes)) = Ok tt
 
 -- the task of a request, or the first fault: of its password files, of its salt file, of an input
 -- file that cannot be opened, or of steps 1 to 3
@@ -49,7 +49,7 @@ unfoldable pub task_over : Request → Files → Result Task Fault
 task_over request files = do
   contents ← contents_of files.secrets
   salt ← salt_in files.salt
-  opened ← opening_of files.input
+  opened ← input_file_opened files.input
   prepared request contents salt
 
 -- so many bytes of the input file, or else standard input
@@ -64,14 +64,14 @@ ready_of request files stdin =
     ready_by PLAINTEXT_LIMIT (task_over request files) request.string
     (input_in (input_limit PLAINTEXT_LIMIT request.command + 1) files.input stdin)
 
--- the answer to what was asked; words without a fault name a command, which is a law, so that the
--- first case never comes
+-- the answer to what was asked; arguments without a fault name a command, which is a law, so that
+-- the first case never comes
 abbrev pub answer_to : Option (Result Request Fault) → Files → List ℕ → Outcome
 answer_to None files stdin = record { output = None; line = []; status = ParseFault }
-answer_to (Some (Err fault)) files stdin = refused fault
+answer_to (Some (Err fault)) files stdin = reported fault
 answer_to (Some (Ok request)) files stdin = answered (ready_of request files stdin)
 
--- the answer to words
+-- the answer to arguments
 abbrev pub program : List Text → Files → List ℕ → Outcome
 program words files stdin = answer_to (asked_by words) files stdin
 

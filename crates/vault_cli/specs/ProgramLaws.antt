@@ -1,4 +1,4 @@
--- Laws of the program: from the words of one run to those of another, from file to file.
+-- Laws of the program: from the arguments of one run to those of another, from file to file.
 use Rattle.std.specs.Prelude.{◌≡◌, ℕ, List, [], ◌∷◌, Option, Some, None, IfSome, Ok}
 use Rattle.clap.specs.Words.{Text}
 use Rattle.vault_files.specs.File.{Finding}
@@ -6,7 +6,7 @@ use Rattle.vault_files.specs.File.Finding.{Whole}
 use Rattle.vault_core.specs.Form.{Envelope}
 use Rattle.vault_core.specs.Laws.{IsBytes, IsTriedFirst}
 use Rattle.vault_core.specs.Secrets.{Secret, SecretList, secret_at}
-use Rattle.vault_core.specs.declared.label_rule.LabelRule.{LabelRule}
+use Rattle.vault_common.specs.declared.label_rule.LabelRule.{LabelRule}
 use Rattle.vault_cli.specs.Embedding.{stands_after}
 use Rattle.vault_cli.specs.runs.Found.{contents_of}
 use Rattle.vault_cli.specs.Laws.{OpensWith}
@@ -23,8 +23,8 @@ abbrev pub IsInput : Option Finding → List ℕ → List ℕ → Type 0
 IsInput None stdin input = stdin ≡ input
 IsInput (Some file) stdin input = file ≡ Whole input
 
--- a run whose files can be read: its words, the files that they meet and standard input, and what
--- these come to
+-- a run whose files can be read: its arguments, the files found at their paths, standard input, and
+-- what these come to
 pub record Run : Type 0 where
   pub words : List Text
   pub files : Files
@@ -61,15 +61,15 @@ WrittenIsRead =
 abbrev pub ProgramEncryptsThenDecrypts : Type 0
 ProgramEncryptsThenDecrypts =
     (encrypting opening : Run)
-    (list : List Secret) (place : ℕ) (used : List ℕ) (secrets : SecretList)
+    (list : List Secret) (index : ℕ) (used : List ℕ) (secrets : SecretList)
     → encrypting.request.command ≡ Encrypt
     → IfSome encrypting.request.salt_text IsBytes
     → IsBytes encrypting.salt → IsBytes encrypting.input
     → prepared encrypting.request encrypting.contents encrypting.salt
-    ≡ Ok (Seal list place Envelope used)
+    ≡ Ok (Seal list index Envelope used)
     → (answer encrypting).output ≡ Some opening.input
     → OpensWith opening.request opening.contents opening.salt secrets
-    → IsTriedFirst secrets (secret_at place list)
+    → IsTriedFirst secrets (secret_at index list)
     → answer opening ≡ record { output = Some encrypting.input; line = []; status = Success }
 
 -- what `rekey` wrote, `decrypt` and `view` open with the new secret alone, under either rule, to

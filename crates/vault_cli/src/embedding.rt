@@ -14,41 +14,42 @@ ghost use Rattle.vault_cli.specs.Program.{files_in, output_path, program, stdin_
 use crate::program::drive;
 use crate::runs::Status;
 use std::alloc::Global;
-use vault_files::LoggedFiles;
+use vault_files::MemFiles;
 use vault_text::{MemSink, MemSource, Sink, Stage};
 
 /// All that the program does, as `drive`, over files, an input and sinks in memory. The files that
-/// it meets are those that stand at the paths of its words, so that the words, the files and the
-/// input determine its answer. `LoggedFiles::content` and `MemSink::bytes` tell what is held
-/// afterwards, and `LoggedFiles::log` which paths were opened.
+/// it finds are those that stand at the paths of its arguments, so that arguments, files and input
+/// determine its answer. `MemFiles::content` and `MemSink::bytes` tell what is held afterwards,
+/// and `MemFiles::log` which paths were opened.
 pub fn drive_in_memory(
-    files: &mut LoggedFiles<'_>,
+    files: &mut MemFiles<'_>,
     alloc: Global,
     words: &[String],
     src: &mut MemSource<'_>,
     out: &mut MemSink,
     err: &mut MemSink,
 ) -> Status
-    requires files_unbegun { files.old.files.output.stage ≡ Stage.Unbegun }
-    requires files_empty { files.old.files.output.held ≡ [] }
+    requires files_unbegun { files.old.output.stage ≡ Stage.Unbegun }
+    requires files_empty { files.old.output.held ≡ [] }
     requires src_not_ended { src.old.ended ≡ false }
     requires out_unbegun { out.old.stage ≡ Stage.Unbegun }
     requires err_unbegun { err.old.stage ≡ Stage.Unbegun }
 
-    // Words that parse are answered as the program says, unless a growth is refused.
+    // Arguments that parse are answered as the program says, unless a growth is refused.
     ensures answered { let texts = map string_bytes words.now in
-        let found = files_in (file_at files.old.files.entries) (asked_by texts) in
+        let found = files_in (file_at files.old.entries) (asked_by texts) in
         fault_of vault_app texts ≡ []
-        → Embeds result (change files.old.files files.new.files) (change out.old out.new)
+        → Embeds result (change files.old files.new) (change out.old out.new)
         (change err.old err.new) (output_path (asked_by texts)) (program texts found src.old.left) }
     ensures taken { let asks = asked_by (map string_bytes words.now) in
         fault_of vault_app (map string_bytes words.now) ≡ []
-        → Taken (stdin_asked asks (files_in (file_at files.old.files.entries) asks))
+        → Taken (stdin_asked asks (files_in (file_at files.old.entries) asks))
         (change src.old src.new) }
     ensures opened { let asks = asked_by (map string_bytes words.now) in
         fault_of vault_app (map string_bytes words.now) ≡ []
         → Logs result (change files.old.log files.new.log)
-        (opened_of asks (files_in (file_at files.old.files.entries) asks)) }
+        (opened_of asks (files_in (file_at files.old.entries) asks)) }
+    ensures memory { result ≡ Status.OutOfMemory → src.new ≡ src.old }
 
     // Others are explained, and neither a file nor the input is asked for.
     ensures explained { let kinds = fault_of vault_app (map string_bytes words.now) in

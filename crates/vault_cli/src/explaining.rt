@@ -1,22 +1,22 @@
-//! What the program says where its words are no command line.
-ghost use Rattle.std.specs.Prelude.{◌≡◌, ◌≢◌, ℕ, take, OnOk};
+//! What the program says where its arguments are no command line.
+ghost use Rattle.std.specs.Prelude.{◌≡◌, ◌≢◌, ◌⊎◌, ℕ, List, All};
 ghost use Rattle.std.specs.IoError.{error_kind};
 ghost use Rattle.std.specs.declared.io.ErrorKind.TheVariants.{OutOfMemory};
 ghost use Rattle.clap.specs.Values.{kind_of};
-ghost use Rattle.vault_core.specs.declared.fault.Fault.TheVariants.{Memory};
-ghost use Rattle.vault_text.specs.Failures.{CountsFailure};
+ghost use Rattle.vault_common.specs.declared.fault.Fault.TheVariants.{Memory};
 ghost use Rattle.vault_cli.specs.Call.{sink};
-ghost use Rattle.vault_cli.specs.Explained.{Explains};
+ghost use Rattle.vault_cli.specs.Explained.{Explains, IsShown};
 ghost use Rattle.vault_cli.specs.runs.ReportLine.{line_of, not_text_line};
 ghost use Rattle.vault_cli.specs.runs.Reports.{Reports};
 
-use crate::runs::{Status, report};
+use crate::escaping::escaped;
+use crate::runs::{Status, report, write_text};
 use clap::Error;
 use clap::error::ErrorKind;
 use std::alloc::Global;
 use std::io;
 use vault_core::Fault;
-use vault_text::{Sink, SinkFailed, Stage, put_all};
+use vault_text::{Sink, SinkFailed, Stage};
 
 /// Says on `err` that an argument is not UTF-8, or that there is no memory for the arguments, and
 /// answers the status of that. A failure of `err` changes nothing else.
@@ -55,8 +55,7 @@ pub(crate) fn explain<K: Sink, E: Sink>(
         return report(Fault::Memory, err);
     };
     if error.use_stderr() {
-        let _ = write_text(text.as_bytes(), err);
-        return Status::ParseFault;
+        return reject(alloc, text.as_bytes(), err);
     }
     match write_text(text.as_bytes(), out) {
         Ok(()) => Status::Success,
@@ -64,15 +63,17 @@ pub(crate) fn explain<K: Sink, E: Sink>(
     }
 }
 
-/// Begins the sink, puts the text and finishes.
-fn write_text<K: Sink>(text: &[u8], sink: &mut K) -> Result<(), SinkFailed>
-    requires { K.stage sink.old ≡ Stage.Unbegun }
-    ensures text { OnOk result (K.takes sink.old text.now sink.new) }
-    ensures finished { OnOk result (K.stage sink.new ≡ Stage.Finished) }
-    ensures prefix { (n : ℕ) × K.takes sink.old (take n text.now) sink.new }
-    ensures failed { CountsFailure (K.failures sink.old) (K.failures sink.new) result }
+/// Says on `err` what is wrong with the arguments, some of which the text repeats.
+fn reject<E: Sink>(alloc: Global, text: &[u8], err: &mut E) -> Status
+    requires { E.stage err.old ≡ Stage.Unbegun }
+    ensures { ((result ≡ Status.ParseFault)
+        × ((shown : List ℕ) × All IsShown shown × Reports (sink E.Sink err.old err.new) shown))
+        ⊎ ((result ≡ Status.OutOfMemory)
+        × Reports (sink E.Sink err.old err.new) (line_of Memory)) }
 {
-    sink.begin()?;
-    put_all(sink, text)?;
-    sink.finish()
+    let Ok(shown) = escaped(alloc, text) else {
+        return report(Fault::Memory, err);
+    };
+    let _ = write_text(shown.as_slice(), err);
+    Status::ParseFault
 }

@@ -21,6 +21,7 @@
 #![tactic(auto)]
 
 mod embedding;
+mod escaping;
 mod explaining;
 pub mod laws;
 mod limits;
@@ -33,6 +34,6 @@ pub use limits::SEALING_SALT_LENGTH;
 pub use program::drive;
 pub use runs::{Status, report, run};
 pub use vault_core::{Fault, LabelRule, Role, SECRET_COUNT_LIMIT};
-pub use vault_files::{FileSystem, HostFiles, LoggedFiles, MemFile, MemFiles};
+pub use vault_files::{FileSystem, HostFiles, MemFile, MemFiles};
 pub use vault_request::{CommandName, Request, SALT_TEXT_LIMIT, command, parse, settle};
 pub use vault_text::{MemSink, MemSource, ReadSource, WriteSink};

@@ -6,7 +6,7 @@ ghost use Rattle.vault_text.specs.declared.limits.TheConstants.{CIPHERTEXT_LIMIT
 ghost use Rattle.vault_cli.specs.Call.{sink, source, store};
 ghost use Rattle.vault_request.specs.CommandLine.{vault_app};
 ghost use Rattle.vault_cli.specs.Drive.{Drives};
-ghost use Rattle.vault_cli.specs.runs.Ending.{Ends, to_path};
+ghost use Rattle.vault_cli.specs.runs.Ending.{EndsUnlessMemory, to_path};
 ghost use Rattle.vault_cli.specs.Explained.{ExplainsOneOf};
 ghost use Rattle.vault_cli.specs.runs.Outcome.{input_asked, outcome};
 ghost use Rattle.vault_cli.specs.Program.{answer_to, output_access, program};
@@ -14,7 +14,7 @@ ghost use Rattle.vault_request.specs.Request.{files_of};
 ghost use Rattle.vault_request.specs.Settled.{asked, asked_by};
 
 use crate::explaining::explain;
-use crate::runs::{Gathered, Job, Status, gather, report, run_in};
+use crate::runs::{Gathered, Job, Status, gather, report, run_job};
 use clap::ArgMatches;
 use std::alloc::Global;
 use vault_core::Fault;
@@ -44,6 +44,9 @@ pub fn drive<F: FileSystem, S: Source, K: Sink, E: Sink>(
         → Drives (store F.FileSystem files.old files.new) (source S.Source src.old src.new)
         (sink K.Sink out.old out.new) (sink E.Sink err.old err.new) result
         (asked_by texts) (program texts) }
+
+    // Out of memory comes before the input.
+    ensures memory { result ≡ Status.OutOfMemory → src.new ≡ src.old }
 
     // Others are explained, and neither a file nor the input is asked for.
     ensures explained { let kinds = fault_of vault_app (map string_bytes words.now) in
@@ -75,6 +78,7 @@ fn carry_out<F: FileSystem, S: Source, K: Sink, E: Sink>(
         Drives (store F.FileSystem files.old files.new) (source S.Source src.old src.new)
         (sink K.Sink out.old out.new) (sink E.Sink err.old err.new) result
         asked (answer_to asked) }
+    ensures memory { result ≡ Status.OutOfMemory → src.new ≡ src.old }
 {
     match settle(alloc, matches) {
         Ok(request) => answer(files, alloc, &request, src, out, err),
@@ -99,6 +103,7 @@ fn answer<F: FileSystem, S: Source, K: Sink, E: Sink>(
         Drives (store F.FileSystem files.old files.new) (source S.Source src.old src.new)
         (sink K.Sink out.old out.new) (sink E.Sink err.old err.new) result
         asked (answer_to asked) }
+    ensures memory { result ≡ Status.OutOfMemory → src.new ≡ src.old }
 {
     let mut room = match Vec::with_capacity(alloc, CIPHERTEXT_LIMIT) {
         Ok(room) => room,
@@ -148,16 +153,17 @@ fn send<F: FileSystem, S: Source, K: Sink, E: Sink>(
         let salt = job.entry.salt.now in
         let files = store F.FileSystem files.old files.new in
         let out = sink K.Sink out.old out.new in
-        Ends (to_path request.output (output_access request.command) files out)
+        EndsUnlessMemory (to_path request.output (output_access request.command) files out)
         (sink E.Sink err.old err.new) result (source S.Source src.old src.new)
         (input_asked PLAINTEXT_LIMIT request contents salt) (outcome request contents salt) }
+    ensures memory { result ≡ Status.OutOfMemory → src.new ≡ src.old }
 {
     let request = job.request;
     let Some(path) = request.output() else {
-        return run_in(job, src, out, err);
+        return run_job(job, src, out, err);
     };
     match files.aim(alloc, path, output_access(request.command())) {
-        Ok(()) => run_in(job, src, files, err),
+        Ok(()) => run_job(job, src, files, err),
         Err(error) => report(Fault::from(error), err),
     }
 }

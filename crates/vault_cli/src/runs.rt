@@ -2,9 +2,9 @@
 ghost use Rattle.std.specs.Prelude.{◌≡◌, ◌≢◌, ◌+◌, ◌≤◌, ◌⊎◌, ℕ, List, [], false, is_some, length};
 ghost use Rattle.std.specs.Prelude.{map, take, IsTrue};
 ghost use Rattle.vault_text.specs.Failures.{HasRisen};
-ghost use Rattle.vault_core.specs.Input.{IsWhole, UnlessUnreadable};
+ghost use Rattle.vault_core.specs.Input.{IsReadToEndOrPastLimit, UnlessUnreadable};
 ghost use Rattle.vault_text.specs.Limits.{IsWorkLength, limit_of};
-ghost use Rattle.vault_core.specs.declared.fault.Fault.TheVariants.{Write};
+ghost use Rattle.vault_common.specs.declared.fault.Fault.TheVariants.{Write};
 ghost use Rattle.vault_cli.specs.Call.{sink, source};
 ghost use Rattle.vault_cli.specs.runs.Ending.{Ends, to_sink};
 ghost use Rattle.vault_cli.specs.runs.ReportLine.{line_of};
@@ -13,7 +13,7 @@ ghost use Rattle.vault_cli.specs.runs.Outcome.{performed, task_limit, text_of_re
 ghost use Rattle.vault_cli.specs.runs.Reports.{Reports};
 ghost use Rattle.vault_request.specs.Request.{files_of};
 ghost use Rattle.vault_cli.specs.runs.StoredTask.{task_in};
-ghost use Rattle.vault_cli.specs.runs.Task.{HasPlace};
+ghost use Rattle.vault_cli.specs.runs.Task.{HasValidIndex};
 
 mod gathering;
 mod passwords;
@@ -23,6 +23,7 @@ mod task;
 
 pub(crate) use gathering::{Gathered, gather};
 pub use report_line::report;
+pub(crate) use report_line::write_text;
 pub use status::Status;
 use task::{Task, prepare};
 use vault_core::{Fault, Ready};
@@ -48,13 +49,13 @@ fn perform<'a, S: Source>(
 ) -> Result<Ready<'a>, Fault>
     requires empty { memory.bytes ≡ [] }
     requires room { IsWorkLength memory.limit }
-    requires place { HasPlace (task_in task.now) }
+    requires index { HasValidIndex (task_in task.now) }
     ensures answer { let limit = limit_of memory.entry.limit in
         let bound = task_limit limit (task_in task.now) in
         (input : List ℕ) × S.gives src.old input src.new × (length input ≤ bound + 1)
         × UnlessUnreadable (S.failures src.old) (S.failures src.new) result
         ((is_some request.now.string ≡ false) × (length input ≤ bound))
-        ((is_some request.now.string ≡ false → IsWhole bound (S.ended src.new) input)
+        ((is_some request.now.string ≡ false → IsReadToEndOrPastLimit bound (S.ended src.new) input)
         × (result
         ≡ performed limit (task_in task.now) (text_of_request request.now input))) }
     ensures unread { IsTrue (is_some request.now.string) → src.new ≡ src.old }
@@ -111,6 +112,11 @@ pub fn run<'r, S: Source, K: Sink, E: Sink>(
         Ends (to_sink (sink K.Sink out.old out.new)) (sink E.Sink err.old err.new) result
         (source S.Source src.old src.new) (input_asked limit request.now contents salt.now)
         (outcome_within limit request.now contents salt.now) }
+    ensures device_failed { result ≡ Status.DeviceFailed
+        → HasRisen (S.failures src.old) (S.failures src.new)
+        ⊎ HasRisen (K.failures out.old) (K.failures out.new) }
+    ensures none_failed { result ≢ Status.DeviceFailed
+        → (S.failures src.new ≡ S.failures src.old) × (K.failures out.new ≡ K.failures out.old) }
     ensures memory_suffices { result ≢ Status.OutOfMemory }
 {
     let memory = TextMemory::lent(work);
@@ -120,11 +126,11 @@ pub fn run<'r, S: Source, K: Sink, E: Sink>(
         salt,
         memory,
     };
-    run_in(job, src, out, err)
+    run_job(job, src, out, err)
 }
 
-/// Does what `run` does, in memory that holds no text.
-pub(crate) fn run_in<S: Source, K: Sink, E: Sink>(
+/// Runs a job, whose memory holds no text yet.
+pub(crate) fn run_job<S: Source, K: Sink, E: Sink>(
     job: Job<'_, '_>,
     src: &mut S,
     out: &mut K,
@@ -142,6 +148,11 @@ pub(crate) fn run_in<S: Source, K: Sink, E: Sink>(
         Ends (to_sink (sink K.Sink out.old out.new)) (sink E.Sink err.old err.new) result
         (source S.Source src.old src.new) (input_asked limit request contents salt)
         (outcome_within limit request contents salt) }
+    ensures device_failed { result ≡ Status.DeviceFailed
+        → HasRisen (S.failures src.old) (S.failures src.new)
+        ⊎ HasRisen (K.failures out.old) (K.failures out.new) }
+    ensures none_failed { result ≢ Status.DeviceFailed
+        → (S.failures src.new ≡ S.failures src.old) × (K.failures out.new ≡ K.failures out.old) }
     ensures memory_suffices { result ≢ Status.OutOfMemory }
 {
     let Job {

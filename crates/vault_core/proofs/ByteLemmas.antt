@@ -1,13 +1,16 @@
 -- What is sealed has bytes alone.
-use Rattle.std.proofs.Common.{ℕ, ◌+◌, ◌*◌, ◌-◌, ◌%◌, ◌<◌, List, length, lit<, arith, inl, inr, replicate, take}
+use Rattle.std.proofs.Common.{ℕ, ◌+◌, ◌*◌, ◌-◌, ◌%◌, ◌<◌, List, length, lit<, arith, inl, inr}
+use Rattle.std.proofs.Common.{replicate, take}
 use Rattle.std.specs.Prelude.{bit_xor, slice_index}
 use Rattle.std.specs.List.{All, range_with_len}
 use Rattle.std.specs.Int.{to_be_bytes, w32}
 use Rattle.std.proofs.lemmas.Bool.{cases_lt}
 use Rattle.std.proofs.lemmas.List.{get_or_default, get_or_past}
-use Rattle.std.proofs.lemmas.List.Elements.{All-append, All-from_recursion, All-map, All-replicate, All-take}
+use Rattle.std.proofs.lemmas.List.Elements.{All-append, All-from_recursion, All-map}
+use Rattle.std.proofs.lemmas.List.Elements.{All-replicate, All-take}
 use Rattle.std.proofs.lemmas.Nat.{xor_lt}
-use Rattle.vault_aes.specs.Cipher.{add_round_key, cipher, entry, matrix, shift_rows, sub_bytes, word_byte}
+use Rattle.vault_aes.specs.Cipher.{add_round_key, cipher, entry, matrix}
+use Rattle.vault_aes.specs.Cipher.{shift_rows, sub_bytes, word_byte}
 use Rattle.vault_aes.specs.CounterMode.{counter_mode, stream_byte}
 use Rattle.vault_aes.specs.SubstitutionBox.{number_of_bits, s_box}
 use Rattle.vault_core.specs.Laws.{IsBytes}
@@ -31,10 +34,15 @@ bit_xor-byte a b = xor_lt 8 a b
 
 -- ---- the cipher of AES
 
+-- the four entries of a column, and what is said of those behind it
+column-bytes : {Rest : Type 0} (f : ℕ → ℕ → ℕ) → ((r c : ℕ) → f r c < 256) → (c : ℕ) → Rest
+    → (f 0 c < 256) × ((f 1 c < 256) × ((f 2 c < 256) × ((f 3 c < 256) × Rest)))
+column-bytes f h c rest = (h 0 c, (h 1 c, (h 2 c, (h 3 c, rest))))
+
 matrix-bytes : (f : ℕ → ℕ → ℕ) → ((r c : ℕ) → f r c < 256) → IsBytes (matrix f)
 matrix-bytes f h =
     IsBytes-from_All (matrix f) (All-from_recursion (λ b. b < 256) (matrix f)
-    (h 0 0, (h 1 0, (h 2 0, (h 3 0, (h 0 1, (h 1 1, (h 2 1, (h 3 1, (h 0 2, (h 1 2, (h 2 2, (h 3 2, (h 0 3, (h 1 3, (h 2 3, (h 3 3, tt)))))))))))))))))
+    (column-bytes f h 0 (column-bytes f h 1 (column-bytes f h 2 (column-bytes f h 3 tt)))))
 
 eight_bits : (bit : ℕ → ℕ) → ((i : ℕ) → bit i < 2) → number_of_bits bit 8 < 256
 unfolding number_of_bits
@@ -47,7 +55,9 @@ s_box-byte a = eight_bits _ (λ i. omega arith)
 
 word_byte-byte : (word r : ℕ) → word_byte word r < 256
 word_byte-byte word r =
-    IsBytes-from_All (to_be_bytes w32 word) (All-from_recursion (λ b. b < 256) (to_be_bytes w32 word) (omega arith, (omega arith, (omega arith, (omega arith, tt))))) r
+    IsBytes-from_All (to_be_bytes w32 word)
+    (All-from_recursion (λ b. b < 256) (to_be_bytes w32 word)
+    (omega arith, (omega arith, (omega arith, (omega arith, tt))))) r
 
 sub_bytes-bytes : (state : List ℕ) → IsBytes (sub_bytes state)
 unfolding sub_bytes
@@ -57,10 +67,12 @@ shift_rows-bytes : (state : List ℕ) → IsBytes state → IsBytes (shift_rows 
 unfolding shift_rows
 shift_rows-bytes state bytes = matrix-bytes _ (λ r c. bytes (r + 4 * ((c + r) % 4)))
 
-add_round_key-bytes : (words : List ℕ) (n : ℕ) (state : List ℕ) → IsBytes state → IsBytes (add_round_key words n state)
+add_round_key-bytes : (words : List ℕ) (n : ℕ) (state : List ℕ) → IsBytes state
+    → IsBytes (add_round_key words n state)
 unfolding add_round_key
 add_round_key-bytes words n state bytes =
-    matrix-bytes _ (λ r c. bit_xor-byte (entry state r c) _ (bytes (r + 4 * c)) (word_byte-byte (slice_index words (4 * n + c)) r))
+    matrix-bytes _ (λ r c. bit_xor-byte (entry state r c) _ (bytes (r + 4 * c))
+    (word_byte-byte (slice_index words (4 * n + c)) r))
 
 cipher-bytes : (words block : List ℕ) → IsBytes (cipher words block)
 unfolding cipher
@@ -72,7 +84,8 @@ stream_byte-byte : (words iv : List ℕ) (i : ℕ) → stream_byte words iv i < 
 unfolding stream_byte
 stream_byte-byte words iv i = cipher-bytes words _ (i % 16)
 
-pub counter_mode-bytes : (words iv input : List ℕ) → IsBytes input → IsBytes (counter_mode words iv input)
+pub counter_mode-bytes : (words iv input : List ℕ) → IsBytes input
+    → IsBytes (counter_mode words iv input)
 unfolding counter_mode
 counter_mode-bytes words iv input bytes =
     IsBytes-from_All _ (All-map (λ b. b < 256) _ (range_with_len 0 (length input))
@@ -82,7 +95,9 @@ pub padded-bytes : (plain : List ℕ) → IsBytes plain → IsBytes (padded plai
 unfolding padded
 padded-bytes plain bytes =
     let count : ℕ = 16 - length plain % 16 in
-    IsBytes-from_All _ (All-append (λ b. b < 256) plain (replicate count count) (All-from_IsBytes plain bytes) (All-replicate (λ b. b < 256) count count (omega arith)))
+    IsBytes-from_All _ (All-append (λ b. b < 256) plain (replicate count count)
+    (All-from_IsBytes plain bytes) (All-replicate (λ b. b < 256) count count (omega arith)))
 
 pub take-bytes : (n : ℕ) (bytes : List ℕ) → IsBytes bytes → IsBytes (take n bytes)
-take-bytes n bytes all = IsBytes-from_All _ (All-take (λ b. b < 256) n bytes (All-from_IsBytes bytes all))
+take-bytes n bytes all =
+    IsBytes-from_All _ (All-take (λ b. b < 256) n bytes (All-from_IsBytes bytes all))

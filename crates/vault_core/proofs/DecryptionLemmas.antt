@@ -1,18 +1,19 @@
 -- No fault of an envelope is a fault of reading, and what follows for the calls that decrypt.
-use Rattle.std.proofs.Common.{◌≡◌, ◌≢◌, ℕ, List, Option, Some, None, Result, Ok, Err, inl, inr, ◌⊎◌, sym, ◌∙◌, refl}
+use Rattle.std.proofs.Common.{◌≡◌, ◌≢◌, ℕ, List, Option, Some, None, Result, Ok, Err, inl, inr, ◌⊎◌}
+use Rattle.std.proofs.Common.{sym, ◌∙◌, refl}
 use Rattle.std.specs.Prelude.{find}
 use Rattle.vault_text.specs.Envelope.{Payload}
 use Rattle.vault_text.specs.declared.fault.TextFault.{TextFault}
 use Rattle.vault_text.specs.declared.fault.TextFault.TheVariants as text
 use Rattle.vault_core.specs.Agreement.{agrees, tries}
 use Rattle.vault_core.specs.Decryption.{decryption, decryption_derivations, payload_of}
-use Rattle.vault_core.specs.Fault.{of_text}
+use Rattle.vault_common.specs.Fault.{of_text}
 use Rattle.vault_core.specs.Input.{UnlessUnreadable}
 use Rattle.vault_core.specs.Opening.{opening, plaintext_of}
 use Rattle.vault_core.specs.Secrets.{Secret, SecretList, tried_order}
-use Rattle.vault_core.specs.declared.fault.Fault.{Fault}
-use Rattle.vault_core.specs.declared.fault.Fault.TheVariants.{BadPadding, NoSecretFits, Read}
-use Rattle.vault_core.specs.declared.fault.Role.TheVariants.{Input}
+use Rattle.vault_common.specs.declared.fault.Fault.{Fault}
+use Rattle.vault_common.specs.declared.fault.Fault.TheVariants.{BadPadding, NoSecretFits, Read}
+use Rattle.vault_common.specs.declared.fault.Role.TheVariants.{Input}
 use Rattle.vault_core.proofs.OpeningLemmas.{opening-bad_padding, opening-no_secret, opening-plain}
 
 pub of_text-is_no_read : (fault : TextFault) → of_text fault ≢ Read Input
@@ -26,8 +27,10 @@ of_text-is_no_read text.BadHex h = cc
 of_text-is_no_read text.BadPayload h = cc
 of_text-is_no_read text.CipherTooLong h = cc
 
-module _ (secrets : SecretList) (payload : Payload) (fault : Fault) (refused : opening secrets payload ≡ Err fault) where
-  after_agreement : (secret : Secret) → find (agrees payload) (tried_order secrets payload.label) ≡ Some secret
+module _ (secrets : SecretList) (payload : Payload) (fault : Fault)
+    (refused : opening secrets payload ≡ Err fault) where
+  after_agreement : (secret : Secret)
+      → find (agrees payload) (tried_order secrets payload.label) ≡ Some secret
       → (plain : Option (List ℕ)) → plaintext_of payload secret ≡ plain
       → fault ≡ BadPadding
   after_agreement secret found None e =
@@ -35,7 +38,8 @@ module _ (secrets : SecretList) (payload : Payload) (fault : Fault) (refused : o
   after_agreement secret found (Some plain) e =
       let other = sym refused ∙ opening-plain secrets payload secret plain found e in cc
 
-  cases : (found : Option Secret) → find (agrees payload) (tried_order secrets payload.label) ≡ found
+  cases : (found : Option Secret)
+      → find (agrees payload) (tried_order secrets payload.label) ≡ found
       → (fault ≡ NoSecretFits) ⊎ (fault ≡ BadPadding)
   cases None e =
       let same = sym refused ∙ opening-no_secret secrets payload e in
@@ -53,26 +57,31 @@ module _ (secrets : SecretList) (payload : Payload) (fault : Fault) (refused : o
 
 -- a call that read its input whole, and whose faults are of another kind
 pub UnlessUnreadable-from : {T : Type 0} (F P : Type 0) (before after : ℕ) (result : Result T Fault)
-    → ((fault : Fault) → result ≡ Err fault → fault ≢ Read Input) → after ≡ before → P → UnlessUnreadable before after result F P
+    → ((fault : Fault) → result ≡ Err fault → fault ≢ Read Input) → after ≡ before → P
+    → UnlessUnreadable before after result F P
 UnlessUnreadable-from F P before after (Ok x) other same p = (same, p)
 UnlessUnreadable-from F P before after (Err fault) other same p = inr ((other fault refl, same), p)
 
 module _ (limit : ℕ) (secrets : SecretList) (input : List ℕ) where
   -- the input is no envelope
-  pub decryption-Err : (fault : Fault) → Err fault ≡ payload_of limit input → decryption limit secrets input ≡ Err fault
+  pub decryption-Err : (fault : Fault) → Err fault ≡ payload_of limit input
+      → decryption limit secrets input ≡ Err fault
   unfolding decryption
   decryption-Err fault h = rw (← h) refl
 
-  pub decryption_derivations-Err : (fault : Fault) → Err fault ≡ payload_of limit input → decryption_derivations limit secrets input ≡ 0
+  pub decryption_derivations-Err : (fault : Fault) → Err fault ≡ payload_of limit input
+      → decryption_derivations limit secrets input ≡ 0
   unfolding decryption_derivations
   decryption_derivations-Err fault h = rw (← h) refl
 
   -- the input is an envelope
-  pub decryption-Ok : (payload : Payload) → Ok payload ≡ payload_of limit input → decryption limit secrets input ≡ opening secrets payload
+  pub decryption-Ok : (payload : Payload) → Ok payload ≡ payload_of limit input
+      → decryption limit secrets input ≡ opening secrets payload
   unfolding decryption
   decryption-Ok payload h = rw (← h) refl
 
   pub decryption_derivations-Ok : (payload : Payload) → Ok payload ≡ payload_of limit input
-      → decryption_derivations limit secrets input ≡ tries payload (tried_order secrets payload.label)
+      → decryption_derivations limit secrets input
+      ≡ tries payload (tried_order secrets payload.label)
   unfolding decryption_derivations
   decryption_derivations-Ok payload h = rw (← h) refl

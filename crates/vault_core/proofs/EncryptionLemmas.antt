@@ -1,47 +1,58 @@
 -- The answers of encrypting, by what the input is.
-use Rattle.std.proofs.Common.{◌≡◌, ◌≢◌, ℕ, ◌<◌, ◌≤◌, ◌⊎◌, Bool, true, false, List, length, ◌∙◌, Ok, Err, refl, sym, inl, inr}
+use Rattle.std.proofs.Common.{◌≡◌, ◌≢◌, ℕ, ◌<◌, ◌≤◌, ◌⊎◌, Bool, true, false, List, length, ◌∙◌, Ok}
+use Rattle.std.proofs.Common.{Err, refl, sym, inl, inr}
 use Rattle.std.specs.Prelude.{◌&&◌, ◌==◌}
 use Rattle.std.proofs.lemmas.Bool.{cases_Bool, cases_lt, eq-eqb, le-ltb, lt-ltb, ne_eqb}
 use Rattle.vault_core.specs.Encryption.{encryption, is_vault}
 use Rattle.vault_core.specs.Form.{Form, is_block}
 use Rattle.vault_core.specs.Sealing.{sealed, text_in}
 use Rattle.vault_core.specs.Secrets.{Secret, secret_at}
-use Rattle.vault_core.specs.declared.fault.Fault.{Fault}
-use Rattle.vault_core.specs.declared.fault.Fault.TheVariants.{TooLong, EmptyString, AlreadyVault, Read}
-use Rattle.vault_core.specs.declared.fault.Role.TheVariants.{Input}
+use Rattle.vault_common.specs.declared.fault.Fault.{Fault}
+use Rattle.vault_common.specs.declared.fault.Fault.TheVariants.{TooLong, EmptyString}
+use Rattle.vault_common.specs.declared.fault.Fault.TheVariants.{AlreadyVault, Read}
+use Rattle.vault_common.specs.declared.fault.Role.TheVariants.{Input}
 
 -- a plaintext of n bytes that is no empty string
-pub no_empty_string : (form : Form) (input : List ℕ) (n : ℕ) (has : Bool) → has ≡ is_block form → length input ≡ n
+pub no_empty_string : (form : Form) (input : List ℕ) (n : ℕ) (has : Bool) → has ≡ is_block form
+    → length input ≡ n
     → ((has ≡ true) × (n ≢ 0)) ⊎ (has ≡ false) → (is_block form && length input == 0) ≡ false
-no_empty_string form input n has is long (inl some) = rw (← is, some.0, long, ne_eqb n 0 some.1) refl
+no_empty_string form input n has is long (inl some) =
+    rw (← is, some.0, long, ne_eqb n 0 some.1) refl
 no_empty_string form input n has is long (inr envelope) = rw (← is, envelope) refl
 
-module _ (limit : ℕ) (secrets : List Secret) (place : ℕ) (form : Form) (salt input : List ℕ) where
-  pub encryption-too_long : limit < length input → encryption limit secrets place form salt input ≡ Err TooLong
+module _ (limit : ℕ) (secrets : List Secret) (index : ℕ) (form : Form) (salt input : List ℕ) where
+  pub encryption-too_long : limit < length input
+      → encryption limit secrets index form salt input ≡ Err TooLong
   unfolding encryption
   encryption-too_long long = rw (lt-ltb _ _ long) refl
 
   encryption-none : length input ≤ limit → (is_block form && length input == 0) ≡ true
-      → encryption limit secrets place form salt input ≡ Err EmptyString
+      → encryption limit secrets index form salt input ≡ Err EmptyString
   unfolding encryption
   encryption-none short none = rw (le-ltb _ _ short, none) refl
 
   pub encryption-empty : length input ≤ limit → is_block form ≡ true → length input ≡ 0
-      → encryption limit secrets place form salt input ≡ Err EmptyString
+      → encryption limit secrets index form salt input ≡ Err EmptyString
   encryption-empty short block empty = encryption-none short (rw (block, eq-eqb _ _ empty) refl)
 
-  pub encryption-vault : length input ≤ limit → (is_block form && length input == 0) ≡ false → is_vault input ≡ true
-      → encryption limit secrets place form salt input ≡ Err AlreadyVault
+  pub encryption-vault : length input ≤ limit → (is_block form && length input == 0) ≡ false
+      → is_vault input ≡ true
+      → encryption limit secrets index form salt input ≡ Err AlreadyVault
   unfolding encryption
   encryption-vault short some vault = rw (le-ltb _ _ short, some, vault) refl
 
-  pub encryption-sealed : length input ≤ limit → (is_block form && length input == 0) ≡ false → is_vault input ≡ false
-      → encryption limit secrets place form salt input
-      ≡ Ok (record { output = text_in form (sealed (secret_at place secrets) salt input); tried = 0 })
+  pub encryption-sealed : length input ≤ limit → (is_block form && length input == 0) ≡ false
+      → is_vault input ≡ false
+      → encryption limit secrets index form salt input
+      ≡ Ok (record {
+        output = text_in form (sealed (secret_at index secrets) salt input);
+        tried = 0;
+      })
   unfolding encryption
   encryption-sealed short some plain = rw (le-ltb _ _ short, some, plain) refl
 
-  pub encryption-is_no_read : (fault : Fault) → encryption limit secrets place form salt input ≡ Err fault → fault ≢ Read Input
+  pub encryption-is_no_read : (fault : Fault)
+      → encryption limit secrets index form salt input ≡ Err fault → fault ≢ Read Input
   encryption-is_no_read fault refused read = elim (cases_lt limit (length input)) [
     | inl long ↦ let same = sym (encryption-too_long long) ∙ refused in cc
     | inr short ↦ elim (cases_Bool (is_block form && length input == 0)) [

@@ -11,3 +11,4 @@ pub mod SealedOpens
 pub mod SealedReadsBack
 pub mod SealingLemmas
 pub mod ShortInputs
+pub mod TagLemmas

@@ -1,5 +1,6 @@
 -- What an opened plaintext is: bytes, and with their padding as many as the ciphertext has.
-use Rattle.std.proofs.Common.{◌≡◌, ℕ, ◌≤◌, List, length, Option, Some, None, Result, Ok, Err, refl, ap, sym, ◌∙◌, arith}
+use Rattle.std.proofs.Common.{◌≡◌, ℕ, ◌≤◌, List, length, Option, Some, None, Result, Ok, Err, refl}
+use Rattle.std.proofs.Common.{ap, sym, ◌∙◌, arith}
 use Rattle.std.specs.Prelude.{find}
 use Rattle.std.specs.Result.{result_map_both}
 use Rattle.vault_aes.specs.KeyExpansion.{key_schedule}
@@ -11,8 +12,8 @@ use Rattle.vault_text.specs.Limits.{ciphertext_limit}
 use Rattle.vault_text.specs.declared.fault.TextFault.{TextFault}
 use Rattle.vault_text.proofs.PayloadFacts.{HasFittingCipher, read_within-fits}
 use Rattle.vault_core.specs.Agreement.{agrees, keys_of}
-use Rattle.vault_core.specs.Decryption.{decryption}
-use Rattle.vault_core.specs.Fault.{of_text}
+use Rattle.vault_core.specs.Decryption.{decryption, payload_of}
+use Rattle.vault_common.specs.Fault.{of_text}
 use Rattle.vault_core.specs.Laws.{IsBytes}
 use Rattle.vault_core.specs.Opening.{deciphered_by, opening, plaintext_of}
 use Rattle.vault_aes.specs.Padding.{padded_length}
@@ -28,39 +29,64 @@ pub record FitsAgain (limit : ℕ) (plain : List ℕ) : Type 0 where
   pub fits : padded_length (length plain) ≤ ciphertext_limit limit
 
 -- what stands before the padding of deciphered bytes
-FitsAgain-plain : (limit : ℕ) (payload : Payload) (secret : Secret) (plain : List ℕ) → HasFittingCipher limit payload
+FitsAgain-plain : (limit : ℕ) (payload : Payload) (secret : Secret) (plain : List ℕ)
+    → HasFittingCipher limit payload
     → plaintext_of payload secret ≡ Some plain → FitsAgain limit plain
 FitsAgain-plain limit payload secret plain ciphertext found =
     let keys : Keys = keys_of payload secret in
     let text : List ℕ = deciphered_by keys payload.cipher in
     let padding = padded-without_padding plain text found in
+    let deciphered =
+    counter_mode-bytes (key_schedule keys.cipher) keys.iv payload.cipher ciphertext.bytes in
     record {
-      bytes = rw (rw padding at (take-padded plain)) at (take-bytes (length plain) text (counter_mode-bytes (key_schedule keys.cipher) keys.iv payload.cipher ciphertext.bytes));
-      fits = omega (arith, ap length padding, length-padded plain, length-counter_mode (key_schedule keys.cipher) keys.iv payload.cipher, ciphertext.fits);
+      bytes =
+          rw (rw padding at (take-padded plain)) at (take-bytes (length plain) text deciphered);
+      fits = omega (
+        arith,
+        ap length padding,
+        length-padded plain,
+        length-counter_mode (key_schedule keys.cipher) keys.iv payload.cipher,
+        ciphertext.fits,
+      );
     }
 
 module _ (limit : ℕ) (secrets : SecretList) (opened : Ready) where
-  FitsAgain-opening : (payload : Payload) → HasFittingCipher limit payload → opening secrets payload ≡ Ok opened → FitsAgain limit opened.output
-  FitsAgain-opening payload ciphertext is = by_secret (find (agrees payload) (tried_order secrets payload.label)) refl
+  FitsAgain-opening : (payload : Payload) → HasFittingCipher limit payload
+      → opening secrets payload ≡ Ok opened → FitsAgain limit opened.output
+  FitsAgain-opening payload ciphertext is =
+      by_secret (find (agrees payload) (tried_order secrets payload.label)) refl
     where
-      by_plain : (secret : Secret) → find (agrees payload) (tried_order secrets payload.label) ≡ Some secret → (plain : Option (List ℕ))
+      by_plain : (secret : Secret)
+          → find (agrees payload) (tried_order secrets payload.label) ≡ Some secret
+          → (plain : Option (List ℕ))
           → plaintext_of payload secret ≡ plain → FitsAgain limit opened.output
-      by_plain secret found None known = let wrong = sym (opening-bad_padding secrets payload secret found known) ∙ is in absurd cc
+      by_plain secret found None known =
+          let wrong = sym (opening-bad_padding secrets payload secret found known) ∙ is in absurd cc
       by_plain secret found (Some plain) known =
           let same = sym (opening-plain secrets payload secret plain found known) ∙ is in
           let output : plain ≡ opened.output = cc in
           rw output at (FitsAgain-plain limit payload secret plain ciphertext known)
 
-      by_secret : (found : Option Secret) → find (agrees payload) (tried_order secrets payload.label) ≡ found → FitsAgain limit opened.output
-      by_secret None none = let wrong = sym (opening-no_secret secrets payload none) ∙ is in absurd cc
+      by_secret : (found : Option Secret)
+          → find (agrees payload) (tried_order secrets payload.label) ≡ found
+          → FitsAgain limit opened.output
+      by_secret None none =
+          let wrong = sym (opening-no_secret secrets payload none) ∙ is in absurd cc
       by_secret (Some secret) found = by_plain secret found _ refl
 
-  pub FitsAgain-decryption : (input : List ℕ) → decryption limit secrets input ≡ Ok opened → FitsAgain limit opened.output
+  pub FitsAgain-decryption : (input : List ℕ) → decryption limit secrets input ≡ Ok opened
+      → FitsAgain limit opened.output
   FitsAgain-decryption input is = by_payload (read_within limit input) refl
     where
-      by_payload : (read : Result Payload TextFault) → read_within limit input ≡ read → FitsAgain limit opened.output
+      by_payload : (read : Result Payload TextFault) → read_within limit input ≡ read
+          → FitsAgain limit opened.output
       by_payload (Err fault) known =
-          let wrong = sym (decryption-Err limit secrets input (of_text fault) (sym (ap (result_map_both (λ payload. payload) of_text) known))) ∙ is in absurd cc
+          let answer : Err (of_text fault) ≡ payload_of limit input =
+          sym (ap (result_map_both (λ payload. payload) of_text) known) in
+          let wrong = sym (decryption-Err limit secrets input (of_text fault) answer) ∙ is in
+          absurd cc
       by_payload (Ok payload) known =
+          let answer : Ok payload ≡ payload_of limit input =
+          sym (ap (result_map_both (λ payload. payload) of_text) known) in
           FitsAgain-opening payload (rw known at (read_within-fits limit input))
-          (sym (decryption-Ok limit secrets input payload (sym (ap (result_map_both (λ payload. payload) of_text) known))) ∙ is)
+          (sym (decryption-Ok limit secrets input payload answer) ∙ is)

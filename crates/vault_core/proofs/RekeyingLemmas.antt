@@ -1,5 +1,6 @@
 -- The answers of rekeying, by what is read, and of resealing, by what opening gives.
-use Rattle.std.proofs.Common.{◌≡◌, ◌≢◌, ℕ, true, false, List, Result, Ok, Err, refl, sym, ◌∙◌, inl, inr}
+use Rattle.std.proofs.Common.{◌≡◌, ◌≢◌, ℕ, true, false, List, Result}
+use Rattle.std.proofs.Common.{Ok, Err, refl, sym, ◌∙◌, inl, inr}
 use Rattle.std.proofs.lemmas.Bool.{cases_Bool}
 use Rattle.vault_text.specs.Envelope.{Payload}
 use Rattle.vault_core.specs.Decryption.{payload_of}
@@ -10,13 +11,14 @@ use Rattle.vault_core.specs.Ready.{Ready}
 use Rattle.vault_core.specs.Rekeying.{rekeying, resealing}
 use Rattle.vault_core.specs.Sealing.{sealed, text_in}
 use Rattle.vault_core.specs.Secrets.{Secret, SecretList}
-use Rattle.vault_core.specs.declared.fault.Fault.{Fault}
-use Rattle.vault_core.specs.declared.fault.Fault.TheVariants.{AlreadyVault, Read}
-use Rattle.vault_core.specs.declared.fault.Role.TheVariants.{Input}
+use Rattle.vault_common.specs.declared.fault.Fault.{Fault}
+use Rattle.vault_common.specs.declared.fault.Fault.TheVariants.{AlreadyVault, Read}
+use Rattle.vault_common.specs.declared.fault.Role.TheVariants.{Input}
 use Rattle.vault_core.proofs.DecryptionLemmas.{opening-is_no_read}
 
 module _ (limit : ℕ) (secrets : SecretList) (new : Secret) (salt input : List ℕ) where
-  pub rekeying-no_payload : (fault : Fault) → Err fault ≡ payload_of limit input → rekeying limit secrets new salt input ≡ Err fault
+  pub rekeying-no_payload : (fault : Fault) → Err fault ≡ payload_of limit input
+      → rekeying limit secrets new salt input ≡ Err fault
   unfolding rekeying
   rekeying-no_payload fault h = rw (← h) refl
 
@@ -26,22 +28,29 @@ module _ (limit : ℕ) (secrets : SecretList) (new : Secret) (salt input : List 
   rekeying-payload payload h = rw (← h) refl
 
 module _ (secrets : SecretList) (new : Secret) (salt : List ℕ) (payload : Payload) where
-  pub resealing-Err : (fault : Fault) → Err fault ≡ opening secrets payload → resealing secrets new salt payload ≡ Err fault
+  pub resealing-Err : (fault : Fault) → Err fault ≡ opening secrets payload
+      → resealing secrets new salt payload ≡ Err fault
   unfolding resealing
   resealing-Err fault h = rw (← h) refl
 
-  pub resealing-vault : (opened : Ready) → Ok opened ≡ opening secrets payload → is_vault opened.output ≡ true
+  pub resealing-vault : (opened : Ready) → Ok opened ≡ opening secrets payload
+      → is_vault opened.output ≡ true
       → resealing secrets new salt payload ≡ Err AlreadyVault
   unfolding resealing
   resealing-vault opened h vault = rw (← h, vault) refl
 
-  pub resealing-sealed : (opened : Ready) → Ok opened ≡ opening secrets payload → is_vault opened.output ≡ false
+  pub resealing-sealed : (opened : Ready) → Ok opened ≡ opening secrets payload
+      → is_vault opened.output ≡ false
       → resealing secrets new salt payload
-      ≡ Ok (record { output = text_in Envelope (sealed new salt opened.output); tried = opened.tried })
+      ≡ Ok (record {
+        output = text_in Envelope (sealed new salt opened.output);
+        tried = opened.tried;
+      })
   unfolding resealing
   resealing-sealed opened h plain = rw (← h, plain) refl
 
-module _ (secrets : SecretList) (new : Secret) (salt : List ℕ) (payload : Payload) (fault : Fault) (refused : resealing secrets new salt payload ≡ Err fault) where
+module _ (secrets : SecretList) (new : Secret) (salt : List ℕ) (payload : Payload) (fault : Fault)
+    (refused : resealing secrets new salt payload ≡ Err fault) where
   pub resealing-is_no_read : fault ≢ Read Input
   resealing-is_no_read read = by_opened (opening secrets payload) refl
     where
@@ -50,6 +59,12 @@ module _ (secrets : SecretList) (new : Secret) (salt : List ℕ) (payload : Payl
           let same = sym (resealing-Err secrets new salt payload other (sym known)) ∙ refused in
           opening-is_no_read secrets payload other known cc
       by_opened (Ok opened) known = elim (cases_Bool (is_vault opened.output)) [
-        | inl vault ↦ let same = sym (resealing-vault secrets new salt payload opened (sym known) vault) ∙ refused in cc
-        | inr plain ↦ let other = sym (resealing-sealed secrets new salt payload opened (sym known) plain) ∙ refused in cc
+        | inl vault ↦
+            let same =
+            sym (resealing-vault secrets new salt payload opened (sym known) vault) ∙ refused in
+            cc
+        | inr plain ↦
+            let other =
+            sym (resealing-sealed secrets new salt payload opened (sym known) plain) ∙ refused in
+            cc
       ]

@@ -24,7 +24,8 @@ module _ (sealing : Secret) (salt plain : List ℕ) where
   abbrev vault : Payload
   vault = sealed sealing salt plain
 
-  agrees-sealed : (secret : Secret) → secret.password ≡ sealing.password → agrees vault secret ≡ true
+  agrees-sealed : (secret : Secret) → secret.password ≡ sealing.password
+      → agrees vault secret ≡ true
   unfolding agrees sealed
   agrees-sealed secret same = rw same (bytes_eq-same vault.tag)
 
@@ -32,15 +33,19 @@ module _ (sealing : Secret) (salt plain : List ℕ) where
       → plaintext_of vault secret ≡ Some plain
   unfolding sealed
   plain-sealed secret same =
-      rw same (ap without_padding (counter_mode-counter_mode _ _ (padded plain)) ∙ without_padding-padded plain (padded plain) refl)
+      rw same (ap without_padding (counter_mode-counter_mode _ _ (padded plain))
+      ∙ without_padding-padded plain (padded plain) refl)
 
 pub sealed_opens : SealedOpens
 sealed_opens secrets sealing salt plain tried =
     let payload : Payload = sealed sealing salt plain in
     let first = tried.0 in
     let agreed = agrees-sealed sealing salt plain first tried.3 in
-    let order : tried_order secrets payload.label ≡ first ∷ tried.1 = ap (tried_order secrets) (label-sealed sealing salt plain) ∙ tried.2 in
-    let found : find (agrees payload) (tried_order secrets payload.label) ≡ Some first = rw (order, agreed) refl in
-    let once : tries payload (tried_order secrets payload.label) ≡ 1 = ap (tries payload) order ∙ tries-cons_yes payload first tried.1 agreed in
+    let order : tried_order secrets payload.label ≡ first ∷ tried.1 =
+    ap (tried_order secrets) (label-sealed sealing salt plain) ∙ tried.2 in
+    let found : find (agrees payload) (tried_order secrets payload.label) ≡ Some first =
+    rw (order, agreed) refl in
+    let once : tries payload (tried_order secrets payload.label) ≡ 1 =
+    ap (tries payload) order ∙ tries-cons_yes payload first tried.1 agreed in
     opening-plain secrets payload first plain found (plain-sealed sealing salt plain first tried.3)
     ∙ ap (λ (n : ℕ). Ok (record { output = plain; tried = n })) once

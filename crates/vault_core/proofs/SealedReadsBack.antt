@@ -11,7 +11,7 @@ use Rattle.vault_text.specs.Limits.{ciphertext_limit}
 use Rattle.vault_text.specs.declared.limits.TheConstants.{SALT_LIMIT, TAG_LENGTH}
 use Rattle.vault_text.proofs.WrittenReadsBack.{written_reads_back}
 use Rattle.vault_core.specs.Decryption.{payload_of}
-use Rattle.vault_core.specs.Fault.{of_text}
+use Rattle.vault_common.specs.Fault.{of_text}
 use Rattle.vault_core.specs.Laws.{IsBytes, SealedReadsBack}
 use Rattle.vault_aes.specs.Padding.{padded_length}
 use Rattle.vault_core.specs.Sealing.{sealed}
@@ -42,7 +42,10 @@ sealed_reads_back limit sealing salt plain label salt_bytes salt_fits plain_byte
     let same_salt = salt-sealed sealing salt plain in
     let labelled = ap is_label (label-sealed sealing salt plain) ∙ label in
     let short : length vault.salt ≤ SALT_LIMIT = omega (arith, ap length same_salt, salt_fits) in
-    let room : length vault.cipher ≤ ciphertext_limit limit = omega (arith, length-ciphertext sealing salt plain, fits) in
+    let room : length vault.cipher ≤ ciphertext_limit limit =
+    omega (arith, length-ciphertext sealing salt plain, fits) in
     ap (payload_of limit) (text_in-Envelope vault)
-    ∙ ap (result_map_both (λ payload. payload) of_text) (written_reads_back limit vault.label vault.salt vault.tag vault.cipher
-    labelled (rw same_salt salt_bytes) short (tag-bytes sealing salt plain) (length-tag sealing salt plain) (ciphertext-bytes sealing salt plain plain_bytes) room)
+    ∙ ap (result_map_both (λ payload. payload) of_text)
+    (written_reads_back limit vault.label vault.salt vault.tag vault.cipher
+    labelled (rw same_salt salt_bytes) short (tag-bytes sealing salt plain)
+    (length-tag sealing salt plain) (ciphertext-bytes sealing salt plain plain_bytes) room)

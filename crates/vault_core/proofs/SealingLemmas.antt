@@ -13,14 +13,18 @@ use Rattle.vault_core.specs.Sealing.{sealed, text_in}
 use Rattle.vault_core.specs.Secrets.{Secret}
 
 -- the steps of sealing, one after the other
-pub sealed-from : (secret : Secret) (salt plain text ciphertext tag : List ℕ) (keys : Keys) → keys ≡ vault_keys secret.password salt
-    → text ≡ padded plain → ciphertext ≡ counter_mode (key_schedule keys.cipher) keys.iv text → tag ≡ hmac keys.mac ciphertext
-    → record { label = secret.label; salt = salt; tag = tag; cipher = ciphertext } ≡ sealed secret salt plain
+pub sealed-from : (secret : Secret) (salt plain text ciphertext tag : List ℕ) (keys : Keys)
+    → keys ≡ vault_keys secret.password salt
+    → text ≡ padded plain → ciphertext ≡ counter_mode (key_schedule keys.cipher) keys.iv text
+    → tag ≡ hmac keys.mac ciphertext
+    → record { label = secret.label; salt = salt; tag = tag; cipher = ciphertext }
+    ≡ sealed secret salt plain
 unfolding sealed
 sealed-from secret salt plain text ciphertext tag keys derived padding enciphered tagged =
     rw (tagged, enciphered, padding, derived) refl
 
-pub label-sealed : (secret : Secret) (salt plain : List ℕ) → (sealed secret salt plain).label ≡ secret.label
+pub label-sealed : (secret : Secret) (salt plain : List ℕ)
+    → (sealed secret salt plain).label ≡ secret.label
 unfolding sealed
 label-sealed secret salt plain = refl
 
@@ -28,6 +32,7 @@ pub salt-sealed : (secret : Secret) (salt plain : List ℕ) → (sealed secret s
 unfolding sealed
 salt-sealed secret salt plain = refl
 
-pub text_in-Envelope : (vault : Payload) → text_in Envelope vault ≡ written vault.label vault.salt vault.tag vault.cipher
+pub text_in-Envelope : (vault : Payload)
+    → text_in Envelope vault ≡ written vault.label vault.salt vault.tag vault.cipher
 unfolding text_in
 text_in-Envelope vault = refl

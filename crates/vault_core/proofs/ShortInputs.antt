@@ -6,25 +6,31 @@ use Rattle.std.proofs.lemmas.Bool.{le-ltb}
 use Rattle.vault_text.proofs.LimitFacts.{short_inputs}
 use Rattle.vault_core.specs.Decryption.{decryption, payload_of}
 use Rattle.vault_core.specs.Encryption.{encryption}
-use Rattle.vault_core.specs.Fault.{of_text}
+use Rattle.vault_common.specs.Fault.{of_text}
 use Rattle.vault_core.specs.Form.{Form}
 use Rattle.vault_core.specs.Rekeying.{rekeying}
 use Rattle.vault_core.specs.Secrets.{Secret, SecretList}
 
 module _ (smaller larger : ℕ) (input : List ℕ) (more : smaller ≤ larger) where
-  pub encryption-short : length input ≤ smaller → (secrets : List Secret) (place : ℕ) (form : Form) (salt : List ℕ)
-      → encryption larger secrets place form salt input ≡ encryption smaller secrets place form salt input
+  pub encryption-short : length input ≤ smaller
+      → (secrets : List Secret) (index : ℕ) (form : Form) (salt : List ℕ)
+      → encryption larger secrets index form salt input
+      ≡ encryption smaller secrets index form salt input
   unfolding encryption
-  encryption-short short secrets place form salt =
+  encryption-short short secrets index form salt =
       let fits : nat_lt smaller (length input) ≡ false = le-ltb _ _ short in
       let fits_more : nat_lt larger (length input) ≡ false = le-ltb _ _ (omega arith) in
       rw (fits, fits_more) refl
 
-module _ (smaller larger : ℕ) (input : List ℕ) (more : smaller ≤ larger) (short : length input ≤ 4 * smaller) where
+module _ (smaller larger : ℕ) (input : List ℕ) (more : smaller ≤ larger)
+    (short : length input ≤ 4 * smaller) where
   payload_of-short : payload_of larger input ≡ payload_of smaller input
-  payload_of-short = ap (result_map_both (λ payload. payload) of_text) (short_inputs smaller larger input short more)
+  payload_of-short =
+      ap (result_map_both (λ payload. payload) of_text)
+      (short_inputs smaller larger input short more)
 
-  pub decryption-short : (secrets : SecretList) → decryption larger secrets input ≡ decryption smaller secrets input
+  pub decryption-short : (secrets : SecretList)
+      → decryption larger secrets input ≡ decryption smaller secrets input
   unfolding decryption
   decryption-short secrets = rw payload_of-short refl
 

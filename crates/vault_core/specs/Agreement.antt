@@ -20,4 +20,4 @@ agrees payload secret = bytes_eq (hmac (keys_of payload secret).mac payload.ciph
 -- how many of these secrets are tried, one after the other: up to the first that agrees, or all
 unfoldable pub tries : Payload → List Secret → ℕ
 tries payload order =
-    option_map_or (λ place. place + 1) (position (agrees payload) order) (length order)
+    option_map_or (λ index. index + 1) (position (agrees payload) order) (length order)

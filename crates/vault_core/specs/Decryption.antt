@@ -4,11 +4,11 @@ use Rattle.std.specs.Result.{result_map_both}
 use Rattle.vault_text.specs.Envelope.{Payload, read_within}
 use Rattle.vault_text.specs.Steps.{◌>>=◌}
 use Rattle.vault_core.specs.Agreement.{tries}
-use Rattle.vault_core.specs.Fault.{of_text}
+use Rattle.vault_common.specs.Fault.{of_text}
 use Rattle.vault_core.specs.Opening.{opening}
 use Rattle.vault_core.specs.Ready.{Ready}
 use Rattle.vault_core.specs.Secrets.{SecretList, tried_order}
-use Rattle.vault_core.specs.declared.fault.Fault.{Fault}
+use Rattle.vault_common.specs.declared.fault.Fault.{Fault}
 
 -- the payload of the input, or the fault that refuses it
 abbrev pub payload_of : ℕ → List ℕ → Result Payload Fault

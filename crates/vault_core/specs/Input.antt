@@ -1,13 +1,15 @@
 -- How a call reads its input.
-use Rattle.std.specs.Prelude.{◌≡◌, ◌≢◌, ℕ, ◌+◌, ◌⊎◌, Bool, IsTrue, List, length, Result, Ok, Err}
+use Rattle.std.specs.Prelude.{◌≡◌, ◌≢◌, ℕ, ◌+◌, ◌≤◌, ◌⊎◌, Bool, IsTrue, List, length}
+use Rattle.std.specs.Prelude.{Result, Ok, Err}
 use Rattle.vault_text.specs.Failures.{HasRisen}
-use Rattle.vault_core.specs.declared.fault.Fault.{Fault}
-use Rattle.vault_core.specs.declared.fault.Fault.TheVariants.{Read}
-use Rattle.vault_core.specs.declared.fault.Role.TheVariants.{Input}
+use Rattle.vault_text.specs.declared.source.Source.{Ghosts as SourceTerms}
+use Rattle.vault_common.specs.declared.fault.Fault.{Fault}
+use Rattle.vault_common.specs.declared.fault.Fault.TheVariants.{Read}
+use Rattle.vault_common.specs.declared.fault.Role.TheVariants.{Input}
 
 -- the end was told, or one byte more than the limit was given
-abbrev pub IsWhole : ℕ → Bool → List ℕ → Type 0
-IsWhole limit ended input = IsTrue ended ⊎ (length input ≡ limit + 1)
+abbrev pub IsReadToEndOrPastLimit : ℕ → Bool → List ℕ → Type 0
+IsReadToEndOrPastLimit limit ended input = IsTrue ended ⊎ (length input ≡ limit + 1)
 
 -- the source failed, and the call answered so
 abbrev pub IsUnreadable : ℕ → ℕ → Fault → Type 0
@@ -23,3 +25,14 @@ abbrev pub UnlessUnreadable : {T : Type 0} → ℕ → ℕ → Result T Fault �
 UnlessUnreadable before after (Ok x) failed read = (after ≡ before) × read
 UnlessUnreadable before after (Err fault) failed read =
     (IsUnreadable before after fault × failed) ⊎ (IsRefused before after fault × read)
+
+-- the call takes an input from its source, at most one byte more than the bound, and then answers:
+-- where the source failed, the input is within the bound, and the one fact holds; where it did not,
+-- the input was read to its end or past the bound, and the other fact holds of it
+abbrev pub ReadsThenAnswers : {S T : Type 0} → SourceTerms S → S → S → ℕ → Result T Fault
+    → Type 0 → (List ℕ → Type 0) → Type 0
+ReadsThenAnswers source old new bound result failed answered =
+    (input : List ℕ) × source.gives old input new × (length input ≤ bound + 1)
+    × UnlessUnreadable (source.failures old) (source.failures new) result
+    ((length input ≤ bound) × failed)
+    (IsReadToEndOrPastLimit bound (source.ended new) input × answered input)

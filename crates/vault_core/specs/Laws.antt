@@ -1,6 +1,6 @@
 -- Laws of the definitions, which hold of all secrets, salts and inputs.
 use Rattle.std.specs.Prelude.{◌≡◌, ℕ, ◌*◌, ◌≤◌, List, [], ◌∷◌, length, true, Ok}
-pub use Rattle.hex.specs.Hex.{IsBytes}
+pub use Rattle.vault_text.specs.Laws.{IsBytes}
 use Rattle.vault_text.specs.Label.{is_label}
 use Rattle.vault_text.specs.declared.limits.TheConstants.{SALT_LIMIT}
 use Rattle.vault_core.specs.Decryption.{decryption, payload_of}
@@ -13,7 +13,7 @@ use Rattle.vault_core.specs.Rekeying.{rekeying}
 use Rattle.vault_core.specs.Sealing.{sealed, text_in}
 use Rattle.vault_core.specs.Secrets.{Secret, SecretList, secret_at, tried_order}
 use Rattle.vault_text.specs.Limits.{ciphertext_limit}
-use Rattle.vault_core.specs.declared.label_rule.LabelRule.{LabelRule}
+use Rattle.vault_common.specs.declared.label_rule.LabelRule.{LabelRule}
 
 -- the first secret that is tried for a label has the password
 abbrev pub IsTriedFirst : SecretList → Secret → Type 0
@@ -39,11 +39,11 @@ SealedReadsBack =
 -- what was encrypted decrypts to the input, under each rule
 abbrev pub EncryptedDecrypts : Type 0
 EncryptedDecrypts =
-    (limit : ℕ) (list : List Secret) (place : ℕ) (salt input : List ℕ) (ready : Ready)
-    → is_label (secret_at place list).label ≡ true
+    (limit : ℕ) (list : List Secret) (index : ℕ) (salt input : List ℕ) (ready : Ready)
+    → is_label (secret_at index list).label ≡ true
     → IsBytes salt → length salt ≤ SALT_LIMIT → IsBytes input
-    → encryption limit list place Envelope salt input ≡ Ok ready
-    → (secrets : SecretList) → IsTriedFirst secrets (secret_at place list)
+    → encryption limit list index Envelope salt input ≡ Ok ready
+    → (secrets : SecretList) → IsTriedFirst secrets (secret_at index list)
     → decryption limit secrets ready.output ≡ Ok (record { output = input; tried = 1 })
 
 -- what was rekeyed decrypts with the new secret alone, under each rule, to what it decrypted to
@@ -65,10 +65,10 @@ RekeyedDecrypts =
 abbrev pub ShortInputs : Type 0
 ShortInputs =
     (smaller larger : ℕ) (input : List ℕ) → smaller ≤ larger
-    → (list : List Secret) (place : ℕ) (form : Form)
+    → (list : List Secret) (index : ℕ) (form : Form)
     (secrets : SecretList) (new : Secret) (salt : List ℕ)
     → (length input ≤ smaller
-    → encryption larger list place form salt input ≡ encryption smaller list place form salt input)
+    → encryption larger list index form salt input ≡ encryption smaller list index form salt input)
     × (length input ≤ 4 * smaller
     → (decryption larger secrets input ≡ decryption smaller secrets input)
     × (rekeying larger secrets new salt input ≡ rekeying smaller secrets new salt input))

@@ -2,7 +2,6 @@ pub mod Agreement
 pub mod Choice
 pub mod Decryption
 pub mod Encryption
-pub mod Fault
 pub mod Form
 pub mod Input
 pub mod Laws

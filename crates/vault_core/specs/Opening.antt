@@ -10,8 +10,8 @@ use Rattle.vault_core.specs.Agreement.{agrees, keys_of, tries}
 use Rattle.vault_aes.specs.Padding.{without_padding}
 use Rattle.vault_core.specs.Ready.{Ready}
 use Rattle.vault_core.specs.Secrets.{Secret, SecretList, tried_order}
-use Rattle.vault_core.specs.declared.fault.Fault.{Fault}
-use Rattle.vault_core.specs.declared.fault.Fault.TheVariants.{NoSecretFits, BadPadding}
+use Rattle.vault_common.specs.declared.fault.Fault.{Fault}
+use Rattle.vault_common.specs.declared.fault.Fault.TheVariants.{NoSecretFits, BadPadding}
 
 -- the ciphertext deciphered (SP 800-38A, section 6.5), which gives the plaintext with its padding
 abbrev pub deciphered_by : Keys → List ℕ → List ℕ

@@ -1,9 +1,9 @@
--- What a `Ready` writes.
+-- What is written.
 use Rattle.std.specs.Prelude.{ℕ, List}
 use Rattle.vault_core.specs.Form.{form_of}
 use Rattle.vault_core.specs.Sealing.{text_in}
-use Rattle.vault_core.specs.declared.output.Output.{Output}
-use Rattle.vault_core.specs.declared.output.Output.TheVariants.{Plain, Vault}
+use Rattle.vault_core.specs.declared.ready.Output.{Output}
+use Rattle.vault_core.specs.declared.ready.Output.TheVariants.{Plain, Vault}
 
 -- plaintext as it is, or a vault in its form
 abbrev pub output_bytes : Output → List ℕ

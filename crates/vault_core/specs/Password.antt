@@ -2,6 +2,8 @@
 use Rattle.std.specs.Prelude.{ℕ, ◌==◌, ◌≤◌, nat_eq, nat_lt, if◌then◌else◌, List, length, codes}
 use Rattle.std.specs.Prelude.{Result, Ok, Err}
 use Rattle.std.specs.List.{starts_with}
+use Rattle.vault_common.specs.declared.fault.Fault.{Fault}
+use Rattle.vault_common.specs.declared.fault.Fault.TheVariants as fault
 use Rattle.vault_text.specs.Header.{marker}
 use Rattle.vault_text.specs.Whitespace.{strip}
 use Rattle.vault_core.specs.declared.limits.TheConstants.{PASSWORD_FILE_LIMIT}
@@ -22,3 +24,10 @@ password_of file =
     else if starts_with nat_eq file marker then Err SecretIsVault
     else if length (strip file) == 0 then Err SecretEmpty
     else Ok (strip file)
+
+-- the fault of the name that a secret fault has
+abbrev pub of_secret : SecretFault → Fault
+of_secret SecretTooLong = fault.SecretTooLong
+of_secret SecretIsScript = fault.SecretIsScript
+of_secret SecretIsVault = fault.SecretIsVault
+of_secret SecretEmpty = fault.SecretEmpty

@@ -9,8 +9,8 @@ use Rattle.vault_core.specs.Opening.{opening}
 use Rattle.vault_core.specs.Ready.{Ready}
 use Rattle.vault_core.specs.Sealing.{sealed, text_in}
 use Rattle.vault_core.specs.Secrets.{Secret, SecretList}
-use Rattle.vault_core.specs.declared.fault.Fault.{Fault}
-use Rattle.vault_core.specs.declared.fault.Fault.TheVariants.{AlreadyVault}
+use Rattle.vault_common.specs.declared.fault.Fault.{Fault}
+use Rattle.vault_common.specs.declared.fault.Fault.TheVariants.{AlreadyVault}
 
 -- the plaintext of the payload in an envelope under the new secret and the new salt, or the first
 -- fault

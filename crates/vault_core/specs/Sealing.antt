@@ -12,7 +12,7 @@ use Rattle.vault_text.specs.Written.{written}
 use Rattle.vault_core.specs.Form.{Form, Envelope, Block}
 use Rattle.vault_aes.specs.Padding.{padded}
 use Rattle.vault_core.specs.Secrets.{Secret}
-use Rattle.vault_core.specs.declared.fault.Fault.{Fault}
+use Rattle.vault_common.specs.declared.fault.Fault.{Fault}
 
 -- the plaintext padded (RFC 5652, section 6.3) and enciphered (SP 800-38A, section 6.5)
 abbrev pub enciphered_by : Keys → List ℕ → List ℕ
@@ -36,7 +36,7 @@ unfoldable pub text_in : Form → Payload → List ℕ
 text_in Envelope vault = written vault.label vault.salt vault.tag vault.cipher
 text_in (Block name) vault = block name vault.label vault.salt vault.tag vault.cipher
 
--- how many keys are derived to seal: one, and none where the call refuses
+-- how many keys are derived to seal: one, and none where the answer is a fault
 abbrev pub sealing_derivations : {T : Type 0} → Result T Fault → ℕ
 sealing_derivations (Ok x) = 1
 sealing_derivations (Err fault) = 0

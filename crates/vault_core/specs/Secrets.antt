@@ -1,8 +1,8 @@
 -- Secrets, and the order in which they are tried.
 use Rattle.std.specs.Prelude.{ℕ, not, Bool, List, [], ◌++◌, filter, slice_index_or}
 use Rattle.std.specs.Str.{bytes_eq}
-use Rattle.vault_core.specs.declared.label_rule.LabelRule.{LabelRule}
-use Rattle.vault_core.specs.declared.label_rule.LabelRule.TheVariants.{Hint, Required}
+use Rattle.vault_common.specs.declared.label_rule.LabelRule.{LabelRule}
+use Rattle.vault_common.specs.declared.label_rule.LabelRule.TheVariants.{Hint, Required}
 
 -- a password under a label
 pub record Secret : Type 0 where
@@ -14,9 +14,9 @@ pub record SecretList : Type 0 where
   pub secrets : List Secret
   pub rule : LabelRule
 
--- the secret at a place, from 0; past the end an empty one
+-- the secret at an index, from 0; past the end an empty one
 abbrev pub secret_at : ℕ → List Secret → Secret
-secret_at place secrets = slice_index_or secrets place (record { label = []; password = [] })
+secret_at index secrets = slice_index_or secrets index (record { label = []; password = [] })
 
 -- whether the secret has this label
 abbrev pub has_label : List ℕ → Secret → Bool

@@ -1,16 +1,16 @@
 //! Which secret agrees with an envelope: trying secrets one after the other.
 ghost use Rattle.std.specs.Prelude.{◌≡◌, ◌+◌, ◌<◌, ◌^◌, Some, None, if◌then◌else◌, length};
-ghost use Rattle.std.specs.Prelude.{filter, find};
+ghost use Rattle.std.specs.Prelude.{filter, find, IsTrue, ◌↔◌};
 ghost use Rattle.std.specs.Bool.{beq};
 ghost use Rattle.std.specs.Option.{option_map};
 ghost use Rattle.vault_core.specs.Agreement.{agrees, keys_of, tries};
 ghost use Rattle.vault_core.specs.Secrets.{has_label, tried_order};
 
-use crate::label_rule::LabelRule;
 use crate::secret::Secret;
 use crate::secrets::Secrets;
+use vault_common::LabelRule;
 use vault_kdf::{Keys, Meter, derive, hmac};
-use vault_text::Payload;
+use vault_text::{Payload, TAG_LENGTH};
 
 /// The keys of the first secret in the tried order that agrees with the payload. Keys are derived
 /// for a secret only when its turn comes, and for none after the one that agrees.
@@ -65,9 +65,21 @@ fn keys_if_agreeing(secret: &Secret, payload: &Payload, meter: &mut Meter) -> Op
     ensures counted { meter.new ≡ meter.old + 1 }
 {
     let keys = derive(secret.password, payload.salt().as_bytes(), meter);
-    if hmac(&keys.mac, payload.cipher()) == *payload.tag() {
+    if is_same_tag(&hmac(&keys.mac, payload.cipher()), payload.tag()) {
         Some(keys)
     } else {
         None
     }
+}
+
+/// Whether two tags are one. The differences of all their bytes are gathered before they are looked
+/// at, so that the loop does not end where the first difference lies.
+fn is_same_tag(one: &[u8; TAG_LENGTH], other: &[u8; TAG_LENGTH]) -> bool
+    ensures { IsTrue result ↔ (one.now ≡ other.now) }
+{
+    let mut differences = 0;
+    for i in 0..TAG_LENGTH {
+        differences |= one[i] ^ other[i];
+    }
+    differences == 0
 }

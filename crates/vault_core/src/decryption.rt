@@ -1,17 +1,17 @@
 //! Decrypting a vault.
-ghost use Rattle.std.specs.Prelude.{◌≡◌, ℕ, ◌+◌, ◌<◌, ◌≤◌, ◌^◌, List, [], length};
+ghost use Rattle.std.specs.Prelude.{◌≡◌, ◌+◌, ◌<◌, ◌^◌, [], length};
 ghost use Rattle.vault_core.specs.Agreement.{tries};
 ghost use Rattle.vault_core.specs.Decryption.{decryption, decryption_derivations};
-ghost use Rattle.vault_core.specs.Input.{IsWhole, UnlessUnreadable};
+ghost use Rattle.vault_core.specs.Input.{ReadsThenAnswers};
 ghost use Rattle.vault_core.specs.Opening.{opening};
 ghost use Rattle.vault_core.specs.Secrets.{tried_order};
 ghost use Rattle.vault_text.specs.Limits.{IsWorkLength, envelope_limit, limit_of};
 
-use crate::fault::Fault;
 use crate::input::read_payload;
 use crate::opening::open;
 use crate::ready::Ready;
 use crate::secrets::Secrets;
+use vault_common::Fault;
 use vault_kdf::Meter;
 use vault_text::{Payload, Source, TextMemory};
 
@@ -32,12 +32,9 @@ pub fn prepare_decrypt<'a, S: Source>(
     requires room { IsWorkLength (length work.old) }
     requires countable { meter.old < 2 ^ 62 }
     ensures answer { let limit = limit_of (length work.old) in
-        (input : List ℕ) × S.gives src.old input src.new
-        × (length input ≤ envelope_limit limit + 1)
-        × UnlessUnreadable (S.failures src.old) (S.failures src.new) result
-        ((length input ≤ envelope_limit limit) × (meter.new ≡ meter.old))
-        (IsWhole (envelope_limit limit) (S.ended src.new) input
-        × (result ≡ decryption limit secrets.now input)
+        ReadsThenAnswers S.Source src.old src.new (envelope_limit limit) result
+        (meter.new ≡ meter.old)
+        (λ input. (result ≡ decryption limit secrets.now input)
         × (meter.new ≡ meter.old + decryption_derivations limit secrets.now input)) }
 {
     prepare_decrypt_in(src, TextMemory::lent(work), secrets, meter)
@@ -54,12 +51,9 @@ pub fn prepare_decrypt_in<'a, S: Source>(
     requires room { IsWorkLength memory.limit }
     requires countable { meter.old < 2 ^ 62 }
     ensures answer { let limit = limit_of memory.entry.limit in
-        (input : List ℕ) × S.gives src.old input src.new
-        × (length input ≤ envelope_limit limit + 1)
-        × UnlessUnreadable (S.failures src.old) (S.failures src.new) result
-        ((length input ≤ envelope_limit limit) × (meter.new ≡ meter.old))
-        (IsWhole (envelope_limit limit) (S.ended src.new) input
-        × (result ≡ decryption limit secrets.now input)
+        ReadsThenAnswers S.Source src.old src.new (envelope_limit limit) result
+        (meter.new ≡ meter.old)
+        (λ input. (result ≡ decryption limit secrets.now input)
         × (meter.new ≡ meter.old + decryption_derivations limit secrets.now input)) }
 {
     let payload = read_payload(src, memory)?;

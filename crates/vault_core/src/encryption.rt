@@ -1,22 +1,22 @@
 //! Encrypting a plaintext.
-ghost use Rattle.std.specs.Prelude.{◌≡◌, ℕ, ◌+◌, ◌<◌, ◌≤◌, ◌^◌, List, [], length};
+ghost use Rattle.std.specs.Prelude.{◌≡◌, ℕ, ◌+◌, ◌<◌, ◌≤◌, ◌^◌, [], length};
 ghost use Rattle.vault_core.specs.Encryption.{encryption, is_vault};
 ghost use Rattle.vault_core.specs.Form.{form_of};
-ghost use Rattle.vault_core.specs.Input.{IsWhole, UnlessUnreadable};
+ghost use Rattle.vault_core.specs.Input.{ReadsThenAnswers};
 ghost use Rattle.vault_core.specs.Sealing.{sealing_derivations};
 ghost use Rattle.vault_text.specs.Limits.{IsWorkLength, limit_of};
 ghost use Rattle.vault_text.specs.declared.limits.TheConstants.{PADDING_LIMIT};
 
-use crate::fault::Fault;
 use crate::form::Form;
 use crate::input::read_plaintext;
 use crate::ready::Ready;
 use crate::sealing::seal;
 use crate::secrets::Secrets;
+use vault_common::Fault;
 use vault_kdf::Meter;
 use vault_text::{MARKER, PADDING_LIMIT, Salt, Source, TextMemory};
 
-/// Reads a plaintext and seals it with the secret at the place, counted from 0.
+/// Reads a plaintext and seals it with the secret at the index, counted from 0.
 ///
 /// All of it happens in `work`, of 16 bytes to `CIPHERTEXT_LIMIT`: a plaintext is taken that fits
 /// there with a whole block of padding. The input is read to its end, or to one byte more than is
@@ -26,29 +26,25 @@ pub fn prepare_encrypt<'a, S: Source>(
     src: &mut S,
     work: &'a mut [u8],
     secrets: &'a Secrets,
-    place: usize,
+    index: usize,
     form: Form<'a>,
     salt: &'a Salt,
     meter: &mut Meter,
 ) -> Result<Ready<'a>, Fault>
     requires room { IsWorkLength (length work.old) }
-    requires chosen { place < length secrets.now.secrets }
+    requires chosen { index < length secrets.now.secrets }
     requires countable { meter.old < 2 ^ 62 }
     ensures answer { let limit = limit_of (length work.old) in
-        (input : List ℕ) × S.gives src.old input src.new
-        × (length input ≤ limit + 1)
-        × UnlessUnreadable (S.failures src.old) (S.failures src.new) result
-        ((length input ≤ limit) × (meter.new ≡ meter.old))
-        (IsWhole limit (S.ended src.new) input
-        × (result
-        ≡ encryption limit secrets.now.secrets place (form_of form.entry) salt.now input)
+        ReadsThenAnswers S.Source src.old src.new limit result (meter.new ≡ meter.old)
+        (λ input. (result
+        ≡ encryption limit secrets.now.secrets index (form_of form.entry) salt.now input)
         × (meter.new ≡ meter.old + sealing_derivations result)) }
 {
     prepare_encrypt_in(
         src,
         TextMemory::lent(work),
         secrets,
-        place,
+        index,
         form,
         salt,
         meter,
@@ -60,27 +56,23 @@ pub fn prepare_encrypt_in<'a, S: Source>(
     src: &mut S,
     mut memory: TextMemory<'a>,
     secrets: &'a Secrets,
-    place: usize,
+    index: usize,
     form: Form<'a>,
     salt: &'a Salt,
     meter: &mut Meter,
 ) -> Result<Ready<'a>, Fault>
     requires empty { memory.bytes ≡ [] }
     requires room { IsWorkLength memory.limit }
-    requires chosen { place < length secrets.now.secrets }
+    requires chosen { index < length secrets.now.secrets }
     requires countable { meter.old < 2 ^ 62 }
     ensures answer { let limit = limit_of memory.entry.limit in
-        (input : List ℕ) × S.gives src.old input src.new
-        × (length input ≤ limit + 1)
-        × UnlessUnreadable (S.failures src.old) (S.failures src.new) result
-        ((length input ≤ limit) × (meter.new ≡ meter.old))
-        (IsWhole limit (S.ended src.new) input
-        × (result
-        ≡ encryption limit secrets.now.secrets place (form_of form.entry) salt.now input)
+        ReadsThenAnswers S.Source src.old src.new limit result (meter.new ≡ meter.old)
+        (λ input. (result
+        ≡ encryption limit secrets.now.secrets index (form_of form.entry) salt.now input)
         × (meter.new ≡ meter.old + sealing_derivations result)) }
 {
     read_plaintext(src, &mut memory)?;
-    encrypt_plaintext(memory, secrets, place, form, salt, meter)
+    encrypt_plaintext(memory, secrets, index, form, salt, meter)
 }
 
 /// Seals the plaintext that the memory holds, in which a whole block of padding has room behind it;
@@ -88,16 +80,16 @@ pub fn prepare_encrypt_in<'a, S: Source>(
 fn encrypt_plaintext<'a>(
     memory: TextMemory<'a>,
     secrets: &'a Secrets,
-    place: usize,
+    index: usize,
     form: Form<'a>,
     salt: &'a Salt,
     meter: &mut Meter,
 ) -> Result<Ready<'a>, Fault>
     requires within { length memory.bytes + PADDING_LIMIT ≤ memory.limit }
-    requires chosen { place < length secrets.now.secrets }
+    requires chosen { index < length secrets.now.secrets }
     requires countable { meter.old < 2 ^ 62 }
     ensures answer { (limit : ℕ) → length memory.entry.bytes ≤ limit
-        → result ≡ encryption limit secrets.now.secrets place (form_of form.entry) salt.now
+        → result ≡ encryption limit secrets.now.secrets index (form_of form.entry) salt.now
         memory.entry.bytes }
     ensures counted { meter.new ≡ meter.old + sealing_derivations result }
 {
@@ -109,7 +101,7 @@ fn encrypt_plaintext<'a>(
     if is_vault(&work[..n]) {
         return Err(Fault::AlreadyVault);
     }
-    let secret = secrets.get(place).to_seal_with();
+    let secret = secrets.get(index).to_seal_with();
     let vault = seal(work, n, &secret, salt, meter);
     Ok(Ready::vault(vault, form, 0))
 }

@@ -4,11 +4,11 @@ ghost use Rattle.std.specs.Prelude.{IsTrue, IfOk, OnErr, MatchResult};
 ghost use Rattle.vault_text.specs.EnvelopeReader.{StandsFor};
 ghost use Rattle.vault_text.specs.Failures.{CountsFailure};
 ghost use Rattle.vault_core.specs.Decryption.{payload_of};
-ghost use Rattle.vault_core.specs.Input.{IsWhole, UnlessUnreadable};
+ghost use Rattle.vault_core.specs.Input.{IsReadToEndOrPastLimit, UnlessUnreadable};
 ghost use Rattle.vault_text.specs.Limits.{IsWorkLength, envelope_limit, limit_of};
-ghost use Rattle.vault_core.specs.declared.fault.Fault.TheVariants.{TooLong};
+ghost use Rattle.vault_common.specs.declared.fault.Fault.TheVariants.{TooLong};
 
-use crate::fault::Fault;
+use vault_common::Fault;
 use vault_text::{EnvelopeReader, PADDING_LIMIT, Payload, Source, SourceFailed, TextMemory};
 
 /// How many bytes a source is asked for at once.
@@ -26,7 +26,7 @@ pub(crate) fn read_plaintext<S: Source>(src: &mut S, memory: &mut TextMemory) ->
         × (length input ≤ limit + 1)
         × UnlessUnreadable (S.failures src.old) (S.failures src.new) result
         (length input ≤ limit)
-        (IsWhole limit (S.ended src.new) input × MatchResult result
+        (IsReadToEndOrPastLimit limit (S.ended src.new) input × MatchResult result
         (λ _. length input ≤ limit)
         (λ fault. (fault ≡ TooLong) × (limit < length input))) }
 {
@@ -47,7 +47,7 @@ fn put_input<S: Source>(src: &mut S, memory: &mut TextMemory) -> Result<(), Sour
         let input = memory.new.bytes in
         S.gives src.old input src.new
         × (length input ≤ limit + 1)
-        × MatchResult result (λ _. IsWhole limit (S.ended src.new) input)
+        × MatchResult result (λ _. IsReadToEndOrPastLimit limit (S.ended src.new) input)
         (λ _. length input ≤ limit) }
     ensures failed { CountsFailure (S.failures src.old) (S.failures src.new) result }
 {
@@ -76,7 +76,7 @@ pub(crate) fn read_payload<'a, S: Source>(
         × (length input ≤ envelope_limit limit + 1)
         × UnlessUnreadable (S.failures src.old) (S.failures src.new) result
         (length input ≤ envelope_limit limit)
-        (IsWhole (envelope_limit limit) (S.ended src.new) input
+        (IsReadToEndOrPastLimit (envelope_limit limit) (S.ended src.new) input
         × (result ≡ payload_of limit input)) }
 {
     let mut reader = EnvelopeReader::in_memory(memory);
@@ -90,7 +90,7 @@ fn feed_input<S: Source>(src: &mut S, reader: &mut EnvelopeReader) -> Result<(),
     ensures fed { let limit = envelope_limit reader.old.limit in
         (input : List ℕ) × S.gives src.old input src.new
         × (length input ≤ limit + 1)
-        × MatchResult result (λ _. IsWhole limit (S.ended src.new) input)
+        × MatchResult result (λ _. IsReadToEndOrPastLimit limit (S.ended src.new) input)
         (λ _. length input ≤ limit)
         × ((before : List ℕ) → StandsFor reader.old before
         → StandsFor reader.new (before ++ input)) }
@@ -109,7 +109,7 @@ fn feed_input<S: Source>(src: &mut S, reader: &mut EnvelopeReader) -> Result<(),
     Ok(())
 }
 
-/// The bytes that the source gives next, none at the end, at the front of the buffer.
+/// The bytes that the source gives next, none at the end, at the start of the buffer.
 fn next_piece<'b, S: Source>(src: &mut S, buffer: &'b mut [u8]) -> Result<&'b [u8], SourceFailed>
     requires { 0 < length buffer.old }
     ensures gives { IfOk result (λ piece. S.gives src.old piece.now src.new) }

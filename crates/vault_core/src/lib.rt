@@ -4,14 +4,14 @@
 //! ```rust
 //! let mut secrets = Secrets::new();
 //! secrets.push(Label::new("dev")?, password_of(b"secret\n")?)?;
-//! let place = secrets.encrypt_choice(None)?;
+//! let index = secrets.encrypt_choice(None)?;
 //! let salt = Salt::new(b"a salt of its own").unwrap();
 //! let mut work = [0; 64];
 //! let mut src = MemSource::new(b"plaintext", 4_096);
 //! let mut sink = MemSink::new(alloc, 4_096);
 //! let mut meter = Meter::new();
 //! let form = Form::Envelope;
-//! prepare_encrypt(&mut src, &mut work, &secrets, place, form, &salt, &mut meter)?
+//! prepare_encrypt(&mut src, &mut work, &secrets, index, form, &salt, &mut meter)?
 //!     .write_to(&mut sink)?;
 //! assert!(rt; sink.bytes().starts_with(b"$ANSIBLE_VAULT;1.2;AES256;dev\n"));
 //! ```
@@ -21,32 +21,26 @@ mod agreement;
 mod choice;
 mod decryption;
 mod encryption;
-mod fault;
 mod form;
 mod input;
-mod label_rule;
 pub mod laws;
 mod limits;
 mod opening;
-mod output;
 mod password;
 mod ready;
 mod rekeying;
 mod sealing;
 mod secret;
 mod secrets;
-#[cfg(test)]
-mod tests;
 
 pub use choice::ChoiceFault;
 pub use decryption::{prepare_decrypt, prepare_decrypt_in};
 pub use encryption::{prepare_encrypt, prepare_encrypt_in};
-pub use fault::{Fault, Role};
 pub use form::Form;
-pub use label_rule::LabelRule;
-pub use limits::{PASSWORD_FILE_LIMIT, SECRET_COUNT_LIMIT};
+pub use limits::PASSWORD_FILE_LIMIT;
 pub use password::{SecretFault, password_of};
 pub use ready::{Ready, WriteFault};
 pub use rekeying::{prepare_rekey, prepare_rekey_in};
 pub use secret::SealingSecret;
 pub use secrets::{ListFault, Secrets};
+pub use vault_common::{Fault, LabelRule, Role, SECRET_COUNT_LIMIT};

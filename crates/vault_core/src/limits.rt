@@ -2,6 +2,3 @@
 
 /// A password file, and so a password, in bytes.
 pub const PASSWORD_FILE_LIMIT: usize = 4096;
-
-/// The secrets of a list.
-pub const SECRET_COUNT_LIMIT: usize = 16;

@@ -7,10 +7,10 @@ ghost use Rattle.vault_aes.specs.Padding.{padded_length, without_padding};
 ghost use Rattle.vault_core.specs.Secrets.{tried_order};
 
 use crate::agreement::agreeing_keys;
-use crate::fault::Fault;
 use crate::secrets::Secrets;
 use std::marker::Model;
 use vault_aes::{Key, ctr_apply, unpad};
+use vault_common::Fault;
 use vault_kdf::{Keys, Meter};
 use vault_text::Payload;
 

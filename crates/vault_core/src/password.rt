@@ -1,9 +1,10 @@
 //! Passwords, and the files that hold them.
 ghost use Rattle.std.specs.Prelude.{◌≡◌, IfOk, MatchResult};
-ghost use Rattle.vault_core.specs.Password.{IsPassword, password_of};
+ghost use Rattle.vault_core.specs.Password.{IsPassword, of_secret, password_of};
 
 use crate::limits::PASSWORD_FILE_LIMIT;
 use thiserror::Error;
+use vault_common::Fault;
 use vault_text::{MARKER, strip};
 
 const SCRIPT_MARKER: &[u8; 2] = b"#!";
@@ -19,6 +20,19 @@ pub enum SecretFault {
     SecretIsVault,
     #[error("a password is empty")]
     SecretEmpty,
+}
+
+impl From<SecretFault> for Fault {
+    ghost from_gives = { λ fault of. of ≡ of_secret fault };
+
+    fn from(fault: SecretFault) -> Self {
+        match fault {
+            SecretFault::SecretTooLong => Fault::SecretTooLong,
+            SecretFault::SecretIsScript => Fault::SecretIsScript,
+            SecretFault::SecretIsVault => Fault::SecretIsVault,
+            SecretFault::SecretEmpty => Fault::SecretEmpty,
+        }
+    }
 }
 
 /// The password in a password file: its bytes without the ASCII whitespace at both ends.

@@ -1,16 +1,18 @@
 //! Output that is ready to be written.
 ghost use Rattle.std.specs.Prelude.{◌≡◌, ◌≢◌, ℕ, take, OnOk, OnErr};
 ghost use Rattle.vault_text.specs.Failures.{CountsFailure};
+ghost use Rattle.vault_common.specs.declared.fault.Fault.TheVariants.{Write};
 ghost use Rattle.vault_core.specs.Form.{form_of};
+ghost use Rattle.vault_core.specs.Output.{output_bytes};
 ghost use Rattle.vault_core.specs.Sealing.{text_in};
 
 use crate::form::Form;
 use crate::opening::Opened;
-use crate::output::Output;
 use crate::sealing::Sealed;
 use std::marker::Model;
 use thiserror::Error;
-use vault_text::{Sink, SinkFailed, Stage};
+use vault_common::Fault;
+use vault_text::{Sink, SinkFailed, Stage, put_all, write_block, write_envelope};
 
 /// Why output was not written whole.
 #[derive(Clone, Copy, Debug, PartialEq, Eq, Error)]
@@ -19,9 +21,53 @@ pub enum WriteFault {
     Write,
 }
 
+impl From<WriteFault> for Fault {
+    ghost from_gives = { λ _ of. of ≡ Write };
+
+    fn from(_: WriteFault) -> Self {
+        Fault::Write
+    }
+}
+
 impl From<SinkFailed> for WriteFault {
     fn from(_: SinkFailed) -> Self {
         WriteFault::Write
+    }
+}
+
+/// What is written.
+#[derive(Drop)]
+enum Output<'a> {
+    Plain(&'a [u8]),
+    Vault(Sealed<'a>, Form<'a>),
+}
+
+impl<'a> Output<'a> {
+    /// Writes it. After a failure the sink has taken a prefix of it.
+    #[tactic(auto, unfolding(crate::specs::Sealing::text_in))]
+    fn write<K: Sink>(&self, sink: &mut K) -> Result<(), SinkFailed>
+        requires { K.stage sink.old ≡ Stage.Begun }
+        ensures takes { OnOk result (K.takes sink.old (output_bytes self.now) sink.new) }
+        ensures prefix { (n : ℕ) × K.takes sink.old (take n (output_bytes self.now)) sink.new }
+        ensures stage { K.stage sink.new ≡ Stage.Begun }
+        ensures failed { CountsFailure (K.failures sink.old) (K.failures sink.new) result }
+    {
+        match self {
+            Output::Plain(plain) => put_all(sink, plain),
+            Output::Vault(vault, Form::Envelope) => {
+                write_envelope(sink, vault.label, vault.salt, &vault.tag, vault.ciphertext)
+            }
+            Output::Vault(vault, Form::Block(name)) => {
+                write_block(
+                    sink,
+                    *name,
+                    vault.label,
+                    vault.salt,
+                    &vault.tag,
+                    vault.ciphertext,
+                )
+            }
+        }
     }
 }
 
@@ -66,7 +112,7 @@ impl<'a> Ready<'a> {
         }
     }
 
-    /// The place in the tried order, counted from 1, of the secret that agreed; 0 where none was
+    /// The position in the tried order, counted from 1, of the secret that agreed; 0 where none was
     /// tried.
     pub fn tried(&self) -> usize
         ensures { result ≡ self.now.tried }

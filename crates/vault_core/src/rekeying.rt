@@ -1,15 +1,14 @@
 //! Giving a vault a new secret.
-ghost use Rattle.std.specs.Prelude.{◌≡◌, ℕ, ◌+◌, ◌<◌, ◌≤◌, ◌^◌, List, [], length};
+ghost use Rattle.std.specs.Prelude.{◌≡◌, ◌+◌, ◌<◌, ◌^◌, [], length};
 ghost use Rattle.vault_core.specs.Agreement.{tries};
 ghost use Rattle.vault_core.specs.Decryption.{decryption_derivations};
-ghost use Rattle.vault_core.specs.Input.{IsWhole, UnlessUnreadable};
+ghost use Rattle.vault_core.specs.Input.{ReadsThenAnswers};
 ghost use Rattle.vault_core.specs.Rekeying.{rekeying, resealing};
 ghost use Rattle.vault_core.specs.Sealing.{sealing_derivations};
 ghost use Rattle.vault_core.specs.Secrets.{tried_order};
 ghost use Rattle.vault_text.specs.Limits.{IsWorkLength, envelope_limit, limit_of};
 
 use crate::encryption::is_vault;
-use crate::fault::Fault;
 use crate::form::Form;
 use crate::input::read_payload;
 use crate::opening::{Opened, open};
@@ -17,6 +16,7 @@ use crate::ready::Ready;
 use crate::sealing::seal;
 use crate::secret::SealingSecret;
 use crate::secrets::Secrets;
+use vault_common::Fault;
 use vault_kdf::Meter;
 use vault_text::{Label, Payload, Salt, Source, TextMemory};
 
@@ -38,12 +38,9 @@ pub fn prepare_rekey<'a, S: Source>(
     requires room { IsWorkLength (length work.old) }
     requires countable { meter.old < 2 ^ 62 }
     ensures answer { let limit = limit_of (length work.old) in
-        (input : List ℕ) × S.gives src.old input src.new
-        × (length input ≤ envelope_limit limit + 1)
-        × UnlessUnreadable (S.failures src.old) (S.failures src.new) result
-        ((length input ≤ envelope_limit limit) × (meter.new ≡ meter.old))
-        (IsWhole (envelope_limit limit) (S.ended src.new) input
-        × (result ≡ rekeying limit secrets.now
+        ReadsThenAnswers S.Source src.old src.new (envelope_limit limit) result
+        (meter.new ≡ meter.old)
+        (λ input. (result ≡ rekeying limit secrets.now
         (record { label = new.now; password = password.now }) salt.now input)
         × (meter.new ≡ meter.old + decryption_derivations limit secrets.now input
         + sealing_derivations result)) }
@@ -68,12 +65,9 @@ pub fn prepare_rekey_in<'a, S: Source>(
     requires room { IsWorkLength memory.limit }
     requires countable { meter.old < 2 ^ 62 }
     ensures answer { let limit = limit_of memory.entry.limit in
-        (input : List ℕ) × S.gives src.old input src.new
-        × (length input ≤ envelope_limit limit + 1)
-        × UnlessUnreadable (S.failures src.old) (S.failures src.new) result
-        ((length input ≤ envelope_limit limit) × (meter.new ≡ meter.old))
-        (IsWhole (envelope_limit limit) (S.ended src.new) input
-        × (result ≡ rekeying limit secrets.now new.now salt.now input)
+        ReadsThenAnswers S.Source src.old src.new (envelope_limit limit) result
+        (meter.new ≡ meter.old)
+        (λ input. (result ≡ rekeying limit secrets.now new.now salt.now input)
         × (meter.new ≡ meter.old + decryption_derivations limit secrets.now input
         + sealing_derivations result)) }
 {

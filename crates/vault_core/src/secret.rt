@@ -53,7 +53,7 @@ impl<'p> Secret<'p> {
     }
 }
 
-/// An unused place of a list.
+/// An unused slot of a list.
 impl<'p> Default for Secret<'p> {
     fn default() -> Self {
         Secret {

@@ -2,17 +2,17 @@
 ghost use Rattle.std.specs.Prelude.{◌≡◌, ◌<◌, ◌≤◌, ◌↔◌, [], ◌∷◌, ◌++◌, length, IsErr, IfOk};
 ghost use Rattle.std.specs.Prelude.{OnOk, OnErr};
 ghost use Rattle.std.specs.Option.{option_copied};
-ghost use Rattle.vault_core.specs.Choice.{chosen_place};
+ghost use Rattle.vault_core.specs.Choice.{chosen_index};
 ghost use Rattle.vault_core.specs.Password.{IsPassword};
-ghost use Rattle.vault_core.specs.declared.label_rule.LabelRule.TheVariants.{Hint};
+ghost use Rattle.vault_common.specs.declared.fault.Fault.TheVariants.{TooManySecrets};
+ghost use Rattle.vault_common.specs.declared.label_rule.LabelRule.TheVariants.{Hint};
 
-use crate::choice::{ChoiceFault, chosen_place};
-use crate::label_rule::LabelRule;
-use crate::limits::SECRET_COUNT_LIMIT;
+use crate::choice::{ChoiceFault, chosen_index};
 use crate::secret::Secret;
 use arrayvec::ArrayVec;
 use std::marker::Model;
 use thiserror::Error;
+use vault_common::{Fault, LabelRule, SECRET_COUNT_LIMIT};
 use vault_text::Label;
 
 /// Why a list takes no further secret.
@@ -20,6 +20,14 @@ use vault_text::Label;
 pub enum ListFault {
     #[error("more than 16 secrets were given")]
     TooManySecrets,
+}
+
+impl From<ListFault> for Fault {
+    ghost from_gives = { λ _ of. of ≡ TooManySecrets };
+
+    fn from(_: ListFault) -> Self {
+        Fault::TooManySecrets
+    }
 }
 
 /// A list of at most 16 secrets, whose passwords are borrowed, and what an envelope's label means
@@ -65,12 +73,12 @@ impl<'p> Secrets<'p> {
         self.list.as_slice()
     }
 
-    /// The secret at a place, counted from 0.
-    pub(crate) fn get(&self, place: usize) -> &Secret<'p>
-        requires { place < length self.now.secrets }
-        ensures { result.now ≡ secret_at place self.now.secrets }
+    /// The secret at an index, counted from 0.
+    pub(crate) fn get(&self, index: usize) -> &Secret<'p>
+        requires { index < length self.now.secrets }
+        ensures { result.now ≡ secret_at index self.now.secrets }
     {
-        &self.list.as_slice()[place]
+        &self.list.as_slice()[index]
     }
 
     pub(crate) fn rule(&self) -> LabelRule
@@ -101,12 +109,12 @@ impl<'p> Secrets<'p> {
         }
     }
 
-    /// The place, from 0, of the secret to encrypt with: the first of the label, or the only one
+    /// The index, from 0, of the secret to encrypt with: the first of the label, or the only one
     /// where no label is given.
     pub fn encrypt_choice(&self, label: Option<&Label>) -> Result<usize, ChoiceFault>
-        ensures choice { result ≡ chosen_place self.now.secrets (option_copied label.entry) }
-        ensures within { IfOk result (λ place. place < length self.now.secrets) }
+        ensures choice { result ≡ chosen_index self.now.secrets (option_copied label.entry) }
+        ensures within { IfOk result (λ index. index < length self.now.secrets) }
     {
-        chosen_place(self.as_slice(), label)
+        chosen_index(self.as_slice(), label)
     }
 }

@@ -8,8 +8,8 @@ use Rattle.std.proofs.lemmas.Bool.{false≢true}
 use Rattle.vault_text.specs.Failures.{HasRisen}
 use Rattle.vault_files.specs.File.{Answers, Finding, front}
 use Rattle.vault_files.specs.File.Finding.{Missing, Whole, Broken}
-use Rattle.vault_files.specs.Logged.{LoggedOpens, LoggedState}
-use Rattle.vault_files.specs.Memory.{IsAtEnd, IsReaderOf, ReaderState, Reads, new_reader}
+use Rattle.vault_files.specs.Memory.{IsAtEnd, IsReaderOf, ReaderState, Reads, StoreOpens}
+use Rattle.vault_files.specs.Memory.{StoreState, new_reader}
 use Rattle.vault_files.specs.declared.fault.FileFault.TheVariants.{CannotRead}
 
 -- where any file may be met, what was read to its end is the front of one
@@ -89,12 +89,9 @@ break-met file r t xs n opened gives short risen =
     record { file = file; met = refl; same = break-given file r t xs n opened gives short risen }
 
 -- a log of no opens, and of opens behind opens
-pub LoggedOpens-none : (s : LoggedState) → LoggedOpens s [] s
-LoggedOpens-none s = record { files = refl; log = sym (append-nil s.log) }
+pub StoreOpens-none : (s : StoreState) → StoreOpens s [] s
+StoreOpens-none s = rw (append-nil s.log) refl
 
-pub LoggedOpens-more : (s t u : LoggedState) (xs ys : List (List ℕ))
-    → LoggedOpens s xs t → LoggedOpens t ys u → LoggedOpens s (xs ++ ys) u
-LoggedOpens-more s t u xs ys p q = record {
-  files = q.files ∙ p.files;
-  log = rw (q.log, p.log) (append_assoc s.log xs ys);
-}
+pub StoreOpens-more : (s t u : StoreState) (xs ys : List (List ℕ))
+    → StoreOpens s xs t → StoreOpens t ys u → StoreOpens s (xs ++ ys) u
+StoreOpens-more s t u xs ys p q = rw (← append_assoc s.log xs ys) (rw p at q)

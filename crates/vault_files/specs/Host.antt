@@ -1,26 +1,72 @@
--- What a contract sees of the files of the system: their output, and nothing else of their bytes.
-use Rattle.std.specs.Prelude.{◌≡◌, ℕ, List, Option, None}
-use Rattle.vault_text.specs.Sink.{SinkState, Takes}
-use Rattle.vault_text.specs.declared.sink.Stage.TheVariants.{Unbegun}
+-- The files of a program over a disk: one output, and what is asked of the disk for it.
+use Rattle.std.specs.Prelude.{◌≡◌, ℕ, ◌+◌, ◌≤◌, List, [], ◌∷◌, ◌++◌, map, take}
+use Rattle.std.specs.Prelude.{Option, Some, None}
+use Rattle.vault_text.specs.declared.sink.Stage.{Stage}
+use Rattle.vault_text.specs.declared.sink.Stage.TheVariants.{Unbegun, Begun, Finished}
+use Rattle.vault_files.specs.Disk.{SystemCall, failed_calls}
+use Rattle.vault_files.specs.Disk.SystemCall.{Open, Create, Restrict, Write, Sync, Failed}
 use Rattle.vault_files.specs.declared.access.Access.{Access}
-use Rattle.vault_files.specs.declared.access.Access.TheVariants.{Kept}
+use Rattle.vault_files.specs.declared.access.Access.TheVariants.{Kept, OwnerOnly}
 
--- the path of the output where one was chosen, who may read it, and what it has taken
-pub record HostState : Type 0 where
+-- the disk, the path of the output where one was chosen, who may read it, how far its use has come,
+-- and its failures
+pub record HostState (Disk : Type 0) : Type 0 where
+  pub disk : Disk
   pub aim : Option (List ℕ)
   pub access : Access
-  pub output : SinkState
-
--- between two states the output took these bytes, and all else stayed
-pub record HostTakes (old : HostState) (taken : List ℕ) (new : HostState) : Type 0 where
-  pub output : Takes old.output taken new.output
-  pub aim : new.aim ≡ old.aim
-  pub access : new.access ≡ old.access
+  pub stage : Stage
+  pub failures : ℕ
 
 -- files whose output was not chosen yet
-abbrev pub new_host : HostState
-new_host = record {
-  aim = None;
-  access = Kept;
-  output = record { held = None; stage = Unbegun; failures = 0 };
-}
+abbrev pub new_host : {Disk : Type 0} → Disk → HostState Disk
+new_host disk = record { disk = disk; aim = None; access = Kept; stage = Unbegun; failures = 0 }
+
+-- what begins an output, before its first byte
+abbrev pub beginning : Option (List ℕ) → Access → List SystemCall
+beginning None access = []
+beginning (Some path) Kept = Create path ∷ []
+beginning (Some path) OwnerOnly = Create path ∷ Restrict ∷ []
+
+-- the calls that bring an output with this beginning from one stage to another, while it takes
+-- bytes
+pub data OutputCalls (first : List SystemCall) : Stage → List SystemCall → List ℕ → Stage
+    → Type 0 where
+  none : (s : Stage) → OutputCalls first s [] [] s
+  begins : (calls : List SystemCall) (bytes : List ℕ) (t : Stage)
+      → OutputCalls first Begun calls bytes t
+      → OutputCalls first Unbegun (first ++ calls) bytes t
+  writes : (some : List ℕ) (calls : List SystemCall) (bytes : List ℕ) (t : Stage)
+      → OutputCalls first Begun calls bytes t
+      → OutputCalls first Begun (Write some ∷ calls) (some ++ bytes) t
+  finishes : (calls : List SystemCall) (bytes : List ℕ) (t : Stage)
+      → OutputCalls first Finished calls bytes t
+      → OutputCalls first Begun (Sync ∷ calls) bytes t
+  -- at the last call of so much of the beginning
+  fails_to_begin : (n : ℕ) (calls : List SystemCall) (bytes : List ℕ) (t : Stage)
+      → OutputCalls first Unbegun calls bytes t
+      → OutputCalls first Unbegun (take n first ++ Failed ∷ calls) bytes t
+  fails_to_write : (calls : List SystemCall) (bytes : List ℕ) (t : Stage)
+      → OutputCalls first Begun calls bytes t
+      → OutputCalls first Begun (Write [] ∷ Failed ∷ calls) bytes t
+  fails_to_finish : (calls : List SystemCall) (bytes : List ℕ) (t : Stage)
+      → OutputCalls first Begun calls bytes t
+      → OutputCalls first Begun (Sync ∷ Failed ∷ calls) bytes t
+
+module _ {Disk : Type 0} (asks : Disk → List SystemCall → Disk → Type 0) where
+  -- between two states the output took these bytes: the disk was asked for nothing else, each call
+  -- that failed counts, and all else stayed
+  pub record HostTakes (old : HostState Disk) (bytes : List ℕ) (new : HostState Disk)
+      : Type 0 where
+    pub calls : List SystemCall
+    pub asked : asks old.disk calls new.disk
+    pub are_of_output :
+        OutputCalls (beginning old.aim old.access) old.stage calls bytes new.stage
+    pub failures : old.failures + failed_calls calls ≤ new.failures
+    pub aim : new.aim ≡ old.aim
+    pub access : new.access ≡ old.access
+
+  -- between two states the disk was asked to open these paths, in this order, and all else stayed
+  pub record HostOpens (old : HostState Disk) (paths : List (List ℕ)) (new : HostState Disk)
+      : Type 0 where
+    pub disk : asks old.disk (map Open paths) new.disk
+    pub rest : new ≡ record old { disk = new.disk }

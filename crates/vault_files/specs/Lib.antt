@@ -1,7 +1,8 @@
 pub mod File
 pub mod Memory
-pub mod Logged
+pub mod Disk
 pub mod Host
+pub mod HostLaws
 pub mod SinkLaws
 pub mod SourceLaws
 pub mod FileSystemLaws

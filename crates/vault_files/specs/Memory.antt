@@ -53,24 +53,32 @@ pub record Reads (old : ReaderState) (given : List ℕ) (new : ReaderState) : Ty
   pub break_is_real : old.failures < new.failures → IsAtBreak new
   pub failures_stay : old.failures ≤ new.failures
 
--- files in memory, the path of the output where one was chosen, and what the output has taken
+-- files in memory, the path of the output where one was chosen, what the output has taken, and the
+-- paths that were opened, in their order
 pub record StoreState : Type 0 where
   pub entries : List Entry
   pub aim : Option (List ℕ)
   pub output : MemSinkState
+  pub log : List (List ℕ)
 
 -- between two states the output took these bytes, and all else stayed
 pub record StoreTakes (old : StoreState) (taken : List ℕ) (new : StoreState) : Type 0 where
   pub output : Takes (state_of old.output) taken (state_of new.output)
   pub entries : new.entries ≡ old.entries
   pub aim : new.aim ≡ old.aim
+  pub log : new.log ≡ old.log
 
--- files whose output was not chosen yet
+-- between two states these paths were opened, in this order, and all else stayed
+abbrev pub StoreOpens : StoreState → List (List ℕ) → StoreState → Type 0
+StoreOpens old paths new = new ≡ record old { log = old.log ++ paths }
+
+-- files of which none was opened yet, and whose output was not chosen
 abbrev pub new_store : List Entry → StoreState
 new_store entries = record {
   entries = entries;
   aim = None;
   output = record { held = []; stage = Unbegun; failures = 0; step = 2 ^ 64 - 1 };
+  log = [];
 }
 
 -- whether the path is the one that was chosen for the output

@@ -1,63 +1,56 @@
-ghost use Rattle.std.specs.Prelude.{◌≡◌, None};
-ghost use Rattle.vault_files.specs.Host.{new_host};
+ghost use Rattle.std.specs.Prelude.{◌≡◌, ℕ, ◌++◌, [], ◌∷◌, Some, MatchOption, take};
+ghost use Rattle.vault_files.specs.Disk.SystemCall.{Failed};
+ghost use Rattle.vault_files.specs.Host.{beginning, new_host};
 
 use crate::access::Access;
+use crate::disk::Disk;
 use crate::fault::FileFault;
 use crate::file_system::FileSystem;
 use std::alloc::{AllocError, Global};
-use std::fs::{Files, OpenFile, OpenOptions, Permissions};
-use std::io::{ErrorKind, Write};
+use std::io::ErrorKind;
 use std::marker::Model;
-use std::os::unix::fs::{OpenOptionsExt, PermissionsExt};
-use std::{fs, io};
 use vault_text::{FailureCount, ReadSource, Sink, SinkFailed, Stage};
 
-/// Readable and writable by its owner alone.
-const OWNER_ONLY: u32 = 0o600;
-
-/// The files of the system. That they are those at the paths that are given, no contract says, and
-/// none speaks of modes. An output that `begin` creates has the mode 0600, less the umask; one that
-/// is there already keeps its mode. But under `Access::OwnerOnly` a regular file gets the mode 0600
-/// when it has been cut to nothing, before its first byte; where that fails, so does `begin`.
+/// The files of a disk. An output is created when it is begun; under `Access::OwnerOnly` it is
+/// then made its owner's alone, and where that fails, so does `begin`. It is synced when it is
+/// finished. What a file holds no contract says.
 #[derive(Drop)]
-pub struct HostFiles<'a, R: Files> {
-    rt: &'a R,
+pub struct HostFiles<D: Disk> {
+    disk: D,
     aim: Option<String>,
     access: Access,
-    output: Option<R::File>,
+    output: Option<D::Writer>,
     stage: Stage,
     failures: FailureCount,
 }
 
-impl<'a, R: Files> Model for HostFiles<'a, R> {
+impl<D: Disk> Model for HostFiles<D> {
     ghost use Rattle.std.specs.Prelude.{◌≡◌, is_some};
-    ghost use Rattle.std.specs.Option.{option_and_then, option_map};
+    ghost use Rattle.std.specs.Option.{option_map};
     ghost use Rattle.std.specs.String.{string_bytes};
     ghost use Rattle.vault_text.specs.Sink.{has_begun};
     ghost use Rattle.vault_files.specs.Host.{HostState};
 
-    ghost Value = { HostState };
+    ghost Value = { HostState D };
 
     ghost view = { λ s. record {
+      disk = s.disk;
       aim = option_map string_bytes s.aim;
       access = s.access;
-      output = record {
-        held = option_and_then (λ file. R.File.Write.contents file) s.output;
-        stage = s.stage;
-        failures = s.failures;
-      };
+      stage = s.stage;
+      failures = s.failures;
     } };
 
     ghost invariant = { λ s. has_begun s.stage ≡ is_some s.output };
 }
 
-impl<'a, R: Files> HostFiles<'a, R> {
+impl<D: Disk> HostFiles<D> {
     /// Files whose output was not chosen yet.
-    pub fn new(rt: &'a R) -> Self
-        ensures { result ≡ new_host }
+    pub fn new(disk: D) -> Self
+        ensures { result ≡ new_host disk }
     {
         HostFiles {
-            rt,
+            disk,
             aim: None,
             access: Access::Kept,
             output: None,
@@ -67,40 +60,49 @@ impl<'a, R: Files> HostFiles<'a, R> {
     }
 }
 
-/// Creates the file that is to be written, or cuts it to nothing where it is there already.
-fn create<R: Files>(rt: &R, path: &str, access: Access) -> io::Result<R::File> {
-    let mut options = OpenOptions::new();
-    options.write(true).create(true).truncate(true);
-    options.mode(OWNER_ONLY);
-    let file = options.open(rt, path)?;
-    if access == Access::OwnerOnly && file.metadata()?.is_file() {
-        file.set_permissions(Permissions::from_mode(OWNER_ONLY))?;
+/// Creates the file that is to be written, or cuts it to nothing where it is there already; None
+/// where that fails.
+fn create<D: Disk>(disk: &mut D, path: &str, access: Access) -> Option<D::Writer>
+    ensures { MatchOption result
+        ((n : ℕ) × D.asks disk.old
+        (take n (beginning (Some path.now) access) ++ Failed ∷ []) disk.new)
+        (λ file. D.asks disk.old (beginning (Some path.now) access) disk.new) }
+{
+    let Ok(file) = disk.create(path) else {
+        return None;
+    };
+    match access {
+        Access::Kept => Some(file),
+        Access::OwnerOnly => match disk.restrict(&file) {
+            Ok(()) => Some(file),
+            Err(_) => None,
+        },
     }
-    Ok(file)
 }
 
-impl<'a, R: Files> Sink for HostFiles<'a, R> {
+impl<D: Disk> Sink for HostFiles<D> {
+    ghost use Rattle.std.proofs.Common.{arith};
     ghost use Rattle.vault_files.specs.Host.{HostTakes};
-    ghost use Rattle.vault_files.specs.SinkLaws.{HostTakes-none, HostTakes-more};
+    ghost use Rattle.vault_files.specs.HostLaws.{HostTakes-none, HostTakes-more};
 
-    ghost takes = { HostTakes };
+    ghost takes = { HostTakes D.asks };
 
-    ghost stage = { λ s. s.output.stage };
+    ghost stage = { λ s. s.stage };
 
-    ghost failures = { λ s. s.output.failures };
+    ghost failures = { λ s. s.failures };
 
-    ghost takes_none = { HostTakes-none };
+    ghost takes_none = { HostTakes-none D.asks D.asks_none };
 
-    ghost takes_more = { HostTakes-more };
+    ghost takes_more = { HostTakes-more D.asks D.asks_more };
 
-    ghost failures_stay = { λ s t xs g. g.output.failures_stay };
+    ghost failures_stay = { λ s t xs g. Prim.omega (arith, g.failures) };
 
     fn begin(&mut self) -> Result<(), SinkFailed> {
         if self.failures.is_last() {
             return Err(SinkFailed);
         }
         let created = match &self.aim {
-            Some(path) => create(self.rt, path.as_str(), self.access).ok(),
+            Some(path) => create(&mut self.disk, path.as_str(), self.access),
             None => None,
         };
         match created {
@@ -121,7 +123,7 @@ impl<'a, R: Files> Sink for HostFiles<'a, R> {
             return Err(SinkFailed);
         }
         let written = match &mut self.output {
-            Some(file) => file.write(bytes),
+            Some(file) => self.disk.write(file, bytes),
             None => Ok(0),
         };
         match written {
@@ -137,11 +139,11 @@ impl<'a, R: Files> Sink for HostFiles<'a, R> {
         if self.failures.is_last() {
             return Err(SinkFailed);
         }
-        let flushed = match &mut self.output {
-            Some(file) => file.flush().is_ok(),
+        let synced = match &self.output {
+            Some(file) => self.disk.sync(file).is_ok(),
             None => false,
         };
-        if !flushed {
+        if !synced {
             self.failures.raise();
             return Err(SinkFailed);
         }
@@ -150,33 +152,35 @@ impl<'a, R: Files> Sink for HostFiles<'a, R> {
     }
 }
 
-impl<'a, R: Files> FileSystem for HostFiles<'a, R> {
+impl<D: Disk> FileSystem for HostFiles<D> {
     ghost use Rattle.std.specs.Prelude.{◌≡◌, refl, Some};
-    ghost use Rattle.std.proofs.Common.{◌∙◌, arith};
+    ghost use Rattle.std.proofs.Common.{arith};
     ghost use Rattle.vault_files.specs.File.Finding.{Missing};
     ghost use Rattle.vault_files.specs.FileSystemLaws.{front-any, break-any};
+    ghost use Rattle.vault_files.specs.Host.{HostOpens};
+    ghost use Rattle.vault_files.specs.HostLaws.{HostOpens-none, HostOpens-more};
 
-    type Reader = ReadSource<R::File>;
+    type Reader = ReadSource<D::Reader>;
 
     ghost meets = { λ s path file. Unit {0} };
 
     ghost opened = { λ s path reader. Unit {0} };
 
-    ghost opens = { λ s paths t. t ≡ s };
+    ghost opens = { HostOpens D.asks };
 
     ghost aimed = { λ s path access t. t ≡ record s { aim = Some path; access = access } };
 
-    ghost opens_none = { λ s. refl };
+    ghost opens_none = { HostOpens-none D.asks D.asks_none };
 
-    ghost opens_more = { λ s t u xs ys p q. q ∙ p };
+    ghost opens_more = { HostOpens-more D.asks D.asks_more };
 
-    ghost opens_stage = { λ s t paths same. rw same refl };
+    ghost opens_stage = { λ s t paths opens. rw opens.rest refl };
 
-    ghost opens_failures = { λ s t paths same. rw same refl };
+    ghost opens_failures = { λ s t paths opens. rw opens.rest refl };
 
-    ghost opens_meets = { λ s t paths path file same met. met };
+    ghost opens_meets = { λ s t paths path file opens met. met };
 
-    ghost opens_opened = { λ s t paths path reader same opened. opened };
+    ghost opens_opened = { λ s t paths path reader opens opened. opened };
 
     ghost meets_some = { λ s path. (Missing, tt) };
 
@@ -185,8 +189,8 @@ impl<'a, R: Files> FileSystem for HostFiles<'a, R> {
     ghost break_met = { λ s path r t xs n opened gives short risen.
         break-any n (Prim.omega (arith, short)) };
 
-    fn open(&mut self, path: &str) -> Result<ReadSource<R::File>, FileFault> {
-        match fs::open(self.rt, path) {
+    fn open(&mut self, path: &str) -> Result<ReadSource<D::Reader>, FileFault> {
+        match self.disk.open(path) {
             Ok(file) => Ok(ReadSource::new(file)),
             Err(error) if matches!(error.kind(), ErrorKind::OutOfMemory) => Err(FileFault::Memory),
             Err(_) => Err(FileFault::CannotOpen),
@@ -196,48 +200,6 @@ impl<'a, R: Files> FileSystem for HostFiles<'a, R> {
     fn aim(&mut self, alloc: Global, path: &str, access: Access) -> Result<(), AllocError> {
         self.aim = Some(String::from_str(alloc, path)?);
         self.access = access;
-        Ok(())
-    }
-}
-
-#[cfg(test)]
-mod tests {
-    use super::*;
-    use crate::file_system::read_front;
-    use std::test::Fail;
-    use vault_text::put_all;
-
-    #[test]
-    fn reads_files_of_the_system(rt: HostRuntime) {
-        let mut files = HostFiles::new(&rt);
-        let mut buf = [1; 4];
-        assert_eq!(rt; read_front(&mut files, "/dev/zero", &mut buf), Ok(4));
-        assert_eq!(rt; buf, [0; 4]);
-        assert_eq!(rt; read_front(&mut files, "/dev/null", &mut buf), Ok(0));
-        assert_eq!(rt;
-            read_front(&mut files, "/", &mut buf),
-            Err(FileFault::CannotRead)
-        );
-        assert_eq!(rt;
-            read_front(&mut files, "", &mut buf),
-            Err(FileFault::CannotOpen)
-        );
-    }
-
-    #[test]
-    fn tells_what_cannot_be_written(rt: HostRuntime) -> Result<(), Fail> {
-        for (path, begins, takes) in [
-            ("/", false, false),
-            ("/dev/full", true, false),
-            ("/dev/null", true, true),
-        ] {
-            let mut files = HostFiles::new(&rt);
-            files.aim(rt.alloc(), path, Access::Kept)?;
-            assert_eq!(rt; files.begin().is_ok(), begins, "{path}");
-            if begins {
-                assert_eq!(rt; put_all(&mut files, b"text").is_ok(), takes, "{path}");
-            }
-        }
         Ok(())
     }
 }

@@ -13,13 +13,15 @@
 #![tactic(auto)]
 
 mod access;
+mod disk;
 mod fault;
 mod file_system;
 mod host;
 mod memory;
 
 pub use access::Access;
+pub use disk::Disk;
 pub use fault::FileFault;
 pub use file_system::{FileSystem, read_front};
 pub use host::HostFiles;
-pub use memory::{LoggedFiles, MemFile, MemFileReader, MemFiles};
+pub use memory::{MemFile, MemFileReader, MemFiles};

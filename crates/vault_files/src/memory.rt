@@ -1,10 +1,8 @@
 //! Files in memory, for tests and for programs that embed this one.
 mod entry;
-mod logged;
 mod reader;
 mod store;
 
 pub use entry::MemFile;
-pub use logged::LoggedFiles;
 pub use reader::MemFileReader;
 pub use store::MemFiles;

@@ -11,7 +11,7 @@ use std::alloc::{AllocError, Global};
 use std::io::{ErrorKind, Write};
 use std::{env, io};
 use vault_cli::{
-    Fault, LoggedFiles, MemFile, MemSink, MemSource, ReadSource, Request, Status, drive_in_memory,
+    Fault, MemFile, MemFiles, MemSink, MemSource, ReadSource, Request, Status, drive_in_memory,
     parse, report, run, settle,
 };
 use vault_text::{Stage, fill_up};
@@ -28,7 +28,7 @@ fn usage() -> io::Error {
 /// The contents of the password files of a request.
 fn contents_of(
     alloc: Global,
-    files: &LoggedFiles<'_>,
+    files: &MemFiles<'_>,
     request: &Request,
 ) -> Result<Vec<Vec<u8>>, AllocError> {
     let mut contents = Vec::new(alloc);
@@ -43,7 +43,7 @@ fn contents_of(
 /// none, memory lacks.
 fn gather(
     alloc: Global,
-    files: &LoggedFiles<'_>,
+    files: &MemFiles<'_>,
     words: &[String],
 ) -> Result<(Request, Vec<Vec<u8>>), Fault>
     ensures { IfOk result (λ found. vec_len found.1 ≡ length (files_of found.0)) }
@@ -62,7 +62,7 @@ fn gather(
 /// Runs the request of these words, with a salt of zeros.
 fn run_words(
     alloc: Global,
-    files: &LoggedFiles<'_>,
+    files: &MemFiles<'_>,
     words: &[String],
     src: &mut MemSource<'_>,
     out: &mut MemSink,
@@ -118,7 +118,7 @@ fn answer(rt: &HostRuntime, words: &[String], input: &[u8]) -> io::Result<()> {
         MemFile::whole("salt", &[0; 32]),
         MemFile::whole("kept", b"kept\n"),
     ];
-    let mut files = LoggedFiles::new(alloc, &entries, usize::MAX);
+    let mut files = MemFiles::new(alloc, &entries);
     let mut src = MemSource::new(input, INPUT_LIMIT);
     // One byte a call, so that the sinks of a short run grow often.
     let mut out = MemSink::new(alloc, 1);

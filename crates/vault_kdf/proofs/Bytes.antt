@@ -10,13 +10,16 @@ use Rattle.sha2.specs.Sha256.{digest_bytes, sha256}
 use Rattle.vault_kdf.specs.Hmac.{hmac}
 
 word-bytes : (word : ℕ) → All (λ b. b < 256) (to_be_bytes w32 word)
-word-bytes word = All-from_recursion (λ b. b < 256) (to_be_bytes w32 word) (omega arith, (omega arith, (omega arith, (omega arith, tt))))
+word-bytes word =
+    All-from_recursion (λ b. b < 256) (to_be_bytes w32 word)
+    (omega arith, (omega arith, (omega arith, (omega arith, tt))))
 
 digest-bytes : (h : List ℕ) (n : ℕ) → All (λ b. b < 256) (digest_bytes h n)
 unfolding digest_bytes
 digest-bytes h zero = All-nil (λ b. b < 256)
 digest-bytes h (suc n) =
-    All-append (λ b. b < 256) (digest_bytes h n) (to_be_bytes w32 (slice_index h n)) (digest-bytes h n) (word-bytes (slice_index h n))
+    All-append (λ b. b < 256) (digest_bytes h n) (to_be_bytes w32 (slice_index h n))
+    (digest-bytes h n) (word-bytes (slice_index h n))
 
 hmac-all_bytes : (key message : List ℕ) → All (λ b. b < 256) (hmac key message)
 unfolding hmac sha256

@@ -14,10 +14,14 @@ shortened_key_short : (key : List ℕ) → length key ≤ 64 → shortened_key k
 unfolding shortened_key
 shortened_key_short key short = grind (arith, nat_tests)
 
-pub padded_key_long : (key digest : List ℕ) → 64 < length key → digest ≡ sha256 key → digest ++ replicate 32 0 ≡ padded_key key
+pub padded_key_long : (key digest : List ℕ) → 64 < length key → digest ≡ sha256 key
+    → digest ++ replicate 32 0 ≡ padded_key key
 unfolding padded_key
-padded_key_long key digest long is_digest = rw (shortened_key_long key long, length-sha256 key, is_digest) refl
+padded_key_long key digest long is_digest =
+    rw (shortened_key_long key long, length-sha256 key, is_digest) refl
 
-pub padded_key_short : (key front : List ℕ) → length key ≤ 64 → front ≡ key → front ++ drop (length key) (replicate 64 0) ≡ padded_key key
+pub padded_key_short : (key front : List ℕ) → length key ≤ 64 → front ≡ key
+    → front ++ drop (length key) (replicate 64 0) ≡ padded_key key
 unfolding padded_key
-padded_key_short key front short is_key = rw (shortened_key_short key short, drop-replicate {X = ℕ} (length key) 64 0, is_key) refl
+padded_key_short key front short is_key =
+    rw (shortened_key_short key short, drop-replicate {X = ℕ} (length key) 64 0, is_key) refl

@@ -18,8 +18,6 @@ mod keyed_hash;
 mod keys;
 mod meter;
 mod tag;
-#[cfg(test)]
-mod tests;
 
 pub use derivation::pbkdf2;
 pub use keyed_hash::Hmac;

@@ -1,80 +1,10 @@
-//! Envelopes for tests, made from the parts of the format alone: no reader and no writer of the
-//! library has a hand in them.
+//! What tests are given: envelopes, command lines, and readers and writers that count or fail.
 #![tactic(auto)]
 
-use std::alloc::{AllocError, Global};
-use vault_aes::{Key, ctr_apply, pad};
-use vault_kdf::{Meter, derive, hmac};
+mod devices;
+mod envelopes;
+mod words;
 
-/// How many digits a line of the body has.
-const LINE: usize = 80;
-
-/// The envelope of some plaintext.
-pub fn envelope(
-    alloc: Global,
-    label: &str,
-    password: &[u8],
-    salt: &[u8],
-    plaintext: &[u8],
-) -> Result<Vec<u8>, AllocError> {
-    let keys = derive(password, salt, &mut Meter::new());
-    let mut cipher = padded(alloc, plaintext)?;
-    ctr_apply(&Key::new(&keys.cipher), &keys.iv, cipher.as_mut_slice());
-    let tag = hmac(&keys.mac, cipher.as_slice());
-    spelled(alloc, label, salt, &tag, cipher.as_slice())
-}
-
-/// An envelope over ciphertext as it is, with the right tag.
-pub fn tagged(
-    alloc: Global,
-    label: &str,
-    password: &[u8],
-    salt: &[u8],
-    cipher: &[u8],
-) -> Result<Vec<u8>, AllocError> {
-    let keys = derive(password, salt, &mut Meter::new());
-    spelled(alloc, label, salt, &hmac(&keys.mac, cipher), cipher)
-}
-
-/// The text of an envelope, whatever its parts are.
-pub fn spelled(
-    alloc: Global,
-    label: &str,
-    salt: &[u8],
-    tag: &[u8],
-    cipher: &[u8],
-) -> Result<Vec<u8>, AllocError> {
-    let mut inner = String::new(alloc);
-    inner.push_str(hex::encode(alloc, salt)?.as_str())?;
-    inner.push_str("\n")?;
-    inner.push_str(hex::encode(alloc, tag)?.as_str())?;
-    inner.push_str("\n")?;
-    inner.push_str(hex::encode(alloc, cipher)?.as_str())?;
-    let digits = hex::encode(alloc, inner.as_bytes())?;
-    let mut text = header(alloc, label)?;
-    for line in digits.as_bytes().chunks(LINE) {
-        text.extend_from_slice(line)?;
-        text.push(b'\n')?;
-    }
-    Ok(text)
-}
-
-fn header(alloc: Global, label: &str) -> Result<Vec<u8>, AllocError> {
-    let mut line = Vec::new(alloc);
-    if label == "default" {
-        line.extend_from_slice(b"$ANSIBLE_VAULT;1.1;AES256\n")?;
-    } else {
-        line.extend_from_slice(b"$ANSIBLE_VAULT;1.2;AES256;")?;
-        line.extend_from_slice(label.as_bytes())?;
-        line.push(b'\n')?;
-    }
-    Ok(line)
-}
-
-fn padded(alloc: Global, plaintext: &[u8]) -> Result<Vec<u8>, AllocError> {
-    let mut work = Vec::from_slice(alloc, plaintext)?;
-    work.extend_from_slice(&[0; 16])?;
-    let length = pad(work.as_mut_slice(), plaintext.len());
-    work.truncate(length);
-    Ok(work)
-}
+pub use devices::{CountingReader, NarrowWriter};
+pub use envelopes::{EMPTY_ENVELOPE, envelope, spelled, tagged};
+pub use words::line_of;

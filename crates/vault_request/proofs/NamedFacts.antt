@@ -1,13 +1,17 @@
--- Words without a fault name a command.
-use Rattle.std.proofs.Common.{◌≡◌, List, [], ◌∷◌, Bool, true, false, Option, Some, None, Result, Ok, Err, refl, sym, ap, ◌∙◌}
+-- Arguments without a fault name a command.
+use Rattle.std.proofs.Common.{◌≡◌, List, [], ◌∷◌, Bool, true, false, Option, Some, None, Result, Ok}
+use Rattle.std.proofs.Common.{Err, refl, sym, ap, ◌∙◌}
 use Rattle.std.proofs.lemmas.Bool.{false≢true}
 use Rattle.std.specs.List.{AllByRecursion, find}
 use Rattle.std.specs.Option.{option_map}
 use Rattle.std.specs.Prelude.{cond, is_some, IfOk}
-use Rattle.clap.specs.Faults.{built_fault, check_fault, defaults_fault, entered_fault, settle_fault, walk_fault}
+use Rattle.clap.specs.Faults.{built_fault, check_fault, defaults_fault, entered_fault, settle_fault}
+use Rattle.clap.specs.Faults.{walk_fault}
 use Rattle.clap.specs.Kinds.{Kinds, check_kinds, or_else}
-use Rattle.clap.specs.Simple.{App, Shape, argument_words, built, entered, label_of, names_of, rows_at}
-use Rattle.clap.specs.Walk.{Row, Text, answers_to, finished, nothing_held, settled, stop_after, walk, walk_from}
+use Rattle.clap.specs.Simple.{App, Shape, argument_words, built, entered, label_of, names_of}
+use Rattle.clap.specs.Simple.{rows_at}
+use Rattle.clap.specs.Walk.{Row, Text, answers_to, finished, nothing_held, settled, stop_after}
+use Rattle.clap.specs.Walk.{walk, walk_from}
 use Rattle.clap.specs.Words.{FailsBy, fault_of, subcommand_of, subcommand_rows_of}
 use Rattle.clap.specs.declared.error.Error.{Error}
 use Rattle.clap.specs.declared.parser.matches.ArgMatches.{ArgMatches}
@@ -27,23 +31,27 @@ last-of-five [] (k ∷ ks) c d e h = absurd cc
 last-of-five [] [] (k ∷ ks) d e h = absurd cc
 last-of-five [] [] [] (k ∷ ks) e h = absurd cc
 
-missing : (help required argument : Bool) → required ≡ true → check_kinds help required argument ≡ [] → ⊥
+missing : (help required argument : Bool) → required ≡ true
+    → check_kinds help required argument ≡ [] → ⊥
 missing true required argument e h = absurd cc
 missing false true argument e h = absurd cc
 missing false false argument e h = false≢true e
 
-check-required : (s : Shape) (rows : List Row) (has : Bool) → s.subcommand_required ≡ true → check_fault s rows has ≡ [] → has ≡ true
+check-required : (s : Shape) (rows : List Row) (has : Bool) → s.subcommand_required ≡ true
+    → check_fault s rows has ≡ [] → has ≡ true
 check-required s rows true required e = refl
 check-required s rows false required e = absurd (missing _ _ _ required e)
 
-has-command : (a : App) (words : List Text) → a.top.subcommand_required ≡ true → built_fault a nothing_held words ≡ []
+has-command : (a : App) (words : List Text) → a.top.subcommand_required ≡ true
+    → built_fault a nothing_held words ≡ []
     → is_some (entered a (stop_after a.top.rules (names_of a) words)) ≡ true
 has-command a words required e =
     let names = names_of a in
     let rules = a.top.rules in
     let end = walk rules names nothing_held words in
     check-required a.top (finished rules end.held) _ required
-    (last-of-five (walk_fault a.top names (walk_from nothing_held) words) (entered_fault a end.stopped) (settle_fault rules a.top.args_override_self end.held)
+    (last-of-five (walk_fault a.top names (walk_from nothing_held) words)
+    (entered_fault a end.stopped) (settle_fault rules a.top.args_override_self end.held)
     (defaults_fault (settled rules end.held).rows rules) _ e)
 
 -- ---- each subcommand is a command
@@ -51,26 +59,33 @@ has-command a words required e =
 abbrev NamesCommand : Shape → Type 0
 NamesCommand s = is_some (command_of s.name) ≡ true
 
-named-asked : (s : Shape) (rows : List Row) → NamesCommand s → is_some (asked (Some (s.name, rows))) ≡ true
-named-asked s rows e = sym (is_some-map _ (command_in (Some (s.name, rows)))) ∙ sym (is_some-map _ (command_of s.name)) ∙ e
+named-asked : (s : Shape) (rows : List Row) → NamesCommand s
+    → is_some (asked (Some (s.name, rows))) ≡ true
+named-asked s rows e =
+    sym (is_some-map _ (command_in (Some (s.name, rows)))) ∙ sym (is_some-map _ (command_of s.name))
+    ∙ e
 
 find-next : (here : Bool) (s : Shape) (rest : Option Shape) (words : List Text) → NamesCommand s
-    → (is_some (option_map (λ s. rows_at s words) rest) ≡ true → is_some (asked (option_map (λ s. rows_at s words) rest)) ≡ true)
+    → (is_some (option_map (λ s. rows_at s words) rest) ≡ true
+    → is_some (asked (option_map (λ s. rows_at s words) rest)) ≡ true)
     → is_some (option_map (λ s. rows_at s words) (cond here (Some s) rest)) ≡ true
     → is_some (asked (option_map (λ s. rows_at s words) (cond here (Some s) rest))) ≡ true
 find-next true s rest words named later some = named-asked s (rows_at s words).1 named
 find-next false s rest words named later some = later some
 
-find-asked : (test : Shape → Bool) (subs : List Shape) (words : List Text) → AllByRecursion NamesCommand subs
+find-asked : (test : Shape → Bool) (subs : List Shape) (words : List Text)
+    → AllByRecursion NamesCommand subs
     → is_some (option_map (λ s. rows_at s words) (find test subs)) ≡ true
     → is_some (asked (option_map (λ s. rows_at s words) (find test subs))) ≡ true
 find-asked test [] words all some = absurd (false≢true some)
-find-asked test (s ∷ subs) words (named, others) some = find-next (test s) s (find test subs) words named (find-asked test subs words others) some
+find-asked test (s ∷ subs) words (named, others) some =
+    find-next (test s) s (find test subs) words named (find-asked test subs words others) some
 
 entered-asked : (a : App) (stop : Option (Text × List Text)) → AllByRecursion NamesCommand a.subs
     → is_some (entered a stop) ≡ true → is_some (asked (entered a stop)) ≡ true
 entered-asked a None all some = absurd (false≢true some)
-entered-asked a (Some (word, words)) all some = find-asked (λ s. answers_to word (label_of s)) a.subs words all some
+entered-asked a (Some (word, words)) all some =
+    find-asked (λ s. answers_to word (label_of s)) a.subs words all some
 
 -- ---- of the program's command line
 
@@ -86,13 +101,17 @@ asks : (words : List Text) → fault_of vault_app words ≡ [] → is_some (aske
 asks words e =
     let app = built vault_app in
     let given = argument_words vault_app words in
-    entered-asked app (stop_after app.top.rules (names_of app) given) commands-named (has-command app given command-required e)
+    entered-asked app (stop_after app.top.rules (names_of app) given) commands-named
+    (has-command app given command-required e)
 
 pub words_name_a_command : WordsNameACommand
 words_name_a_command words e none = false≢true (sym (ap is_some none) ∙ asks words e)
 
 -- what parses asks for something
-pub parsed_asks : (words : List Text) (r : Result ArgMatches Error) → FailsBy (fault_of vault_app words) r
-    → IfOk r (λ m. subcommand_rows_of m ≡ subcommand_of vault_app words) → IfOk r (λ m. is_some (asked (subcommand_rows_of m)) ≡ true)
-parsed_asks words (Ok m) kinds matches = ap (λ parse. is_some (asked parse)) matches ∙ asks words kinds
+pub parsed_asks : (words : List Text) (r : Result ArgMatches Error)
+    → FailsBy (fault_of vault_app words) r
+    → IfOk r (λ m. subcommand_rows_of m ≡ subcommand_of vault_app words)
+    → IfOk r (λ m. is_some (asked (subcommand_rows_of m)) ≡ true)
+parsed_asks words (Ok m) kinds matches =
+    ap (λ parse. is_some (asked parse)) matches ∙ asks words kinds
 parsed_asks words (Err error) kinds matches = tt

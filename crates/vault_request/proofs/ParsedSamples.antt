@@ -1,4 +1,4 @@
--- What the parser makes of some words, by computing.
+-- What the parser makes of some arguments, by computing.
 use Rattle.std.proofs.Common.{◌≡◌, List, [], ◌∷◌, true, Option, Some, codes, refl, option_map}
 use Rattle.clap.specs.Words.{Text, fault_of, subcommand_of}
 use Rattle.clap.specs.Faults.{is_simple_and_free}
@@ -13,14 +13,23 @@ vault_app-simple = refl
 
 -- the command, and the values under its two options
 abbrev given : List Text → Option (Text × List Text × List Text)
-given words = option_map (λ found. (found.0, values_of (codes "vault-id") found.1, values_of (codes "vault-password-file") found.1)) (subcommand_of vault_app words)
+given words =
+    option_map
+    (λ found. (
+      found.0,
+      values_of (codes "vault-id") found.1,
+      values_of (codes "vault-password-file")
+          found.1,
+    )) (subcommand_of vault_app words)
 
 alone : given (codes "ansible-vault" ∷ codes "view" ∷ []) ≡ Some (codes "view", [], [])
 unfolding clap_on_literals vault_app
 alone = refl
 
--- the order of the words is kept under each option
-several : given (codes "ansible-vault" ∷ codes "decrypt" ∷ codes "--vault-password-file=p" ∷ codes "--vault-id" ∷ codes "a@x" ∷ codes "--vault-id=y" ∷ [])
+-- the order of the arguments is kept under each option
+several : given
+    (codes "ansible-vault" ∷ codes "decrypt" ∷ codes "--vault-password-file=p" ∷ codes "--vault-id"
+    ∷ codes "a@x" ∷ codes "--vault-id=y" ∷ [])
     ≡ Some (codes "decrypt", codes "a@x" ∷ codes "y" ∷ [], codes "p" ∷ [])
 unfolding clap_on_literals vault_app
 several = refl
@@ -29,7 +38,8 @@ no_command : fault_of vault_app (codes "ansible-vault" ∷ []) ≡ kind.MissingS
 unfolding clap_on_literals vault_app
 no_command = refl
 
-unknown_option : fault_of vault_app (codes "ansible-vault" ∷ codes "view" ∷ codes "--loud" ∷ []) ≡ kind.UnknownArgument ∷ []
+unknown_option : fault_of vault_app (codes "ansible-vault" ∷ codes "view" ∷ codes "--loud" ∷ [])
+    ≡ kind.UnknownArgument ∷ []
 unfolding clap_on_literals vault_app
 unknown_option = refl
 

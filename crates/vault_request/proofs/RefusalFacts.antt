@@ -1,21 +1,25 @@
 -- What is known of options that are not refused.
-use Rattle.std.proofs.Common.{◌≡◌, ℕ, ◌+◌, ◌≤◌, ◌==◌, ◌||◌, nat_lt, true, List, ◌++◌, length, map, Option, Some, None, inl, inr, arith, rules, tests, refl}
+use Rattle.std.proofs.Common.{◌≡◌, ℕ, ◌+◌, ◌≤◌, ◌==◌, ◌||◌, nat_lt, true, List, ◌++◌, length, map}
+use Rattle.std.proofs.Common.{Option, Some, None, inl, inr, arith, rules, tests, refl}
 use Rattle.std.proofs.lemmas.Bool.{cases_Bool}
 use Rattle.std.proofs.lemmas.List.{length-append, length-map}
 use Rattle.std.specs.Option.{option_map, option_or}
 use Rattle.std.specs.Prelude.{IfSome, is_some}
-use Rattle.vault_core.specs.declared.fault.Fault.{Fault}
-use Rattle.vault_core.specs.declared.fault.Fault.TheVariants.{BadSalt, TooManySecrets}
-use Rattle.vault_core.specs.declared.limits.TheConstants.{SECRET_COUNT_LIMIT}
+use Rattle.vault_common.specs.declared.fault.Fault.{Fault}
+use Rattle.vault_common.specs.declared.fault.Fault.TheVariants.{BadSalt, TooManySecrets}
+use Rattle.vault_common.specs.declared.limits.TheConstants.{SECRET_COUNT_LIMIT}
 use Rattle.vault_request.specs.CommandName.{rekeys}
 use Rattle.vault_request.specs.Options.{Options}
-use Rattle.vault_request.specs.Refusal.{label_fault, count_fault, mismatch_fault, name_fault, new_secret_fault, output_fault, refusal, rekey_fault, salt_fault}
+use Rattle.vault_request.specs.Refusal.{label_fault, count_fault, mismatch_fault, name_fault}
+use Rattle.vault_request.specs.Refusal.{new_secret_fault, output_fault, refusal, rekey_fault}
+use Rattle.vault_request.specs.Refusal.{salt_fault}
 use Rattle.vault_request.specs.Request.{IsSaltText}
 use Rattle.vault_request.specs.Settled.{file_of_id, new_secret_of, plain_file}
 use Rattle.vault_request.specs.VaultId.{first_fault, or_later}
 use Rattle.vault_request.specs.declared.limits.TheConstants.{SALT_TEXT_LIMIT}
 
-pub neither : (first later : Option Fault) → or_later first later ≡ None → (first ≡ None) × (later ≡ None)
+pub neither : (first later : Option Fault) → or_later first later ≡ None
+    → (first ≡ None) × (later ≡ None)
 neither None later e = (refl, e)
 neither (Some fault) later e = cc
 
@@ -42,12 +46,15 @@ allowed given e =
 
 -- there are at most so many secrets
 pub few_files : (given : Options) → count_fault given ≡ None
-    → length (map file_of_id given.vault_ids ++ map plain_file given.password_files) ≤ SECRET_COUNT_LIMIT
+    → length (map file_of_id given.vault_ids ++ map plain_file given.password_files)
+    ≤ SECRET_COUNT_LIMIT
 few_files given e =
-    elim (cases_Bool (nat_lt SECRET_COUNT_LIMIT (length given.vault_ids + length given.password_files))) [
+    elim (cases_Bool
+    (nat_lt SECRET_COUNT_LIMIT (length given.vault_ids + length given.password_files))) [
       | inl many ↦ let wrong : Some TooManySecrets ≡ None = rw many at e in cc
       | inr few ↦
-          let limit : length given.vault_ids + length given.password_files ≤ SECRET_COUNT_LIMIT = search (rules, tests, few) in
+          let limit : length given.vault_ids + length given.password_files ≤ SECRET_COUNT_LIMIT =
+          search (rules, tests, few) in
           omega (
             arith,
             limit,
@@ -58,17 +65,20 @@ few_files given e =
     ]
 
 -- a salt text has its length
-pub salt_texts : (text path : Option (List ℕ)) → salt_fault text path ≡ None → IfSome text IsSaltText
+pub salt_texts : (text path : Option (List ℕ)) → salt_fault text path ≡ None
+    → IfSome text IsSaltText
 salt_texts None path e = tt
 salt_texts (Some text) (Some path) e = cc
 salt_texts (Some text) None e =
     elim (cases_Bool (length text == 0 || nat_lt SALT_TEXT_LIMIT (length text))) [
       | inl bad ↦ let wrong : Some BadSalt ≡ None = rw bad at e in cc
-      | inr good ↦ record { some = search (rules, tests, good); limit = search (rules, tests, good) }
+      | inr good ↦
+          record { some = search (rules, tests, good); limit = search (rules, tests, good) }
     ]
 
 -- `rekey` has its new secret, and no other command has one
-pub new_secrets : (given : Options) → rekey_fault given ≡ None → is_some (new_secret_of given) ≡ rekeys given.command
+pub new_secrets : (given : Options) → rekey_fault given ≡ None
+    → is_some (new_secret_of given) ≡ rekeys given.command
 new_secrets given e =
     elim (cases_Bool (rekeys given.command)) [
       | inl does ↦ rw does (some_new given.new_vault_id given.new_password_file (rw does at e))

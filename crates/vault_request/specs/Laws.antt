@@ -10,7 +10,7 @@ use Rattle.vault_request.specs.Settled.{asked_by, settled}
 use Rattle.vault_request.specs.declared.command_name.CommandName.{CommandName}
 use Rattle.vault_request.specs.declared.command_name.CommandName.TheVariants.{EncryptString}
 
--- words without a fault name a command, so that each line of words asks for something, or is
+-- arguments without a fault name a command, so that each command line asks for something, or is
 -- explained
 abbrev pub WordsNameACommand : Type 0
 WordsNameACommand = (words : List Text) → fault_of vault_app words ≡ [] → asked_by words ≢ None

@@ -2,8 +2,8 @@
 use Rattle.std.specs.Prelude.{◌≡◌, ◌≤◌, ℕ, List, ◌++◌, length, Option, option_to_list, is_some}
 use Rattle.std.specs.Prelude.{IfSome}
 use Rattle.vault_request.specs.CommandName.{rekeys}
-use Rattle.vault_core.specs.declared.limits.TheConstants.{SECRET_COUNT_LIMIT}
-use Rattle.vault_core.specs.declared.label_rule.LabelRule.{LabelRule}
+use Rattle.vault_common.specs.declared.limits.TheConstants.{SECRET_COUNT_LIMIT}
+use Rattle.vault_common.specs.declared.label_rule.LabelRule.{LabelRule}
 use Rattle.vault_request.specs.declared.limits.TheConstants.{SALT_TEXT_LIMIT}
 use Rattle.vault_request.specs.declared.command_name.CommandName.{CommandName}
 
@@ -12,10 +12,10 @@ pub record SecretFile : Type 0 where
   pub label : List ℕ
   pub path : List ℕ
 
--- a request, as a contract sees it: the password files are those of `--vault-id`, then the others
+-- a request, as a contract sees it: its secrets are those of `--vault-id`, then the others
 pub record Request : Type 0 where
   pub command : CommandName
-  pub secret_files : List SecretFile
+  pub secrets : List SecretFile
   -- what `rekey` seals with
   pub new_secret : Option SecretFile
   -- the label of the secret to encrypt with
@@ -34,7 +34,7 @@ pub record Request : Type 0 where
 
 -- all password files, of which the new one is last
 abbrev pub files_of : Request → List SecretFile
-files_of request = request.secret_files ++ option_to_list request.new_secret
+files_of request = request.secrets ++ option_to_list request.new_secret
 
 -- the bytes of a salt text
 pub record IsSaltText (text : List ℕ) : Type 0 where
@@ -43,6 +43,6 @@ pub record IsSaltText (text : List ℕ) : Type 0 where
 
 -- what is known of each request
 pub record IsSettled (request : Request) : Type 0 where
-  pub count : length request.secret_files ≤ SECRET_COUNT_LIMIT
+  pub count : length request.secrets ≤ SECRET_COUNT_LIMIT
   pub salt_text : IfSome request.salt_text IsSaltText
   pub new_secret : is_some request.new_secret ≡ rekeys request.command

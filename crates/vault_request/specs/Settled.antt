@@ -5,8 +5,8 @@ use Rattle.std.specs.Option.{option_map, option_or}
 use Rattle.clap.specs.Walk.{Row, Text}
 use Rattle.clap.specs.Words.{subcommand_of}
 use Rattle.vault_text.specs.Label.{default_label}
-use Rattle.vault_core.specs.declared.fault.Fault.{Fault}
-use Rattle.vault_core.specs.declared.fault.Fault.TheVariants.{Memory}
+use Rattle.vault_common.specs.declared.fault.Fault.{Fault}
+use Rattle.vault_common.specs.declared.fault.Fault.TheVariants.{Memory}
 use Rattle.vault_request.specs.CommandLine.{vault_app}
 use Rattle.vault_request.specs.CommandName.{command_of, rekeys, seals}
 use Rattle.vault_request.specs.Options.{Options, not_dash, options_of}
@@ -43,7 +43,7 @@ salt_path_of given =
 abbrev pub request_of : Options → Request
 request_of given = record {
   command = given.command;
-  secret_files = map file_of_id given.vault_ids ++ map plain_file given.password_files;
+  secrets = map file_of_id given.vault_ids ++ map plain_file given.password_files;
   new_secret = new_secret_of given;
   choice = given.encrypt_vault_id;
   name = option_or given.name given.stdin_name;
@@ -78,7 +78,7 @@ command_in parse =
 abbrev pub asked : Option (Text × List Row) → Option (Result Request Fault)
 asked parse = option_map (λ found. settled found.0 found.1) (command_in parse)
 
--- the request of words, or the fault of their options, where they name a command
+-- the request of arguments, or the fault of their options, where they name a command
 abbrev pub asked_by : List Text → Option (Result Request Fault)
 asked_by words = asked (subcommand_of vault_app words)
 

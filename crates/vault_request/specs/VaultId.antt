@@ -5,8 +5,8 @@ use Rattle.std.specs.List.{before_first, after_first, position_or_len}
 use Rattle.std.specs.Str.{bytes_eq}
 use Rattle.vault_text.specs.Header.{named_label}
 use Rattle.vault_text.specs.Label.{is_label}
-use Rattle.vault_core.specs.declared.fault.Fault.{Fault}
-use Rattle.vault_core.specs.declared.fault.Fault.TheVariants.{BadLabel, PromptSource}
+use Rattle.vault_common.specs.declared.fault.Fault.{Fault}
+use Rattle.vault_common.specs.declared.fault.Fault.TheVariants.{BadLabel, PromptSource}
 
 -- `@`
 abbrev pub is_at_sign : ℕ → Bool

@@ -1,16 +1,16 @@
 //! The description of the command line.
-ghost use Rattle.std.specs.Prelude.{◌≡◌, ◌∷◌, ◌++◌, [], false, IfErr, IfOk, codes};
+ghost use Rattle.std.specs.Prelude.{◌≡◌, ◌++◌, [], false, IfErr, IfOk, codes};
 ghost use Rattle.clap.specs.Words.{app_of};
 ghost use Rattle.clap.specs.declared.builder.command.Command.TheViews.{out-Command as fields_of};
 ghost use Rattle.vault_request.specs.CommandLine.{app_with, decrypt, encrypt, encrypt_string};
 ghost use Rattle.vault_request.specs.CommandLine.{name_rules, new_secret_rules, rekey, salt_rules};
 ghost use Rattle.vault_request.specs.CommandLine.{secret_rules, top_shape, vault_app, view};
-ghost use Rattle.vault_core.specs.declared.fault.Fault.TheVariants.{Memory};
+ghost use Rattle.vault_common.specs.declared.fault.Fault.TheVariants.{Memory};
 
 use crate::arguments;
 use clap::Command;
 use std::alloc::{AllocError, Global};
-use vault_core::Fault;
+use vault_common::Fault;
 
 const VERSION: &str = "0.2.0";
 
@@ -20,26 +20,16 @@ pub fn command<'a>(alloc: Global) -> Result<Command<'a>, Fault>
     ensures shape { IfOk result (λ command. app_of command ≡ vault_app) }
     ensures refused { IfErr result (λ fault. fault ≡ Memory) }
 {
-    let command = with_opening(alloc)?
+    let command = top(alloc)?
+        .subcommand(encrypt(alloc)?)?
+        .subcommand(decrypt(alloc)?)?
         .subcommand(view(alloc)?)?
         .subcommand(rekey(alloc)?)?
         .subcommand(encrypt_string(alloc)?)?;
     Ok(command)
 }
 
-/// The program itself, with its first two commands.
-fn with_opening<'a>(alloc: Global) -> Result<Command<'a>, AllocError>
-    ensures shape { IfOk result (λ command. app_of command ≡ record {
-      top = record top_shape { is_leaf = false };
-      subs = encrypt.top ∷ decrypt.top ∷ [];
-    }) }
-    ensures local { IfOk result (λ command. (fields_of command).has_globals ≡ false) }
-{
-    top(alloc)?
-        .subcommand(encrypt(alloc)?)?
-        .subcommand(decrypt(alloc)?)
-}
-
+/// The program itself, without its commands.
 fn top<'a>(alloc: Global) -> Result<Command<'a>, AllocError>
     ensures shape { IfOk result (λ command.
         app_of command ≡ record { top = top_shape; subs = [] }) }

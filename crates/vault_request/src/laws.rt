@@ -1,7 +1,7 @@
 //! Laws of requests, each the contract of a function that does nothing.
 ghost use Rattle.vault_request.specs.Laws.{SettledRequests, WordsNameACommand};
 
-/// Words without a fault name a command.
+/// Arguments without a fault name a command.
 pub fn words_name_a_command()
     ensures { WordsNameACommand }
 {}

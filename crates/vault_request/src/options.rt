@@ -7,7 +7,7 @@ ghost use Rattle.vault_request.specs.Options.{is_given, not_dash, options_of, ru
 use crate::command_name::CommandName;
 use clap::ArgMatches;
 use std::marker::Model;
-use vault_core::LabelRule;
+use vault_common::LabelRule;
 
 /// What a command was given, where it has the option.
 #[derive(Drop)]

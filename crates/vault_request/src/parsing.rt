@@ -1,4 +1,4 @@
-//! From words to the matches of the command line.
+//! From arguments to the matches of the command line.
 ghost use Rattle.std.specs.Prelude.{◌≡◌, IfOk, is_some, map, true};
 ghost use Rattle.std.specs.String.{string_bytes};
 ghost use Rattle.clap.specs.Words.{FailsBy, fault_of, subcommand_of, subcommand_rows_of};
@@ -9,9 +9,9 @@ use crate::command_line::command;
 use clap::{ArgMatches, Error};
 use std::alloc::{AllocError, Global};
 
-/// Parses the words, of which the first is the program's name: the command and the values under its
-/// options are those that the parser's definition gives for this command line, and an error is of
-/// a kind that it gives, or says that memory ran out. Words that parse name a command.
+/// Parses the arguments, of which the first is the program's name: the command and the values under
+/// its options are those that the parser's definition gives for this command line, and an error is
+/// of a kind that it gives, or says that memory ran out. Arguments that parse name a command.
 pub fn parse<'a>(alloc: Global, words: &'a [String]) -> Result<ArgMatches<'a>, Error>
     ensures matches { IfOk result (λ matches.
         subcommand_rows_of matches ≡ subcommand_of vault_app (map string_bytes words.now)) }

@@ -10,7 +10,7 @@ ghost use Rattle.vault_request.specs.Refusal.{rekey_fault, salt_fault};
 use crate::limits::SALT_TEXT_LIMIT;
 use crate::options::Options;
 use crate::vault_id;
-use vault_core::{Fault, SECRET_COUNT_LIMIT};
+use vault_common::{Fault, SECRET_COUNT_LIMIT};
 use vault_text::Label;
 
 /// Refuses the options where they have a fault: more than 16 secrets; each vault id in turn,

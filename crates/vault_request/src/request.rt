@@ -1,17 +1,17 @@
 //! What a command line asks for.
 ghost use Rattle.std.specs.Prelude.{◌≡◌, ◌+◌, ◌<◌, ◌≤◌, Some, IfSome, is_some, length, slice_get};
 ghost use Rattle.std.specs.Option.{option_copied, option_map};
-ghost use Rattle.vault_core.specs.declared.limits.TheConstants.{SECRET_COUNT_LIMIT};
+ghost use Rattle.vault_common.specs.declared.limits.TheConstants.{SECRET_COUNT_LIMIT};
 ghost use Rattle.vault_request.specs.CommandName.{rekeys, seals};
 ghost use Rattle.vault_request.specs.Request.{IsSaltText, files_of};
 
 use crate::command_name::CommandName;
 use std::marker::Model;
-use vault_core::LabelRule;
+use vault_common::LabelRule;
 use vault_text::Label;
 
 /// A password file, and the label of its secret.
-#[derive(Debug, Drop)]
+#[derive(Drop)]
 pub(crate) struct SecretFile {
     pub label: Label,
     pub path: String,
@@ -28,10 +28,10 @@ impl Model for SecretFile {
 
 /// A request that was settled from a command line. It has at most 16 password files, and one more
 /// where the command is `rekey`.
-#[derive(Debug, Drop)]
+#[derive(Drop)]
 pub struct Request {
     pub(crate) command: CommandName,
-    pub(crate) secret_files: Vec<SecretFile>,
+    pub(crate) secrets: Vec<SecretFile>,
     pub(crate) new_secret: Option<SecretFile>,
     pub(crate) choice: Option<Label>,
     pub(crate) name: Option<String>,
@@ -52,7 +52,7 @@ impl Model for Request {
 
     ghost view = { λ r. record {
       command = r.command;
-      secret_files = r.secret_files.items;
+      secrets = r.secrets.items;
       new_secret = r.new_secret;
       choice = r.choice;
       name = option_map string_bytes r.name;
@@ -66,7 +66,7 @@ impl Model for Request {
 
     ghost invariant = { λ r. IsSettled (record {
       command = r.command;
-      secret_files = r.secret_files.items;
+      secrets = r.secrets.items;
       new_secret = r.new_secret;
       choice = r.choice;
       name = option_map string_bytes r.name;
@@ -92,15 +92,15 @@ impl Request {
         ensures count { result ≡ length (files_of self.now) }
         ensures limit { result ≤ SECRET_COUNT_LIMIT + 1 }
     {
-        self.secret_files.len() + self.new_secret.iter().count()
+        self.secrets.len() + self.new_secret.iter().count()
     }
 
     /// How many password files there are without the new one of `rekey`: at most 16.
     pub fn secret_count(&self) -> usize
-        ensures count { result ≡ length self.now.secret_files }
+        ensures count { result ≡ length self.now.secrets }
         ensures limit { result ≤ SECRET_COUNT_LIMIT }
     {
-        self.secret_files.len()
+        self.secrets.len()
     }
 
     /// The path of a password file, counted from 0. The new one of `rekey` is last.
@@ -125,7 +125,7 @@ impl Request {
         requires { i < length (files_of self.now) }
         ensures { slice_get (files_of self.now) i ≡ Some result.now }
     {
-        match self.secret_files.get(i) {
+        match self.secrets.get(i) {
             Some(file) => file,
             None => self.new_secret.as_ref().unwrap(),
         }

@@ -9,7 +9,7 @@ ghost use Rattle.vault_request.specs.Settled.{Settles, asked, command_in, file_o
 ghost use Rattle.vault_request.specs.Settled.{new_secret_of, plain_file, request_of};
 ghost use Rattle.vault_request.specs.Settled.{salt_path_of, settled_by};
 ghost use Rattle.vault_request.specs.VaultId.{fault_of_id, first_fault};
-ghost use Rattle.vault_core.specs.declared.fault.Fault.TheVariants.{Memory};
+ghost use Rattle.vault_common.specs.declared.fault.Fault.TheVariants.{Memory};
 
 use crate::command_name::CommandName;
 use crate::options::{Options, not_dash};
@@ -18,7 +18,7 @@ use crate::request::{Request, SecretFile};
 use crate::vault_id;
 use clap::ArgMatches;
 use std::alloc::{AllocError, Global};
-use vault_core::Fault;
+use vault_common::Fault;
 use vault_text::Label;
 
 const DEFAULT_SALT_FILE: &str = "/dev/urandom";
@@ -88,7 +88,7 @@ fn copied(alloc: Global, text: Option<&str>) -> Result<Option<String>, AllocErro
     }
 }
 
-fn secret_files_of(alloc: Global, options: &Options<'_, '_>) -> Result<Vec<SecretFile>, Fault>
+fn secrets_of(alloc: Global, options: &Options<'_, '_>) -> Result<Vec<SecretFile>, Fault>
     requires { first_fault options.now.vault_ids ≡ None }
     ensures files { IfOk result (λ files. files.items
         ≡ map file_of_id options.now.vault_ids ++ map plain_file options.now.password_files) }
@@ -148,7 +148,7 @@ fn request_of(alloc: Global, options: &Options<'_, '_>) -> Result<Request, Fault
 {
     Ok(Request {
         command: options.command,
-        secret_files: secret_files_of(alloc, options)?,
+        secrets: secrets_of(alloc, options)?,
         new_secret: new_secret_of(alloc, options)?,
         choice: chosen_label(options),
         name: copied(alloc, options.name.or(options.stdin_name))?,

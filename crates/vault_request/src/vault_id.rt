@@ -4,7 +4,7 @@ ghost use Rattle.std.specs.Result.{result_err};
 ghost use Rattle.vault_request.specs.VaultId.{fault_of_id, first_fault, label_of_id};
 ghost use Rattle.vault_request.specs.VaultId.{label_part, source_of_id};
 
-use vault_core::Fault;
+use vault_common::Fault;
 use vault_text::Label;
 
 /// The parts before and after the first `@`; all is source where there is none.

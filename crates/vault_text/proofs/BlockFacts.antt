@@ -1,17 +1,38 @@
--- The first line of a block.
-use Rattle.std.proofs.Common.{◌≡◌, ◌==◌, ℕ, List, [], ◌∷◌, ◌++◌, true, false, codes, length, sym, refl, append_assoc, Option, unwrap_or}
+-- The first line of a block, and what stands before the body of an envelope.
+use Rattle.std.proofs.Common.{◌≡◌, ◌==◌, ◌⊎◌, ℕ, List, [], ◌∷◌, ◌++◌, true, codes, length}
+use Rattle.std.proofs.Common.{sym, ap, arith, refl, ◌∙◌, append_assoc, Option, unwrap_or}
+use Rattle.hex.specs.Hex.{encode_lower}
 use Rattle.vault_text.specs.Block.{block, block_indentation, first_line}
-use Rattle.vault_text.specs.Written.{text_of_lines, written_lines}
+use Rattle.vault_text.specs.Written.{hexadecimal_lines, inner_text, text_of_lines}
+use Rattle.vault_text.specs.Written.{written_header, written_lines}
+use Rattle.vault_text.proofs.BodyFacts.{body_text-split, text_of_lines-cons}
 
-pub first_line-unnamed : (name : List ℕ) → (length name == 0) ≡ true → codes "!vault |" ++ 10 ∷ [] ≡ first_line name
-first_line-unnamed name empty = rw empty refl
-
-pub first_line-named : (name : List ℕ) → (length name == 0) ≡ false
-    → name ++ (codes ": !vault |" ++ 10 ∷ []) ≡ first_line name
-first_line-named name some = rw some (sym (simp append_assoc))
-
--- the first line and the lines of the envelope
-pub block-parts : (name : Option (List ℕ)) (label salt tag cipher : List ℕ)
-    → first_line (unwrap_or name []) ++ text_of_lines block_indentation (written_lines label salt tag cipher) ≡ block name label salt tag cipher
+-- the name, what follows it on the first line, and the lines of the envelope
+pub block-parts : (name : Option (List ℕ)) (start label salt tag cipher : List ℕ)
+    → unwrap_or name [] ++ start ≡ first_line (unwrap_or name [])
+    → unwrap_or name []
+    ++ (start ++ text_of_lines block_indentation (written_lines label salt tag cipher))
+    ≡ block name label salt tag cipher
 unfolding block
-block-parts name label salt tag cipher = refl
+block-parts name start label salt tag cipher first =
+    let lines = text_of_lines block_indentation (written_lines label salt tag cipher) in
+    sym (append_assoc (unwrap_or name []) start lines)
+    ∙ ap (λ (line : List ℕ). line ++ lines) first
+
+-- what begins a text, the header line, the first lines of the body, and the lines behind them
+pub lines-parts : (start indentation label salt tag cipher inner rest : List ℕ)
+    → inner ++ encode_lower rest ≡ inner_text salt tag cipher
+    → (length inner ≡ 2560) ⊎ (rest ≡ [])
+    → ((start ++ text_of_lines indentation (written_header label ∷ []))
+    ++ hexadecimal_lines indentation inner)
+    ++ hexadecimal_lines indentation (encode_lower rest)
+    ≡ start ++ text_of_lines indentation (written_lines label salt tag cipher)
+lines-parts start indentation label salt tag cipher inner rest all full =
+    let header = text_of_lines indentation (written_header label ∷ []) in
+    let first = hexadecimal_lines indentation inner in
+    let later = hexadecimal_lines indentation (encode_lower rest) in
+    append_assoc (start ++ header) first later
+    ∙ ap (λ (text : List ℕ). (start ++ header) ++ text)
+    (body_text-split indentation salt tag cipher inner rest all full)
+    ∙ append_assoc start header (hexadecimal_lines indentation (inner_text salt tag cipher))
+    ∙ ap (λ (text : List ℕ). start ++ text) (text_of_lines-cons indentation _ _)

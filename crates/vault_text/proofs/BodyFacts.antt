@@ -1,21 +1,27 @@
 -- The lines of a body, one after another.
-use Rattle.std.proofs.Common.{◌≡◌, ℕ, zero, suc, ◌+◌, ◌-◌, ◌*◌, ◌/◌, ◌%◌, ◌<◌, ◌≤◌, ◌⊎◌, inl, inr, List, [], ◌∷◌, ◌++◌, length, take, drop, map, min, ap, sym, ◌∙◌, refl, arith, append_assoc, length-append, length-drop, length-take}
-use Rattle.std.proofs.lemmas.List.{append-nil, drop-drop, drop_all, length-take-le, take_all, take_min, take-append-drop, take-append-le, drop-append-le}
+use Rattle.std.proofs.Common.{◌≡◌, ℕ, zero, suc, ◌+◌, ◌-◌, ◌*◌, ◌/◌, ◌%◌, ◌<◌, ◌≤◌, ◌⊎◌, inl, inr}
+use Rattle.std.proofs.Common.{List, [], ◌∷◌, ◌++◌, length, take, drop, map, min, ap, sym, ◌∙◌, refl}
+use Rattle.std.proofs.Common.{arith, append_assoc, length-append, length-drop, length-take}
+use Rattle.std.proofs.lemmas.List.{append-nil, drop-drop, drop_all, length-take-le, take_all}
+use Rattle.std.proofs.lemmas.List.{take_min, take-append-drop, take-append-le, drop-append-le}
 use Rattle.std.proofs.lemmas.List.Concat.{flat_map-append}
 use Rattle.std.proofs.Math.Seq.{take-add}
 use Rattle.std.specs.List.{range_with_len}
 use Rattle.hex.specs.Hex.{encode_lower, encode_with, lower_digits}
 use Rattle.hex.proofs.HexLemmas.{length-encode_with}
-use Rattle.vault_text.specs.Written.{body_line, body_lines, hexadecimal_lines, inner_text, text_of_lines}
+use Rattle.vault_text.specs.Written.{body_line, body_lines, hexadecimal_lines, inner_text}
+use Rattle.vault_text.specs.Written.{text_of_lines}
 
 -- ---- digits
 
-encode_with-append : (t xs ys : List ℕ) → encode_with t (xs ++ ys) ≡ encode_with t xs ++ encode_with t ys
+encode_with-append : (t xs ys : List ℕ)
+    → encode_with t (xs ++ ys) ≡ encode_with t xs ++ encode_with t ys
 unfolding encode_with
 encode_with-append t [] ys = refl
 encode_with-append t (b ∷ rest) ys = rw (encode_with-append t rest ys) refl
 
-pub encode_lower-append : (xs ys : List ℕ) → encode_lower (xs ++ ys) ≡ encode_lower xs ++ encode_lower ys
+pub encode_lower-append : (xs ys : List ℕ)
+    → encode_lower (xs ++ ys) ≡ encode_lower xs ++ encode_lower ys
 encode_lower-append xs ys = encode_with-append lower_digits xs ys
 
 pub encode_lower-nil : encode_lower [] ≡ []
@@ -32,12 +38,15 @@ map-later : {A : Type 0} (f g : ℕ → A) (start count : ℕ) → ((i : ℕ) �
 map-later f g start zero same = refl
 map-later f g start (suc count) same = rw (same start, map-later f g (start + 1) count same) refl
 
-body_line-later : (digits : List ℕ) (i : ℕ) → body_line digits (i + 1) ≡ body_line (drop 80 digits) i
+body_line-later : (digits : List ℕ) (i : ℕ)
+    → body_line digits (i + 1) ≡ body_line (drop 80 digits) i
 body_line-later digits i =
     let later : drop (80 * i) (drop 80 digits) ≡ drop (80 * (i + 1)) digits =
     drop-drop (80 * i) 80 digits ∙ ap (λ (n : ℕ). drop n digits) (omega arith) in
     let left = length-drop 80 digits in
-    let many : min (80 * (i + 1) + 80) (length digits) - 80 * (i + 1) ≡ min (80 * i + 80) (length (drop 80 digits)) - 80 * i = omega arith in
+    let many : min (80 * (i + 1) + 80) (length digits) - 80 * (i + 1)
+    ≡ min (80 * i + 80) (length (drop 80 digits)) - 80 * i =
+    omega arith in
     rw (later, many) refl
 
 pub body_lines-nil : body_lines [] ≡ []
@@ -45,18 +54,27 @@ unfolding body_lines
 body_lines-nil = refl
 
 -- the first line, and the lines of the digits behind it
-pub body_lines-step : (digits : List ℕ) → 0 < length digits → body_lines digits ≡ take 80 digits ∷ body_lines (drop 80 digits)
+pub body_lines-step : (digits : List ℕ) → 0 < length digits
+    → body_lines digits ≡ take 80 digits ∷ body_lines (drop 80 digits)
 unfolding body_lines
 body_lines-step digits some =
     let left = length-drop 80 digits in
-    let count : (length digits + 80 - 1) / 80 ≡ suc ((length (drop 80 digits) + 80 - 1) / 80) = omega arith in
+    let count : (length digits + 80 - 1) / 80 ≡ suc ((length (drop 80 digits) + 80 - 1) / 80) =
+    omega arith in
     let many : min (80 * 0 + 80) (length digits) - 80 * 0 ≡ min 80 (length digits) = omega arith in
-    let first : body_line digits 0 ≡ take 80 digits = ap (λ (n : ℕ). take n digits) many ∙ take_min 80 digits in
-    let later = map-later (body_line digits) (body_line (drop 80 digits)) 0 ((length (drop 80 digits) + 80 - 1) / 80) (body_line-later digits) in
-    rw count (ap (λ (line : List ℕ). line ∷ map (body_line digits) (range_with_len (0 + 1) ((length (drop 80 digits) + 80 - 1) / 80))) first ∙ ap (λ (lines : List (List ℕ)). take 80 digits ∷ lines) later)
+    let first : body_line digits 0 ≡ take 80 digits =
+    ap (λ (n : ℕ). take n digits) many ∙ take_min 80 digits in
+    let later = map-later (body_line digits) (body_line (drop 80 digits)) 0
+    ((length (drop 80 digits) + 80 - 1) / 80) (body_line-later digits) in
+    rw count
+    (ap (λ (line : List ℕ). line
+    ∷ map (body_line digits) (range_with_len (0 + 1) ((length (drop 80 digits) + 80 - 1) / 80)))
+    first
+    ∙ ap (λ (lines : List (List ℕ)). take 80 digits ∷ lines) later)
 
 -- the lines of whole lines, and of the digits behind them
-body_lines-whole : (lines : ℕ) (xs ys : List ℕ) → length xs ≡ 80 * lines → body_lines (xs ++ ys) ≡ body_lines xs ++ body_lines ys
+body_lines-whole : (lines : ℕ) (xs ys : List ℕ) → length xs ≡ 80 * lines
+    → body_lines (xs ++ ys) ≡ body_lines xs ++ body_lines ys
 body_lines-whole zero [] ys len = rw body_lines-nil refl
 body_lines-whole zero (x ∷ xs) ys len = absurd (omega arith)
 body_lines-whole (suc lines) xs ys len =
@@ -70,22 +88,28 @@ body_lines-whole (suc lines) xs ys len =
     all ∙ rw (digits, later, ih, front) refl
 
 -- digits of at most one line
-pub body_lines-one : (digits : List ℕ) → 0 < length digits → length digits ≤ 80 → body_lines digits ≡ digits ∷ []
+pub body_lines-one : (digits : List ℕ) → 0 < length digits → length digits ≤ 80
+    → body_lines digits ≡ digits ∷ []
 body_lines-one digits some few =
-    body_lines-step digits some ∙ rw (take_all 80 digits few, drop_all 80 digits few, body_lines-nil) refl
+    body_lines-step digits some
+    ∙ rw (take_all 80 digits few, drop_all 80 digits few, body_lines-nil) refl
 
 -- ---- text of lines
 
 pub text_of_lines-append : (indentation : List ℕ) (xs ys : List (List ℕ))
-    → text_of_lines indentation (xs ++ ys) ≡ text_of_lines indentation xs ++ text_of_lines indentation ys
+    → text_of_lines indentation (xs ++ ys)
+    ≡ text_of_lines indentation xs ++ text_of_lines indentation ys
 unfolding text_of_lines
-text_of_lines-append indentation xs ys = flat_map-append (λ line. indentation ++ line ++ 10 ∷ []) xs ys
+text_of_lines-append indentation xs ys =
+    flat_map-append (λ line. indentation ++ line ++ 10 ∷ []) xs ys
 
 pub text_of_lines-cons : (indentation line : List ℕ) (lines : List (List ℕ))
-    → text_of_lines indentation (line ∷ []) ++ text_of_lines indentation lines ≡ text_of_lines indentation (line ∷ lines)
+    → text_of_lines indentation (line ∷ []) ++ text_of_lines indentation lines
+    ≡ text_of_lines indentation (line ∷ lines)
 text_of_lines-cons indentation line lines = sym (text_of_lines-append indentation (line ∷ []) lines)
 
-pub text_of_lines-one : (indentation line : List ℕ) → text_of_lines indentation (line ∷ []) ≡ indentation ++ line ++ 10 ∷ []
+pub text_of_lines-one : (indentation line : List ℕ)
+    → text_of_lines indentation (line ∷ []) ≡ indentation ++ line ++ 10 ∷ []
 unfolding text_of_lines
 text_of_lines-one indentation line = append-nil (indentation ++ line ++ 10 ∷ [])
 
@@ -95,19 +119,23 @@ body_text-nil indentation = refl
 
 -- the first line of a text, and the lines behind it
 pub body_text-step : (indentation digits : List ℕ) → 0 < length digits
-    → text_of_lines indentation (body_lines digits) ≡ (indentation ++ take 80 digits ++ 10 ∷ []) ++ text_of_lines indentation (body_lines (drop 80 digits))
+    → text_of_lines indentation (body_lines digits)
+    ≡ (indentation ++ take 80 digits ++ 10 ∷ [])
+    ++ text_of_lines indentation (body_lines (drop 80 digits))
 body_text-step indentation digits some =
     rw (body_lines-step digits some, ← text_of_lines-cons, text_of_lines-one) refl
 
 -- the text of whole lines of digits, and of the digits behind them
 pub body_text-append : (indentation xs ys : List ℕ) → length xs % 80 ≡ 0
-    → text_of_lines indentation (body_lines xs) ++ text_of_lines indentation (body_lines ys) ≡ text_of_lines indentation (body_lines (xs ++ ys))
+    → text_of_lines indentation (body_lines xs) ++ text_of_lines indentation (body_lines ys)
+    ≡ text_of_lines indentation (body_lines (xs ++ ys))
 body_text-append indentation xs ys whole =
     let lines = body_lines-whole (length xs / 80) xs ys (omega arith) in
     rw (lines, text_of_lines-append indentation (body_lines xs) (body_lines ys)) refl
 
 -- the bytes of one more line
-taken-line : (bytes : List ℕ) (line start end : ℕ) → start ≡ line * 40 → start < length bytes → end ≡ min (length bytes) (start + 40)
+taken-line : (bytes : List ℕ) (line start end : ℕ) → start ≡ line * 40 → start < length bytes
+    → end ≡ min (length bytes) (start + 40)
     → take start bytes ++ take (end - start) (drop start bytes) ≡ take ((line + 1) * 40) bytes
 taken-line bytes line start end at inside until =
     let to : start + (end - start) ≡ min ((line + 1) * 40) (length bytes) = omega arith in
@@ -117,14 +145,17 @@ taken-line bytes line start end at inside until =
 
 -- the lines of two texts, where the first fills whole lines unless the second is empty
 body_text-parts : (indentation xs ys : List ℕ) → (length xs % 80 ≡ 0) ⊎ (ys ≡ [])
-    → text_of_lines indentation (body_lines xs) ++ text_of_lines indentation (body_lines ys) ≡ text_of_lines indentation (body_lines (xs ++ ys))
+    → text_of_lines indentation (body_lines xs) ++ text_of_lines indentation (body_lines ys)
+    ≡ text_of_lines indentation (body_lines (xs ++ ys))
 body_text-parts indentation xs ys (inl whole) = body_text-append indentation xs ys whole
 body_text-parts indentation xs ys (inr none) =
     rw (none, body_text-nil, append-nil xs) (append-nil (text_of_lines indentation (body_lines xs)))
 
 -- one more line of a text whose lines each spell 40 bytes
-pub body_text-next : (indentation bytes : List ℕ) (line start end : ℕ) → start ≡ line * 40 → start < length bytes → end ≡ min (length bytes) (start + 40)
-    → hexadecimal_lines indentation (take start bytes) ++ (indentation ++ encode_lower (take (end - start) (drop start bytes)) ++ 10 ∷ [])
+pub body_text-next : (indentation bytes : List ℕ) (line start end : ℕ) → start ≡ line * 40
+    → start < length bytes → end ≡ min (length bytes) (start + 40)
+    → hexadecimal_lines indentation (take start bytes)
+    ++ (indentation ++ encode_lower (take (end - start) (drop start bytes)) ++ 10 ∷ [])
     ≡ hexadecimal_lines indentation (take ((line + 1) * 40) bytes)
 body_text-next indentation bytes line start end at inside until =
     let front = length-encode_lower (take start bytes) in
@@ -135,13 +166,17 @@ body_text-next indentation bytes line start end at inside until =
     let digits = length-encode_lower piece in
     let one = body_lines-one (encode_lower piece) (omega arith) (omega arith) in
     let text = text_of_lines-one indentation (encode_lower piece) in
-    let both = body_text-append indentation (encode_lower (take start bytes)) (encode_lower piece) (omega arith) in
-    let joined : take start bytes ++ piece ≡ take ((line + 1) * 40) bytes = taken-line bytes line start end at inside until in
-    rw (← text, ← one) (both ∙ ap (λ (d : List ℕ). text_of_lines indentation (body_lines d)) (sym (encode_lower-append (take start bytes) piece) ∙ ap encode_lower joined))
+    let both = body_text-append indentation (encode_lower (take start bytes)) (encode_lower piece)
+    (omega arith) in
+    let joined : take start bytes ++ piece ≡ take ((line + 1) * 40) bytes =
+    taken-line bytes line start end at inside until in
+    rw (← text, ← one) (both ∙ ap (λ (d : List ℕ). text_of_lines indentation (body_lines d))
+    (sym (encode_lower-append (take start bytes) piece) ∙ ap encode_lower joined))
 
 -- the digits of one more piece
 pub encode_lower-next : (bytes : List ℕ) (done end : ℕ) → done ≤ end
-    → encode_lower (take done bytes) ++ encode_lower (take (end - done) (drop done bytes)) ≡ encode_lower (take end bytes)
+    → encode_lower (take done bytes) ++ encode_lower (take (end - done) (drop done bytes))
+    ≡ encode_lower (take end bytes)
 encode_lower-next bytes done end forward =
     let to : done + (end - done) ≡ end = omega arith in
     sym (encode_lower-append (take done bytes) (take (end - done) (drop done bytes)))
@@ -150,25 +185,31 @@ encode_lower-next bytes done end forward =
 -- ---- the inner text
 
 -- the digits of the ciphertext stand at the end
-pub inner_text-append : (salt tag cipher : List ℕ) → inner_text salt tag [] ++ encode_lower cipher ≡ inner_text salt tag cipher
+pub inner_text-append : (salt tag cipher : List ℕ)
+    → inner_text salt tag [] ++ encode_lower cipher ≡ inner_text salt tag cipher
 inner_text-append salt tag cipher = rw (encode_lower-nil) (simp append_assoc)
 
-pub length-inner_text : (salt tag cipher : List ℕ) → length (inner_text salt tag cipher) ≡ 2 * length salt + 2 * length tag + 2 * length cipher + 2
+pub length-inner_text : (salt tag cipher : List ℕ)
+    → length (inner_text salt tag cipher) ≡ 2 * length salt + 2 * length tag + 2 * length cipher + 2
 length-inner_text salt tag cipher =
     let a = length-encode_lower salt in
     let b = length-encode_lower tag in
     let c = length-encode_lower cipher in
     let rest = length-append (encode_lower tag) (10 ∷ encode_lower cipher) in
-    let all = length-append (encode_lower salt) (10 ∷ (encode_lower tag ++ 10 ∷ encode_lower cipher)) in
+    let all =
+    length-append (encode_lower salt) (10 ∷ (encode_lower tag ++ 10 ∷ encode_lower cipher)) in
     omega arith
 
 -- a part of the ciphertext, and what follows it
 pub inner_text-split : (salt tag cipher gathered inner front rest : List ℕ)
-    → gathered ≡ inner_text salt tag [] → inner ≡ gathered ++ encode_lower front → front ++ rest ≡ cipher
+    → gathered ≡ inner_text salt tag [] → inner ≡ gathered ++ encode_lower front
+    → front ++ rest ≡ cipher
     → inner ++ encode_lower rest ≡ inner_text salt tag cipher
 inner_text-split salt tag cipher gathered inner front rest start spells both =
-    rw (spells, start) (append_assoc (inner_text salt tag []) (encode_lower front) (encode_lower rest))
-    ∙ ap (λ (text : List ℕ). inner_text salt tag [] ++ text) (sym (encode_lower-append front rest) ∙ ap encode_lower both)
+    rw (spells, start)
+    (append_assoc (inner_text salt tag []) (encode_lower front) (encode_lower rest))
+    ∙ ap (λ (text : List ℕ). inner_text salt tag [] ++ text)
+    (sym (encode_lower-append front rest) ∙ ap encode_lower both)
     ∙ inner_text-append salt tag cipher
 
 -- the text of a body whose first lines spell the inner text as far as the rest of the ciphertext
@@ -184,7 +225,8 @@ body_text-split indentation salt tag cipher inner rest all full =
       | inr none ↦ inr (rw (none, encode_lower-nil, encode_lower-nil) refl)
     ] in
     body_text-parts indentation (encode_lower inner) (encode_lower (encode_lower rest)) whole
-    ∙ ap (λ (text : List ℕ). text_of_lines indentation (body_lines text)) (sym (encode_lower-append inner (encode_lower rest)) ∙ ap encode_lower all)
+    ∙ ap (λ (text : List ℕ). text_of_lines indentation (body_lines text))
+    (sym (encode_lower-append inner (encode_lower rest)) ∙ ap encode_lower all)
 
 -- ---- the ciphertext
 
@@ -193,31 +235,39 @@ cipher_text-nil indentation = rw (encode_lower-nil, encode_lower-nil, body_text-
 
 -- ciphertext that fills whole lines, and what follows it
 pub cipher_text-append : (indentation xs ys : List ℕ) → length xs % 20 ≡ 0
-    → hexadecimal_lines indentation (encode_lower xs) ++ hexadecimal_lines indentation (encode_lower ys)
+    → hexadecimal_lines indentation (encode_lower xs)
+    ++ hexadecimal_lines indentation (encode_lower ys)
     ≡ hexadecimal_lines indentation (encode_lower (xs ++ ys))
 cipher_text-append indentation xs ys whole =
     let digits = length-encode_lower xs in
     let twice = length-encode_lower (encode_lower xs) in
-    body_text-append indentation (encode_lower (encode_lower xs)) (encode_lower (encode_lower ys)) (omega arith)
+    body_text-append indentation (encode_lower (encode_lower xs)) (encode_lower (encode_lower ys))
+    (omega arith)
     ∙ ap (λ (text : List ℕ). text_of_lines indentation (body_lines text))
-    (sym (encode_lower-append (encode_lower xs) (encode_lower ys)) ∙ ap encode_lower (sym (encode_lower-append xs ys)))
+    (sym (encode_lower-append (encode_lower xs) (encode_lower ys))
+    ∙ ap encode_lower (sym (encode_lower-append xs ys)))
 
 -- one more piece of the ciphertext
-pub cipher_text-next : (indentation cipher : List ℕ) (done end : ℕ) → done ≤ length cipher → done % 20 ≡ 0 → done ≤ end
-    → hexadecimal_lines indentation (encode_lower (take done cipher)) ++ hexadecimal_lines indentation (encode_lower (take (end - done) (drop done cipher)))
+pub cipher_text-next : (indentation cipher : List ℕ) (done end : ℕ) → done ≤ length cipher
+    → done % 20 ≡ 0 → done ≤ end
+    → hexadecimal_lines indentation (encode_lower (take done cipher))
+    ++ hexadecimal_lines indentation (encode_lower (take (end - done) (drop done cipher)))
     ≡ hexadecimal_lines indentation (encode_lower (take end cipher))
 cipher_text-next indentation cipher done end inside whole forward =
     let front = length-take-le done cipher inside in
     let to : done + (end - done) ≡ end = omega arith in
-    cipher_text-append indentation (take done cipher) (take (end - done) (drop done cipher)) (omega arith)
+    cipher_text-append indentation (take done cipher) (take (end - done) (drop done cipher))
+    (omega arith)
     ∙ ap (λ (bytes : List ℕ). hexadecimal_lines indentation (encode_lower bytes))
     (sym (take-add done (end - done) cipher) ∙ ap (λ (n : ℕ). take n cipher) to)
 
 -- the pieces so far, and the rest of the ciphertext
 pub cipher_text-rest : (indentation cipher : List ℕ) (end : ℕ) → end ≤ length cipher → end % 20 ≡ 0
-    → hexadecimal_lines indentation (encode_lower (take end cipher)) ++ hexadecimal_lines indentation (encode_lower (drop end cipher))
+    → hexadecimal_lines indentation (encode_lower (take end cipher))
+    ++ hexadecimal_lines indentation (encode_lower (drop end cipher))
     ≡ hexadecimal_lines indentation (encode_lower cipher)
 cipher_text-rest indentation cipher end inside whole =
     let front = length-take-le end cipher inside in
     cipher_text-append indentation (take end cipher) (drop end cipher) (omega arith)
-    ∙ ap (λ (bytes : List ℕ). hexadecimal_lines indentation (encode_lower bytes)) (take-append-drop end cipher)
+    ∙ ap (λ (bytes : List ℕ). hexadecimal_lines indentation (encode_lower bytes))
+    (take-append-drop end cipher)

@@ -1,29 +1,36 @@
 -- What is kept of an envelope, and what it answers at its end.
-use Rattle.std.proofs.Common.{◌≡◌, ℕ, ◌+◌, ◌-◌, ◌^◌, ◌<◌, ◌≤◌, true, false, not, List, [], ◌++◌, length, take, drop, min, Some, None, Result, Ok, Err, refl, sym, ap, ◌∙◌, arith, inl, inr, append_assoc, length-append}
+use Rattle.std.proofs.Common.{◌≡◌, ℕ, ◌+◌, ◌-◌, ◌^◌, ◌<◌, ◌≤◌, true, false, not, List, [], ◌++◌}
+use Rattle.std.proofs.Common.{length, take, drop, min, Some, None, Result, Ok, Err, refl, sym, ap}
+use Rattle.std.proofs.Common.{◌∙◌, arith, inl, inr, append_assoc, length-append}
 use Rattle.std.specs.Prelude.{if◌then◌else◌, nat_lt, nat_eq, IsOk, OnOk}
 use Rattle.std.specs.List.{starts_with}
 use Rattle.std.proofs.lemmas.Bool.{cases_lt}
 use Rattle.std.proofs.lemmas.Bool.Decides.{nat_tests}
-use Rattle.std.proofs.lemmas.List.{append-nil, drop-append-le, drop-drop, drop_all, drop_at, take-append-le, take-append-drop, length-take}
+use Rattle.std.proofs.lemmas.List.{append-nil, drop-append-le, drop-drop, drop_all, drop_at}
+use Rattle.std.proofs.lemmas.List.{take-append-le, take-append-drop, length-take}
 use Rattle.std.proofs.lemmas.List.Elements.{filter-append}
-use Rattle.vault_text.specs.Envelope.{body, read_body, read_head, read_inner, read_within, without_line_ends}
-use Rattle.vault_text.specs.EnvelopeReader.{BodyHas, BodyState, IsKept, LineHas, LineState, ReaderState, StandsFor}
+use Rattle.vault_text.specs.Envelope.{body, read_body, read_head, read_inner, read_within}
+use Rattle.vault_text.specs.Envelope.{without_line_ends}
+use Rattle.vault_text.specs.EnvelopeReader.{BodyHas, BodyState, IsKept, LineHas, LineState}
+use Rattle.vault_text.specs.EnvelopeReader.{ReaderState, StandsFor}
 use Rattle.vault_text.specs.Header.{header_line, is_line_end, marker, read_header}
 use Rattle.vault_text.specs.Hexadecimal.{DecoderState, Decodes, new_decoder, unhex_on}
 use Rattle.vault_text.specs.InnerReader.{InnerHas, InnerState}
 use Rattle.vault_text.specs.Limits.{ciphertext_limit, envelope_limit}
-use Rattle.vault_text.specs.Pieces.{Takes}
+use Rattle.vault_text.specs.Pieces.{TakesPiece}
 use Rattle.vault_text.specs.Steps.{◌>>=◌}
 use Rattle.vault_text.specs.declared.limits.TheConstants.{HEADER_LIMIT, PLAINTEXT_LIMIT}
 use Rattle.vault_text.specs.declared.fault.TextFault.{TextFault}
 use Rattle.vault_text.specs.declared.fault.TextFault.TheVariants.{TooLong, BadHex, NotVault}
 use Rattle.vault_text.proofs.HexadecimalFacts.{Decodes-more, Decodes-whole}
-use Rattle.vault_text.proofs.LineEndFacts.{header_line-ended, header_line-goes_on, header_line-whole, starts_with-header_line}
+use Rattle.vault_text.proofs.LineEndFacts.{header_line-ended, header_line-goes_on}
+use Rattle.vault_text.proofs.LineEndFacts.{header_line-whole, starts_with-header_line}
 
 -- ---- the header line
 
 -- as much of a line is kept as shows that it is too long
-pub IsKept-more : (kept bytes line : List ℕ) (n : ℕ) → n ≡ min (length bytes) (HEADER_LIMIT + 1 - length kept)
+pub IsKept-more : (kept bytes line : List ℕ) (n : ℕ)
+    → n ≡ min (length bytes) (HEADER_LIMIT + 1 - length kept)
     → IsKept kept line → IsKept (kept ++ take n bytes) (line ++ bytes)
 IsKept-more kept bytes line n count has =
     let size = length-append kept (take n bytes) in
@@ -33,15 +40,16 @@ IsKept-more kept bytes line n count has =
           let none : n ≡ 0 = omega (arith, long, count) in
           record {
             left_out = has.left_out ++ bytes;
-            front = rw (none, append-nil kept, has.front) (append_assoc kept has.left_out bytes);
+            prefix = rw (none, append-nil kept, has.prefix) (append_assoc kept has.left_out bytes);
             enough = inl (omega (arith, long, size));
           }
       | inr whole ↦
           record {
             left_out = drop n bytes;
-            front =
-                rw (has.front, whole, append-nil kept)
-                (sym (append_assoc kept (take n bytes) (drop n bytes) ∙ ap (λ xs. kept ++ xs) (take-append-drop n bytes)));
+            prefix =
+                rw (has.prefix, whole, append-nil kept)
+                (sym (append_assoc kept (take n bytes) (drop n bytes)
+                ∙ ap (λ xs. kept ++ xs) (take-append-drop n bytes)));
             enough = elim (cases_lt n (length bytes)) [
               | inl short ↦ inl (omega (arith, short, size, front_size, count))
               | inr past ↦ inr (drop_all n bytes past)
@@ -50,34 +58,51 @@ IsKept-more kept bytes line n count has =
     ]
 
 -- the line has ended: what follows is of the body
-pub LineHas-ended : (line : LineState) (input text : List ℕ) → line.has_ended ≡ true → LineHas line input
+pub LineHas-ended : (line : LineState) (input text : List ℕ) → line.has_ended ≡ true
+    → LineHas line input
     → LineHas line (input ++ text) × (body (input ++ text) ≡ body input ++ without_line_ends text)
 LineHas-ended line input text ended has =
-    let inside : length (header_line input) < length input = let test = sym ended ∙ has.ended in grind (arith, nat_tests) in
+    let inside : length (header_line input) < length input =
+    let test = sym ended ∙ has.ended in grind (arith, nat_tests) in
     let same = header_line-ended input text inside in
     let size = length-append input text in
-    let test : nat_lt (length (header_line input)) (length (input ++ text)) ≡ true = grind (arith, nat_tests) in (
+    let test : nat_lt (length (header_line input)) (length (input ++ text)) ≡ true =
+    grind (arith, nat_tests) in (
       record { kept = rw same has.kept; ended = rw (same, test) ended },
       rw (same, drop-append-le (length (header_line input)) input text (omega (arith, inside)))
           (filter-append (λ b. not (is_line_end b)) (drop (length (header_line input)) input) text),
     )
 
 -- the line goes on in a text
-pub LineHas-more : (old new : LineState) (input text line : List ℕ) → old.has_ended ≡ false → line ≡ header_line text
-    → new.has_ended ≡ nat_lt (length line) (length text) → Takes IsKept old.kept line new.kept → LineHas old input
-    → LineHas new (input ++ text) × (body (input ++ text) ≡ body input ++ without_line_ends (drop (length line) text))
+pub LineHas-more : (old new : LineState) (input text line : List ℕ) → old.has_ended ≡ false
+    → line ≡ header_line text
+    → new.has_ended ≡ nat_lt (length line) (length text) → TakesPiece IsKept old.kept line new.kept
+    → LineHas old input
+    → LineHas new (input ++ text)
+    × (body (input ++ text) ≡ body input ++ without_line_ends (drop (length line) text))
 LineHas-more old new input text line goes_on front ended taken has =
-    let past : length input ≤ length (header_line input) = let test = sym goes_on ∙ has.ended in grind (arith, nat_tests) in
+    let past : length input ≤ length (header_line input) =
+    let test = sym goes_on ∙ has.ended in grind (arith, nat_tests) in
     let whole = header_line-whole input past in
     let on = header_line-goes_on input text past in
     let size = length-append input text in
     let line_size = length-append input (header_line text) in
-    let test : nat_lt (length (header_line text)) (length text) ≡ nat_lt (length (input ++ header_line text)) (length (input ++ text)) = grind (arith, nat_tests) in (
+    let test : nat_lt (length (header_line text)) (length text)
+    ≡ nat_lt (length (input ++ header_line text)) (length (input ++ text)) =
+    grind (arith, nat_tests) in (
       record {
         kept = rw (on, ← front) (rw whole at (taken (header_line input) has.kept));
         ended = rw on (ended ∙ rw front test);
       },
-      rw (on, line_size, front, ← drop-drop (length (header_line text)) (length input) (input ++ text), drop_at input text (length input) refl, whole, drop_all (length input) input (omega arith)) refl,
+      rw (
+        on,
+        line_size,
+        front,
+        ← drop-drop (length (header_line text)) (length input) (input ++ text),
+        drop_at input text (length input) refl,
+        whole,
+        drop_all (length input) input (omega arith),
+      ) refl,
     )
 
 -- the label of a line, where it begins as every vault does
@@ -85,58 +110,73 @@ abbrev head_of : List ℕ → Result (List ℕ) TextFault
 head_of line = if not (starts_with nat_eq line marker) then Err NotVault else read_header line
 
 -- once a line is too long, the rest of it changes nothing
-head_of-long : (front more : List ℕ) → HEADER_LIMIT < length front → head_of front ≡ head_of (front ++ more)
+head_of-long : (front more : List ℕ) → HEADER_LIMIT < length front
+    → head_of front ≡ head_of (front ++ more)
 unfolding read_header
 head_of-long front more long =
-    let starts_alike : starts_with nat_eq (front ++ more) marker ≡ starts_with nat_eq front marker = rw (take-append-le (length marker) front more (omega arith)) refl in
+    let starts_alike : starts_with nat_eq (front ++ more) marker ≡ starts_with nat_eq front marker =
+    rw (take-append-le (length marker) front more (omega arith)) refl in
     let is_long : nat_lt HEADER_LIMIT (length front) ≡ true = grind (arith, nat_tests) in
     let size = length-append front more in
-    let still_long : nat_lt HEADER_LIMIT (length (front ++ more)) ≡ true = grind (arith, nat_tests) in
+    let still_long : nat_lt HEADER_LIMIT (length (front ++ more)) ≡ true =
+    grind (arith, nat_tests) in
     rw (starts_alike, is_long, still_long) refl
 
 -- what is kept of the line answers as the line
-pub read_head-kept : (line : LineState) (input : List ℕ) → LineHas line input → head_of line.kept ≡ read_head input
+pub read_head-kept : (line : LineState) (input : List ℕ) → LineHas line input
+    → head_of line.kept ≡ read_head input
 read_head-kept line input has =
     let whole : head_of line.kept ≡ head_of (header_line input) =
     elim has.kept.enough [
-      | inl long ↦ head_of-long line.kept has.kept.left_out long ∙ ap head_of (sym has.kept.front)
-      | inr none ↦ ap head_of (sym (has.kept.front ∙ ap (λ xs. line.kept ++ xs) none ∙ append-nil line.kept))
+      | inl long ↦ head_of-long line.kept has.kept.left_out long ∙ ap head_of (sym has.kept.prefix)
+      | inr none ↦
+          ap head_of
+          (sym (has.kept.prefix ∙ ap (λ xs. line.kept ++ xs) none ∙ append-nil line.kept))
     ] in
     rw (starts_with-header_line marker input refl) whole
 
 -- ---- the body
 
 -- digits that spell bytes, which the reader of the inner text takes
-pub BodyHas-more : (limit : ℕ) (old new : DecoderState) (inner next : InnerState) (digits bytes : List ℕ)
-    → Decodes old digits bytes new → Takes (InnerHas limit) inner bytes next
-    → Takes (BodyHas limit) (record { decoder = old; inner = inner }) digits (record { decoder = new; inner = next })
+pub BodyHas-more : (limit : ℕ) (old new : DecoderState) (inner next : InnerState)
+    (digits bytes : List ℕ)
+    → Decodes old digits bytes new → TakesPiece (InnerHas limit) inner bytes next
+    → TakesPiece (BodyHas limit) (record { decoder = old; inner = inner }) digits
+    (record { decoder = new; inner = next })
 BodyHas-more limit old new inner next digits bytes decoded taken text has = record {
   spelled = has.spelled ++ bytes;
   decoded = Decodes-more new_decoder old new text digits has.spelled bytes has.decoded decoded;
   inner = taken has.spelled has.inner;
 }
 
-module _ (limit : ℕ) (label digits : List ℕ) (state : BodyState) (has : BodyHas (ciphertext_limit limit) state digits) where
+module _ (limit : ℕ) (label digits : List ℕ) (state : BodyState)
+    (has : BodyHas (ciphertext_limit limit) state digits) where
   pub read_body-bad : unhex_on state.decoder [] ≡ None → Err BadHex ≡ read_body limit label digits
   unfolding read_body
   read_body-bad bad = rw (Decodes-whole digits has.spelled state.decoder has.decoded, bad) refl
 
-  pub read_body-good : unhex_on state.decoder [] ≡ Some [] → read_inner limit label has.spelled ≡ read_body limit label digits
+  pub read_body-good : unhex_on state.decoder [] ≡ Some []
+      → read_inner limit label has.spelled ≡ read_body limit label digits
   unfolding read_body
-  read_body-good good = rw (Decodes-whole digits has.spelled state.decoder has.decoded, good, append-nil has.spelled) refl
+  read_body-good good =
+      rw (Decodes-whole digits has.spelled state.decoder has.decoded, good, append-nil has.spelled)
+      refl
 
 -- ---- the whole envelope
 
-pub StandsFor-nothing : (limit : ℕ) (line : LineState) (state : BodyState) → LineHas line [] → BodyHas (ciphertext_limit limit) state []
+pub StandsFor-nothing : (limit : ℕ) (line : LineState) (state : BodyState) → LineHas line []
+    → BodyHas (ciphertext_limit limit) state []
     → StandsFor (record { limit = limit; fed = 0; line = line; body = state }) []
 StandsFor-nothing limit line state has_line has_body =
     record { no_more = omega arith; exact = λ within. refl; line = has_line; body = has_body }
 
 -- a reader that took a piece stands for what it stood for, and the piece
-pub StandsFor-piece : (old new : ReaderState) (input piece text : List ℕ) → old.limit ≤ PLAINTEXT_LIMIT
+pub StandsFor-piece : (old new : ReaderState) (input piece text : List ℕ)
+    → old.limit ≤ PLAINTEXT_LIMIT
     → new.limit ≡ old.limit → new.fed ≡ min (old.fed + length piece) (2 ^ 64 - 1)
-    → LineHas new.line (input ++ piece) → body (input ++ piece) ≡ body input ++ without_line_ends text
-    → ((limit : ℕ) → Takes (BodyHas limit) old.body (without_line_ends text) new.body)
+    → LineHas new.line (input ++ piece)
+    → body (input ++ piece) ≡ body input ++ without_line_ends text
+    → ((limit : ℕ) → TakesPiece (BodyHas limit) old.body (without_line_ends text) new.body)
     → StandsFor old input → StandsFor new (input ++ piece)
 StandsFor-piece old new input piece text bound same_limit fed line digits taken stands =
     let size = length-append input piece in
@@ -152,20 +192,25 @@ StandsFor-piece old new input piece text bound same_limit fed line digits taken 
     }
 
 -- an input that is too long
-pub read-long : (reader : ReaderState) (input : List ℕ) → StandsFor reader input → envelope_limit reader.limit < reader.fed → Err TooLong ≡ read_within reader.limit input
+pub read-long : (reader : ReaderState) (input : List ℕ) → StandsFor reader input
+    → envelope_limit reader.limit < reader.fed → Err TooLong ≡ read_within reader.limit input
 unfolding read_within
 read-long reader input stands long =
     let more = stands.no_more in
-    let test : nat_lt (envelope_limit reader.limit) (length input) ≡ true = grind (arith, nat_tests) in
+    let test : nat_lt (envelope_limit reader.limit) (length input) ≡ true =
+    grind (arith, nat_tests) in
     rw test refl
 
 -- any other
-pub read-short : (reader : ReaderState) (input : List ℕ) → StandsFor reader input → reader.fed ≤ envelope_limit reader.limit
-    → (read_head input >>= (λ label. read_body reader.limit label (body input))) ≡ read_within reader.limit input
+pub read-short : (reader : ReaderState) (input : List ℕ) → StandsFor reader input
+    → reader.fed ≤ envelope_limit reader.limit
+    → (read_head input >>= (λ label. read_body reader.limit label (body input)))
+    ≡ read_within reader.limit input
 unfolding read_within
 read-short reader input stands short =
     let counted = stands.exact short in
-    let test : nat_lt (envelope_limit reader.limit) (length input) ≡ false = grind (arith, nat_tests) in
+    let test : nat_lt (envelope_limit reader.limit) (length input) ≡ false =
+    grind (arith, nat_tests) in
     rw test refl
 
 -- what holds where a call succeeded

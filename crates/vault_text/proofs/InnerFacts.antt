@@ -1,11 +1,14 @@
 -- What is kept of the inner text, and what it answers at its end.
-use Rattle.std.proofs.Common.{◌≡◌, ℕ, ◌+◌, ◌<◌, ◌≤◌, Bool, true, false, not, List, [], ◌∷◌, ◌++◌, length, Option, Some, None, refl, ap, ◌∙◌, arith, inl, inr, append_assoc, length-append}
+use Rattle.std.proofs.Common.{◌≡◌, ℕ, ◌+◌, ◌<◌, ◌≤◌, Bool, true, false, not, List, [], ◌∷◌, ◌++◌}
+use Rattle.std.proofs.Common.{length, Option, Some, None, refl, ap, ◌∙◌, arith, inl, inr}
+use Rattle.std.proofs.Common.{append_assoc, length-append}
 use Rattle.std.specs.Prelude.{IfSome}
 use Rattle.std.specs.Option.{option_map}
 use Rattle.std.proofs.lemmas.Bool.{cases_Bool}
 use Rattle.std.proofs.lemmas.List.Folds.{list_all-append}
 use Rattle.vault_text.specs.Hexadecimal.{DecoderState, Decodes, new_decoder, unhex, unhex_on}
-use Rattle.vault_text.specs.InnerReader.{InnerHas, InnerState, IsCut, IsOneLine, PartHas, PartState, next_part}
+use Rattle.vault_text.specs.InnerReader.{InnerHas, InnerState, IsCut, IsOneLine, PartHas, PartState}
+use Rattle.vault_text.specs.InnerReader.{next_part}
 use Rattle.vault_text.specs.InnerText.{Parts, is_line_feed}
 use Rattle.vault_text.specs.declared.limits.TheConstants.{SALT_LIMIT, TAG_LENGTH}
 use Rattle.vault_text.specs.declared.reader.inner_text.Part.{Part}
@@ -14,7 +17,9 @@ use Rattle.vault_text.proofs.HexadecimalFacts.{Decodes-more, Decodes-nothing, De
 
 -- ---- one part
 
-pub PartHas-nothing : (limit : ℕ) → PartHas limit (record { bytes = []; decoder = new_decoder; limit = limit; is_long = false }) []
+pub PartHas-nothing : (limit : ℕ)
+    → PartHas limit (record { bytes = []; decoder = new_decoder; limit = limit; is_long = false })
+    []
 PartHas-nothing limit = record {
   same_limit = refl;
   spelled = [];
@@ -24,10 +29,13 @@ PartHas-nothing limit = record {
 }
 
 -- the bytes that the digits complete have room behind those of the part
-pub PartHas-fits : (limit room : ℕ) (bytes digits out text : List ℕ) (old new : DecoderState) (is_long : Bool) → Decodes old digits out new
+pub PartHas-fits : (limit room : ℕ) (bytes digits out text : List ℕ) (old new : DecoderState)
+    (is_long : Bool)
+    → Decodes old digits out new
     → (kept : List ℕ) → kept ≡ bytes ++ out → length bytes + length out ≤ room
     → PartHas limit (record { bytes = bytes; decoder = old; limit = room; is_long = is_long }) text
-    → PartHas limit (record { bytes = kept; decoder = new; limit = room; is_long = is_long }) (text ++ digits)
+    → PartHas limit (record { bytes = kept; decoder = new; limit = room; is_long = is_long })
+    (text ++ digits)
 PartHas-fits limit room bytes digits out text old new is_long decoded kept is fits has = record {
   same_limit = has.same_limit;
   spelled = has.spelled ++ out;
@@ -42,9 +50,12 @@ PartHas-fits limit room bytes digits out text old new is_long decoded kept is fi
 }
 
 -- they have no room there
-pub PartHas-long : (limit room : ℕ) (bytes kept digits out text : List ℕ) (old new : DecoderState) (is_long : Bool) → Decodes old digits out new → room < length bytes + length out
+pub PartHas-long : (limit room : ℕ) (bytes kept digits out text : List ℕ) (old new : DecoderState)
+    (is_long : Bool)
+    → Decodes old digits out new → room < length bytes + length out
     → PartHas limit (record { bytes = bytes; decoder = old; limit = room; is_long = is_long }) text
-    → PartHas limit (record { bytes = kept; decoder = new; limit = room; is_long = true }) (text ++ digits)
+    → PartHas limit (record { bytes = kept; decoder = new; limit = room; is_long = true })
+    (text ++ digits)
 PartHas-long limit room bytes kept digits out text old new is_long decoded over has = record {
   same_limit = has.same_limit;
   spelled = has.spelled ++ out;
@@ -61,15 +72,20 @@ PartHas-long limit room bytes kept digits out text old new is_long decoded over 
 
 pub unhex-bad : (limit : ℕ) (part : PartState) (digits : List ℕ) → PartHas limit part digits
     → unhex_on part.decoder [] ≡ None → unhex digits ≡ None
-unhex-bad limit part digits has bad = Decodes-whole digits has.spelled part.decoder has.decoded ∙ rw bad refl
+unhex-bad limit part digits has bad =
+    Decodes-whole digits has.spelled part.decoder has.decoded ∙ rw bad refl
 
 pub unhex-long : (limit : ℕ) (part : PartState) (digits : List ℕ) → PartHas limit part digits
     → part.is_long ≡ true → IfSome (unhex digits) (λ bytes. limit < length bytes)
-unhex-long limit part digits has long = rw (Decodes-whole digits has.spelled part.decoder has.decoded) (by_end (unhex_on part.decoder []))
+unhex-long limit part digits has long =
+    rw (Decodes-whole digits has.spelled part.decoder has.decoded)
+    (by_end (unhex_on part.decoder []))
   where
-    by_end : (end : Option (List ℕ)) → IfSome (option_map (λ rest. has.spelled ++ rest) end) (λ bytes. limit < length bytes)
+    by_end : (end : Option (List ℕ))
+        → IfSome (option_map (λ rest. has.spelled ++ rest) end) (λ bytes. limit < length bytes)
     by_end None = tt
-    by_end (Some rest) = let more = has.long long in let size = length-append has.spelled rest in omega arith
+    by_end (Some rest) =
+        let more = has.long long in let size = length-append has.spelled rest in omega arith
 
 -- ---- the parts
 
@@ -78,18 +94,39 @@ one_line-append xs ys p q = rw (list_all-append (λ b. not (is_line_feed b)) xs 
 
 module _ (limit : ℕ) where
   -- nothing of a text
-  pub InnerHas-nothing : (salt tag cipher : PartState) → PartHas SALT_LIMIT salt [] → PartHas TAG_LENGTH tag [] → PartHas limit cipher []
+  pub InnerHas-nothing : (salt tag cipher : PartState) → PartHas SALT_LIMIT salt []
+      → PartHas TAG_LENGTH tag [] → PartHas limit cipher []
       → InnerHas limit (record { part = Salt; salt = salt; tag = tag; cipher = cipher }) []
   InnerHas-nothing salt tag cipher a b c =
-      record { digits = record { salt = []; tag = []; cipher = [] }; cut = (refl, refl, refl, refl); salt = a; tag = b; cipher = c }
+      record {
+        digits = record { salt = []; tag = []; cipher = [] };
+        cut = (refl, refl, refl, refl);
+        salt = a;
+        tag = b;
+        cipher = c;
+      }
 
   -- an LF ends the salt or the tag
-  cut-end : (part : Part) (text : List ℕ) (parts : Parts) → (part ≡ Cipher → ⊥) → IsCut part text parts → IsCut (next_part part) (text ++ 10 ∷ []) parts
+  cut-end : (part : Part) (text : List ℕ) (parts : Parts) → (part ≡ Cipher → ⊥)
+      → IsCut part text parts → IsCut (next_part part) (text ++ 10 ∷ []) parts
   cut-end Salt text parts early is = (rw (is.0, is.2) refl, is.1, rw is.2 refl, is.3)
   cut-end Tag text parts early is = (rw (is.0, is.3) (simp append_assoc), is.1, is.2)
   cut-end Cipher text parts early is = absurd (early refl)
 
-  pub InnerHas-end : (inner : InnerState) (text : List ℕ) → (inner.part ≡ Cipher → ⊥) → InnerHas limit inner text
-      → InnerHas limit (record { part = next_part inner.part; salt = inner.salt; tag = inner.tag; cipher = inner.cipher }) (text ++ 10 ∷ [])
+  pub InnerHas-end : (inner : InnerState) (text : List ℕ) → (inner.part ≡ Cipher → ⊥)
+      → InnerHas limit inner text
+      → InnerHas limit (record {
+        part = next_part inner.part;
+        salt = inner.salt;
+        tag = inner.tag;
+        cipher = inner.cipher;
+      })
+      (text ++ 10 ∷ [])
   InnerHas-end inner text early has =
-      record { digits = has.digits; cut = cut-end inner.part text has.digits early has.cut; salt = has.salt; tag = has.tag; cipher = has.cipher }
+      record {
+        digits = has.digits;
+        cut = cut-end inner.part text has.digits early has.cut;
+        salt = has.salt;
+        tag = has.tag;
+        cipher = has.cipher;
+      }

@@ -1,5 +1,6 @@
 -- Labels are text.
-use Rattle.std.proofs.Common.{◌≡◌, ℕ, suc, ◌<◌, ◌==◌, true, false, List, [], ◌∷◌, length, get_or, arith, refl, inl, inr}
+use Rattle.std.proofs.Common.{◌≡◌, ℕ, suc, ◌<◌, ◌==◌, true, false, List, [], ◌∷◌, length, get_or}
+use Rattle.std.proofs.Common.{arith, refl, inl, inr}
 use Rattle.std.specs.List.{list_all}
 use Rattle.std.specs.Str.{IsAscii, IsUtf8}
 use Rattle.std.proofs.lemmas.Bool.{and_parts, cases_lt, false_from_ne_true}
@@ -17,13 +18,16 @@ character-ascii c h = grind (arith, nat_tests)
 characters-ascii : (text : List ℕ) → list_all is_label_character text ≡ true → IsAscii text
 characters-ascii text h i =
     elim (cases_lt i (length text)) [
-      | inl inside ↦ character-ascii (get_or text i 0) (All-get_or (λ c. is_label_character c ≡ true) text i 0 inside (AllPass-from_list_all is_label_character text h))
+      | inl inside ↦
+          character-ascii (get_or text i 0) (All-get_or (λ c. is_label_character c ≡ true) text i 0
+          inside (AllPass-from_list_all is_label_character text h))
       | inr past ↦ rw (get_or_past text i 0 past) (omega arith)
     ]
 
 -- what is no text names no label
 pub no_text_is_no_label : (text : List ℕ) → (IsUtf8 text → ⊥) → is_label (named_label text) ≡ false
-no_text_is_no_label [] not_text = absurd (not_text (IsUtf8-from_ascii [] (characters-ascii [] refl)))
+no_text_is_no_label [] not_text =
+    absurd (not_text (IsUtf8-from_ascii [] (characters-ascii [] refl)))
 no_text_is_no_label (c ∷ rest) not_text =
     let some : (suc (length rest) == 0) ≡ false = grind (arith, nat_tests) in
     rw some (false_from_ne_true (is_label (c ∷ rest)) (λ e.

@@ -1,5 +1,7 @@
 -- The three parts of an inner text, held against their limits one by one or at once.
-use Rattle.std.proofs.Common.{◌≡◌, ◌≢◌, ℕ, ◌+◌, ◌<◌, ◌≤◌, ◌==◌, true, false, not, List, [], ◌∷◌, ◌++◌, length, Option, Some, None, Result, Ok, Err, cond, refl, ap, subst, ◌∙◌, eq-eqb, arith, inl, inr}
+use Rattle.std.proofs.Common.{◌≡◌, ◌≢◌, ℕ, ◌+◌, ◌<◌, ◌≤◌, ◌==◌, true, false, not, List, [], ◌∷◌}
+use Rattle.std.proofs.Common.{◌++◌, length, Option, Some, None, Result, Ok, Err, cond, refl, ap}
+use Rattle.std.proofs.Common.{subst, ◌∙◌, eq-eqb, arith, inl, inr}
 use Rattle.std.specs.Prelude.{if◌then◌else◌, nat_lt, nat_le, IfSome, MatchOption}
 use Rattle.std.specs.List.{after_first, before_first, count_by, list_all}
 use Rattle.std.specs.Option.{ok_or}
@@ -26,12 +28,16 @@ use Rattle.vault_text.proofs.LineFacts.{not_true}
 count_by-end : (text : List ℕ) → count_by is_line_feed (10 ∷ text) ≡ 1 + count_by is_line_feed text
 count_by-end text = sum_by-cons (λ b. cond (is_line_feed b) 1 0) 10 text
 
-count_by-line : (xs ys : List ℕ) → IsOneLine xs → count_by is_line_feed (xs ++ ys) ≡ count_by is_line_feed ys
+count_by-line : (xs ys : List ℕ) → IsOneLine xs
+    → count_by is_line_feed (xs ++ ys) ≡ count_by is_line_feed ys
 count_by-line [] ys line = refl
 count_by-line (x ∷ xs) ys line =
     let parts = and_parts (not (is_line_feed x)) (list_all (λ b. not (is_line_feed b)) xs) line in
     let later = count_by-line xs ys parts.1 in
-    rw (sum_by-cons (λ b. cond (is_line_feed b) 1 0) x (xs ++ ys), not_true (is_line_feed x) parts.0) (omega (arith, later))
+    rw (
+      sum_by-cons (λ b. cond (is_line_feed b) 1 0) x (xs ++ ys),
+      not_true (is_line_feed x) parts.0,
+    ) (omega (arith, later))
 
 cut-known : (text x rest y z : List ℕ) → nat_lt (count_by is_line_feed text) 2 ≡ false
     → before_first is_line_feed text ≡ x → after_first is_line_feed text ≡ rest
@@ -42,7 +48,8 @@ cut-known text x rest y z many before after between behind =
     rw (many, before, after, between, behind) refl
 
 -- a text of three lines, of which the last may go on
-pub cut-lines : (x y z : List ℕ) → IsOneLine x → IsOneLine y → cut (x ++ 10 ∷ (y ++ 10 ∷ z)) ≡ Some (record { salt = x; tag = y; cipher = z })
+pub cut-lines : (x y z : List ℕ) → IsOneLine x → IsOneLine y
+    → cut (x ++ 10 ∷ (y ++ 10 ∷ z)) ≡ Some (record { salt = x; tag = y; cipher = z })
 cut-lines x y z first second =
     let rest = y ++ 10 ∷ z in
     let text = x ++ 10 ∷ rest in
@@ -65,19 +72,22 @@ cut-early text few =
     rw test refl
 
 -- before the ciphertext there is at most one LF
-early-few : (part : Part) (text : List ℕ) (parts : Parts) → part ≢ Cipher → IsCut part text parts → count_by is_line_feed text ≤ 1
+early-few : (part : Part) (text : List ℕ) (parts : Parts) → part ≢ Cipher → IsCut part text parts
+    → count_by is_line_feed text ≤ 1
 early-few Salt text parts early is =
     let none = rw append-nil at (count_by-line parts.salt [] is.1) in
     rw (is.0, none) (omega arith)
 early-few Tag text parts early is =
     let none = rw append-nil at (count_by-line parts.tag [] is.2) in
-    rw (is.0, count_by-line parts.salt (10 ∷ parts.tag) is.1, count_by-end parts.tag, none) (omega arith)
+    rw (is.0, count_by-line parts.salt (10 ∷ parts.tag) is.1, count_by-end parts.tag, none)
+    (omega arith)
 early-few Cipher text parts early is = absurd (early refl)
 
 -- ---- what the parts answer
 
 -- the payload of the bytes of three parts
-abbrev payload_of : ℕ → List ℕ → Option (List ℕ) → Option (List ℕ) → Option (List ℕ) → Result Payload TextFault
+abbrev payload_of : ℕ → List ℕ → Option (List ℕ) → Option (List ℕ) → Option (List ℕ)
+    → Result Payload TextFault
 payload_of room label salt tag cipher = (do
   s ← ok_or salt BadPayload
   t ← ok_or tag BadPayload
@@ -90,7 +100,8 @@ module _ (limit : ℕ) (label : List ℕ) where
   abbrev room : ℕ
   room = ciphertext_limit limit
 
-  pub payload_of-bad_salt : (salt tag cipher : Option (List ℕ)) → IfSome salt (λ s. SALT_LIMIT < length s)
+  pub payload_of-bad_salt : (salt tag cipher : Option (List ℕ))
+      → IfSome salt (λ s. SALT_LIMIT < length s)
       → payload_of room label salt tag cipher ≡ Err BadPayload
   payload_of-bad_salt None tag cipher long = refl
   payload_of-bad_salt (Some s) None cipher long = refl
@@ -99,7 +110,8 @@ module _ (limit : ℕ) (label : List ℕ) where
       let over : nat_le (length s) SALT_LIMIT ≡ false = grind (arith, nat_tests) in
       rw over refl
 
-  pub payload_of-bad_tag : (salt tag cipher : Option (List ℕ)) → IfSome tag (λ t. length t ≢ TAG_LENGTH)
+  pub payload_of-bad_tag : (salt tag cipher : Option (List ℕ))
+      → IfSome tag (λ t. length t ≢ TAG_LENGTH)
       → payload_of room label salt tag cipher ≡ Err BadPayload
   payload_of-bad_tag None tag cipher odd = refl
   payload_of-bad_tag (Some s) None cipher odd = refl
@@ -111,7 +123,8 @@ module _ (limit : ℕ) (label : List ℕ) where
         | inr over ↦ rw over refl
       ]
 
-  pub payload_of-bad_cipher : (s t : List ℕ) (cipher : Option (List ℕ)) (fault : TextFault) → length s ≤ SALT_LIMIT → length t ≡ TAG_LENGTH
+  pub payload_of-bad_cipher : (s t : List ℕ) (cipher : Option (List ℕ)) (fault : TextFault)
+      → length s ≤ SALT_LIMIT → length t ≡ TAG_LENGTH
       → MatchOption cipher (fault ≡ BadPayload) (λ c. (fault ≡ CipherTooLong) × (room < length c))
       → payload_of room label (Some s) (Some t) cipher ≡ Err fault
   payload_of-bad_cipher s t None fault fits whole bad = rw bad refl
@@ -121,8 +134,10 @@ module _ (limit : ℕ) (label : List ℕ) where
       let long : nat_lt room (length c) ≡ true = grind (arith, nat_tests) in
       rw (within, eq-eqb (length t) TAG_LENGTH whole, long, bad.0) refl
 
-  pub payload_of-whole : (s t c : List ℕ) → length s ≤ SALT_LIMIT → length t ≡ TAG_LENGTH → length c ≤ room
-      → payload_of room label (Some s) (Some t) (Some c) ≡ Ok (record { label = label; salt = s; tag = t; cipher = c })
+  pub payload_of-whole : (s t c : List ℕ) → length s ≤ SALT_LIMIT → length t ≡ TAG_LENGTH
+      → length c ≤ room
+      → payload_of room label (Some s) (Some t) (Some c)
+      ≡ Ok (record { label = label; salt = s; tag = t; cipher = c })
   payload_of-whole s t c fits whole short =
       let within : nat_le (length s) SALT_LIMIT ≡ true = grind (arith, nat_tests) in
       let no_more : nat_lt room (length c) ≡ false = grind (arith, nat_tests) in
@@ -130,13 +145,16 @@ module _ (limit : ℕ) (label : List ℕ) where
 
   -- ---- what the text answers
 
-  pub read_inner-cut_off : (text : List ℕ) (inner : InnerState) → InnerHas room inner text → inner.part ≢ Cipher → read_inner limit label text ≡ Err BadPayload
+  pub read_inner-cut_off : (text : List ℕ) (inner : InnerState) → InnerHas room inner text
+      → inner.part ≢ Cipher → read_inner limit label text ≡ Err BadPayload
   unfolding parts_of
   read_inner-cut_off text inner has early =
       rw (cut-early text (early-few inner.part text has.digits early has.cut)) refl
 
-  pub read_inner-parts : (text : List ℕ) (inner : InnerState) (has : InnerHas room inner text) → inner.part ≡ Cipher
-      → read_inner limit label text ≡ payload_of room label (unhex has.digits.salt) (unhex has.digits.tag) (unhex has.digits.cipher)
+  pub read_inner-parts : (text : List ℕ) (inner : InnerState) (has : InnerHas room inner text)
+      → inner.part ≡ Cipher
+      → read_inner limit label text ≡ payload_of room label (unhex has.digits.salt)
+      (unhex has.digits.tag) (unhex has.digits.cipher)
   unfolding parts_of
   read_inner-parts text inner has here =
       let is = subst (λ (part : Part). IsCut part text has.digits) here has.cut in

@@ -1,5 +1,6 @@
 -- What holds of each payload that is read, also for the proofs of callers.
-use Rattle.std.proofs.Common.{◌≡◌, ℕ, ◌≤◌, Bool, true, false, List, length, Result, Ok, Err, refl, arith, inl, inr}
+use Rattle.std.proofs.Common.{◌≡◌, ℕ, ◌≤◌, Bool, true, false, List, length, Result, Ok, Err, refl}
+use Rattle.std.proofs.Common.{arith, inl, inr}
 use Rattle.std.specs.Prelude.{if◌then◌else◌, nat_lt, IfOk}
 use Rattle.std.specs.Option.{ok_or}
 use Rattle.std.specs.Result.{result_ok}
@@ -14,20 +15,24 @@ use Rattle.vault_text.specs.InnerText.{Parts, cut, part_bytes, parts_of}
 use Rattle.vault_text.specs.Limits.{ciphertext_limit, envelope_limit}
 use Rattle.vault_text.specs.Steps.{◌>>=◌}
 use Rattle.vault_text.specs.declared.fault.TextFault.{TextFault}
-use Rattle.vault_text.specs.declared.fault.TextFault.TheVariants.{TooLong, BadHex, BadPayload, CipherTooLong}
+use Rattle.vault_text.specs.declared.fault.TextFault.TheVariants.{TooLong, BadHex, BadPayload}
+use Rattle.vault_text.specs.declared.fault.TextFault.TheVariants.{CipherTooLong}
 
 -- ---- what steps answer
 
-pub IfOk-steps : {A B : Type 0} (r : Result A TextFault) (f : A → Result B TextFault) (P : B → Type 0)
+pub IfOk-steps : {A B : Type 0} (r : Result A TextFault) (f : A → Result B TextFault)
+    (P : B → Type 0)
     → ((x : A) → r ≡ Ok x → IfOk (f x) P) → IfOk (r >>= f) P
 IfOk-steps (Ok x) f P h = h x refl
 IfOk-steps (Err fault) f P h = tt
 
-pub IfOk-if : {A : Type 0} (b : Bool) (x : A) (fault : TextFault) (P : A → Type 0) → P x → IfOk (if b then Ok x else Err fault) P
+pub IfOk-if : {A : Type 0} (b : Bool) (x : A) (fault : TextFault) (P : A → Type 0) → P x
+    → IfOk (if b then Ok x else Err fault) P
 IfOk-if true x fault P h = h
 IfOk-if false x fault P h = tt
 
-IfOk-unless : {A : Type 0} (b : Bool) (fault : TextFault) (r : Result A TextFault) (P : A → Type 0) → IfOk r P → IfOk (if b then Err fault else r) P
+IfOk-unless : {A : Type 0} (b : Bool) (fault : TextFault) (r : Result A TextFault) (P : A → Type 0)
+    → IfOk r P → IfOk (if b then Err fault else r) P
 IfOk-unless true fault r P h = tt
 IfOk-unless false fault r P h = h
 
@@ -36,8 +41,10 @@ IfOk-unless false fault r P h = h
 part_bytes-bytes : (digits bytes : List ℕ) → part_bytes digits ≡ Ok bytes → IsBytes bytes
 part_bytes-bytes digits bytes h = by_decoded (decode_of digits) refl h
   where
-    by_decoded : (decoded : Result (List ℕ) FromHexError) → decode_of digits ≡ decoded → ok_or (result_ok decoded) BadPayload ≡ Ok bytes → IsBytes bytes
-    by_decoded (Ok found) known is = let same : found ≡ bytes = cc in rw same at ((decode_of-ok digits found known).3)
+    by_decoded : (decoded : Result (List ℕ) FromHexError) → decode_of digits ≡ decoded
+        → ok_or (result_ok decoded) BadPayload ≡ Ok bytes → IsBytes bytes
+    by_decoded (Ok found) known is =
+        let same : found ≡ bytes = cc in rw same at ((decode_of-ok digits found known).3)
     by_decoded (Err fault) known is = absurd cc
 
 parts_of-bytes : (text : List ℕ) → IfOk (parts_of text) (λ parts. IsBytes parts.cipher)
@@ -48,7 +55,8 @@ parts_of-bytes text =
     IfOk-steps (part_bytes digits.salt) _ P (λ salt _.
     IfOk-steps (part_bytes digits.tag) _ P (λ tag _.
     IfOk-steps (part_bytes digits.cipher) _ P (λ cipher found.
-    IfOk-if _ (record { salt = salt; tag = tag; cipher = cipher }) BadPayload P (part_bytes-bytes digits.cipher cipher found)))))
+    IfOk-if _ (record { salt = salt; tag = tag; cipher = cipher }) BadPayload P
+    (part_bytes-bytes digits.cipher cipher found)))))
 
 -- bytes, no more of them than the limit allows
 pub record HasFittingCipher (limit : ℕ) (payload : Payload) : Type 0 where
@@ -57,23 +65,28 @@ pub record HasFittingCipher (limit : ℕ) (payload : Payload) : Type 0 where
 
 by_length : (limit : ℕ) (label : List ℕ) (parts : Parts) → IsBytes parts.cipher
     → IfOk (if nat_lt (ciphertext_limit limit) (length parts.cipher) then Err CipherTooLong
-    else Ok (record { label = label; salt = parts.salt; tag = parts.tag; cipher = parts.cipher })) (HasFittingCipher limit)
-by_length limit label parts bytes = elim (cases_Bool (nat_lt (ciphertext_limit limit) (length parts.cipher))) [
-  | inl long ↦ rw long tt
-  | inr short ↦
-      let fits : length parts.cipher ≤ ciphertext_limit limit = grind (arith, nat_tests) in
-      rw short (record { bytes = bytes; fits = fits })
-]
+    else Ok (record { label = label; salt = parts.salt; tag = parts.tag; cipher = parts.cipher }))
+    (HasFittingCipher limit)
+by_length limit label parts bytes =
+    elim (cases_Bool (nat_lt (ciphertext_limit limit) (length parts.cipher))) [
+      | inl long ↦ rw long tt
+      | inr short ↦
+          let fits : length parts.cipher ≤ ciphertext_limit limit = grind (arith, nat_tests) in
+          rw short (record { bytes = bytes; fits = fits })
+    ]
 
-read_body-fits : (limit : ℕ) (label digits : List ℕ) → IfOk (read_body limit label digits) (HasFittingCipher limit)
+read_body-fits : (limit : ℕ) (label digits : List ℕ)
+    → IfOk (read_body limit label digits) (HasFittingCipher limit)
 unfolding read_body
 read_body-fits limit label digits =
     IfOk-steps (ok_or (unhex digits) BadHex) _ (HasFittingCipher limit) (λ inner _.
     IfOk-steps (parts_of inner) _ (HasFittingCipher limit) (λ parts found.
     by_length limit label parts (rw found at (parts_of-bytes inner))))
 
-pub read_within-fits : (limit : ℕ) (input : List ℕ) → IfOk (read_within limit input) (HasFittingCipher limit)
+pub read_within-fits : (limit : ℕ) (input : List ℕ)
+    → IfOk (read_within limit input) (HasFittingCipher limit)
 unfolding read_within
 read_within-fits limit input =
     IfOk-unless (nat_lt (envelope_limit limit) (length input)) TooLong _ (HasFittingCipher limit) (
-    IfOk-steps (read_head input) _ (HasFittingCipher limit) (λ label _. read_body-fits limit label (body input)))
+    IfOk-steps (read_head input) _ (HasFittingCipher limit)
+    (λ label _. read_body-fits limit label (body input)))

@@ -22,5 +22,6 @@ prefix_second takes more s t u xs ys whole e p (n, q) =
 -- both texts
 pub takes_both : {S : Type 0} (takes : S → List ℕ → S → Type 0)
     → ((s t u : S) (xs ys : List ℕ) → takes s xs t → takes t ys u → takes s (xs ++ ys) u)
-    → (s t u : S) (xs ys whole : List ℕ) → xs ++ ys ≡ whole → takes s xs t → takes t ys u → takes s whole u
+    → (s t u : S) (xs ys whole : List ℕ) → xs ++ ys ≡ whole → takes s xs t → takes t ys u
+    → takes s whole u
 takes_both takes more s t u xs ys whole e p q = rw (← e) (more s t u xs ys p q)

@@ -1,5 +1,6 @@
 -- One more step of a loop that reads into a buffer or writes out of one.
-use Rattle.std.proofs.Common.{◌≡◌, ℕ, ◌+◌, ◌-◌, ◌≤◌, List, [], ◌++◌, length, take, drop, ap, ◌∙◌, arith, length-append, length-drop, length-take}
+use Rattle.std.proofs.Common.{◌≡◌, ℕ, ◌+◌, ◌-◌, ◌≤◌, List, [], ◌++◌, length, take, drop, ap, ◌∙◌}
+use Rattle.std.proofs.Common.{arith, length-append, length-drop, length-take}
 use Rattle.std.proofs.Math.Seq.{take-add, take-append-add}
 use Rattle.std.proofs.lemmas.List.{length-take-le, take-append-le, take-take, take_rest, append-nil}
 use borrow.Rule.Slice.PartMut.{put_mid, post_of}
@@ -8,7 +9,8 @@ use borrow.Rule.Slice.PartMut.{put_mid, post_of}
 pub taken_next : {S : Type 0} (takes : S → List ℕ → S → Type 0)
     → ((s t u : S) (xs ys : List ℕ) → takes s xs t → takes t ys u → takes s (xs ++ ys) u)
     → (s t u : S) (bytes : List ℕ) (done n : ℕ)
-    → takes s (take done bytes) t → takes t (take n (take (length bytes - done) (drop done bytes))) u
+    → takes s (take done bytes) t
+    → takes t (take n (take (length bytes - done) (drop done bytes))) u
     → takes s (take (done + n) bytes) u
 taken_next takes more s t u bytes done n p q =
     let rest = rw take_rest at q in
@@ -25,9 +27,12 @@ pub take-written : (filled n k : ℕ) (old part : List ℕ) → filled ≤ lengt
     → take (filled + n) (put_mid filled k old part) ≡ take filled old ++ take n part
 take-written filled n k old part inside fits =
     let len : length (take filled old) ≡ filled = length-take-le filled old inside in
-    let front : take (length (take filled old) + n) (take filled old ++ (part ++ post_of filled k old)) ≡ take filled old ++ take n (part ++ post_of filled k old) =
+    let front : take (length (take filled old) + n)
+    (take filled old ++ (part ++ post_of filled k old))
+    ≡ take filled old ++ take n (part ++ post_of filled k old) =
     take-append-add (take filled old) (part ++ post_of filled k old) n in
-    rw len at front ∙ ap (λ (rest : List ℕ). take filled old ++ rest) (take-append-le n part (post_of filled k old) fits)
+    rw len at front ∙ ap (λ (rest : List ℕ). take filled old ++ rest)
+    (take-append-le n part (post_of filled k old) fits)
 
 -- the front of such a buffer, where nothing more was read
 pub take-unwritten : (filled k : ℕ) (old part : List ℕ) → filled ≤ length old
@@ -38,16 +43,27 @@ take-unwritten filled k old part inside =
     ∙ take-take filled filled old (omega arith)
 
 -- a buffer keeps its length where its rest was written
-pub length-written : (filled : ℕ) (old part : List ℕ) → filled ≤ length old → length part ≡ length (take (length old - filled) (drop filled old))
+pub length-written : (filled : ℕ) (old part : List ℕ) → filled ≤ length old
+    → length part ≡ length (take (length old - filled) (drop filled old))
     → length (put_mid filled (length old - filled) old part) ≡ length old
 length-written filled old part inside len =
-    omega (arith, length-append (take filled old) (part ++ post_of filled (length old - filled) old), length-append part (post_of filled (length old - filled) old), length-take-le filled old inside, length-drop (length old - filled) (drop filled old), length-drop filled old, len, length-take (length old - filled) (drop filled old))
+    omega (
+      arith,
+      length-append (take filled old) (part ++ post_of filled (length old - filled) old),
+      length-append part (post_of filled (length old - filled) old),
+      length-take-le filled old inside,
+      length-drop (length old - filled) (drop filled old),
+      length-drop filled old,
+      len,
+      length-take (length old - filled) (drop filled old),
+    )
 
 -- what a source has given stands at the front of the buffer, where it then gave nothing more
 pub given_none : {S : Type 0} (gives : S → List ℕ → S → Type 0)
     → ((s t u : S) (xs ys : List ℕ) → gives s xs t → gives t ys u → gives s (xs ++ ys) u)
     → (s t u : S) (filled n k : ℕ) (old part : List ℕ) → filled ≤ length old → n ≡ 0
-    → gives s (take filled old) t → gives t (take n part) u → gives s (take filled (put_mid filled k old part)) u
+    → gives s (take filled old) t → gives t (take n part) u
+    → gives s (take filled (put_mid filled k old part)) u
 given_none gives more s t u filled n k old part inside none p q =
     rw (take-unwritten filled k old part inside)
     (taken_none gives more s t u (take filled old) p (rw none at q))
@@ -56,7 +72,8 @@ given_none gives more s t u filled n k old part inside none p q =
 pub given_next : {S : Type 0} (gives : S → List ℕ → S → Type 0)
     → ((s t u : S) (xs ys : List ℕ) → gives s xs t → gives t ys u → gives s (xs ++ ys) u)
     → (s t u : S) (filled n k : ℕ) (old part : List ℕ) → filled ≤ length old → n ≤ length part
-    → gives s (take filled old) t → gives t (take n part) u → gives s (take (filled + n) (put_mid filled k old part)) u
+    → gives s (take filled old) t → gives t (take n part) u
+    → gives s (take (filled + n) (put_mid filled k old part)) u
 given_next gives more s t u filled n k old part inside fits p q =
     rw (take-written filled n k old part inside fits)
     (more s t u (take filled old) (take n part) p q)

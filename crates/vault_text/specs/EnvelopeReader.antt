@@ -12,10 +12,10 @@ pub record LineState : Type 0 where
   pub kept : List ℕ
   pub has_ended : Bool
 
--- of this line a front is kept: all of it, or more than a header line may have
+-- of this line a prefix is kept: all of it, or more than a header line may have
 pub record IsKept (kept line : List ℕ) : Type 0 where
   pub left_out : List ℕ
-  pub front : line ≡ kept ++ left_out
+  pub prefix : line ≡ kept ++ left_out
   pub enough : (HEADER_LIMIT < length kept) ⊎ (left_out ≡ [])
 
 -- the reader was given this input: it keeps the header line, and knows whether that has ended

@@ -1,6 +1,6 @@
 -- Laws of the definitions, which hold of all bytes.
 use Rattle.std.specs.Prelude.{◌≡◌, ◌≢◌, ℕ, ◌*◌, ◌≤◌, List, length, true, Ok, Err}
-use Rattle.hex.specs.Hex.{IsBytes}
+pub use Rattle.hex.specs.Hex.{IsBytes}
 use Rattle.vault_text.specs.Envelope.{read_within}
 use Rattle.vault_text.specs.Label.{is_label}
 use Rattle.vault_text.specs.Limits.{ciphertext_limit}

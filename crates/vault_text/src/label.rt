@@ -138,28 +138,3 @@ impl PartialEq for Label {
 impl Eq for Label {
     ghost laws = { on_equiv (λ l. l) nat_list_eq_equiv };
 }
-
-#[cfg(test)]
-mod tests {
-    use super::*;
-    use std::test::Fail;
-
-    #[test]
-    fn refuses_what_is_no_label(rt: HostRuntime) -> Result<(), Fail> {
-        let long = [b'a'; 129];
-        for text in ["", "a;b", " a", str::from_utf8(&long)?] {
-            assert_eq!(rt; Label::new(text).err(), Some(BadLabel), "at {text}");
-        }
-        Ok(())
-    }
-
-    #[test]
-    fn keeps_the_text(rt: HostRuntime) -> Result<(), Fail> {
-        let label = Label::new("a b")?;
-        assert_eq!(rt; label.as_str(), "a b");
-        assert!(rt; label.copy() == label);
-        assert!(rt; label != Label::default_label());
-        assert_eq!(rt; Label::default_label().as_str(), "default");
-        Ok(())
-    }
-}

@@ -7,7 +7,7 @@ use crate::salt::Salt;
 use std::marker::Model;
 
 /// What an envelope holds. The tag and the ciphertext are not checked against each other.
-#[derive(Debug, Drop)]
+#[derive(Drop)]
 pub struct Payload<'a> {
     label: Label,
     salt: Salt,

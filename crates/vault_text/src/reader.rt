@@ -11,8 +11,6 @@ mod cipher_part;
 mod header_line;
 mod inner_text;
 mod short_part;
-#[cfg(test)]
-mod tests;
 
 use crate::fault::TextFault;
 use crate::limits::{PADDING_LIMIT, envelope_limit};

@@ -7,7 +7,7 @@ use arrayvec::ArrayVec;
 use std::marker::Model;
 
 /// The salt of a vault, at most 256 bytes.
-#[derive(Debug, Drop)]
+#[derive(Drop)]
 pub struct Salt {
     bytes: ArrayVec<u8, SALT_LIMIT>,
 }
@@ -40,19 +40,5 @@ impl Salt {
         ensures fits { length result.now ≤ SALT_LIMIT }
     {
         self.bytes.as_slice()
-    }
-}
-
-#[cfg(test)]
-mod tests {
-    use super::*;
-    use std::test::Fail;
-
-    #[test]
-    fn at_most_256_bytes(rt: HostRuntime) -> Result<(), Fail> {
-        let salt = Salt::new(&[7; 256]).ok_or("refused")?;
-        assert_eq!(rt; salt.as_bytes(), [7; 256].as_slice());
-        assert!(rt; Salt::new(&[7; 257]).is_none());
-        Ok(())
     }
 }

@@ -1,9 +1,6 @@
 //! The memory that holds a text while it is read and worked on.
 ghost use Rattle.std.specs.Prelude.{◌≡◌, ◌+◌, ◌≤◌, ◌++◌, [], length, take, vec_capacity};
 
-#[cfg(test)]
-mod tests;
-
 use std::marker::Model;
 
 /// Where the text lies, at the front.

@@ -1,5 +1,5 @@
 //! Envelopes and blocks, written into a sink.
-ghost use Rattle.std.specs.Prelude.{◌≡◌, ◌≤◌, [], ℕ, OnOk, length, take, unwrap_or};
+ghost use Rattle.std.specs.Prelude.{◌≡◌, ◌≤◌, ◌++◌, [], ℕ, OnOk, length, take, unwrap_or};
 ghost use Rattle.std.specs.Option.{option_copied};
 ghost use Rattle.vault_text.specs.Block.{block, first_line};
 ghost use Rattle.vault_text.specs.Failures.{CountsFailure};
@@ -8,16 +8,14 @@ ghost use Rattle.vault_text.specs.Written.{text_of_lines, written, written_lines
 mod body;
 mod header;
 mod lines;
-#[cfg(test)]
-mod tests;
 
 use crate::label::Label;
 use crate::limits::TAG_LENGTH;
 use crate::salt::Salt;
 use crate::sink::{Sink, SinkFailed, Stage, put_all};
-use body::put_body;
-use header::header_line_of;
-use lines::INDENTATION_LIMIT;
+use body::{first_batch, put_ciphertext};
+use header::{START_LIMIT, header_line_of};
+use lines::{INDENTATION_LIMIT, append_lines};
 pub(crate) use lines::{LINE_BYTES, LINE_DIGITS};
 
 /// What stands before each line of an envelope in a block.
@@ -41,7 +39,7 @@ pub fn write_envelope<K: Sink>(
     ensures stage { K.stage sink.new ≡ Stage.Begun }
     ensures failed { CountsFailure (K.failures sink.old) (K.failures sink.new) result }
 {
-    put_lines(sink, &[], label, salt, tag, cipher)
+    put_lines(sink, &[], &[], label, salt, tag, cipher)
 }
 
 /// Writes an envelope as a YAML block, for a variable of the name if there is one that is not
@@ -64,8 +62,10 @@ pub fn write_block<K: Sink>(
     ensures stage { K.stage sink.new ≡ Stage.Begun }
     ensures failed { CountsFailure (K.failures sink.old) (K.failures sink.new) result }
 {
-    put_block_start(sink, name_or_empty(name))?;
-    put_lines(sink, BLOCK_INDENTATION, label, salt, tag, cipher)
+    let name = name_or_empty(name);
+    let start = block_start(name);
+    put_all(sink, name.as_bytes())?;
+    put_lines(sink, start, BLOCK_INDENTATION, label, salt, tag, cipher)
 }
 
 fn name_or_empty(name: Option<&str>) -> &str
@@ -77,24 +77,23 @@ fn name_or_empty(name: Option<&str>) -> &str
     }
 }
 
-/// Writes the first line of a block.
-fn put_block_start<K: Sink>(sink: &mut K, name: &str) -> Result<(), SinkFailed>
-    requires { K.stage sink.old ≡ Stage.Begun }
-    ensures takes { OnOk result (K.takes sink.old (first_line name.now) sink.new) }
-    ensures prefix { (n : ℕ) × K.takes sink.old (take n (first_line name.now)) sink.new }
-    ensures stage { K.stage sink.new ≡ Stage.Begun }
-    ensures failed { CountsFailure (K.failures sink.old) (K.failures sink.new) result }
+/// What follows the name on the first line of a block, with the end of the line.
+fn block_start(name: &str) -> &[u8]
+    ensures line { name.now ++ result.now ≡ first_line name.now }
+    ensures short { length result.now ≤ START_LIMIT }
 {
     if name.is_empty() {
-        return put_all(sink, b"!vault |\n");
+        b"!vault |\n"
+    } else {
+        b": !vault |\n"
     }
-    put_all(sink, name.as_bytes())?;
-    put_all(sink, b": !vault |\n")
 }
 
-/// Writes the lines of an envelope behind an indentation.
+/// Writes what begins a text, and the lines of an envelope behind an indentation. The header line
+/// goes out with the first lines of the body, so that a reader that leaves after it breaks nothing.
 fn put_lines<K: Sink>(
     sink: &mut K,
+    start: &[u8],
     indentation: &[u8],
     label: &Label,
     salt: &Salt,
@@ -102,14 +101,19 @@ fn put_lines<K: Sink>(
     cipher: &[u8],
 ) -> Result<(), SinkFailed>
     requires begun { K.stage sink.old ≡ Stage.Begun }
+    requires short { length start.now ≤ START_LIMIT }
     requires narrow { length indentation.now ≤ INDENTATION_LIMIT }
     ensures takes { let lines = written_lines label.now salt.now tag.now cipher.now in
-        OnOk result (K.takes sink.old (text_of_lines indentation.now lines) sink.new) }
+        OnOk result (K.takes sink.old (start.now ++ text_of_lines indentation.now lines) sink.new) }
     ensures prefix { let lines = written_lines label.now salt.now tag.now cipher.now in
-        (n : ℕ) × K.takes sink.old (take n (text_of_lines indentation.now lines)) sink.new }
+        let text = start.now ++ text_of_lines indentation.now lines in
+        (n : ℕ) × K.takes sink.old (take n text) sink.new }
     ensures stage { K.stage sink.new ≡ Stage.Begun }
     ensures failed { CountsFailure (K.failures sink.old) (K.failures sink.new) result }
 {
-    put_all(sink, header_line_of(indentation, label).as_slice())?;
-    put_body(sink, indentation, salt, tag, cipher)
+    let mut text = header_line_of(start, indentation, label);
+    let (first, rest) = first_batch(salt, tag, cipher);
+    append_lines(&mut text, indentation, first.as_slice());
+    put_all(sink, text.as_slice())?;
+    put_ciphertext(sink, indentation, rest)
 }

@@ -1,5 +1,7 @@
 -- How the program ends over files, an input and sinks in memory, from how it drives any.
-use Rattle.std.proofs.Common.{◌≡◌, ◌⊎◌, ℕ, ◌+◌, ◌-◌, ◌^◌, inl, inr, List, [], ◌∷◌, ◌++◌, length, take, true, false, Option, Some, None, IsTrue, arith, refl, sym, ap, subst, ◌∙◌}
+use Rattle.std.proofs.Common.{◌≡◌, ◌⊎◌, ℕ, ◌+◌, ◌-◌, ◌^◌, inl, inr, List, [], ◌∷◌, ◌++◌, length}
+use Rattle.std.proofs.Common.{take, true, false, Option, Some, None, IsTrue, arith, refl, sym, ap}
+use Rattle.std.proofs.Common.{subst, ◌∙◌}
 use Rattle.std.specs.Prelude.{min}
 use Rattle.std.proofs.lemmas.Bool.{false≢true}
 use Rattle.std.proofs.lemmas.Bool.Decides.{eqb_tells}
@@ -9,13 +11,15 @@ use Rattle.vault_text.specs.Source as source
 use Rattle.vault_text.specs.declared.sink.Stage.{Stage}
 use Rattle.vault_text.specs.declared.sink.Stage.TheVariants.{Unbegun, Begun, Finished}
 use Rattle.vault_files.specs.File.{Finding}
-use Rattle.vault_files.specs.Logged.{LoggedOpens, LoggedState, LoggedTakes}
-use Rattle.vault_files.specs.Memory.{IsReaderOf, ReaderState, StoreState, StoreTakes, file_at, stands_at}
+use Rattle.vault_files.specs.Memory.{IsReaderOf, ReaderState, StoreOpens, StoreState, StoreTakes}
+use Rattle.vault_files.specs.Memory.{file_at, stands_at}
 use Rattle.vault_files.specs.declared.access.Access.{Access}
-use Rattle.vault_core.specs.declared.fault.Fault.TheVariants.{Memory, Write}
+use Rattle.vault_common.specs.declared.fault.Fault.TheVariants.{Memory, Write}
 use Rattle.vault_cli.specs.Call.{SinkCall, SourceCall, StoreCall}
-use Rattle.vault_cli.specs.Embedding.{Embeds, HoldsFront, Holds, IsCut, IsKept, Received, Stands, Taken, Told, change, stands_after}
-use Rattle.vault_cli.specs.runs.Ending.{Ends, Finishes, LacksMemory, Output, Receives, to_path}
+use Rattle.vault_cli.specs.Embedding.{Embeds, HoldsPrefix, Holds, IsCut, IsKept, Received, Stands}
+use Rattle.vault_cli.specs.Embedding.{Taken, Told, change, stands_after}
+use Rattle.vault_cli.specs.runs.Ending.{EndsUnlessMemory, Finishes, LacksMemory, Output, Receives}
+use Rattle.vault_cli.specs.runs.Ending.{to_path}
 use Rattle.vault_cli.specs.runs.ReportLine.{line_of}
 use Rattle.vault_cli.specs.runs.Outcome.{Outcome}
 use Rattle.vault_cli.specs.runs.Reports.{Reports, Says}
@@ -23,20 +27,22 @@ use Rattle.vault_cli.specs.declared.runs.status.Status.{Status}
 use Rattle.vault_cli.proofs.facts.runs.FrontFacts.{IsOfFront}
 
 -- calls over a store, a source and a sink in memory
-abbrev pub memory_store : LoggedState → LoggedState → StoreCall LoggedState ReaderState
+abbrev pub memory_store : StoreState → StoreState → StoreCall StoreState ReaderState
 memory_store old new = record {
-  output = record { takes = LoggedTakes; stage = λ s. s.files.output.stage; failures = λ s. s.files.output.failures };
+  output =
+      record { takes = StoreTakes; stage = λ s. s.output.stage; failures = λ s. s.output.failures };
   terms = record {
-    meets = λ s path file. file ≡ file_at s.files.entries path;
-    opened = λ s path reader. IsReaderOf (file_at s.files.entries path) reader;
-    opens = LoggedOpens;
-    aimed = λ s path access t. t ≡ record s { files = record s.files { aim = Some path } };
+    meets = λ s path file. file ≡ file_at s.entries path;
+    opened = λ s path reader. IsReaderOf (file_at s.entries path) reader;
+    opens = StoreOpens;
+    aimed = λ s path access t. t ≡ record s { aim = Some path };
   };
   old = old;
   new = new;
 }
 
-abbrev pub memory_source : source.MemSourceState → source.MemSourceState → SourceCall source.MemSourceState
+abbrev pub memory_source : source.MemSourceState → source.MemSourceState
+    → SourceCall source.MemSourceState
 memory_source old new = record {
   terms = record { gives = source.MemoryGives; ended = λ s. s.ended; failures = λ _. 0 };
   old = old;
@@ -50,48 +56,68 @@ memory_sink old new = record {
   new = new;
 }
 
--- a line is held, or its front where the sink failed
+-- a line is held, or a prefix of it where the sink failed
 reported : (err new_err : MemSinkState) (line : List ℕ) → Reports (memory_sink err new_err) line
-    → Holds (change err new_err) line ⊎ HoldsFront (change err new_err) line
+    → Holds (change err new_err) line ⊎ HoldsPrefix (change err new_err) line
 reported err new_err line r =
     elim (eqb_tells new_err.failures (min (err.failures + 1) (2 ^ 64 - 1))) [
       | inl (_, risen) ↦ inr (risen, (r.prefix.0, r.prefix.1.0.appended))
       | inr (_, stayed) ↦ let whole = r.whole stayed in inl (whole.0.0.appended, whole.1)
     ]
 
-told : (err new_err : MemSinkState) (line : List ℕ) → Says (memory_sink err new_err) line → Told (change err new_err) line
+told : (err new_err : MemSinkState) (line : List ℕ) → Says (memory_sink err new_err) line
+    → Told (change err new_err) line
 told err new_err [] says = says
 told err new_err (byte ∷ line) says = reported err new_err (byte ∷ line) says
 
 -- an output that was not begun stands at no path
-unbegun-stands : (files : StoreState) (path : List ℕ) → files.output.stage ≡ Unbegun → stands_at files path ≡ file_at files.entries path
+unbegun-stands : (files : StoreState) (path : List ℕ) → files.output.stage ≡ Unbegun
+    → stands_at files path ≡ file_at files.entries path
 unbegun-stands files path unbegun = rw unbegun refl
 
 -- and one that was begun stands at the path that was chosen
 written-stands : (files new_files : StoreState) (aim bytes path : List ℕ) → files.output.held ≡ []
-    → StoreTakes (record files { aim = Some aim }) bytes new_files → has_begun new_files.output.stage ≡ true
+    → StoreTakes (record files { aim = Some aim }) bytes new_files
+    → has_begun new_files.output.stage ≡ true
     → stands_at new_files path ≡ stands_after (file_at files.entries) (Some aim) (Some bytes) path
 written-stands files new_files aim bytes path empty took begun =
     let held : new_files.output.held ≡ bytes = took.output.appended ∙ ap (λ l. l ++ bytes) empty in
     rw (begun, took.aim, held, took.entries) refl
 
-module _ (result : Status) (files new_files : LoggedState) (out new_out err new_err : MemSinkState)
-    (unbegun : files.files.output.stage ≡ Unbegun) (empty : files.files.output.held ≡ []) (access : Access) where
+-- behind opens the files are those before, but for the log
+pub log-behind : {P : Type 0} (files opened : StoreState) (paths : List (List ℕ))
+    → StoreOpens files paths opened ⊎ (P × ((n : ℕ) × StoreOpens files (take n paths) opened))
+    → (log : List (List ℕ)) × (opened ≡ record files { log = log })
+log-behind files opened paths (inl all) = (files.log ++ paths, all)
+log-behind files opened paths (inr (_, (n, some))) = (files.log ++ take n paths, some)
+
+module _ (result : Status) (files new_files : StoreState) (log : List (List ℕ))
+    (out new_out err new_err : MemSinkState)
+    (unbegun : files.output.stage ≡ Unbegun) (empty : files.output.held ≡ [])
+    (access : Access) where
+  -- the files behind the opens
+  abbrev opened : StoreState
+  opened = record files { log = log }
+
   abbrev StandsSo : (List ℕ → Finding) → Type 0
-  StandsSo after = Stands result (change files.files new_files.files) (change out new_out) (change err new_err) after
+  StandsSo after =
+      Stands result (change files new_files) (change out new_out) (change err new_err) after
 
   abbrev KeptSo : Type 0
-  KeptSo = IsKept result (change files.files new_files.files) (change out new_out) (change err new_err)
+  KeptSo = IsKept result (change files new_files) (change out new_out) (change err new_err)
 
   abbrev OutputAt : Option (List ℕ) → Output
-  OutputAt path = to_path path access (memory_store files new_files) (memory_sink out new_out)
+  OutputAt path = to_path path access (memory_store opened new_files) (memory_sink out new_out)
 
   -- nothing was written
   kept : (path : Option (List ℕ)) → (OutputAt path).untouched → KeptSo
-  kept None (same_out, same) p = ap (λ (s : LoggedState). stands_at s.files p) same ∙ unbegun-stands files.files p unbegun
-  kept (Some aim) (same_out, fresh, inl same) p = ap (λ (s : LoggedState). stands_at s.files p) same ∙ unbegun-stands files.files p unbegun
+  kept None (same_out, same) p =
+      ap (λ (s : StoreState). stands_at s p) same ∙ unbegun-stands files p unbegun
+  kept (Some aim) (same_out, fresh, inl same) p =
+      ap (λ (s : StoreState). stands_at s p) same ∙ unbegun-stands files p unbegun
   kept (Some aim) (same_out, fresh, inr chosen) p =
-      unbegun-stands new_files.files p fresh ∙ ap (λ (s : LoggedState). file_at s.files.entries p) chosen
+      unbegun-stands new_files p fresh
+      ∙ ap (λ (s : StoreState). file_at s.entries p) chosen
 
   left-alone : (path : Option (List ℕ)) → (OutputAt path).untouched → new_out ≡ out
   left-alone None untouched = untouched.0
@@ -102,61 +128,79 @@ module _ (result : Status) (files new_files : LoggedState) (out new_out err new_
   received-none (Some p) same = same
 
   -- what was written stands at its path, or is held
-  wrote : (path : Option (List ℕ)) (bytes : List ℕ) → (OutputAt path).wrote bytes → (OutputAt path).finished
-      → StandsSo (stands_after (file_at files.files.entries) path (Some bytes)) × Received path (Some bytes) (change out new_out)
-  wrote None bytes (took, same) finished =
-      (λ p. ap (λ (s : LoggedState). stands_at s.files p) same ∙ unbegun-stands files.files p unbegun, (took.0.appended, finished))
+  wrote : (path : Option (List ℕ)) (bytes : List ℕ) → (OutputAt path).wrote bytes
+      → (OutputAt path).finished
+      → StandsSo (stands_after (file_at files.entries) path (Some bytes))
+      × Received path (Some bytes) (change out new_out)
+  wrote None bytes (took, same) finished = (
+    λ p. ap (λ (s : StoreState). stands_at s p) same ∙ unbegun-stands files p unbegun,
+    (took.0.appended, finished),
+  )
   wrote (Some aim) bytes (same_out, (chosen, at, took)) finished =
-      let begun : has_begun new_files.files.output.stage ≡ true = rw finished refl in
-      let into = subst (λ (s : LoggedState). LoggedTakes s bytes new_files) at took in
-      (λ p. written-stands files.files new_files.files aim bytes p empty into.files begun, same_out)
+      let begun : has_begun new_files.output.stage ≡ true = rw finished refl in
+      let into = subst (λ (s : StoreState). StoreTakes s bytes new_files) at took in
+      (λ p. written-stands opened new_files aim bytes p empty into begun, same_out)
 
   written : (path output : Option (List ℕ))
       → Receives (OutputAt path) output
-      → StandsSo (stands_after (file_at files.files.entries) path output) × Received path output (change out new_out)
-  written path None untouched = (kept path untouched, received-none path (left-alone path untouched))
+      → StandsSo (stands_after (file_at files.entries) path output)
+      × Received path output (change out new_out)
+  written path None untouched =
+      (kept path untouched, received-none path (left-alone path untouched))
   written path (Some bytes) (took, finished) = wrote path bytes took finished
 
-  -- so is the front of it, where the output failed
-  cut-at : (aim bytes : List ℕ) (n : ℕ) (stage : Stage) → new_files.files.output.stage ≡ stage
-      → StoreTakes (record files.files { aim = Some aim }) (take n bytes) new_files.files
-      → KeptSo ⊎ ((m : ℕ) × StandsSo (stands_after (file_at files.files.entries) (Some aim) (Some (take m bytes))))
-  cut-at aim bytes n Unbegun is took = inl (λ p. unbegun-stands new_files.files p is ∙ ap (λ entries. file_at entries p) took.entries)
+  -- so is a prefix of it, where the output failed
+  cut-at : (aim bytes : List ℕ) (n : ℕ) (stage : Stage) → new_files.output.stage ≡ stage
+      → StoreTakes (record opened { aim = Some aim }) (take n bytes) new_files
+      → KeptSo
+      ⊎ ((m : ℕ) × StandsSo
+      (stands_after (file_at files.entries) (Some aim) (Some (take m bytes))))
+  cut-at aim bytes n Unbegun is took =
+      inl (λ p. unbegun-stands new_files p is
+      ∙ ap (λ entries. file_at entries p) took.entries)
   cut-at aim bytes n Begun is took =
-      let begun : has_begun new_files.files.output.stage ≡ true = rw is refl in
-      inr (n, λ p. written-stands files.files new_files.files aim (take n bytes) p empty took begun)
+      let begun : has_begun new_files.output.stage ≡ true = rw is refl in
+      inr (n, λ p. written-stands opened new_files aim (take n bytes) p empty took begun)
   cut-at aim bytes n Finished is took =
-      let begun : has_begun new_files.files.output.stage ≡ true = rw is refl in
-      inr (n, λ p. written-stands files.files new_files.files aim (take n bytes) p empty took begun)
+      let begun : has_begun new_files.output.stage ≡ true = rw is refl in
+      inr (n, λ p. written-stands opened new_files aim (take n bytes) p empty took begun)
 
-  cut-to : (path : Option (List ℕ)) (bytes : List ℕ) (n : ℕ) → (OutputAt path).failed → (OutputAt path).wrote (take n bytes)
-      → IsCut result (change files.files new_files.files) (change out new_out) (change err new_err) path bytes
-  cut-to None bytes n failed (took, same) =
-      ((failed, (n, took.0.appended)), λ p. ap (λ (s : LoggedState). stands_at s.files p) same ∙ unbegun-stands files.files p unbegun)
+  cut-to : (path : Option (List ℕ)) (bytes : List ℕ) (n : ℕ) → (OutputAt path).failed
+      → (OutputAt path).wrote (take n bytes)
+      → IsCut result (change files new_files) (change out new_out) (change err new_err)
+      path bytes
+  cut-to None bytes n failed (took, same) = (
+    (failed, (n, took.0.appended)),
+    λ p. ap (λ (s : StoreState). stands_at s p) same ∙ unbegun-stands files p unbegun,
+  )
   cut-to (Some aim) bytes n failed (same_out, (chosen, at, took)) =
-      let into = subst (λ (s : LoggedState). LoggedTakes s (take n bytes) new_files) at took in
-      (failed, same_out, cut-at aim bytes n new_files.files.output.stage refl into.files)
+      let into = subst (λ (s : StoreState). StoreTakes s (take n bytes) new_files) at took in
+      (failed, same_out, cut-at aim bytes n new_files.output.stage refl into)
 
   -- the log stays
-  log-untouched : (path : Option (List ℕ)) → (OutputAt path).untouched → new_files.log ≡ files.log
-  log-untouched None (same_out, same) = ap (λ (s : LoggedState). s.log) same
-  log-untouched (Some aim) (same_out, fresh, inl same) = ap (λ (s : LoggedState). s.log) same
-  log-untouched (Some aim) (same_out, fresh, inr chosen) = ap (λ (s : LoggedState). s.log) chosen
+  log-untouched : (path : Option (List ℕ)) → (OutputAt path).untouched → new_files.log ≡ log
+  log-untouched None (same_out, same) = ap (λ (s : StoreState). s.log) same
+  log-untouched (Some aim) (same_out, fresh, inl same) = ap (λ (s : StoreState). s.log) same
+  log-untouched (Some aim) (same_out, fresh, inr chosen) = ap (λ (s : StoreState). s.log) chosen
 
-  log-wrote : (path : Option (List ℕ)) (bytes : List ℕ) → (OutputAt path).wrote bytes → new_files.log ≡ files.log
-  log-wrote None bytes (took, same) = ap (λ (s : LoggedState). s.log) same
-  log-wrote (Some aim) bytes (same_out, (chosen, at, took)) = took.log ∙ ap (λ (s : LoggedState). s.log) at
+  log-wrote : (path : Option (List ℕ)) (bytes : List ℕ) → (OutputAt path).wrote bytes
+      → new_files.log ≡ log
+  log-wrote None bytes (took, same) = ap (λ (s : StoreState). s.log) same
+  log-wrote (Some aim) bytes (same_out, (chosen, at, took)) =
+      took.log ∙ ap (λ (s : StoreState). s.log) at
 
   log-written : (path output : Option (List ℕ))
-      → Receives (OutputAt path) output → new_files.log ≡ files.log
+      → Receives (OutputAt path) output → new_files.log ≡ log
   log-written path None untouched = log-untouched path untouched
   log-written path (Some bytes) (took, finished) = log-wrote path bytes took
 
   module _ (path : Option (List ℕ)) where
     abbrev EmbedsSo : Outcome → Type 0
-    EmbedsSo answer = Embeds result (change files.files new_files.files) (change out new_out) (change err new_err) path answer
+    EmbedsSo answer =
+        Embeds result (change files new_files) (change out new_out) (change err new_err) path answer
 
-    embeds-memory : (answer : Outcome) → LacksMemory (OutputAt path) (memory_sink err new_err) result → EmbedsSo answer
+    embeds-memory : (answer : Outcome)
+        → LacksMemory (OutputAt path) (memory_sink err new_err) result → EmbedsSo answer
     embeds-memory answer memory = inr (inl (record {
       status = memory.status;
       stands = kept path memory.output;
@@ -164,47 +208,68 @@ module _ (result : Status) (files new_files : LoggedState) (out new_out err new_
       line = told err new_err (line_of Memory) memory.line;
     }))
 
-    embeds-done : (answer : Outcome) → Finishes (OutputAt path) (memory_sink err new_err) result answer → EmbedsSo answer
+    embeds-done : (answer : Outcome)
+        → Finishes (OutputAt path) (memory_sink err new_err) result answer → EmbedsSo answer
     embeds-done answer (inl done) =
         let (stands, received) = written path answer.output done.output in
-        inl (record { status = done.status; stands = stands; output = received; line = told err new_err answer.line done.line })
+        inl (record {
+          status = done.status;
+          stands = stands;
+          output = received;
+          line = told err new_err
+              answer.line done.line;
+        })
     embeds-done answer (inr fails) = inr (inr (record {
       status = fails.status;
-      cut = let (bytes, is, (n, took)) = fails.output in (bytes, is, cut-to path bytes n fails.failed took);
+      cut = let (bytes, is, (n, took)) = fails.output in
+          (bytes, is, cut-to path bytes n fails.failed took);
       line = told err new_err (line_of Write) fails.line;
     }))
 
-    log-done : (answer : Outcome) → Finishes (OutputAt path) (memory_sink err new_err) result answer → new_files.log ≡ files.log
+    log-done : (answer : Outcome) → Finishes (OutputAt path) (memory_sink err new_err) result answer
+        → new_files.log ≡ log
     log-done answer (inl done) = log-written path answer.output done.output
-    log-done answer (inr fails) = let (bytes, is, (n, took)) = fails.output in log-wrote path (take n bytes) took
+    log-done answer (inr fails) =
+        let (bytes, is, (n, took)) = fails.output in log-wrote path (take n bytes) took
 
-    pub log-kept : (src new_src : source.MemSourceState) (asked : Option ℕ) (answers : List ℕ → Outcome)
-        → Ends (OutputAt path) (memory_sink err new_err) result (memory_source src new_src) asked answers → new_files.log ≡ files.log
-    log-kept src new_src None answers (unread, inl memory) = log-untouched path memory.output
-    log-kept src new_src None answers (unread, inr done) = log-done (answers []) done
-    log-kept src new_src (Some limit) answers (input, (given, fits, inl memory)) = log-untouched path memory.output
-    log-kept src new_src (Some limit) answers (input, (given, fits, inr (inl (unread, short)))) = log-untouched path unread.output
-    log-kept src new_src (Some limit) answers (input, (given, fits, inr (inr (all, done)))) = log-done (answers input) done
+    pub log-kept : (src new_src : source.MemSourceState) (asked : Option ℕ)
+        (answers : List ℕ → Outcome)
+        → EndsUnlessMemory (OutputAt path) (memory_sink err new_err) result
+        (memory_source src new_src) asked answers → new_files.log ≡ log
+    log-kept src new_src asked answers (inl (unread, memory)) = log-untouched path memory.output
+    log-kept src new_src None answers (inr (unread, done)) = log-done (answers []) done
+    log-kept src new_src (Some limit) answers (inr (input, (given, fits, inl (failed, short)))) =
+        log-untouched path failed.output
+    log-kept src new_src (Some limit) answers (inr (input, (given, fits, inr (all, done)))) =
+        log-done (answers input) done
 
     module _ (src new_src : source.MemSourceState) (not_ended : src.ended ≡ false) where
       -- the answer to what was given is the answer to all that was there
       pub embeds : (asked : Option ℕ) (answers : List ℕ → Outcome) → IsOfFront asked answers
-          → Ends (OutputAt path) (memory_sink err new_err) result (memory_source src new_src) asked answers
+          → EndsUnlessMemory (OutputAt path) (memory_sink err new_err) result
+          (memory_source src new_src) asked answers
           → EmbedsSo (answers src.left)
-      embeds None answers same (unread, inl memory) = embeds-memory (answers src.left) memory
-      embeds None answers same (unread, inr done) = subst EmbedsSo (same src.left) (embeds-done (answers []) done)
-      embeds (Some limit) answers same (input, (given, fits, inl memory)) = embeds-memory (answers src.left) memory
-      embeds (Some limit) answers same (input, (given, fits, inr (inl (unread, short)))) = absurd (omega (arith, unread.failed))
-      embeds (Some limit) answers same (input, (given, fits, inr (inr ((stay, whole), done)))) =
+      embeds asked answers same (inl (unread, memory)) = embeds-memory (answers src.left) memory
+      embeds None answers same (inr (unread, done)) =
+          subst EmbedsSo (same src.left) (embeds-done (answers []) done)
+      embeds (Some limit) answers same (inr (input, (given, fits, inl (failed, short)))) =
+          absurd (omega (arith, failed.failed))
+      embeds (Some limit) answers same (inr (input, (given, fits, inr ((stay, whole), done)))) =
           subst EmbedsSo
           (same new_src.ended src.left input new_src.left given.0.consumed
-          (given.0.end_is_real (λ ended. let never : IsTrue false = rw not_ended at ended in absurd (false≢true never))) whole)
+          (given.0.end_is_real
+          (λ ended. let never : IsTrue false = rw not_ended at ended in absurd (false≢true never)))
+          whole)
           (embeds-done (answers input) done)
 
       -- so much of the input was taken
       pub taken : (asked : Option ℕ) (answers : List ℕ → Outcome)
-          → Ends (OutputAt path) (memory_sink err new_err) result (memory_source src new_src) asked answers
+          → EndsUnlessMemory (OutputAt path) (memory_sink err new_err) result
+          (memory_source src new_src) asked answers
           → Taken asked (change src new_src)
-      taken None answers (unread, ends) = unread
-      taken (Some limit) answers (input, (given, fits, ends)) =
+      taken None answers (inl (unread, memory)) = unread
+      taken (Some limit) answers (inl (unread, memory)) =
+          (0, omega arith, ap (λ (s : source.MemSourceState). s.left) unread)
+      taken None answers (inr (unread, done)) = unread
+      taken (Some limit) answers (inr (input, (given, fits, ends))) =
           (length input, fits, rw given.0.consumed (sym (drop-append_seam input new_src.left)))

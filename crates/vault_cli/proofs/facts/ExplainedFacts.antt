@@ -2,15 +2,18 @@
 use Rattle.std.proofs.Common.{◌≡◌, ◌⊎◌, inl, inr, [], sym, ◌∙◌}
 use Rattle.clap.specs.Words.{IsAmong, Kinds}
 use Rattle.clap.specs.declared.error.kind.ErrorKind.{ErrorKind}
-use Rattle.clap.specs.declared.error.kind.ErrorKind.TheVariants.{DisplayHelp, DisplayVersion, OutOfMemory}
+use Rattle.clap.specs.declared.error.kind.ErrorKind.TheVariants.{DisplayHelp, DisplayVersion}
+use Rattle.clap.specs.declared.error.kind.ErrorKind.TheVariants.{OutOfMemory}
 use Rattle.vault_cli.specs.Call.{SinkCall}
 use Rattle.vault_cli.specs.Explained.{Explains, ExplainsOneOf, HasNoMemory, IsHelp}
 use Rattle.vault_cli.specs.declared.runs.status.Status.{Status}
 
 -- memory is no help
 no-help : (kind : ErrorKind) → kind ≡ OutOfMemory → IsHelp kind → ⊥
-no-help kind memory (inl help) = let wrong : OutOfMemory ≡ DisplayHelp = sym memory ∙ help in absurd cc
-no-help kind memory (inr version) = let wrong : OutOfMemory ≡ DisplayVersion = sym memory ∙ version in absurd cc
+no-help kind memory (inl help) =
+    let wrong : OutOfMemory ≡ DisplayHelp = sym memory ∙ help in absurd cc
+no-help kind memory (inr version) =
+    let wrong : OutOfMemory ≡ DisplayVersion = sym memory ∙ version in absurd cc
 
 module _ {K E : Type 0} (out : SinkCall K) (err : SinkCall E) (result : Status) where
   pub explains-one : (kinds : Kinds) (kind : ErrorKind) → (kind ≡ OutOfMemory) ⊎ IsAmong kind kinds
@@ -21,6 +24,7 @@ module _ {K E : Type 0} (out : SinkCall K) (err : SinkCall E) (result : Status) 
   explains-one kinds kind (inl memory) (inr (inr (mistake, rejects))) = absurd (mistake.2 memory)
 
   -- where there is no kind of error there was no memory
-  pub explains-memory : (kinds : Kinds) → kinds ≡ [] → ExplainsOneOf out err result kinds → HasNoMemory out err result
+  pub explains-memory : (kinds : Kinds) → kinds ≡ [] → ExplainsOneOf out err result kinds
+      → HasNoMemory out err result
   explains-memory kinds none (inl memory) = memory
   explains-memory kinds none (inr (kind, among, explained)) = absurd (rw none at among)

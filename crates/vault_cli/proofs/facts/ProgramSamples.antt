@@ -1,88 +1,106 @@
--- What the program answers to some words, by computing.
+-- What the program answers to some arguments, by computing.
 use Rattle.std.proofs.Common.{◌≡◌, List, ℕ, [], ◌∷◌, replicate, Option, Some, None, codes, refl}
 use Rattle.clap.specs.Words.{Text}
 use Rattle.clap.proofs.OnLiterals.{clap_on_literals}
 use Rattle.vault_text.specs.Envelope.{read_within}
-use Rattle.vault_core.specs.Choice.{chosen_place}
+use Rattle.vault_core.specs.Choice.{chosen_index}
 use Rattle.vault_core.specs.Decryption.{decryption}
 use Rattle.vault_core.specs.Encryption.{encryption}
 use Rattle.vault_core.specs.Password.{password_of}
-use Rattle.vault_core.specs.declared.fault.Fault.TheVariants.{AlreadyVault, CannotOpen, NotVault, Read, SaltShort}
-use Rattle.vault_core.specs.declared.fault.Role.TheVariants.{Input, Salt, Secret}
+use Rattle.vault_common.specs.declared.fault.Fault.TheVariants.{AlreadyVault, CannotOpen, NotVault}
+use Rattle.vault_common.specs.declared.fault.Fault.TheVariants.{Read, SaltShort}
+use Rattle.vault_common.specs.declared.fault.Role.TheVariants.{Input, Salt, Secret}
 use Rattle.vault_files.specs.File.{Finding}
 use Rattle.vault_files.specs.File.Finding.{Missing, Whole, Broken}
 use Rattle.vault_request.specs.CommandLine.{vault_app}
 use Rattle.vault_cli.specs.runs.Found.{contents_of}
-use Rattle.vault_cli.specs.runs.Outcome.{Outcome, refused}
+use Rattle.vault_cli.specs.runs.Outcome.{Outcome, reported}
 use Rattle.vault_request.specs.Settled.{asked_by}
 use Rattle.vault_cli.specs.Program.{output_path, program, task_over}
 use Rattle.vault_request.specs.Refusal.{refusal}
 use Rattle.vault_cli.specs.runs.Task.{prepared, secrets_of}
 
--- what the words behind the program's name are answered
+-- what is answered to the arguments behind the program's name
 abbrev answer : List Text → List Finding → Option Finding → Option Finding → List ℕ → Outcome
 answer words secrets salt input stdin =
-    program (codes "ansible-vault" ∷ words) (record { secrets = secrets; salt = salt; input = input }) stdin
+    program (codes "ansible-vault" ∷ words)
+    (record { secrets = secrets; salt = salt; input = input }) stdin
 
 abbrev password : Finding
 password = Whole (codes "password")
 
 -- neither the password file nor the input is there
-no_secret : answer (codes "view" ∷ codes "--vault-id=p" ∷ codes "f" ∷ []) (Missing ∷ []) None (Some Missing) []
-    ≡ refused (CannotOpen Secret)
+no_secret : answer (codes "view" ∷ codes "--vault-id=p" ∷ codes "f" ∷ []) (Missing ∷ []) None
+    (Some Missing) []
+    ≡ reported (CannotOpen Secret)
 unfolding clap_on_literals vault_app refusal task_over contents_of
 no_secret = refl
 
 -- of two password files the first that cannot be read counts
-broken_secret : answer (codes "decrypt" ∷ codes "--vault-id=p" ∷ codes "--vault-id=q" ∷ []) (Broken (codes "pass") ∷ Missing ∷ []) None None []
-    ≡ refused (Read Secret)
+broken_secret : answer (codes "decrypt" ∷ codes "--vault-id=p" ∷ codes "--vault-id=q" ∷ [])
+    (Broken (codes "pass") ∷ Missing ∷ []) None None []
+    ≡ reported (Read Secret)
 unfolding clap_on_literals vault_app refusal task_over contents_of
 broken_secret = refl
 
 -- the salt file is not there, and neither is the input
-no_salt : answer (codes "encrypt" ∷ codes "--vault-id=p" ∷ codes "--salt-file=s" ∷ codes "--output=o" ∷ codes "f" ∷ [])
+no_salt : answer
+    (codes "encrypt" ∷ codes "--vault-id=p" ∷ codes "--salt-file=s" ∷ codes "--output=o" ∷ codes "f"
+    ∷ [])
     (password ∷ []) (Some Missing) (Some Missing) []
-    ≡ refused (CannotOpen Salt)
+    ≡ reported (CannotOpen Salt)
 unfolding clap_on_literals vault_app refusal task_over contents_of
 no_salt = refl
 
 -- the input is not there, and there is no password
 no_input : answer (codes "decrypt" ∷ codes "--output=o" ∷ codes "f" ∷ []) [] None (Some Missing) []
-    ≡ refused (CannotOpen Input)
+    ≡ reported (CannotOpen Input)
 unfolding clap_on_literals vault_app refusal task_over contents_of
 no_input = refl
 
 -- the input breaks
-broken_input : answer (codes "rekey" ∷ codes "--vault-id=p" ∷ codes "--new-vault-id=q" ∷ codes "--salt=abc" ∷ codes "--output=-" ∷ codes "f" ∷ [])
+broken_input : answer
+    (codes "rekey" ∷ codes "--vault-id=p" ∷ codes "--new-vault-id=q" ∷ codes "--salt=abc"
+    ∷ codes "--output=-" ∷ codes "f" ∷ [])
     (password ∷ password ∷ []) None (Some (Broken (codes "$ANSIBLE_VAULT"))) []
-    ≡ refused (Read Input)
+    ≡ reported (Read Input)
 unfolding clap_on_literals vault_app refusal task_over contents_of prepared secrets_of password_of
 broken_input = refl
 
 -- the salt is short
-short_salt : answer (codes "encrypt_string" ∷ codes "--vault-id=p" ∷ codes "--salt-file=s" ∷ codes "text" ∷ [])
+short_salt : answer
+    (codes "encrypt_string" ∷ codes "--vault-id=p" ∷ codes "--salt-file=s" ∷ codes "text" ∷ [])
     (password ∷ []) (Some (Whole (replicate 31 0))) None []
-    ≡ refused SaltShort
-unfolding clap_on_literals vault_app refusal task_over contents_of prepared secrets_of password_of chosen_place
+    ≡ reported SaltShort
+unfolding clap_on_literals vault_app refusal task_over contents_of prepared secrets_of password_of
+    chosen_index
 short_salt = refl
 
 -- standard input is an envelope already
-already_sealed : answer (codes "encrypt" ∷ codes "--vault-id=p" ∷ codes "--salt=abc" ∷ []) (password ∷ []) None None (codes "$ANSIBLE_VAULT;1.1;AES256")
-    ≡ refused AlreadyVault
-unfolding clap_on_literals vault_app refusal task_over contents_of prepared secrets_of password_of chosen_place encryption
+already_sealed : answer (codes "encrypt" ∷ codes "--vault-id=p" ∷ codes "--salt=abc" ∷ [])
+    (password ∷ []) None None (codes "$ANSIBLE_VAULT;1.1;AES256")
+    ≡ reported AlreadyVault
+unfolding clap_on_literals vault_app refusal task_over contents_of prepared secrets_of password_of
+    chosen_index encryption
 already_sealed = refl
 
 -- the input is no envelope
-no_envelope : answer (codes "view" ∷ codes "--vault-id=p" ∷ codes "f" ∷ []) (password ∷ []) None (Some (Whole (codes "text"))) []
-    ≡ refused NotVault
-unfolding clap_on_literals vault_app refusal task_over contents_of prepared secrets_of password_of decryption read_within
+no_envelope : answer (codes "view" ∷ codes "--vault-id=p" ∷ codes "f" ∷ []) (password ∷ []) None
+    (Some (Whole (codes "text"))) []
+    ≡ reported NotVault
+unfolding clap_on_literals vault_app refusal task_over contents_of prepared secrets_of password_of
+    decryption read_within
 no_envelope = refl
 
 -- the output goes to its path, and `-` is standard output
-chosen_path : output_path (asked_by (codes "ansible-vault" ∷ codes "decrypt" ∷ codes "--output=o" ∷ codes "f" ∷ [])) ≡ Some (codes "o")
+chosen_path : output_path
+    (asked_by (codes "ansible-vault" ∷ codes "decrypt" ∷ codes "--output=o" ∷ codes "f" ∷ []))
+    ≡ Some (codes "o")
 unfolding clap_on_literals vault_app refusal
 chosen_path = refl
 
-dash : output_path (asked_by (codes "ansible-vault" ∷ codes "decrypt" ∷ codes "--output=-" ∷ codes "f" ∷ [])) ≡ None
+dash : output_path
+    (asked_by (codes "ansible-vault" ∷ codes "decrypt" ∷ codes "--output=-" ∷ codes "f" ∷ []))
+    ≡ None
 unfolding clap_on_literals vault_app refusal
 dash = refl

@@ -3,9 +3,9 @@ use Rattle.std.specs.Prelude.{◌≡◌, ◌⊎◌, ℕ, ◌+◌, ◌≤◌, Lis
 use Rattle.vault_text.specs.Failures.{HasRisen}
 use Rattle.vault_text.specs.declared.sink.Stage.TheVariants.{Finished, Unbegun}
 use Rattle.vault_files.specs.declared.access.Access.{Access}
-use Rattle.vault_core.specs.Input.{IsWhole}
-use Rattle.vault_core.specs.declared.fault.Fault.TheVariants.{Memory, Read, Write}
-use Rattle.vault_core.specs.declared.fault.Role.TheVariants.{Input}
+use Rattle.vault_core.specs.Input.{IsReadToEndOrPastLimit}
+use Rattle.vault_common.specs.declared.fault.Fault.TheVariants.{Memory, Read, Write}
+use Rattle.vault_common.specs.declared.fault.Role.TheVariants.{Input}
 use Rattle.vault_cli.specs.Call.{SinkCall, SourceCall, StoreCall}
 use Rattle.vault_cli.specs.runs.ReportLine.{line_of}
 use Rattle.vault_cli.specs.runs.Outcome.{Outcome}
@@ -87,7 +87,7 @@ module _ {E : Type 0} (out : Output) (err : SinkCall E) (result : Status) where
     pub output : out.untouched
     pub line : Says err (line_of (Read Input))
 
-  -- there was no memory: any run may end so
+  -- there was no memory
   pub record LacksMemory : Type 0 where
     pub status : result ≡ OutOfMemory
     pub unfailed : out.unfailed
@@ -98,21 +98,25 @@ module _ {E : Type 0} (out : Output) (err : SinkCall E) (result : Status) where
     -- the source did not fail, and gave so much as is taken and one byte more, or all
     abbrev pub IsRead : ℕ → List ℕ → Type 0
     IsRead limit input =
-        (src.failures src.new ≡ src.failures src.old) × IsWhole limit (src.ended src.new) input
+        (src.failures src.new ≡ src.failures src.old)
+        × IsReadToEndOrPastLimit limit (src.ended src.new) input
 
     -- the source was left alone; so it did not fail
     abbrev pub EndsUnasked : Outcome → Type 0
-    EndsUnasked answer = (src.new ≡ src.old) × (LacksMemory ⊎ Finishes answer)
+    EndsUnasked answer = (src.new ≡ src.old) × Finishes answer
 
     -- it was asked for an input up to the limit and one byte, and gave this; where it failed, no
     -- byte past the limit
     abbrev pub EndsAsked : ℕ → List ℕ → Outcome → Type 0
     EndsAsked limit input answer =
         src.gives src.old input src.new × (length input ≤ limit + 1)
-        × (LacksMemory
-        ⊎ ((SourceFails src × (length input ≤ limit)) ⊎ (IsRead limit input × Finishes answer)))
+        × ((SourceFails src × (length input ≤ limit)) ⊎ (IsRead limit input × Finishes answer))
 
     -- so much of the source was asked for, or none, and the answer is that to what it gave
     abbrev pub Ends : Option ℕ → (List ℕ → Outcome) → Type 0
     Ends None answers = EndsUnasked (answers [])
     Ends (Some limit) answers = (input : List ℕ) × EndsAsked limit input (answers input)
+
+    -- there was no memory, and the source was left alone, or it ended so
+    abbrev pub EndsUnlessMemory : Option ℕ → (List ℕ → Outcome) → Type 0
+    EndsUnlessMemory asked answers = ((src.new ≡ src.old) × LacksMemory) ⊎ Ends asked answers

@@ -2,10 +2,10 @@
 use Rattle.std.specs.Prelude.{ℕ, ◌+◌, List, [], ◌∷◌, ◌++◌, map, option_to_list, Option, Some, None}
 use Rattle.std.specs.Prelude.{Result, Ok}
 use Rattle.std.specs.Result.{result_map_both}
-use Rattle.vault_core.specs.declared.fault.Fault.{Fault}
-use Rattle.vault_core.specs.declared.fault.Fault.TheVariants.{CannotOpen, Memory, Read}
-use Rattle.vault_core.specs.declared.fault.Role.{Role}
-use Rattle.vault_core.specs.declared.fault.Role.TheVariants.{Secret}
+use Rattle.vault_common.specs.declared.fault.Fault.{Fault}
+use Rattle.vault_common.specs.declared.fault.Fault.TheVariants.{CannotOpen, Memory, Read}
+use Rattle.vault_common.specs.declared.fault.Role.{Role}
+use Rattle.vault_common.specs.declared.fault.Role.TheVariants.{Secret}
 use Rattle.vault_core.specs.declared.limits.TheConstants.{PASSWORD_FILE_LIMIT}
 use Rattle.vault_files.specs.File.{Finding, front}
 use Rattle.vault_files.specs.declared.fault.FileFault.{FileFault}

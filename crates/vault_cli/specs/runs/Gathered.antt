@@ -1,8 +1,8 @@
 -- What gathering the files of a request answers, of files that may be met at its paths.
 use Rattle.std.specs.Prelude.{◌≡◌, ◌⊎◌, ℕ, List, take, Option, Some, Result, Ok, Err}
-use Rattle.vault_core.specs.declared.fault.Fault.{Fault}
-use Rattle.vault_core.specs.declared.fault.Fault.TheVariants.{Memory}
-use Rattle.vault_core.specs.declared.fault.Role.{Role}
+use Rattle.vault_common.specs.declared.fault.Fault.{Fault}
+use Rattle.vault_common.specs.declared.fault.Fault.TheVariants.{Memory}
+use Rattle.vault_common.specs.declared.fault.Role.{Role}
 use Rattle.vault_files.specs.File.{Finding, Met}
 use Rattle.vault_cli.specs.Drive.{AllMet}
 use Rattle.vault_cli.specs.runs.Found.{AtPath, contents_of, front_in}

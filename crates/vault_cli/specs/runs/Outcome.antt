@@ -1,7 +1,7 @@
 -- What a run of a request answers, as a function of the request, the password files, the salt and
 -- the input: five steps, of which the first that refuses decides. Steps 1 to 3, the passwords, the
--- place and the salt, stand with the tasks; then the text is read; step 4 is its length, and step 5
--- what becomes of it.
+-- index of the secret that seals and the salt, stand with the tasks; then the text is read; step 4
+-- is its length, and step 5 what becomes of it.
 use Rattle.std.specs.Prelude.{ℕ, ◌*◌, if◌then◌else◌, List, [], Option, Some, None, unwrap_or}
 use Rattle.std.specs.Prelude.{Result, Ok, Err}
 use Rattle.vault_text.specs.Limits.{envelope_limit}
@@ -11,7 +11,7 @@ use Rattle.vault_core.specs.Encryption.{encryption}
 use Rattle.vault_text.specs.Steps.{◌>>=◌}
 use Rattle.vault_core.specs.Ready.{Ready}
 use Rattle.vault_core.specs.Rekeying.{rekeying}
-use Rattle.vault_core.specs.declared.fault.Fault.{Fault}
+use Rattle.vault_common.specs.declared.fault.Fault.{Fault}
 use Rattle.vault_request.specs.CommandName.{encrypts}
 use Rattle.vault_cli.specs.runs.ReportLine.{line_of}
 use Rattle.vault_request.specs.Request.{Request}
@@ -30,13 +30,13 @@ pub record Outcome : Type 0 where
   pub status : Status
 
 -- the outcome of a fault
-abbrev pub refused : Fault → Outcome
-refused fault = record { output = None; line = line_of fault; status = status_of fault }
+abbrev pub reported : Fault → Outcome
+reported fault = record { output = None; line = line_of fault; status = status_of fault }
 
 -- the outcome of what is ready to be written, or of a fault
 abbrev pub answered : Result Ready Fault → Outcome
 answered (Ok ready) = record { output = Some ready.output; line = []; status = Success }
-answered (Err fault) = refused fault
+answered (Err fault) = reported fault
 
 -- how much input a command takes, by how much plaintext is encrypted
 abbrev pub input_limit : ℕ → CommandName → ℕ
@@ -49,7 +49,7 @@ room_limit limit command = if encrypts command then limit else 4 * limit
 
 -- how much input a task takes
 abbrev pub task_limit : ℕ → Task → ℕ
-task_limit limit (Seal secrets place form salt) = input_limit limit Encrypt
+task_limit limit (Seal secrets index form salt) = input_limit limit Encrypt
 task_limit limit (Open secrets) = input_limit limit Decrypt
 task_limit limit (Reseal secrets new salt) = input_limit limit Rekey
 
@@ -71,7 +71,7 @@ asked_for (Ok task) None limit = Some limit
 
 -- steps 4 and 5 of each task
 abbrev pub performed : ℕ → Task → List ℕ → Result Ready Fault
-performed limit (Seal secrets place form salt) text = encryption limit secrets place form salt text
+performed limit (Seal secrets index form salt) text = encryption limit secrets index form salt text
 performed limit (Open secrets) text = decryption limit secrets text
 performed limit (Reseal secrets new salt) text = rekeying limit secrets new salt text
 

@@ -6,6 +6,6 @@ use Rattle.vault_cli.specs.declared.runs.task.Task.TheVariants as stored
 
 -- the task that a value of the Rust type stands for
 abbrev pub task_in : StoredTask → Task
-task_in (stored.Seal secrets place form salt) = Seal secrets.secrets place (form_of form) salt
+task_in (stored.Seal secrets index form salt) = Seal secrets.secrets index (form_of form) salt
 task_in (stored.Open secrets) = Open secrets
 task_in (stored.Reseal secrets new salt) = Reseal secrets new salt

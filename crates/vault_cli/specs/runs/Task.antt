@@ -1,16 +1,18 @@
--- The task of a request: the passwords, step 1, the place of the secret that seals, step 2, and the
+-- The task of a request: the passwords, step 1, the index of the secret that seals, step 2, and the
 -- salt, step 3.
 use Rattle.std.specs.Prelude.{ℕ, ◌<◌, nat_lt, if◌then◌else◌, List, [], ◌∷◌, length, take}
 use Rattle.std.specs.Prelude.{slice_index_or, Option, Some, None, Result, Ok, Err}
 use Rattle.std.specs.Result.{result_map_both}
-use Rattle.vault_core.specs.Choice.{chosen_place}
-use Rattle.vault_core.specs.Fault.{of_choice, of_secret}
+use Rattle.vault_core.specs.Choice.{chosen_index}
+use Rattle.vault_core.specs.Choice.{of_choice}
+use Rattle.vault_core.specs.Password.{of_secret}
 use Rattle.vault_core.specs.Form.{Form, Envelope, Block}
 use Rattle.vault_text.specs.Steps.{◌>>=◌}
 use Rattle.vault_core.specs.Password.{password_of}
 use Rattle.vault_core.specs.Secrets.{Secret, SecretList}
-use Rattle.vault_core.specs.declared.fault.Fault.{Fault}
-use Rattle.vault_core.specs.declared.fault.Fault.TheVariants.{NeedNewSecret, SaltShort, SecretEmpty}
+use Rattle.vault_common.specs.declared.fault.Fault.{Fault}
+use Rattle.vault_common.specs.declared.fault.Fault.TheVariants.{NeedNewSecret, SaltShort}
+use Rattle.vault_common.specs.declared.fault.Fault.TheVariants.{SecretEmpty}
 use Rattle.vault_request.specs.Request.{Request, SecretFile}
 use Rattle.vault_cli.specs.declared.limits.TheConstants.{SEALING_SALT_LENGTH}
 use Rattle.vault_request.specs.declared.command_name.CommandName.{CommandName}
@@ -18,18 +20,18 @@ use Rattle.vault_request.specs.declared.command_name.CommandName.TheVariants.{En
 use Rattle.vault_request.specs.declared.command_name.CommandName.TheVariants.{View, Rekey}
 use Rattle.vault_request.specs.declared.command_name.CommandName.TheVariants.{EncryptString}
 
--- what is to be done with the input: to seal it in a form, under the secret at a place; to open it;
--- to open it and to seal it again under a new secret
+-- what is to be done with the input: to seal it in a form, under the secret at an index; to open
+-- it; to open it and to seal it again under a new secret
 pub data Task : Type 0 where
-  Seal : (secrets : List Secret) (place : ℕ) (form : Form) (salt : List ℕ) → Task
+  Seal : (secrets : List Secret) (index : ℕ) (form : Form) (salt : List ℕ) → Task
   Open : (secrets : SecretList) → Task
   Reseal : (secrets : SecretList) (new : Secret) (salt : List ℕ) → Task
 
--- the place of a task is in its list
-abbrev pub HasPlace : Task → Type 0
-HasPlace (Seal secrets place form salt) = place < length secrets
-HasPlace (Open secrets) = Unit {0}
-HasPlace (Reseal secrets new salt) = Unit {0}
+-- the index of a task is in its list
+abbrev pub HasValidIndex : Task → Type 0
+HasValidIndex (Seal secrets index form salt) = index < length secrets
+HasValidIndex (Open secrets) = Unit {0}
+HasValidIndex (Reseal secrets new salt) = Unit {0}
 
 -- the password in a file that holds these bytes
 abbrev pub password_in : List ℕ → Result (List ℕ) Fault
@@ -54,7 +56,7 @@ secrets_of (file ∷ files) (bytes ∷ contents) = do
 -- the secrets of a request, and its rule for labels
 abbrev pub secret_list_of : Request → List (List ℕ) → Result SecretList Fault
 secret_list_of request contents = do
-  secrets ← secrets_of request.secret_files contents
+  secrets ← secrets_of request.secrets contents
   Ok (record { secrets = secrets; rule = request.rule })
 
 -- step 1 of `rekey`: its new secret, which a settled request names
@@ -62,9 +64,9 @@ abbrev pub new_secret_in : Option SecretFile → List ℕ → Result Secret Faul
 new_secret_in None bytes = Err NeedNewSecret
 new_secret_in (Some file) bytes = secret_in file bytes
 
--- step 2: the place of the secret that encrypts
-abbrev pub place_of : List Secret → Option (List ℕ) → Result ℕ Fault
-place_of secrets label = result_map_both (λ place. place) of_choice (chosen_place secrets label)
+-- step 2: the index of the secret that encrypts
+abbrev pub index_of : List Secret → Option (List ℕ) → Result ℕ Fault
+index_of secrets label = result_map_both (λ index. index) of_choice (chosen_index secrets label)
 
 -- step 3: the bytes of the salt text where there is one, else the first 32 of the salt
 abbrev pub salt_of : Option (List ℕ) → List ℕ → Result (List ℕ) Fault
@@ -76,9 +78,9 @@ salt_of None salt =
 -- steps 2 and 3 of `encrypt` and `encrypt_string`
 abbrev pub seal_of : Request → List Secret → Form → List ℕ → Result Task Fault
 seal_of request secrets form salt = do
-  place ← place_of secrets request.choice
+  index ← index_of secrets request.choice
   used ← salt_of request.salt_text salt
-  Ok (Seal secrets place form used)
+  Ok (Seal secrets index form used)
 
 -- the last of step 1, and step 3, of `rekey`, whose last password file holds these bytes
 abbrev pub reseal_of : Request → SecretList → List ℕ → List ℕ → Result Task Fault
@@ -104,5 +106,5 @@ prepared request contents salt = do
   -- step 1
   list ← secret_list_of request contents
   -- the new password of `rekey`, and steps 2 and 3
-  let last = slice_index_or contents (length request.secret_files) [] in
+  let last = slice_index_or contents (length request.secrets) [] in
       task_of request.command request list last salt

@@ -2,8 +2,8 @@
 ghost use Rattle.std.specs.Prelude.{◌≡◌, ◌≢◌, ℕ, [], ◌∷◌, length, map, option_to_list, take};
 ghost use Rattle.std.specs.Prelude.{Ok, Err, IfOk, IfErr, OnOk, vec_len};
 ghost use Rattle.vault_files.specs.File.Finding.{Missing};
-ghost use Rattle.vault_core.specs.declared.fault.Fault.TheVariants.{CannotOpen, Memory};
-ghost use Rattle.vault_core.specs.declared.fault.Role.TheVariants.{Input};
+ghost use Rattle.vault_common.specs.declared.fault.Fault.TheVariants.{CannotOpen, Memory};
+ghost use Rattle.vault_common.specs.declared.fault.Role.TheVariants.{Input};
 ghost use Rattle.vault_cli.specs.runs.Found.{AtPath, asked_paths, fault_in, secret_paths};
 ghost use Rattle.vault_cli.specs.runs.Gathered.{ContentsMet, FrontMet, SaltMet};
 ghost use Rattle.vault_cli.specs.runs.Gathered.{RefusedBy, SecretsRefuse};

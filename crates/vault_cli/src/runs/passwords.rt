@@ -34,7 +34,7 @@ pub(crate) fn new_secret_in<'p>(
     requires command { rekeys request.now.command ≡ true }
     requires files { length secret_files.now ≡ length (files_of request.now) }
     ensures { let contents = map (λ file. file.items) secret_files.now in
-        let last = slice_index_or contents (length request.now.secret_files) [] in
+        let last = slice_index_or contents (length request.now.secrets) [] in
         result ≡ new_secret_in request.now.new_secret last }
 {
     let label = request.new_label().unwrap();

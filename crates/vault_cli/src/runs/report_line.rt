@@ -7,8 +7,12 @@ ghost use Rattle.vault_cli.specs.runs.Status.{status_of};
 ghost use Rattle.vault_cli.specs.runs.Reports.{Reports};
 
 use crate::runs::status::{Status, status_of};
+use arrayvec::ArrayVec;
 use vault_core::Fault;
 use vault_text::{Sink, SinkFailed, Stage, put_all};
+
+/// The bytes of the longest line: `ERROR! `, the longest text of a fault, and the line end.
+const LINE_LIMIT: usize = 7 + 62 + 1;
 
 /// Makes `err` take the fault's line, `ERROR! ` and the fault's text, and answers the fault's
 /// status. A failure of `err` changes nothing else.
@@ -17,21 +21,30 @@ pub fn report<E: Sink>(fault: Fault, err: &mut E) -> Status
     ensures status { result ≡ status_of fault }
     ensures line { Reports (sink E.Sink err.old err.new) (line_of fault) }
 {
-    let _ = put_line(fault, err);
+    let _ = write_text(line_of(fault).as_slice(), err);
     status_of(fault)
 }
 
-/// Begins `err`, puts the line and finishes.
-fn put_line<E: Sink>(fault: Fault, err: &mut E) -> Result<(), SinkFailed>
-    requires { E.stage err.old ≡ Stage.Unbegun }
-    ensures line { OnOk result (E.takes err.old (line_of fault) err.new) }
-    ensures finished { OnOk result (E.stage err.new ≡ Stage.Finished) }
-    ensures prefix { (n : ℕ) × E.takes err.old (take n (line_of fault)) err.new }
-    ensures failed { CountsFailure (E.failures err.old) (E.failures err.new) result }
+/// The fault's line, whole: lines of several runs on one stream do not mix.
+fn line_of(fault: Fault) -> ArrayVec<u8, LINE_LIMIT>
+    ensures { result.items ≡ line_of fault }
 {
-    err.begin()?;
-    put_all(err, b"ERROR! ")?;
-    put_all(err, fault.text().as_bytes())?;
-    put_all(err, b"\n")?;
-    err.finish()
+    let mut line = ArrayVec::new();
+    line.try_extend_from_slice(b"ERROR! ").unwrap();
+    line.try_extend_from_slice(fault.text().as_bytes()).unwrap();
+    line.push(b'\n');
+    line
+}
+
+/// Begins the sink, puts the text at once and finishes.
+pub(crate) fn write_text<K: Sink>(text: &[u8], sink: &mut K) -> Result<(), SinkFailed>
+    requires { K.stage sink.old ≡ Stage.Unbegun }
+    ensures text { OnOk result (K.takes sink.old text.now sink.new) }
+    ensures finished { OnOk result (K.stage sink.new ≡ Stage.Finished) }
+    ensures prefix { (n : ℕ) × K.takes sink.old (take n text.now) sink.new }
+    ensures failed { CountsFailure (K.failures sink.old) (K.failures sink.new) result }
+{
+    sink.begin()?;
+    put_all(sink, text)?;
+    sink.finish()
 }

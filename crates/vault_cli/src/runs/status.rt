@@ -11,7 +11,7 @@ pub enum Status {
     Success,
     /// The input, a secret or an option was refused.
     Refused,
-    /// The words of the command line are no command.
+    /// The arguments are no command line.
     ParseFault,
     /// A file, a source or a sink failed.
     DeviceFailed,

@@ -2,13 +2,13 @@
 ghost use Rattle.std.specs.Prelude.{◌≡◌, ℕ, ◌+◌, ◌≤◌, List, [], length, map, slice_index_or, true};
 ghost use Rattle.std.specs.Prelude.{IfErr, IfOk};
 ghost use Rattle.vault_core.specs.Form.{form_of};
-ghost use Rattle.vault_core.specs.Input.{IsWhole, UnlessUnreadable};
+ghost use Rattle.vault_core.specs.Input.{IsReadToEndOrPastLimit, UnlessUnreadable};
 ghost use Rattle.vault_text.specs.Limits.{IsWorkLength, limit_of};
 ghost use Rattle.vault_cli.specs.runs.Outcome.{performed, task_limit};
 ghost use Rattle.vault_request.specs.CommandName.{rekeys};
 ghost use Rattle.vault_request.specs.Request.{files_of};
 ghost use Rattle.vault_cli.specs.runs.StoredTask.{task_in};
-ghost use Rattle.vault_cli.specs.runs.Task.{HasPlace, prepared, reseal_of, salt_of, seal_of};
+ghost use Rattle.vault_cli.specs.runs.Task.{HasValidIndex, prepared, reseal_of, salt_of, seal_of};
 
 use crate::limits::SEALING_SALT_LENGTH;
 use crate::runs::passwords::{new_secret_in, secrets_of};
@@ -23,10 +23,10 @@ use vault_text::{Salt, Source, TextMemory};
 /// What is to be done with the input, once passwords, secret and salt are found.
 #[derive(Drop)]
 pub(crate) enum Task<'p> {
-    /// To encrypt it with the secret at a place of the list, counted from 0.
+    /// To encrypt it with the secret at an index of the list.
     Seal {
         secrets: Secrets<'p>,
-        place: usize,
+        index: usize,
         form: Form<'p>,
         salt: Salt,
     },
@@ -54,7 +54,7 @@ pub(crate) fn prepare<'p>(
         IfOk result (λ task. prepared request.now contents salt.now ≡ Ok (task_in task)) }
     ensures refused { let contents = map (λ file. file.items) secret_files.now in
         IfErr result (λ fault. prepared request.now contents salt.now ≡ Err fault) }
-    ensures place { IfOk result (λ task. HasPlace (task_in task)) }
+    ensures index { IfOk result (λ task. HasValidIndex (task_in task)) }
 {
     let secrets = secrets_of(request, secret_files)?;
     match request.command() {
@@ -72,18 +72,18 @@ fn seal<'p>(
     form: Form<'p>,
     salt: &[u8],
 ) -> Result<Task<'p>, Fault>
-    ensures place { IfOk result (λ task. HasPlace (task_in task)) }
+    ensures index { IfOk result (λ task. HasValidIndex (task_in task)) }
     ensures sealed { IfOk result (λ task.
         seal_of request.now secrets.entry.secrets (form_of form.entry) salt.now
         ≡ Ok (task_in task)) }
     ensures refused { IfErr result (λ fault.
         seal_of request.now secrets.entry.secrets (form_of form.entry) salt.now ≡ Err fault) }
 {
-    let place = secrets.encrypt_choice(request.choice())?;
+    let index = secrets.encrypt_choice(request.choice())?;
     let salt = salt_of(request, salt)?;
     Ok(Task::Seal {
         secrets,
-        place,
+        index,
         form,
         salt,
     })
@@ -98,13 +98,13 @@ fn reseal<'p>(
 ) -> Result<Task<'p>, Fault>
     requires command { rekeys request.now.command ≡ true }
     requires files { length secret_files.now ≡ length (files_of request.now) }
-    ensures place { IfOk result (λ task. HasPlace (task_in task)) }
+    ensures index { IfOk result (λ task. HasValidIndex (task_in task)) }
     ensures resealed { let contents = map (λ file. file.items) secret_files.now in
-        let last = slice_index_or contents (length request.now.secret_files) [] in
+        let last = slice_index_or contents (length request.now.secrets) [] in
         IfOk result (λ task.
         reseal_of request.now secrets.entry last salt.now ≡ Ok (task_in task)) }
     ensures refused { let contents = map (λ file. file.items) secret_files.now in
-        let last = slice_index_or contents (length request.now.secret_files) [] in
+        let last = slice_index_or contents (length request.now.secrets) [] in
         IfErr result (λ fault. reseal_of request.now secrets.entry last salt.now ≡ Err fault) }
 {
     let new = new_secret_in(request, secret_files)?;
@@ -133,23 +133,23 @@ impl<'p> Task<'p> {
     ) -> Result<Ready<'a>, Fault>
         requires empty { memory.bytes ≡ [] }
         requires room { IsWorkLength memory.limit }
-        requires place { HasPlace (task_in self.now) }
+        requires index { HasValidIndex (task_in self.now) }
         ensures answer { let limit = limit_of memory.entry.limit in
             let bound = task_limit limit (task_in self.now) in
             (input : List ℕ) × S.gives src.old input src.new × (length input ≤ bound + 1)
             × UnlessUnreadable (S.failures src.old) (S.failures src.new) result
             (length input ≤ bound)
-            (IsWhole bound (S.ended src.new) input
+            (IsReadToEndOrPastLimit bound (S.ended src.new) input
             × (result ≡ performed limit (task_in self.now) input)) }
     {
         let mut meter = Meter::new();
         match self {
             Task::Seal {
                 secrets,
-                place,
+                index,
                 form,
                 salt,
-            } => prepare_encrypt_in(src, memory, secrets, *place, *form, salt, &mut meter),
+            } => prepare_encrypt_in(src, memory, secrets, *index, *form, salt, &mut meter),
             Task::Open { secrets } => prepare_decrypt_in(src, memory, secrets, &mut meter),
             Task::Reseal { secrets, new, salt } => {
                 prepare_rekey_in(src, memory, secrets, new, salt, &mut meter)

@@ -1,5 +1,6 @@
-ghost use Rattle.std.specs.Prelude.{◌≡◌, None, MatchOption};
+ghost use Rattle.std.specs.Prelude.{◌≡◌, [], ◌∷◌, ◌++◌, None, MatchOption, OnOk, OnErr, map};
 ghost use Rattle.std.specs.Option.{option_map};
+ghost use Rattle.std.specs.String.{string_bytes};
 ghost use Rattle.vault_files.specs.File.Finding.{Missing};
 ghost use Rattle.vault_files.specs.Memory.{bytes_of, file_at, new_store, stands_at};
 
@@ -14,15 +15,19 @@ use vault_text::{MemSink, Sink, SinkFailed};
 
 /// Files in memory. Of two files under one path the first counts. What is written stands at the
 /// path that was chosen, from `begin` on, in the place of what stood there; where none was chosen
-/// it stands at no path. A growth that is refused counts as a failure of the output.
+/// it stands at no path. A growth that is refused counts as a failure of the output. A log keeps
+/// the paths that were opened, also those where no file was found.
 #[derive(Drop)]
 pub struct MemFiles<'a> {
     entries: &'a [MemFile<'a>],
     aim: Option<String>,
     output: MemSink,
+    log: Vec<String>,
+    limit: usize,
 }
 
 impl<'a> Model for MemFiles<'a> {
+    ghost use Rattle.std.specs.Prelude.{map};
     ghost use Rattle.std.specs.Option.{option_map};
     ghost use Rattle.std.specs.String.{string_bytes};
     ghost use Rattle.vault_files.specs.Memory.{StoreState};
@@ -33,6 +38,7 @@ impl<'a> Model for MemFiles<'a> {
       entries = s.entries.now;
       aim = option_map string_bytes s.aim;
       output = s.output;
+      log = map string_bytes s.log.items;
     } };
 }
 
@@ -41,10 +47,20 @@ impl<'a> MemFiles<'a> {
     pub fn new(alloc: Global, entries: &'a [MemFile<'a>]) -> Self
         ensures { result ≡ new_store entries.now }
     {
+        MemFiles::with_limit(alloc, entries, usize::MAX)
+    }
+
+    /// As `new`, but after `limit` opens there is no memory for one more: it answers `Memory`, and
+    /// stands in the log.
+    pub fn with_limit(alloc: Global, entries: &'a [MemFile<'a>], limit: usize) -> Self
+        ensures { result ≡ new_store entries.now }
+    {
         MemFiles {
             entries,
             aim: None,
             output: MemSink::new(alloc, usize::MAX),
+            log: Vec::new(alloc),
+            limit,
         }
     }
 
@@ -57,6 +73,23 @@ impl<'a> MemFiles<'a> {
             Some(aim) if self.output.begun() && aim.as_str() == path => Some(self.output.bytes()),
             _ => find(self.entries, path).map(|entry| entry.bytes),
         }
+    }
+
+    /// The paths that were opened, in their order.
+    pub fn log(&self) -> &[String]
+        ensures { map string_bytes result.now ≡ self.now.log }
+    {
+        self.log.as_slice()
+    }
+
+    fn note(&mut self, path: &str) -> Result<(), AllocError>
+        ensures noted { OnOk result
+            (self.new ≡ record self.old { log = self.old.log ++ path.now ∷ [] }) }
+        ensures refused { OnErr result (self.new ≡ self.old) }
+    {
+        let path = String::from_str(*self.log.allocator(), path)?;
+        self.log.push(path)?;
+        Ok(())
     }
 }
 
@@ -104,9 +137,9 @@ impl<'a> Sink for MemFiles<'a> {
 
 impl<'a> FileSystem for MemFiles<'a> {
     ghost use Rattle.std.specs.Prelude.{◌≡◌, refl, Some};
-    ghost use Rattle.std.proofs.Common.{◌∙◌};
-    ghost use Rattle.vault_files.specs.Memory.{IsReaderOf, file_at};
+    ghost use Rattle.vault_files.specs.FileSystemLaws.{StoreOpens-none, StoreOpens-more};
     ghost use Rattle.vault_files.specs.FileSystemLaws.{front-met, break-met};
+    ghost use Rattle.vault_files.specs.Memory.{IsReaderOf, StoreOpens, file_at};
 
     type Reader = MemFileReader<'a>;
 
@@ -114,21 +147,21 @@ impl<'a> FileSystem for MemFiles<'a> {
 
     ghost opened = { λ s path reader. IsReaderOf (file_at s.entries path) reader };
 
-    ghost opens = { λ s paths t. t ≡ s };
+    ghost opens = { StoreOpens };
 
     ghost aimed = { λ s path access t. t ≡ record s { aim = Some path } };
 
-    ghost opens_none = { λ s. refl };
+    ghost opens_none = { StoreOpens-none };
 
-    ghost opens_more = { λ s t u xs ys p q. q ∙ p };
+    ghost opens_more = { StoreOpens-more };
 
-    ghost opens_stage = { λ s t paths same. rw same refl };
+    ghost opens_stage = { λ s t paths opens. rw opens refl };
 
-    ghost opens_failures = { λ s t paths same. rw same refl };
+    ghost opens_failures = { λ s t paths opens. rw opens refl };
 
-    ghost opens_meets = { λ s t paths path file same met. rw (← same) met };
+    ghost opens_meets = { λ s t paths path file opens met. rw opens at met };
 
-    ghost opens_opened = { λ s t paths path reader same opened. rw (← same) opened };
+    ghost opens_opened = { λ s t paths path reader opens opened. rw opens at opened };
 
     ghost meets_some = { λ s path. (file_at s.entries path, refl) };
 
@@ -138,6 +171,9 @@ impl<'a> FileSystem for MemFiles<'a> {
     ghost break_met = { λ s path. break-met (file_at s.entries path) };
 
     fn open(&mut self, path: &str) -> Result<MemFileReader<'a>, FileFault> {
+        if self.note(path).is_err() || self.log.len() > self.limit {
+            return Err(FileFault::Memory);
+        }
         match find(self.entries, path) {
             Some(entry) => Ok(entry.reader()),
             None => Err(FileFault::CannotOpen),
@@ -146,59 +182,6 @@ impl<'a> FileSystem for MemFiles<'a> {
 
     fn aim(&mut self, alloc: Global, path: &str, _access: Access) -> Result<(), AllocError> {
         self.aim = Some(String::from_str(alloc, path)?);
-        Ok(())
-    }
-}
-
-#[cfg(test)]
-mod tests {
-    use super::*;
-    use crate::file_system::read_front;
-    use std::test::Fail;
-    use vault_text::put_all;
-
-    #[test]
-    fn reads_fronts(rt: HostRuntime) {
-        let entries = [
-            MemFile::whole("one", b"abc"),
-            MemFile::broken("two", b"abc"),
-            MemFile::whole("one", b"later"),
-        ];
-        let mut files = MemFiles::new(rt.alloc(), &entries);
-        let mut buf = [0; 4];
-        assert_eq!(rt; read_front(&mut files, "one", &mut buf), Ok(3));
-        assert_eq!(rt; &buf[..3], b"abc".as_slice());
-        assert_eq!(rt; read_front(&mut files, "one", &mut buf[..2]), Ok(2));
-        assert_eq!(rt;
-            read_front(&mut files, "two", &mut buf),
-            Err(FileFault::CannotRead)
-        );
-        assert_eq!(rt; read_front(&mut files, "two", &mut buf[..3]), Ok(3));
-        assert_eq!(rt;
-            read_front(&mut files, "none", &mut buf),
-            Err(FileFault::CannotOpen)
-        );
-    }
-
-    /// Whether a file of these bytes stands at the path.
-    fn has(files: &MemFiles, path: &str, bytes: &[u8]) -> bool {
-        files.content(path) == Some(bytes)
-    }
-
-    #[test]
-    fn keeps_what_is_written(rt: HostRuntime) -> Result<(), Fail> {
-        let alloc = rt.alloc();
-        let entries = [MemFile::whole("one", b"abc"), MemFile::whole("two", b"de")];
-        let mut files = MemFiles::new(alloc, &entries);
-        files.aim(alloc, "one", Access::Kept)?;
-        assert!(rt; has(&files, "one", b"abc"));
-        files.begin()?;
-        assert!(rt; has(&files, "one", b""));
-        put_all(&mut files, b"new")?;
-        files.finish()?;
-        assert!(rt; has(&files, "one", b"new"));
-        assert!(rt; has(&files, "two", b"de"));
-        assert!(rt; files.content("none").is_none());
         Ok(())
     }
 }

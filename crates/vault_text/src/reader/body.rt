@@ -3,7 +3,7 @@ ghost use Rattle.std.specs.Prelude.{◌≡◌, ◌<◌, ◌≤◌, ℕ, List, []
 ghost use Rattle.vault_text.specs.Envelope.{read_body, without_line_ends};
 ghost use Rattle.vault_text.specs.EnvelopeReader.{BodyHas};
 ghost use Rattle.vault_text.specs.Limits.{ciphertext_limit};
-ghost use Rattle.vault_text.specs.Pieces.{Takes, TakesUpTo};
+ghost use Rattle.vault_text.specs.Pieces.{TakesPiece, TakesUpTo};
 
 use super::RUN_LIMIT;
 use super::inner_text::InnerReader;
@@ -48,7 +48,7 @@ impl<'a> BodyReader<'a> {
     /// Takes the text that comes next, line ends among its digits.
     pub(super) fn extend(&mut self, text: &[u8])
         ensures { (limit : ℕ) →
-            Takes (BodyHas limit) self.old (without_line_ends text.now) self.new }
+            TakesPiece (BodyHas limit) self.old (without_line_ends text.now) self.new }
     {
         let mut rest = text;
         while !rest.is_empty() {
@@ -94,7 +94,7 @@ impl<'a> BodyReader<'a> {
     /// Takes the digits that come next.
     fn extend_digits(&mut self, digits: &[u8])
         requires { length digits.now ≤ DIGITS_LIMIT }
-        ensures { (limit : ℕ) → Takes (BodyHas limit) self.old digits.now self.new }
+        ensures { (limit : ℕ) → TakesPiece (BodyHas limit) self.old digits.now self.new }
     {
         let mut text = [0; RUN_LIMIT];
         let count = self.decoder.decode(digits, &mut text);

@@ -3,7 +3,7 @@ ghost use Rattle.std.specs.Prelude.{◌≡◌, ◌<◌, ◌≤◌, ℕ, List, []
 ghost use Rattle.std.specs.Prelude.{length};
 ghost use Rattle.vault_text.specs.Hexadecimal.{unhex};
 ghost use Rattle.vault_text.specs.InnerReader.{PartHas};
-ghost use Rattle.vault_text.specs.Pieces.{Takes};
+ghost use Rattle.vault_text.specs.Pieces.{TakesPiece};
 ghost use Rattle.vault_text.specs.declared.fault.TextFault.TheVariants.{BadPayload, CipherTooLong};
 
 use super::RUN_LIMIT;
@@ -49,7 +49,7 @@ impl<'a> CipherPart<'a> {
     /// Takes the digits that come next.
     pub(super) fn extend(&mut self, digits: &[u8])
         requires { length digits.now ≤ RUN_LIMIT }
-        ensures { (limit : ℕ) → Takes (PartHas limit) self.old digits.now self.new }
+        ensures { (limit : ℕ) → TakesPiece (PartHas limit) self.old digits.now self.new }
     {
         let mut bytes = [0; RUN_LIMIT];
         let count = self.decoder.decode(digits, &mut bytes);

@@ -2,7 +2,7 @@
 ghost use Rattle.std.specs.Prelude.{◌≡◌, ℕ, List, ◌++◌, []};
 ghost use Rattle.vault_text.specs.Envelope.{body, read_head, without_line_ends};
 ghost use Rattle.vault_text.specs.EnvelopeReader.{IsKept, LineHas};
-ghost use Rattle.vault_text.specs.Pieces.{Takes};
+ghost use Rattle.vault_text.specs.Pieces.{TakesPiece};
 
 use crate::fault::TextFault;
 use crate::header::{MARKER, before_line_end, read_header};
@@ -42,7 +42,7 @@ impl HeaderLine {
 
     /// Takes what belongs to the header line, and answers what follows it.
     pub(super) fn extend<'t>(&mut self, text: &'t [u8]) -> &'t [u8]
-        ensures line { Takes LineHas self.old text.now self.new }
+        ensures line { TakesPiece LineHas self.old text.now self.new }
         ensures body { (input : List ℕ) → LineHas self.old input →
             body (input ++ text.now) ≡ body input ++ without_line_ends result.now }
     {
@@ -58,7 +58,7 @@ impl HeaderLine {
     /// Keeps as many of the bytes as fit.
     fn keep(&mut self, bytes: &[u8])
         ensures ended { self.new.has_ended ≡ self.old.has_ended }
-        ensures line { Takes IsKept self.old.kept bytes.now self.new.kept }
+        ensures line { TakesPiece IsKept self.old.kept bytes.now self.new.kept }
     {
         let count = bytes.len().min(self.kept.remaining_capacity());
         // So many always fit.

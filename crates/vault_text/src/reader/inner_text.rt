@@ -5,7 +5,7 @@ ghost use Rattle.std.specs.Prelude.{IfNone, IfSome};
 ghost use Rattle.vault_text.specs.Envelope.{read_inner};
 ghost use Rattle.vault_text.specs.InnerReader.{InnerHas, MayHave, next_part};
 ghost use Rattle.vault_text.specs.Limits.{ciphertext_limit};
-ghost use Rattle.vault_text.specs.Pieces.{Takes, TakesUpTo};
+ghost use Rattle.vault_text.specs.Pieces.{TakesPiece, TakesUpTo};
 
 use super::RUN_LIMIT;
 use super::cipher_part::CipherPart;
@@ -88,7 +88,7 @@ impl<'a> InnerReader<'a> {
     /// Takes the text that comes next.
     pub(super) fn extend(&mut self, text: &[u8])
         requires { length text.now ≤ RUN_LIMIT }
-        ensures { (limit : ℕ) → Takes (InnerHas limit) self.old text.now self.new }
+        ensures { (limit : ℕ) → TakesPiece (InnerHas limit) self.old text.now self.new }
     {
         let mut rest = text;
         while !rest.is_empty() {
@@ -118,7 +118,7 @@ impl<'a> InnerReader<'a> {
         requires short { length digits.now ≤ RUN_LIMIT }
         requires digits { MayHave self.old.part digits.now }
         ensures part { self.new.part ≡ self.old.part }
-        ensures taken { (limit : ℕ) → Takes (InnerHas limit) self.old digits.now self.new }
+        ensures taken { (limit : ℕ) → TakesPiece (InnerHas limit) self.old digits.now self.new }
     {
         match self.part {
             Part::Salt => self.salt.extend(digits),

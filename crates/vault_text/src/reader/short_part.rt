@@ -2,7 +2,7 @@
 ghost use Rattle.std.specs.Prelude.{◌≡◌, ◌<◌, ◌≤◌, ℕ, List, [], MatchResult, IfSome, Some, length};
 ghost use Rattle.vault_text.specs.Hexadecimal.{unhex};
 ghost use Rattle.vault_text.specs.InnerReader.{PartHas};
-ghost use Rattle.vault_text.specs.Pieces.{Takes};
+ghost use Rattle.vault_text.specs.Pieces.{TakesPiece};
 ghost use Rattle.vault_text.specs.declared.fault.TextFault.TheVariants.{BadPayload};
 
 use super::RUN_LIMIT;
@@ -47,7 +47,7 @@ impl<const LIMIT: usize> ShortPart<LIMIT> {
     /// Takes the digits that come next.
     pub(super) fn extend(&mut self, digits: &[u8])
         requires { length digits.now ≤ RUN_LIMIT }
-        ensures { Takes (PartHas LIMIT) self.old digits.now self.new }
+        ensures { TakesPiece (PartHas LIMIT) self.old digits.now self.new }
     {
         let mut bytes = [0; RUN_LIMIT];
         let count = self.decoder.decode(digits, &mut bytes);

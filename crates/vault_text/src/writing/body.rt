@@ -5,7 +5,9 @@ ghost use Rattle.hex.specs.Hex.{encode_lower};
 ghost use Rattle.vault_text.specs.Failures.{CountsFailure};
 ghost use Rattle.vault_text.specs.Written.{hexadecimal_lines, inner_text};
 
-use super::lines::{BATCH_BYTES, INDENTATION_LIMIT, Text, append, append_hexadecimal, lines_of};
+use super::lines::{
+    BATCH_BYTES, INDENTATION_LIMIT, Text, append, append_hexadecimal, append_lines,
+};
 use crate::limits::TAG_LENGTH;
 use crate::salt::Salt;
 use crate::sink::{Sink, SinkFailed, Stage, put_all};
@@ -13,32 +15,12 @@ use crate::sink::{Sink, SinkFailed, Stage, put_all};
 /// Bytes of ciphertext whose digits fill a batch.
 const BATCH_CIPHERTEXT: usize = BATCH_BYTES / 2;
 
-/// Writes the body behind an indentation.
-pub(super) fn put_body<K: Sink>(
-    sink: &mut K,
-    indentation: &[u8],
+/// The inner text as far as it fits into a batch, and the ciphertext that is left.
+pub(super) fn first_batch<'a>(
     salt: &Salt,
     tag: &[u8; TAG_LENGTH],
-    cipher: &[u8],
-) -> Result<(), SinkFailed>
-    requires begun { K.stage sink.old ≡ Stage.Begun }
-    requires narrow { length indentation.now ≤ INDENTATION_LIMIT }
-    ensures takes { let text = hexadecimal_lines indentation.now
-        (inner_text salt.now tag.now cipher.now) in
-        OnOk result (K.takes sink.old text sink.new) }
-    ensures prefix { let text = hexadecimal_lines indentation.now
-        (inner_text salt.now tag.now cipher.now) in
-        (n : ℕ) × K.takes sink.old (take n text) sink.new }
-    ensures stage { K.stage sink.new ≡ Stage.Begun }
-    ensures failed { CountsFailure (K.failures sink.old) (K.failures sink.new) result }
-{
-    let (first, rest) = first_batch(salt, tag, cipher);
-    put_all(sink, lines_of(indentation, first.as_slice()).as_slice())?;
-    put_ciphertext(sink, indentation, rest)
-}
-
-/// The inner text as far as it fits into a batch, and the ciphertext that is left.
-fn first_batch<'a>(salt: &Salt, tag: &[u8; TAG_LENGTH], cipher: &'a [u8]) -> (Text, &'a [u8])
+    cipher: &'a [u8],
+) -> (Text, &'a [u8])
     ensures text { result.0.items ++ encode_lower result.1.now
         ≡ inner_text salt.now tag.now cipher.now }
     ensures batch { array_vec_len result.0 ≤ BATCH_BYTES }
@@ -66,7 +48,7 @@ fn salt_and_tag(salt: &Salt, tag: &[u8; TAG_LENGTH]) -> Text
 }
 
 /// Writes lines that spell the digits of the ciphertext, from the start of a line on.
-fn put_ciphertext<K: Sink>(
+pub(super) fn put_ciphertext<K: Sink>(
     sink: &mut K,
     indentation: &[u8],
     cipher: &[u8],
@@ -102,5 +84,7 @@ fn put_batch<K: Sink>(sink: &mut K, indentation: &[u8], cipher: &[u8]) -> Result
 {
     let mut digits = Text::new();
     append_hexadecimal(&mut digits, cipher);
-    put_all(sink, lines_of(indentation, digits.as_slice()).as_slice())
+    let mut text = Text::new();
+    append_lines(&mut text, indentation, digits.as_slice());
+    put_all(sink, text.as_slice())
 }

@@ -3,16 +3,23 @@ ghost use Rattle.std.specs.Prelude.{◌≡◌, ◌+◌, ◌≤◌, ◌++◌, ◌
 ghost use Rattle.arrayvec.specs.ArrayVec.{array_vec_len};
 ghost use Rattle.vault_text.specs.Written.{text_of_lines, written_header};
 
-use super::lines::{INDENTATION_LIMIT, TEXT_LIMIT, Text, append};
+use super::lines::{HEAD_LIMIT, INDENTATION_LIMIT, TEXT_LIMIT, Text, append};
 use crate::label::Label;
 
-/// The header line behind an indentation, with its end.
+/// What may stand before the header line.
+pub(super) const START_LIMIT: usize = 11;
+
+/// What begins a text, and the header line behind an indentation, with its end.
 #[tactic(auto, unfolding(crate::specs::Written::text_of_lines))]
-pub(super) fn header_line_of(indentation: &[u8], label: &Label) -> Text
-    requires { length indentation.now ≤ INDENTATION_LIMIT }
-    ensures { result.items ≡ text_of_lines indentation.now (written_header label.now ∷ []) }
+pub(super) fn header_line_of(start: &[u8], indentation: &[u8], label: &Label) -> Text
+    requires short { length start.now ≤ START_LIMIT }
+    requires narrow { length indentation.now ≤ INDENTATION_LIMIT }
+    ensures text { result.items
+        ≡ start.now ++ text_of_lines indentation.now (written_header label.now ∷ []) }
+    ensures length { array_vec_len result ≤ HEAD_LIMIT }
 {
     let mut line = Text::new();
+    append(&mut line, start);
     append(&mut line, indentation);
     append_header(&mut line, label.as_str());
     append(&mut line, b"\n");

@@ -20,8 +20,12 @@ const BATCH_LINES: usize = 64;
 /// Bytes that a batch of lines spells.
 pub(super) const BATCH_BYTES: usize = BATCH_LINES * LINE_BYTES;
 
-/// The longest text of a batch.
-pub(super) const TEXT_LIMIT: usize = BATCH_LINES * (INDENTATION_LIMIT + LINE_DIGITS + 1);
+/// The longest text before the lines of a body: what begins a block, and the header line.
+pub(super) const HEAD_LIMIT: usize = 256;
+
+/// The longest text of a batch, and of what stands before the first.
+pub(super) const TEXT_LIMIT: usize = HEAD_LIMIT
+    + BATCH_LINES * (INDENTATION_LIMIT + LINE_DIGITS + 1);
 
 /// Text that is gathered before it is handed to a sink.
 pub(super) type Text = ArrayVec<u8, TEXT_LIMIT>;
@@ -77,19 +81,18 @@ fn append_line(text: &mut Text, indentation: &[u8], bytes: &[u8])
     append(text, b"\n");
 }
 
-/// The lines that spell at most a batch of bytes, behind an indentation.
-pub(super) fn lines_of(indentation: &[u8], bytes: &[u8]) -> Text
+/// Appends the lines that spell at most a batch of bytes, behind an indentation.
+pub(super) fn append_lines(text: &mut Text, indentation: &[u8], bytes: &[u8])
+    requires head { array_vec_len text.old ≤ HEAD_LIMIT }
     requires narrow { length indentation.now ≤ INDENTATION_LIMIT }
     requires batch { length bytes.now ≤ BATCH_BYTES }
-    ensures { result.items ≡ hexadecimal_lines indentation.now bytes.now }
+    ensures { text.new.items ≡ text.old.items ++ hexadecimal_lines indentation.now bytes.now }
 {
-    let mut text = Text::new();
     let mut line = 0;
     while line * LINE_BYTES < bytes.len() {
         let start = line * LINE_BYTES;
         let end = bytes.len().min(start + LINE_BYTES);
-        append_line(&mut text, indentation, &bytes[start..end]);
+        append_line(text, indentation, &bytes[start..end]);
         line += 1;
     }
-    text
 }

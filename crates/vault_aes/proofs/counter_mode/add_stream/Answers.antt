@@ -7,8 +7,10 @@ loop-i-init c = IsAddedTo-none (slice_index c.args.stream.now) c.args.bytes.now
 
 pub loop-i-preserved : goal.loop-i-preserved
 loop-i-preserved c =
-    IsAddedTo-more (slice_index c.args.stream.now) c.args.bytes.now c.loop-i.bytes c.loop-i.i (omega arith) c.loop-i.invariant
+    IsAddedTo-more (slice_index c.args.stream.now) c.args.bytes.now c.loop-i.bytes c.loop-i.i
+    (omega arith) c.loop-i.invariant
 
 pub returns : goal.returns
 returns c =
-    IsAddedTo-all (slice_index c.args.stream.now) c.args.bytes.now c.loop-i.bytes c.loop-i.i (omega arith) c.loop-i.invariant
+    IsAddedTo-all (slice_index c.args.stream.now) c.args.bytes.now c.loop-i.bytes c.loop-i.i
+    (omega arith) c.loop-i.invariant

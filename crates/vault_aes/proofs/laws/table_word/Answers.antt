@@ -8,4 +8,5 @@ pub returns : goal.returns
 returns c =
     let x = c.args.x in
     let unit = mul-1-s_box x c.ranges.x.fits in
-    c.to_be_bytes.ensures ∙ c.first_row_column.ensures ∙ (λ i. mul 2 (s_box x) ∷ unit i ∷ unit i ∷ mul 3 (s_box x) ∷ [])
+    c.to_be_bytes.ensures ∙ c.first_row_column.ensures
+    ∙ (λ i. mul 2 (s_box x) ∷ unit i ∷ unit i ∷ mul 3 (s_box x) ∷ [])

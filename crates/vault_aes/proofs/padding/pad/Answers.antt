@@ -6,7 +6,8 @@ use Rattle.vault_aes.proofs.padding.pad.Goals as goal
 pub returns-clause-padded : goal.returns-clause-padded
 returns-clause-padded c =
     let n = c.args.n in
-    padded-put_mid c.args.work.now c.fill.new.self n (16 - n % 16) (omega arith) (omega arith) refl (c.fill.ensures.after (λ y same. same))
+    padded-put_mid c.args.work.now c.fill.new.self n (16 - n % 16) (omega arith) (omega arith) refl
+    (c.fill.ensures.after (λ y same. same))
 
 pub returns-clause-rest : goal.returns-clause-rest
 returns-clause-rest c =

@@ -6,13 +6,15 @@ use Rattle.vault_aes.proofs.padding.unpad.Goals as goal
 pub returns-in_err-count-clause-plaintext : goal.returns-in_err-count-clause-plaintext
 returns-in_err-count-clause-plaintext c =
     let text = c.args.padded.now in
-    rw c.from_residual.ensures (without_padding-None text (λ low high whole some. omega (arith, c.in_err-count.ensures.item)))
+    rw c.from_residual.ensures
+    (without_padding-None text (λ low high whole some. omega (arith, c.in_err-count.ensures.item)))
 
 pub returns-then-padded-ne0-clause-plaintext : goal.returns-then-padded-ne0-clause-plaintext
 returns-then-padded-ne0-clause-plaintext c =
     let text = c.args.padded.now in
     without_padding-None text (λ low high whole some.
-    let last : c.in_ok-count.field-0.now ≡ slice_index text (length text - 1) = c.in_ok-count.ensures.item.3.1 0 in
+    let last : c.in_ok-count.field-0.now ≡ slice_index text (length text - 1) =
+    c.in_ok-count.ensures.item.3.1 0 in
     grind arith)
 
 pub returns-clause-plaintext : goal.returns-clause-plaintext
@@ -22,4 +24,5 @@ returns-clause-plaintext c =
     let low : 1 ≤ count = omega arith in
     let whole : length text % 16 ≡ 0 = search rules in
     ap (option_map (λ n. take n text)) c.then_some.ensures
-    ∙ then_some-without_padding text count c.all_are.result (c.in_ok-count.ensures.item.3.1 0) low (omega arith) (omega (arith, c.in_ok-count.ensures.item.3.0)) whole c.all_are.ensures
+    ∙ then_some-without_padding text count c.all_are.result (c.in_ok-count.ensures.item.3.1 0) low
+    (omega arith) (omega (arith, c.in_ok-count.ensures.item.3.0)) whole c.all_are.ensures

@@ -1,12 +1,14 @@
 -- An ending over one output, told of another.
-use Rattle.std.proofs.Common.{◌≡◌, ℕ, inl, inr, List, [], Option, Some, None, take, arith, ap, subst, ◌∙◌}
+use Rattle.std.proofs.Common.{◌≡◌, ℕ, inl, inr, List, [], Option, Some, None, take, ap}
+use Rattle.std.proofs.Common.{subst, ◌∙◌}
 use Rattle.vault_text.specs.declared.sink.Sink.{Ghosts as SinkTerms}
 use Rattle.vault_text.specs.declared.sink.Stage.TheVariants.{Unbegun}
 use Rattle.vault_files.specs.declared.access.Access.{Access}
 use Rattle.vault_files.specs.declared.file_system.FileSystem.{Ghosts as StoreTerms}
-use Rattle.vault_core.specs.declared.fault.Fault.TheVariants.{Memory}
+use Rattle.vault_common.specs.declared.fault.Fault.TheVariants.{Memory}
 use Rattle.vault_cli.specs.Call.{SinkCall, SourceCall, StoreCall, sink}
-use Rattle.vault_cli.specs.runs.Ending.{Ends, Finishes, IsAnswered, LacksMemory, Output, Receives, to_path, to_sink}
+use Rattle.vault_cli.specs.runs.Ending.{Ends, EndsUnlessMemory, Finishes, IsAnswered, LacksMemory}
+use Rattle.vault_cli.specs.runs.Ending.{Output, Receives, to_path, to_sink}
 use Rattle.vault_cli.specs.runs.ReportLine.{line_of}
 use Rattle.vault_cli.specs.runs.Outcome.{Outcome}
 use Rattle.vault_cli.specs.runs.Reports.{Says}
@@ -21,12 +23,14 @@ pub record Tells (there here : Output) : Type 0 where
   pub failed : there.failed → here.failed
   pub unfailed : there.unfailed → here.unfailed
 
-module _ {E : Type 0} (there here : Output) (tells : Tells there here) (err : SinkCall E) (result : Status) where
+module _ {E : Type 0} (there here : Output) (tells : Tells there here) (err : SinkCall E)
+    (result : Status) where
   told-output : (output : Option (List ℕ)) → Receives there output → Receives here output
   told-output None h = tells.untouched h
   told-output (Some bytes) h = (tells.wrote bytes h.0, tells.finished h.1)
 
-  told-finishes : (answer : Outcome) → Finishes there err result answer → Finishes here err result answer
+  told-finishes : (answer : Outcome) → Finishes there err result answer
+      → Finishes here err result answer
   told-finishes answer (inl a) = inl (record {
     status = a.status;
     unfailed = tells.unfailed a.unfailed;
@@ -36,24 +40,20 @@ module _ {E : Type 0} (there here : Output) (tells : Tells there here) (err : Si
   told-finishes answer (inr w) = inr (record {
     status = w.status;
     failed = tells.failed w.failed;
-    output = let (bytes, is, (n, took)) = w.output in (bytes, is, (n, tells.wrote (take n bytes) took));
+    output = let (bytes, is, (n, took)) = w.output in
+        (bytes, is, (n, tells.wrote (take n bytes) took));
     line = w.line;
   })
 
-  told-memory : LacksMemory there err result → LacksMemory here err result
-  told-memory m = record { status = m.status; unfailed = tells.unfailed m.unfailed; output = tells.untouched m.output; line = m.line }
-
-  pub told-ends : {S : Type 0} (src : SourceCall S) (asked : Option ℕ) (answers : List ℕ → Outcome)
+  told-ends : {S : Type 0} (src : SourceCall S) (asked : Option ℕ) (answers : List ℕ → Outcome)
       → Ends there err result src asked answers → Ends here err result src asked answers
-  told-ends src None answers (unread, inl m) = (unread, inl (told-memory m))
-  told-ends src None answers (unread, inr done) = (unread, inr (told-finishes (answers []) done))
-  told-ends src (Some limit) answers (input, (given, fits, inl m)) = (input, (given, fits, inl (told-memory m)))
-  told-ends src (Some limit) answers (input, (given, fits, inr (inl (u, short)))) = (
+  told-ends src None answers (unread, done) = (unread, told-finishes (answers []) done)
+  told-ends src (Some limit) answers (input, (given, fits, inl (u, short))) = (
     input,
     (
       given,
       fits,
-      inr (inl (
+      inl (
         record {
           status = u.status;
           failed = u.failed;
@@ -62,11 +62,11 @@ module _ {E : Type 0} (there here : Output) (tells : Tells there here) (err : Si
           line = u.line;
         },
         short,
-      )),
+      ),
     ),
   )
-  told-ends src (Some limit) answers (input, (given, fits, inr (inr (all, done)))) =
-      (input, (given, fits, inr (inr (all, told-finishes (answers input) done))))
+  told-ends src (Some limit) answers (input, (given, fits, inr (all, done))) =
+      (input, (given, fits, inr (all, told-finishes (answers input) done)))
 
 -- what proof files know of a store, as a call over it
 abbrev pub store_between : {F R : Type 0} → SinkTerms F → StoreTerms F R → F → F → StoreCall F R
@@ -74,7 +74,8 @@ store_between output terms old new = record { output = output; terms = terms; ol
 
 -- nothing was written
 module _ {F R K : Type 0} (files : StoreCall F R) (out : SinkCall K)
-    (access : Access) (fresh : files.stage files.old ≡ Unbegun) (same_files : files.new ≡ files.old) (same_out : out.new ≡ out.old) where
+    (access : Access) (fresh : files.stage files.old ≡ Unbegun) (same_files : files.new ≡ files.old)
+    (same_out : out.new ≡ out.old) where
   pub path-untouched : (path : Option (List ℕ)) → (to_path path access files out).untouched
   path-untouched None = (same_out, same_files)
   path-untouched (Some path) = (same_out, ap files.stage same_files ∙ fresh, inl same_files)
@@ -84,7 +85,8 @@ module _ {F R K : Type 0} (files : StoreCall F R) (out : SinkCall K)
   path-unfailed (Some path) = ap files.failures same_files
 
   module _ {E : Type 0} (err : SinkCall E) (result : Status) (path : Option (List ℕ)) where
-    pub alone-answered : (answer : Outcome) → answer.output ≡ None → result ≡ answer.status → Says err answer.line
+    pub alone-answered : (answer : Outcome) → answer.output ≡ None → result ≡ answer.status
+        → Says err answer.line
         → IsAnswered (to_path path access files out) err result answer
     alone-answered answer none status line = record {
       status = status;
@@ -94,40 +96,50 @@ module _ {F R K : Type 0} (files : StoreCall F R) (out : SinkCall K)
     }
 
     -- there was no memory
-    pub alone-memory : result ≡ OutOfMemory → Says err (line_of Memory) → LacksMemory (to_path path access files out) err result
-    alone-memory status line = record { status = status; unfailed = path-unfailed path; output = path-untouched path; line = line }
+    pub alone-memory : result ≡ OutOfMemory → Says err (line_of Memory)
+        → LacksMemory (to_path path access files out) err result
+    alone-memory status line =
+        record {
+          status = status;
+          unfailed = path-unfailed path;
+          output = path-untouched path;
+          line = line;
+        }
 
-pub ends-memory : {E S : Type 0} (out : Output) (err : SinkCall E) (result : Status) (src : SourceCall S) (asked : Option ℕ)
-    (answers : List ℕ → Outcome) → src.new ≡ src.old → src.gives src.old [] src.new → LacksMemory out err result → Ends out err result src asked answers
-ends-memory out err result src None answers unread none memory = (unread, inl memory)
-ends-memory out err result src (Some limit) answers unread none memory = ([], (none, omega arith, inl memory))
-
-module _ {F R K E S : Type 0} (access : Access) (files : StoreCall F R) (out : SinkCall K) (err : SinkCall E) (result : Status) (src : SourceCall S)
+module _ {F R K E S : Type 0} (access : Access) (files : StoreCall F R) (out : SinkCall K)
+    (err : SinkCall E) (result : Status) (src : SourceCall S)
     (asked : Option ℕ) (answers : List ℕ → Outcome) where
   -- a run whose output is standard output
   pub ends-out : (path : Option (List ℕ)) → None ≡ path → files.new ≡ files.old
-      → Ends (to_sink out) err result src asked answers → Ends (to_path path access files out) err result src asked answers
+      → Ends (to_sink out) err result src asked answers
+      → EndsUnlessMemory (to_path path access files out) err result src asked answers
   ends-out path is kept ends =
-      subst (λ (p : Option (List ℕ)). Ends (to_path p access files out) err result src asked answers) is
+      inr (subst
+      (λ (p : Option (List ℕ)). Ends (to_path p access files out) err result src asked answers) is
       (told-ends (to_sink out) (to_path None access files out) (record {
         untouched = λ same. (same, kept);
         wrote = λ bytes took. (took, kept);
         finished = λ h. h;
         failed = λ h. h;
         unfailed = λ h. h;
-      }) err result src asked answers ends)
+      }) err result src asked answers ends))
 
   -- one whose output is the file at a path that was chosen
-  pub ends-file : (path : Option (List ℕ)) (chosen_path : List ℕ) (chosen : F) → Some chosen_path ≡ path
-      → files.aimed files.old chosen_path access chosen → files.stage chosen ≡ Unbegun → files.failures chosen ≡ files.failures files.old
+  pub ends-file : (path : Option (List ℕ)) (chosen_path : List ℕ) (chosen : F)
+      → Some chosen_path ≡ path
+      → files.aimed files.old chosen_path access chosen → files.stage chosen ≡ Unbegun
+      → files.failures chosen ≡ files.failures files.old
       → out.new ≡ out.old
-      → Ends (to_sink (sink files.output chosen files.new)) err result src asked answers → Ends (to_path path access files out) err result src asked answers
+      → Ends (to_sink (sink files.output chosen files.new)) err result src asked answers
+      → EndsUnlessMemory (to_path path access files out) err result src asked answers
   ends-file path chosen_path chosen is at fresh stay alone ends =
-      subst (λ (p : Option (List ℕ)). Ends (to_path p access files out) err result src asked answers) is
-      (told-ends (to_sink (sink files.output chosen files.new)) (to_path (Some chosen_path) access files out) (record {
+      inr (subst
+      (λ (p : Option (List ℕ)). Ends (to_path p access files out) err result src asked answers) is
+      (told-ends (to_sink (sink files.output chosen files.new))
+      (to_path (Some chosen_path) access files out) (record {
         untouched = λ same. (alone, ap files.stage same ∙ fresh, inr (rw same at));
         wrote = λ bytes took. (alone, (chosen, at, took));
         finished = λ h. h;
         failed = λ h. rw stay at h;
         unfailed = λ h. h ∙ stay;
-      }) err result src asked answers ends)
+      }) err result src asked answers ends))

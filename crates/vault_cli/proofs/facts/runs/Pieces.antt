@@ -12,12 +12,17 @@ module _ {S A : Type 0} (takes : S → List A → S → Type 0) where
   -- a prefix is a prefix of more
   pub prefix_longer : (s u : S) (xs ys : List A) → TakesPrefix s xs u → TakesPrefix s (xs ++ ys) u
   prefix_longer s u xs ys p =
-      let short : min p.0 (length xs) ≤ length xs = omega arith in
-      (min p.0 (length xs), rw (take-append-le (min p.0 (length xs)) xs ys short, take_min p.0 xs) p.1)
+      let short : min p.0 (length xs) ≤ length xs = omega arith in (
+        min p.0 (length xs),
+        rw (take-append-le (min p.0 (length xs)) xs ys short, take_min p.0 xs)
+            p.1,
+      )
 
   -- all of the first piece and a prefix of the second
-  pub prefix_behind : ((s t u : S) (xs ys : List A) → takes s xs t → takes t ys u → takes s (xs ++ ys) u)
-      → (s t u : S) (xs ys : List A) → takes s xs t → TakesPrefix t ys u → TakesPrefix s (xs ++ ys) u
+  pub prefix_behind : ((s t u : S) (xs ys : List A) → takes s xs t → takes t ys u
+      → takes s (xs ++ ys) u)
+      → (s t u : S) (xs ys : List A) → takes s xs t → TakesPrefix t ys u
+      → TakesPrefix s (xs ++ ys) u
   prefix_behind more s t u xs ys p q =
       (length xs + q.0, rw (take-append-add xs ys q.0) (more s t u xs (take q.0 ys) p q.1))
 
@@ -28,7 +33,8 @@ module _ {S A : Type 0} (takes : S → List A → S → Type 0) where
       (length xs, rw whole p)
 
   -- nothing more
-  pub taken_and_none : ((s t u : S) (xs ys : List A) → takes s xs t → takes t ys u → takes s (xs ++ ys) u)
+  pub taken_and_none : ((s t u : S) (xs ys : List A) → takes s xs t → takes t ys u
+      → takes s (xs ++ ys) u)
       → (s t u : S) (xs : List A) → takes s xs t → takes t [] u → takes s xs u
   taken_and_none more s t u xs p q = rw append-nil at (more s t u xs [] p q)
 

@@ -1,49 +1,57 @@
 use Rattle.std.proofs.Common.{Ok, Some, ap, map, refl, ◌∙◌}
 use Rattle.vault_cli.specs.Call.{sink, source}
 use Rattle.vault_cli.specs.runs.Status.{status_of}
-use Rattle.vault_cli.proofs.facts.DriveFacts.{drives-file, drives-no_memory, drives-refused, drives-stdin}
+use Rattle.vault_cli.proofs.facts.DriveFacts.{drives-file, drives-no_memory, drives-refused}
+use Rattle.vault_cli.proofs.facts.DriveFacts.{drives-stdin}
 use Rattle.vault_cli.proofs.facts.runs.EndingFacts.{store_between}
 use Rattle.vault_cli.proofs.program.answer.Goals as goal
 
-pub returns-in-Err : goal.returns-in-Err
-returns-in-Err g c = record {
-  drives = drives-no_memory (store_between g.F.Sink g.F.FileSystem c.args.files.now c.args.files.now)
-      (source g.S.Source c.args.src.now c.args.src.now) (sink g.K.Sink c.args.out.now c.args.out.now)
-      (sink g.E.Sink c.args.err.now c.report.new.err) c.report.result c.args.files.now c.requires.files_unbegun refl refl refl
-      (g.met.F.FileSystem.opens_none c.args.files.now) (g.met.S.Source.gives_none c.args.src.now) (g.met.F.FileSystem.meets_some c.args.files.now)
-      (Some (Ok c.args.request.now)) (c.report.ensures.status ∙ ap status_of c.from.ensures) (rw c.from.ensures at c.report.ensures.line);
-}
+pub returns-in-Err-clause-drives : goal.returns-in-Err-clause-drives
+returns-in-Err-clause-drives g c =
+    drives-no_memory (store_between g.F.Sink g.F.FileSystem c.args.files.now c.args.files.now)
+    (source g.S.Source c.args.src.now c.args.src.now) (sink g.K.Sink c.args.out.now c.args.out.now)
+    (sink g.E.Sink c.args.err.now c.report.new.err) c.report.result c.args.files.now
+    c.requires.files_unbegun refl refl refl
+    (g.met.F.FileSystem.opens_none c.args.files.now)
+    (g.met.F.FileSystem.meets_some c.args.files.now)
+    (Some (Ok c.args.request.now)) (c.report.ensures.status ∙ ap status_of c.from.ensures)
+    (rw c.from.ensures at c.report.ensures.line)
 
-pub returns-in-Err-gather : goal.returns-in-Err-gather
-returns-in-Err-gather g c = record {
-  drives = drives-refused (store_between g.F.Sink g.F.FileSystem c.args.files.now c.gather.new.files)
-      (source g.S.Source c.args.src.now c.args.src.now) (sink g.K.Sink c.args.out.now c.args.out.now)
-      (sink g.E.Sink c.args.err.now c.report-in-Err-gather.new.err) c.report-in-Err-gather.result c.gather.new.files
-      c.in-Err-gather.ensures.unbegun refl refl refl (g.met.S.Source.gives_none c.args.src.now)
-      c.args.request.now c.in-Err-gather.fault c.in-Err-gather.ensures.refused
-      c.report-in-Err-gather.ensures.status c.report-in-Err-gather.ensures.line;
-}
+pub returns-in-Err-gather-clause-drives : goal.returns-in-Err-gather-clause-drives
+returns-in-Err-gather-clause-drives g c =
+    drives-refused (store_between g.F.Sink g.F.FileSystem c.args.files.now c.gather.new.files)
+    (source g.S.Source c.args.src.now c.args.src.now) (sink g.K.Sink c.args.out.now c.args.out.now)
+    (sink g.E.Sink c.args.err.now c.report-in-Err-gather.new.err) c.report-in-Err-gather.result
+    c.gather.new.files
+    c.in-Err-gather.ensures.unbegun refl refl refl
+    c.args.request.now c.in-Err-gather.fault c.in-Err-gather.ensures.refused
+    c.report-in-Err-gather.ensures.status c.report-in-Err-gather.ensures.line
 
-pub returns-in-Some : goal.returns-in-Some
-returns-in-Some g c = record {
-  drives = drives-file (store_between g.F.Sink g.F.FileSystem c.args.files.now c.send.new.files)
-      (source g.S.Source c.args.src.now c.args.src.now) (sink g.K.Sink c.args.out.now c.send.new.out)
-      (sink g.E.Sink c.args.err.now c.send.new.err) c.send.result c.args.request.now
-      (map (λ file. file.items) c.as_slice-secret_files.result.now) c.as_slice-salt.result.now
-      (rw c.as_slice-secret_files.ensures.value c.in-Ok-gather.ensures.secrets) (rw c.as_slice-salt.ensures.value c.in-Ok-gather.ensures.salt)
-      c.gather.new.files c.in-Ok-gather.ensures.opens
-      refl (g.F.FileSystem.opened c.args.files.now) (source g.F.Reader.Source c.in-Some.reader c.send.new.src)
-      (rw c.in-Some.is at c.in-Ok-gather.ensures.input) (g.met.F.Reader.Source.gives_none c.in-Some.reader)
-      (g.met.F.FileSystem.front_met c.args.files.now) (g.met.F.FileSystem.break_met c.args.files.now) c.send.ensures.ends;
-}
+pub returns-in-Some-clause-drives : goal.returns-in-Some-clause-drives
+returns-in-Some-clause-drives g c =
+    drives-file (store_between g.F.Sink g.F.FileSystem c.args.files.now c.send.new.files)
+    (source g.S.Source c.args.src.now c.args.src.now) (sink g.K.Sink c.args.out.now c.send.new.out)
+    (sink g.E.Sink c.args.err.now c.send.new.err) c.send.result c.args.request.now
+    (map (λ file. file.items) c.as_slice-secret_files.result.now) c.as_slice-salt.result.now
+    (rw c.as_slice-secret_files.ensures.value c.in-Ok-gather.ensures.secrets)
+    (rw c.as_slice-salt.ensures.value c.in-Ok-gather.ensures.salt)
+    c.gather.new.files c.in-Ok-gather.ensures.opens
+    refl (g.F.FileSystem.opened c.args.files.now)
+    (source g.F.Reader.Source c.in-Some.reader c.send.new.src)
+    (rw c.in-Some.is at c.in-Ok-gather.ensures.input)
+    (g.met.F.Reader.Source.gives_none c.in-Some.reader)
+    (g.met.F.FileSystem.front_met c.args.files.now) (g.met.F.FileSystem.break_met c.args.files.now)
+    c.send.ensures.ends
 
-pub returns : goal.returns
-returns g c = record {
-  drives = drives-stdin (store_between g.F.Sink g.F.FileSystem c.args.files.now c.send-in-None.new.files)
-      (source g.S.Source c.args.src.now c.send-in-None.new.src) (sink g.K.Sink c.args.out.now c.send-in-None.new.out)
-      (sink g.E.Sink c.args.err.now c.send-in-None.new.err) c.send-in-None.result c.args.request.now
-      (map (λ file. file.items) c.as_slice-secret_files.result.now) c.as_slice-salt.result.now
-      (rw c.as_slice-secret_files.ensures.value c.in-Ok-gather.ensures.secrets) (rw c.as_slice-salt.ensures.value c.in-Ok-gather.ensures.salt)
-      c.gather.new.files c.in-Ok-gather.ensures.opens
-      (g.F.FileSystem.opened c.args.files.now) (rw c.in-None.is at c.in-Ok-gather.ensures.input) c.send-in-None.ensures.ends;
-}
+pub returns-clause-drives : goal.returns-clause-drives
+returns-clause-drives g c =
+    drives-stdin (store_between g.F.Sink g.F.FileSystem c.args.files.now c.send-in-None.new.files)
+    (source g.S.Source c.args.src.now c.send-in-None.new.src)
+    (sink g.K.Sink c.args.out.now c.send-in-None.new.out)
+    (sink g.E.Sink c.args.err.now c.send-in-None.new.err) c.send-in-None.result c.args.request.now
+    (map (λ file. file.items) c.as_slice-secret_files.result.now) c.as_slice-salt.result.now
+    (rw c.as_slice-secret_files.ensures.value c.in-Ok-gather.ensures.secrets)
+    (rw c.as_slice-salt.ensures.value c.in-Ok-gather.ensures.salt)
+    c.gather.new.files c.in-Ok-gather.ensures.opens
+    (g.F.FileSystem.opened c.args.files.now) (rw c.in-None.is at c.in-Ok-gather.ensures.input)
+    c.send-in-None.ensures.ends

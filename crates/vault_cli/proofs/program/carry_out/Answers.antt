@@ -6,24 +6,24 @@ use Rattle.vault_cli.proofs.facts.DriveFacts.{drives-settled, drives-unsettled}
 use Rattle.vault_cli.proofs.facts.runs.EndingFacts.{store_between}
 use Rattle.vault_cli.proofs.program.carry_out.Goals as goal
 
-pub returns-in-Ok : goal.returns-in-Ok
-returns-in-Ok g c = record {
-  drives = drives-settled (store_between g.F.Sink g.F.FileSystem c.args.files.now c.answer.new.files)
-      (source g.S.Source c.args.src.now c.answer.new.src) (sink g.K.Sink c.args.out.now c.answer.new.out)
-      (sink g.E.Sink c.args.err.now c.answer.new.err) c.answer.result
-      (asked (subcommand_rows_of c.args.matches.now)) c.in-Ok.request
-      c.requires.asks
-      c.in-Ok.ensures c.answer.ensures.drives;
-}
+pub returns-in-Ok-clause-drives : goal.returns-in-Ok-clause-drives
+returns-in-Ok-clause-drives g c =
+    drives-settled (store_between g.F.Sink g.F.FileSystem c.args.files.now c.answer.new.files)
+    (source g.S.Source c.args.src.now c.answer.new.src)
+    (sink g.K.Sink c.args.out.now c.answer.new.out)
+    (sink g.E.Sink c.args.err.now c.answer.new.err) c.answer.result
+    (asked (subcommand_rows_of c.args.matches.now)) c.in-Ok.request
+    c.requires.asks
+    c.in-Ok.ensures c.answer.ensures.drives
 
-pub returns-in-Err : goal.returns-in-Err
-returns-in-Err g c = record {
-  drives = drives-unsettled (store_between g.F.Sink g.F.FileSystem c.args.files.now c.args.files.now)
-      (source g.S.Source c.args.src.now c.args.src.now) (sink g.K.Sink c.args.out.now c.args.out.now)
-      (sink g.E.Sink c.args.err.now c.report.new.err) c.report.result c.args.files.now c.requires.files_unbegun refl refl refl
-      (g.met.F.FileSystem.opens_none c.args.files.now)
-      (g.met.S.Source.gives_none c.args.src.now) (g.met.F.FileSystem.meets_some c.args.files.now)
-      (asked (subcommand_rows_of c.args.matches.now)) c.in-Err.fault
-      c.requires.asks
-      c.in-Err.ensures c.report.ensures.status c.report.ensures.line;
-}
+pub returns-in-Err-clause-drives : goal.returns-in-Err-clause-drives
+returns-in-Err-clause-drives g c =
+    drives-unsettled (store_between g.F.Sink g.F.FileSystem c.args.files.now c.args.files.now)
+    (source g.S.Source c.args.src.now c.args.src.now) (sink g.K.Sink c.args.out.now c.args.out.now)
+    (sink g.E.Sink c.args.err.now c.report.new.err) c.report.result c.args.files.now
+    c.requires.files_unbegun refl refl refl
+    (g.met.F.FileSystem.opens_none c.args.files.now)
+    (g.met.F.FileSystem.meets_some c.args.files.now)
+    (asked (subcommand_rows_of c.args.matches.now)) c.in-Err.fault
+    c.requires.asks
+    c.in-Err.ensures c.report.ensures.status c.report.ensures.line

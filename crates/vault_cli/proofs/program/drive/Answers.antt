@@ -16,12 +16,15 @@ returns-in-Err-clause-answered g c = λ parses.
     let out = sink g.K.Sink c.args.out.now c.explain.new.out in
     let err = sink g.E.Sink c.args.err.now c.explain.new.err in
     let memory = explains-memory out err c.explain.result (fault_of vault_app texts) parses
-    (explains-one out err c.explain.result (fault_of vault_app texts) (kind_of c.in-Err.error) c.in-Err.ensures.kinds c.explain.ensures.explains) in
+    (explains-one out err c.explain.result (fault_of vault_app texts) (kind_of c.in-Err.error)
+    c.in-Err.ensures.kinds c.explain.ensures.explains) in
     drives-no_memory (store_between g.F.Sink g.F.FileSystem c.args.files.now c.args.files.now)
-    (source g.S.Source c.args.src.now c.args.src.now) out err c.explain.result c.args.files.now c.requires.files_unbegun refl memory.output refl
+    (source g.S.Source c.args.src.now c.args.src.now) out err c.explain.result c.args.files.now
+    c.requires.files_unbegun refl memory.output refl
     (g.met.F.FileSystem.opens_none c.args.files.now)
-    (g.met.S.Source.gives_none c.args.src.now) (g.met.F.FileSystem.meets_some c.args.files.now)
+    (g.met.F.FileSystem.meets_some c.args.files.now)
     (asked_by texts) memory.status memory.line
 
 pub returns-in-Ok-clause-answered : goal.returns-in-Ok-clause-answered
-returns-in-Ok-clause-answered g c = λ parses. rw c.in-Ok.ensures.matches at c.carry_out.ensures.drives
+returns-in-Ok-clause-answered g c =
+    λ parses. rw c.in-Ok.ensures.matches at c.carry_out.ensures.drives

@@ -9,16 +9,22 @@ pub returns-in-Some-clause-answer : goal.returns-in-Some-clause-answer
 returns-in-Some-clause-answer g c =
     let limit = limit_of c.args.memory.limit in
     let task = task_in c.args.task.now in
-    let string : Some c.in-Some.string.now ≡ c.args.request.now.string = rw c.in-Some.is at c.string.ensures in
+    let string : Some c.in-Some.string.now ≡ c.args.request.now.string =
+    rw c.in-Some.is at c.string.ensures in
     let (front, gave, bound, cases) = c.perform.ensures.answer in
-    let text : c.new.result.left ≡ c.in-Some.string.now = rw c.new.ensures c.as_bytes.ensures.value in
+    let text : c.new.result.left ≡ c.in-Some.string.now =
+    rw c.new.ensures c.as_bytes.ensures.value in
     let given = gave.0.consumed in
     let unended : c.new.result.ended ≡ false = rw c.new.ensures refl in
-    let none : IsTrue c.new.result.ended → c.new.result.left ≡ [] = λ ended. let wrong : false ≡ true = sym unended ∙ ended in absurd cc in
+    let none : IsTrue c.new.result.ended → c.new.result.left ≡ [] =
+    λ ended. let wrong : false ≡ true = sym unended ∙ ended in absurd cc in
     let last = gave.0.end_is_real none in (
       [],
       g.met.S.Source.gives_none c.args.src.now,
       omega arith,
-      rw (← string) (performed-text limit task c.perform.result c.perform.new.src.ended c.in-Some.string.now front c.perform.new.src.left _ _ _
+      rw (← string)
+          (performed-text limit task c.perform.result c.perform.new.src.ended c.in-Some.string.now
+          front
+          c.perform.new.src.left _ _ _
           (sym text ∙ given) last cases (λ missing. absurd cc)),
     )

@@ -3,9 +3,10 @@ use Rattle.std.specs.Prelude.{find}
 use Rattle.std.proofs.lemmas.List.{at_drop_all}
 use Rattle.std.specs.Option.{option_map}
 use Rattle.vault_core.specs.Agreement.{agrees, keys_of, tries}
-use Rattle.vault_core.proofs.AgreementLemmas.{agrees-None, agrees-Some, tried_part, tried_part-drop_no, tried_part-drop_yes, tries-cons_no, tries-cons_yes, tries-nil}
+use Rattle.vault_core.proofs.AgreementLemmas.{agrees-None, agrees-Some, tried_part}
+use Rattle.vault_core.proofs.AgreementLemmas.{tried_part-drop_no, tried_part-drop_yes}
+use Rattle.vault_core.proofs.AgreementLemmas.{tries-cons_no, tries-cons_yes, tries-nil}
 use Rattle.vault_core.proofs.agreement.first_agreeing.Goals as goal
-use Rattle.vault_core.proofs.agreement.first_agreeing.Goals.{else-has_label-labelled-via-else-has_label-labelled, else-has_label-labelled-via-then-has_label-labelled+in-None-1}
 
 pub keys_if_agreeing-requires : goal.keys_if_agreeing-requires
 keys_if_agreeing-requires c = let few = c.loop-secret.invariant.few in omega arith
@@ -17,9 +18,11 @@ returns-in-loop-secret-clause-keys c =
     let agreed = agrees-Some payload secret c.in-Some.keys c.in-Some.ensures.keys in
     let has_label = rw c.label.ensures at c.has_label.ensures in
     let in_part = rw has_label at c.if-has_label-labelled.true in
-    let next = tried_part-drop_yes c.args.labelled payload.label c.args.secrets.now c.loop-secret.secret-index secret c.loop-secret-test.true c.secret-item.is in_part in
-    let found : find (agrees payload) (tried_part c.args.labelled payload.label (drop c.loop-secret.secret-index c.args.secrets.now)) ≡ Some secret =
-    rw (next, agreed.0) refl in
+    let next = tried_part-drop_yes c.args.labelled payload.label c.args.secrets.now
+    c.loop-secret.secret-index secret c.loop-secret-test.true c.secret-item.is in_part in
+    let left =
+    tried_part c.args.labelled payload.label (drop c.loop-secret.secret-index c.args.secrets.now) in
+    let found : find (agrees payload) left ≡ Some secret = rw (next, agreed.0) refl in
     ap Some agreed.1 ∙ ap (option_map (keys_of payload)) (sym found ∙ c.loop-secret.invariant.found)
 
 pub returns-in-loop-secret-clause-counted : goal.returns-in-loop-secret-clause-counted
@@ -29,7 +32,8 @@ returns-in-loop-secret-clause-counted c =
     let agreed = agrees-Some payload secret c.in-Some.keys c.in-Some.ensures.keys in
     let has_label = rw c.label.ensures at c.has_label.ensures in
     let in_part = rw has_label at c.if-has_label-labelled.true in
-    let next = tried_part-drop_yes c.args.labelled payload.label c.args.secrets.now c.loop-secret.secret-index secret c.loop-secret-test.true c.secret-item.is in_part in
+    let next = tried_part-drop_yes c.args.labelled payload.label c.args.secrets.now
+    c.loop-secret.secret-index secret c.loop-secret-test.true c.secret-item.is in_part in
     let once = ap (tries payload) next ∙ tries-cons_yes payload secret _ agreed.0 in
     let counted = c.loop-secret.invariant.counted in
     omega (arith, c.keys_if_agreeing.ensures.counted, counted, once)
@@ -41,25 +45,36 @@ loop-secret-preserved c =
     let has_label = rw c.label.ensures at c.has_label.ensures in
     let kept = c.loop-secret.invariant in
     elim c.else-has_label-labelled.branch [
-      | else-has_label-labelled-via-else-has_label-labelled w ↦
+      | goal.else-has_label-labelled-via-else-has_label-labelled w ↦
           let in_part = rw has_label at w.if-has_label-labelled.false in
-          let next = tried_part-drop_no c.args.labelled payload.label c.args.secrets.now c.loop-secret.secret-index secret c.loop-secret-test.true c.secret-item.is in_part in
+          let next = tried_part-drop_no c.args.labelled payload.label c.args.secrets.now
+          c.loop-secret.secret-index secret c.loop-secret-test.true c.secret-item.is in_part in
           record {
             found = ap (find (agrees payload)) (sym next) ∙ kept.found;
             counted = omega (arith, w.meter-is, kept.counted, ap (tries payload) next);
             few = omega (arith, w.meter-is, kept.few);
           }
-      | else-has_label-labelled-via-then-has_label-labelled+in-None-1 w ↦
+      | goal.else-has_label-labelled-via-then-has_label-labelled+in-None-1 w ↦
           let in_part = rw has_label at w.if-has_label-labelled.true in
-          let next = tried_part-drop_yes c.args.labelled payload.label c.args.secrets.now c.loop-secret.secret-index secret c.loop-secret-test.true c.secret-item.is in_part in
+          let next = tried_part-drop_yes c.args.labelled payload.label c.args.secrets.now
+          c.loop-secret.secret-index secret c.loop-secret-test.true c.secret-item.is in_part in
           let none : w.keys_if_agreeing.result ≡ None = search rules in
           let differs = agrees-None payload secret (sym none ∙ w.keys_if_agreeing.ensures.keys) in
-          let found : find (agrees payload) (tried_part c.args.labelled payload.label (drop c.loop-secret.secret-index c.args.secrets.now))
-          ≡ find (agrees payload) (tried_part c.args.labelled payload.label (drop (c.loop-secret.secret-index + 1) c.args.secrets.now)) =
+          let left = tried_part c.args.labelled payload.label
+          (drop c.loop-secret.secret-index c.args.secrets.now) in
+          let rest = tried_part c.args.labelled payload.label
+          (drop (c.loop-secret.secret-index + 1) c.args.secrets.now) in
+          let found : find (agrees payload) left ≡ find (agrees payload) rest =
           rw (next, differs) refl in
           record {
             found = sym found ∙ kept.found;
-            counted = omega (arith, w.meter-is, w.keys_if_agreeing.ensures.counted, kept.counted, ap (tries payload) next ∙ tries-cons_no payload secret _ differs);
+            counted = omega (
+              arith,
+              w.meter-is,
+              w.keys_if_agreeing.ensures.counted,
+              kept.counted,
+              ap (tries payload) next ∙ tries-cons_no payload secret _ differs,
+            );
             few = omega (arith, w.meter-is, w.keys_if_agreeing.ensures.counted, kept.few);
           }
     ]
@@ -67,6 +82,8 @@ loop-secret-preserved c =
 pub returns-clause-counted : goal.returns-clause-counted
 returns-clause-counted c =
     let payload = c.args.payload.now in
-    let none_left = at_drop_all (λ secrets. tries payload (tried_part c.args.labelled payload.label secrets)) c.args.secrets.now c.loop-secret.secret-index c.loop-secret-test.false in
+    let none_left =
+    at_drop_all (λ secrets. tries payload (tried_part c.args.labelled payload.label secrets))
+    c.args.secrets.now c.loop-secret.secret-index c.loop-secret-test.false in
     let counted = c.loop-secret.invariant.counted in
     omega (arith, counted, none_left, tries-nil payload)

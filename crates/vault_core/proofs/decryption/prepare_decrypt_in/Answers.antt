@@ -2,7 +2,9 @@ use Rattle.std.proofs.Common.{◌≡◌, ◌+◌, arith, inl, inr, refl, sym, �
 use Rattle.std.proofs.lemmas.Result.{err_from_is_err_and}
 use Rattle.vault_text.specs.Limits.{limit_of}
 use Rattle.vault_core.specs.Decryption.{decryption_derivations}
-use Rattle.vault_core.proofs.DecryptionLemmas.{UnlessUnreadable-from, decryption-Err, decryption-Ok, decryption_derivations-Err, decryption_derivations-Ok, opening-is_no_read}
+use Rattle.vault_core.proofs.DecryptionLemmas.{UnlessUnreadable-from, decryption-Err, decryption-Ok}
+use Rattle.vault_core.proofs.DecryptionLemmas.{decryption_derivations-Err}
+use Rattle.vault_core.proofs.DecryptionLemmas.{decryption_derivations-Ok, opening-is_no_read}
 use Rattle.vault_core.proofs.decryption.prepare_decrypt_in.Goals as goal
 
 pub returns-in_err-payload : goal.returns-in_err-payload
@@ -19,9 +21,11 @@ returns-in_err-payload g c =
         elim read.3 [
           | inl unreadable ↦ inl (unreadable.0, (unreadable.1, refl))
           | inr refused ↦
-              let none : c.args.meter.now ≡ c.args.meter.now + decryption_derivations limit secrets read.0 =
+              let none : c.args.meter.now
+              ≡ c.args.meter.now + decryption_derivations limit secrets read.0 =
               omega (arith, decryption_derivations-Err limit secrets read.0 _ refused.1.1) in
-              inr (refused.0, (refused.1.0, sym (decryption-Err limit secrets read.0 _ refused.1.1), none))
+              let answer = sym (decryption-Err limit secrets read.0 _ refused.1.1) in
+              inr (refused.0, (refused.1.0, (answer, none)))
         ],
       );
     })
@@ -38,11 +42,19 @@ returns g c =
         read.1,
         read.2,
         UnlessUnreadable-from _ _ _ _ c.decrypt_payload.result
-            (λ fault refused. opening-is_no_read secrets payload fault (sym c.decrypt_payload.ensures.answer ∙ refused))
+            (λ fault refused. opening-is_no_read secrets payload fault
+            (sym c.decrypt_payload.ensures.answer ∙ refused))
             read.3.0 (
               read.3.1.0,
-              c.decrypt_payload.ensures.answer ∙ sym (decryption-Ok limit secrets read.0 payload read.3.1.1),
-              omega (arith, c.decrypt_payload.ensures.counted, decryption_derivations-Ok limit secrets read.0 payload read.3.1.1),
+              (
+                c.decrypt_payload.ensures.answer
+                    ∙ sym (decryption-Ok limit secrets read.0 payload read.3.1.1),
+                omega (
+                  arith,
+                  c.decrypt_payload.ensures.counted,
+                  decryption_derivations-Ok limit secrets read.0 payload read.3.1.1,
+                ),
+              ),
             ),
       );
     }

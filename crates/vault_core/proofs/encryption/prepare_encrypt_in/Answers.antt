@@ -19,8 +19,10 @@ returns-in_err-read_plaintext g c =
         elim read.2 [
           | inl unreadable ↦ inl (unreadable.0, (unreadable.1, refl))
           | inr refused ↦
-              let long = encryption-too_long (limit_of c.args.memory.limit) c.args.secrets.now.secrets c.args.place (form_of c.args.form) c.args.salt.now input refused.1.1.1 in
-              inr (refused.0, (refused.1.0, ap Err refused.1.1.0 ∙ sym long, omega arith))
+              let long = encryption-too_long (limit_of c.args.memory.limit)
+              c.args.secrets.now.secrets c.args.index (form_of c.args.form) c.args.salt.now
+              input refused.1.1.1 in
+              inr (refused.0, (refused.1.0, (ap Err refused.1.1.0 ∙ sym long, omega arith)))
         ],
       );
     })
@@ -40,7 +42,8 @@ returns g c =
         read.0,
         read.1,
         UnlessUnreadable-from _ _ _ _ c.encrypt_plaintext.result
-            (λ fault refused. encryption-is_no_read limit secrets c.args.place form salt input fault (sym answer ∙ refused))
-            read.2.0 (read.2.1.0, answer, c.encrypt_plaintext.ensures.counted),
+            (λ fault refused. encryption-is_no_read limit secrets c.args.index form salt input fault
+            (sym answer ∙ refused))
+            read.2.0 (read.2.1.0, (answer, c.encrypt_plaintext.ensures.counted)),
       );
     }

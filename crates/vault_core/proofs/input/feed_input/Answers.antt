@@ -1,4 +1,5 @@
-use Rattle.std.proofs.Common.{◌≡◌, ◌≤◌, ℕ, ◌++◌, append_assoc, arith, eqb-true, inl, length, length-append, length-take, sym, ◌∙◌}
+use Rattle.std.proofs.Common.{◌≡◌, ◌≤◌, ℕ, ◌++◌, append_assoc, arith, eqb-true, inl, length}
+use Rattle.std.proofs.Common.{length-append, length-take, sym, ◌∙◌}
 use Rattle.std.proofs.lemmas.List.{nil_from_length}
 use Rattle.std.proofs.lemmas.Result.{MatchResult-from_err}
 use Rattle.vault_text.proofs.Progress.{taken_none}
@@ -9,9 +10,11 @@ returns-in_err-piece-clause-fed g c =
     let input = c.loop-left.invariant.0 in
     let kept = c.loop-left.invariant.1 in (
       input,
-      taken_none g.S.Source.gives g.met.S.Source.gives_more _ _ _ input kept.gives c.in_err-piece.ensures.nothing,
+      taken_none g.S.Source.gives g.met.S.Source.gives_more _ _ _ input kept.gives
+          c.in_err-piece.ensures.nothing,
       omega (arith, kept.left),
-      MatchResult-from_err _ _ _ c.from_residual.ensures.0 (λ _. omega (arith, kept.left, c.loop-left-test.true)),
+      MatchResult-from_err _ _ _ c.from_residual.ensures.0
+          (λ _. omega (arith, kept.left, c.loop-left-test.true)),
       kept.fed,
     )
 
@@ -20,13 +23,16 @@ loop-left-preserved g c =
     let input = c.loop-left.invariant.0 in
     let kept = c.loop-left.invariant.1 in
     let piece = c.in_ok-piece.piece.now in
-    let short : length piece ≤ c.loop-left.left = omega (arith, c.in_ok-piece.ensures.bound, c.min.ensures, length-take {A = ℕ}) in (
+    let short : length piece ≤ c.loop-left.left =
+    omega (arith, c.in_ok-piece.ensures.bound, c.min.ensures, length-take {A = ℕ}) in (
       input ++ piece,
       record {
         gives = g.met.S.Source.gives_more _ _ _ input piece kept.gives c.in_ok-piece.ensures.gives;
         left = omega (arith, kept.left, length-append input piece, short);
         limit = c.feed.ensures.limit ∙ kept.limit;
-        fed = λ before h. rw append_assoc at (c.feed.ensures.taken (before ++ input) (kept.fed before h));
+        fed =
+            λ before h.
+            rw append_assoc at (c.feed.ensures.taken (before ++ input) (kept.fed before h));
         failures = c.in_ok-piece.ensures.failed ∙ kept.failures;
       },
     )
@@ -35,9 +41,11 @@ pub returns-then-is_empty-clause-fed : goal.returns-then-is_empty-clause-fed
 returns-then-is_empty-clause-fed g c =
     let input = c.loop-left.invariant.0 in
     let kept = c.loop-left.invariant.1 in
-    let empty : length c.in_ok-piece.piece.now ≡ 0 = eqb-true _ _ (sym c.is_empty.ensures ∙ c.if-is_empty.true) in (
+    let empty : length c.in_ok-piece.piece.now ≡ 0 =
+    eqb-true _ _ (sym c.is_empty.ensures ∙ c.if-is_empty.true) in (
       input,
-      taken_none g.S.Source.gives g.met.S.Source.gives_more _ _ _ input kept.gives (rw (nil_from_length _ empty) at c.in_ok-piece.ensures.gives),
+      taken_none g.S.Source.gives g.met.S.Source.gives_more _ _ _ input kept.gives
+          (rw (nil_from_length _ empty) at c.in_ok-piece.ensures.gives),
       omega (arith, kept.left),
       inl (c.in_ok-piece.ensures.end.0 empty),
       kept.fed,

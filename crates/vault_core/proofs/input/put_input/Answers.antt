@@ -1,4 +1,5 @@
-use Rattle.std.proofs.Common.{◌≡◌, ◌≤◌, ◌+◌, ◌-◌, ℕ, arith, eqb-true, inl, length, length-append, length-take, sym, ◌∙◌}
+use Rattle.std.proofs.Common.{◌≡◌, ◌≤◌, ◌+◌, ◌-◌, ℕ, arith, eqb-true, inl, length, length-append}
+use Rattle.std.proofs.Common.{length-take, sym, ◌∙◌}
 use Rattle.std.proofs.lemmas.List.{nil_from_length}
 use Rattle.std.proofs.lemmas.Result.{MatchResult-from_err}
 use Rattle.vault_text.proofs.Progress.{taken_none}
@@ -7,16 +8,20 @@ use Rattle.vault_core.proofs.input.put_input.Goals as goal
 pub returns-in_err-piece-clause-put : goal.returns-in_err-piece-clause-put
 returns-in_err-piece-clause-put g c =
     let kept = c.loop-buffer.invariant in (
-      taken_none g.S.Source.gives g.met.S.Source.gives_more _ _ _ c.loop-buffer.memory.bytes kept.gives c.in_err-piece.ensures.nothing,
+      taken_none g.S.Source.gives g.met.S.Source.gives_more _ _ _ c.loop-buffer.memory.bytes
+          kept.gives c.in_err-piece.ensures.nothing,
       kept.bound,
-      MatchResult-from_err _ _ _ c.from_residual.ensures.0 (λ _. omega (arith, c.room.ensures, kept.limit, c.loop-buffer-test.true)),
+      MatchResult-from_err _ _ _ c.from_residual.ensures.0
+          (λ _. omega (arith, c.room.ensures, kept.limit, c.loop-buffer-test.true)),
     )
 
 pub returns-then-is_empty-clause-put : goal.returns-then-is_empty-clause-put
 returns-then-is_empty-clause-put g c =
     let kept = c.loop-buffer.invariant in
-    let empty : length c.in_ok-piece.piece.now ≡ 0 = eqb-true _ _ (sym c.is_empty.ensures ∙ c.if-is_empty.true) in (
-      taken_none g.S.Source.gives g.met.S.Source.gives_more _ _ _ c.loop-buffer.memory.bytes kept.gives (rw (nil_from_length _ empty) at c.in_ok-piece.ensures.gives),
+    let empty : length c.in_ok-piece.piece.now ≡ 0 =
+    eqb-true _ _ (sym c.is_empty.ensures ∙ c.if-is_empty.true) in (
+      taken_none g.S.Source.gives g.met.S.Source.gives_more _ _ _ c.loop-buffer.memory.bytes
+          kept.gives (rw (nil_from_length _ empty) at c.in_ok-piece.ensures.gives),
       kept.bound,
       inl (c.in_ok-piece.ensures.end.0 empty),
     )
@@ -26,10 +31,18 @@ loop-buffer-preserved g c =
     let kept = c.loop-buffer.invariant in
     let bytes = c.loop-buffer.memory.bytes in
     let piece = c.in_ok-piece.piece.now in
-    let short : length piece ≤ c.room-in-loop-buffer.result - 16 + 1 = omega (arith, c.in_ok-piece.ensures.bound, c.min.ensures, length-take {A = ℕ}) in
+    let short : length piece ≤ c.room-in-loop-buffer.result - 16 + 1 =
+    omega (arith, c.in_ok-piece.ensures.bound, c.min.ensures, length-take {A = ℕ}) in
     rw c.put.ensures (record {
       gives = g.met.S.Source.gives_more _ _ _ bytes piece kept.gives c.in_ok-piece.ensures.gives;
       limit = kept.limit;
-      bound = omega (arith, kept.limit, length-append bytes piece, short, c.room-in-loop-buffer.ensures, c.loop-buffer-test.true);
+      bound = omega (
+        arith,
+        kept.limit,
+        length-append bytes piece,
+        short,
+        c.room-in-loop-buffer.ensures,
+        c.loop-buffer-test.true,
+      );
       failures = c.in_ok-piece.ensures.failed ∙ kept.failures;
     })

@@ -1,22 +1,27 @@
 use Rattle.std.proofs.Common.{ap, inr, [], ◌∙◌}
 use Rattle.std.specs.Result.{result_map_both}
 use Rattle.std.proofs.lemmas.Result.{err_from_is_err_and}
-use Rattle.vault_core.specs.Fault.{of_text}
+use Rattle.vault_common.specs.Fault.{of_text}
 use Rattle.vault_core.proofs.DecryptionLemmas.{of_text-is_no_read}
 use Rattle.vault_core.proofs.input.read_payload.Goals as goal
 
 pub returns-in_err-finish : goal.returns-in_err-finish
 returns-in_err-finish g c =
-    let p = err_from_is_err_and c.from_residual-in_err-finish.result c.from_residual-in_err-finish.ensures.1 in
+    let p = err_from_is_err_and c.from_residual-in_err-finish.result
+    c.from_residual-in_err-finish.ensures.1 in
     let read = c.in_ok-feed_input.ensures.fed in
     let new = c.in_memory-reader.ensures.limit in
     let fed = c.in_ok-feed_input.ensures.limit ∙ new in
-    let answer = rw fed at (c.in_err-finish.ensures read.0 (read.4 [] c.in_memory-reader.ensures.nothing)) in
+    let answer =
+    rw fed at (c.in_err-finish.ensures read.0 (read.4 [] c.in_memory-reader.ensures.nothing)) in
     rw (p.1, p.2) (
       read.0,
       read.1,
       rw new at read.2,
-      inr ((of_text-is_no_read _, c.in_ok-feed_input.ensures.failed), (rw new at read.3, ap (result_map_both (λ payload. payload) of_text) answer)),
+      inr (
+        (of_text-is_no_read _, c.in_ok-feed_input.ensures.failed),
+        (rw new at read.3, ap (result_map_both (λ payload. payload) of_text) answer),
+      ),
     )
 
 pub returns : goal.returns
@@ -24,9 +29,13 @@ returns g c =
     let read = c.in_ok-feed_input.ensures.fed in
     let new = c.in_memory-reader.ensures.limit in
     let fed = c.in_ok-feed_input.ensures.limit ∙ new in
-    let answer = rw fed at (c.in_ok-finish.ensures read.0 (read.4 [] c.in_memory-reader.ensures.nothing)) in (
+    let answer =
+    rw fed at (c.in_ok-finish.ensures read.0 (read.4 [] c.in_memory-reader.ensures.nothing)) in (
       read.0,
       read.1,
       rw new at read.2,
-      (c.in_ok-feed_input.ensures.failed, (rw new at read.3, ap (result_map_both (λ payload. payload) of_text) answer)),
+      (
+        c.in_ok-feed_input.ensures.failed,
+        (rw new at read.3, ap (result_map_both (λ payload. payload) of_text) answer),
+      ),
     )

@@ -2,8 +2,10 @@ use Rattle.std.proofs.Common.{◌≡◌, ◌+◌, arith, inl, inr, refl, sym, �
 use Rattle.std.proofs.lemmas.Result.{err_from_is_err_and}
 use Rattle.vault_text.specs.Limits.{limit_of}
 use Rattle.vault_core.specs.Decryption.{decryption_derivations}
-use Rattle.vault_core.proofs.DecryptionLemmas.{UnlessUnreadable-from, decryption_derivations-Err, decryption_derivations-Ok}
-use Rattle.vault_core.proofs.RekeyingLemmas.{rekeying-no_payload, rekeying-payload, resealing-is_no_read}
+use Rattle.vault_core.proofs.DecryptionLemmas.{UnlessUnreadable-from, decryption_derivations-Err}
+use Rattle.vault_core.proofs.DecryptionLemmas.{decryption_derivations-Ok}
+use Rattle.vault_core.proofs.RekeyingLemmas.{rekeying-no_payload, rekeying-payload}
+use Rattle.vault_core.proofs.RekeyingLemmas.{resealing-is_no_read}
 use Rattle.vault_core.proofs.rekeying.prepare_rekey_in.Goals as goal
 
 pub returns-in_err-payload : goal.returns-in_err-payload
@@ -13,6 +15,7 @@ returns-in_err-payload g c =
     let limit = limit_of c.args.memory.limit in
     let secrets = c.args.secrets.now in
     let new = c.args.new.now in
+    let salt = c.args.salt.now in
     rw (p.1, p.2) (record {
       answer = (
         read.0,
@@ -21,9 +24,11 @@ returns-in_err-payload g c =
         elim read.3 [
           | inl unreadable ↦ inl (unreadable.0, (unreadable.1, refl))
           | inr refused ↦
-              let none : c.args.meter.now ≡ c.args.meter.now + decryption_derivations limit secrets read.0 + 0 =
+              let none : c.args.meter.now
+              ≡ c.args.meter.now + decryption_derivations limit secrets read.0 + 0 =
               omega (arith, decryption_derivations-Err limit secrets read.0 _ refused.1.1) in
-              inr (refused.0, (refused.1.0, sym (rekeying-no_payload limit secrets new c.args.salt.now read.0 _ refused.1.1), none))
+              let answer = sym (rekeying-no_payload limit secrets new salt read.0 _ refused.1.1) in
+              inr (refused.0, (refused.1.0, (answer, none)))
         ],
       );
     })
@@ -34,6 +39,7 @@ returns g c =
     let limit = limit_of c.args.memory.limit in
     let secrets = c.args.secrets.now in
     let new = c.args.new.now in
+    let salt = c.args.salt.now in
     let payload = c.in_ok-payload.payload in
     record {
       answer = (
@@ -41,11 +47,19 @@ returns g c =
         read.1,
         read.2,
         UnlessUnreadable-from _ _ _ _ c.rekey_payload.result
-            (λ fault refused. resealing-is_no_read secrets new c.args.salt.now payload fault (sym c.rekey_payload.ensures.answer ∙ refused))
+            (λ fault refused. resealing-is_no_read secrets new salt payload fault
+            (sym c.rekey_payload.ensures.answer ∙ refused))
             read.3.0 (
               read.3.1.0,
-              c.rekey_payload.ensures.answer ∙ sym (rekeying-payload limit secrets new c.args.salt.now read.0 payload read.3.1.1),
-              omega (arith, c.rekey_payload.ensures.counted, decryption_derivations-Ok limit secrets read.0 payload read.3.1.1),
+              (
+                c.rekey_payload.ensures.answer
+                    ∙ sym (rekeying-payload limit secrets new salt read.0 payload read.3.1.1),
+                omega (
+                  arith,
+                  c.rekey_payload.ensures.counted,
+                  decryption_derivations-Ok limit secrets read.0 payload read.3.1.1,
+                ),
+              ),
             ),
       );
     }

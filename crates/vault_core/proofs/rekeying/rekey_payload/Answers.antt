@@ -12,19 +12,31 @@ pub returns-in_err-padded-clause-answer : goal.returns-in_err-padded-clause-answ
 returns-in_err-padded-clause-answer c =
     let p = err_from_is_err_and c.from_residual.result c.from_residual.ensures.1 in
     let new = c.args.new.now in
-    rw (p.1, p.2) (sym (resealing-Err c.args.secrets.now new c.args.salt.now c.args.payload _ c.in_err-padded.ensures.opened))
+    rw (p.1, p.2) (sym (resealing-Err c.args.secrets.now new c.args.salt.now c.args.payload _
+    c.in_err-padded.ensures.opened))
 
 pub returns-then-is_vault-clause-answer : goal.returns-then-is_vault-clause-answer
 returns-then-is_vault-clause-answer c =
     let new = c.args.new.now in
-    let marked = ap (λ (opened : Ready). is_vault opened.output) (sym c.padded.view_is) ∙ sym c.if-is_vault.ensures in
-    sym (resealing-vault c.args.secrets.now new c.args.salt.now c.args.payload c.in_ok-padded.field-0 c.in_ok-padded.ensures.opened marked)
+    let marked = ap (λ (opened : Ready). is_vault opened.output) (sym c.padded.view_is)
+    ∙ sym c.if-is_vault.ensures in
+    sym (resealing-vault c.args.secrets.now new c.args.salt.now c.args.payload
+    c.in_ok-padded.field-0 c.in_ok-padded.ensures.opened marked)
 
 pub returns-clause-answer : goal.returns-clause-answer
 returns-clause-answer c =
     let new = c.args.new.now in
-    let plain = ap (λ (opened : Ready). is_vault opened.output) (sym c.padded.view_is) ∙ sym c.if-is_vault.ensures in
-    let answer = resealing-sealed c.args.secrets.now new c.args.salt.now c.args.payload c.in_ok-padded.field-0 c.in_ok-padded.ensures.opened plain in
-    let written = c.vault.ensures ∙ ap (λ (vault : Payload). record { output = text_in Envelope vault; tried = c.padded.inside.tried }) c.seal-vault.ensures.sealed in
-    let opened = ap (λ (opened : Ready). record { output = text_in Envelope (sealed new c.args.salt.now opened.output); tried = opened.tried }) c.padded.view_is in
+    let plain = ap (λ (opened : Ready). is_vault opened.output) (sym c.padded.view_is)
+    ∙ sym c.if-is_vault.ensures in
+    let answer = resealing-sealed c.args.secrets.now new c.args.salt.now c.args.payload
+    c.in_ok-padded.field-0 c.in_ok-padded.ensures.opened plain in
+    let written = c.vault.ensures
+    ∙ ap (λ (vault : Payload). record {
+      output = text_in Envelope vault;
+      tried = c.padded.inside.tried;
+    }) c.seal-vault.ensures.sealed in
+    let opened = ap (λ (opened : Ready). record {
+      output = text_in Envelope (sealed new c.args.salt.now opened.output);
+      tried = opened.tried;
+    }) c.padded.view_is in
     ap Ok (written ∙ opened) ∙ sym answer

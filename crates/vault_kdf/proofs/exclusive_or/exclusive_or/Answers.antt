@@ -3,7 +3,11 @@ use Rattle.vault_kdf.proofs.ExclusiveOrLemmas.{IsExclusiveOrBelow_more, IsExclus
 use Rattle.vault_kdf.proofs.exclusive_or.exclusive_or.Goals as goal
 
 pub loop-i-preserved : goal.loop-i-preserved
-loop-i-preserved g c = IsExclusiveOrBelow_more c.args.a.now c.args.b.now c.loop-i.byte-items c.loop-i.i (omega arith) c.loop-i.invariant
+loop-i-preserved g c =
+    IsExclusiveOrBelow_more c.args.a.now c.args.b.now c.loop-i.byte-items c.loop-i.i (omega arith)
+    c.loop-i.invariant
 
 pub returns : goal.returns
-returns g c = IsExclusiveOrBelow_all c.args.a.now c.args.b.now c.loop-i.byte-items c.loop-i.i (c.told-b ∙ sym c.told-a) (omega arith) c.loop-i.invariant
+returns g c =
+    IsExclusiveOrBelow_all c.args.a.now c.args.b.now c.loop-i.byte-items c.loop-i.i
+    (c.told-b ∙ sym c.told-a) (omega arith) c.loop-i.invariant

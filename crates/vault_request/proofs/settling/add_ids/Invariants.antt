@@ -5,5 +5,6 @@ use Rattle.vault_request.proofs.settling.add_ids.Given as goal
 
 abbrev pub invariant-loop-id : goal.invariant-loop-id
 invariant-loop-id l =
-    (l.files.items ≡ l.fn.files.items ++ map file_of_id (map (λ id. id.now) (take l.id-index l.ids)))
+    (l.files.items ≡ l.fn.files.items
+    ++ map file_of_id (map (λ id. id.now) (take l.id-index l.ids)))
     × (first_fault (map (λ id. id.now) (drop l.id-index l.ids)) ≡ None)

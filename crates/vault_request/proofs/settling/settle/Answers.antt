@@ -11,10 +11,16 @@ returns c =
     let rows = rows_of found in
     let command = c.unwrap-command.result.0 in
     let ids : map (λ id. id.now) c.unwrap_or-ids.result.now ≡ values_of (codes "vault-id") rows =
-    ap (λ s. map (λ id. id.now) s.now) c.unwrap_or-ids.ensures ∙ values_or_none c.get_strs.result _ refl
-    ∙ ap (λ values. unwrap_or values []) (c.get_strs.ensures ∙ raw_values-rows found (codes "vault-id")) in
-    let paths : map (λ path. path.now) c.unwrap_or-paths.result.now ≡ values_of (codes "vault-password-file") rows =
-    ap (λ s. map (λ path. path.now) s.now) c.unwrap_or-paths.ensures ∙ values_or_none c.get_strs-2.result _ refl
-    ∙ ap (λ values. unwrap_or values []) (c.get_strs-2.ensures ∙ raw_values-rows found (codes "vault-password-file")) in
+    ap (λ s. map (λ id. id.now) s.now) c.unwrap_or-ids.ensures
+    ∙ values_or_none c.get_strs.result _ refl
+    ∙ ap (λ values. unwrap_or values [])
+    (c.get_strs.ensures ∙ raw_values-rows found (codes "vault-id")) in
+    let paths : map (λ path. path.now) c.unwrap_or-paths.result.now
+    ≡ values_of (codes "vault-password-file") rows =
+    ap (λ s. map (λ path. path.now) s.now) c.unwrap_or-paths.ensures
+    ∙ values_or_none c.get_strs-2.result _ refl
+    ∙ ap (λ values. unwrap_or values [])
+    (c.get_strs-2.ensures ∙ raw_values-rows found (codes "vault-password-file")) in
     let given = c.of.ensures ∙ with_values command rows _ _ ids paths in
-    asked_given (subcommand_rows_of c.args.matches.now) rows command _ (rw c.unwrap-command.ensures at c.command_in.ensures) (rw given at c.settled_by.ensures)
+    asked_given (subcommand_rows_of c.args.matches.now) rows command _
+    (rw c.unwrap-command.ensures at c.command_in.ensures) (rw given at c.settled_by.ensures)

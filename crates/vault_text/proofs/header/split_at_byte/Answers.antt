@@ -5,12 +5,15 @@ use Rattle.vault_text.proofs.header.split_at_byte.Goals as goal
 
 pub returns-then-place-bytes-clause-found : goal.returns-then-place-bytes-clause-found
 returns-then-place-bytes-clause-found c =
-    rw take_rest (byte_found c.args.byte c.args.bytes.now c.position_of-place.result c.position_of-place.ensures.place c.if-place-bytes.true)
+    rw take_rest (byte_found c.args.byte c.args.bytes.now c.position_of-place.result
+    c.position_of-place.ensures.place c.if-place-bytes.true)
 
 pub returns-then-place-bytes-clause-parts : goal.returns-then-place-bytes-clause-parts
 returns-then-place-bytes-clause-parts c =
-    slice_split-cut (λ b. b == c.args.byte) c.args.bytes.now c.position_of-place.result c.position_of-place.ensures.place c.if-place-bytes.true
+    slice_split-cut (λ b. b == c.args.byte) c.args.bytes.now c.position_of-place.result
+    c.position_of-place.ensures.place c.if-place-bytes.true
 
 pub returns-else-place-bytes-clause-one_part : goal.returns-else-place-bytes-clause-one_part
 returns-else-place-bytes-clause-one_part c =
-    slice_split-whole (λ b. b == c.args.byte) c.args.bytes.now c.position_of-place.result c.position_of-place.ensures.place c.if-place-bytes.false
+    slice_split-whole (λ b. b == c.args.byte) c.args.bytes.now c.position_of-place.result
+    c.position_of-place.ensures.place c.if-place-bytes.false

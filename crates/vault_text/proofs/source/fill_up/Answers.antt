@@ -9,16 +9,27 @@ returns-in_err-n-clause-some g c =
     let whole = length-written l.filled l.buf c.fill.new.buf l.invariant.0 c.fill.auto.buf in (
       take l.filled l.buf,
       omega (arith, whole, length-take l.filled l.buf),
-      MatchResult-from_err _ _ _ c.from_residual.ensures.0 (λ _. omega (arith, whole, c.loop-filled-test.true, length-take l.filled l.buf)),
-      taken_none g.S.Source.gives g.met.S.Source.gives_more _ _ _ _ l.invariant.1 c.in_err-n.ensures.gives,
+      MatchResult-from_err _ _ _ c.from_residual.ensures.0
+          (λ _. omega (arith, whole, c.loop-filled-test.true, length-take l.filled l.buf)),
+      taken_none g.S.Source.gives g.met.S.Source.gives_more _ _ _ _ l.invariant.1
+          c.in_err-n.ensures.gives,
     )
 
 pub loop-filled-preserved : goal.loop-filled-preserved
 loop-filled-preserved g c =
     let l = c.loop-filled in
     let whole = length-written l.filled l.buf c.fill.new.buf l.invariant.0 c.fill.auto.buf in (
-      omega (arith, whole, c.in_ok-n.ensures.bound, c.fill.auto.buf, length-take (length l.buf - l.filled) (drop l.filled l.buf), length-drop l.filled l.buf),
-      given_next g.S.Source.gives g.met.S.Source.gives_more _ _ _ l.filled c.in_ok-n.n (length l.buf - l.filled) l.buf c.fill.new.buf l.invariant.0 c.in_ok-n.ensures.bound l.invariant.1 c.in_ok-n.ensures.gives,
+      omega (
+        arith,
+        whole,
+        c.in_ok-n.ensures.bound,
+        c.fill.auto.buf,
+        length-take (length l.buf - l.filled) (drop l.filled l.buf),
+        length-drop l.filled l.buf,
+      ),
+      given_next g.S.Source.gives g.met.S.Source.gives_more _ _ _ l.filled c.in_ok-n.n
+          (length l.buf - l.filled) l.buf c.fill.new.buf l.invariant.0 c.in_ok-n.ensures.bound
+          l.invariant.1 c.in_ok-n.ensures.gives,
       search rules,
       (λ none. absurd (c.if-n-eq0.false (omega (arith, none)))),
       search rules,
@@ -27,7 +38,9 @@ loop-filled-preserved g c =
 pub returns-then-n-eq0-clause-gives : goal.returns-then-n-eq0-clause-gives
 returns-then-n-eq0-clause-gives g c =
     let l = c.loop-filled in
-    given_none g.S.Source.gives g.met.S.Source.gives_more _ _ _ l.filled c.in_ok-n.n (length l.buf - l.filled) l.buf c.fill.new.buf l.invariant.0 c.if-n-eq0.true l.invariant.1 c.in_ok-n.ensures.gives
+    given_none g.S.Source.gives g.met.S.Source.gives_more _ _ _ l.filled c.in_ok-n.n
+    (length l.buf - l.filled) l.buf c.fill.new.buf l.invariant.0 c.if-n-eq0.true l.invariant.1
+    c.in_ok-n.ensures.gives
 
 pub returns-then-n-eq0-clause-some : goal.returns-then-n-eq0-clause-some
 returns-then-n-eq0-clause-some g c =
@@ -36,5 +49,6 @@ returns-then-n-eq0-clause-some g c =
       take l.filled l.buf,
       omega (arith, whole, length-take l.filled l.buf),
       tt,
-      taken_none g.S.Source.gives g.met.S.Source.gives_more _ _ _ _ l.invariant.1 (rw c.if-n-eq0.true at c.in_ok-n.ensures.gives),
+      taken_none g.S.Source.gives g.met.S.Source.gives_more _ _ _ _ l.invariant.1
+          (rw c.if-n-eq0.true at c.in_ok-n.ensures.gives),
     )

@@ -7,6 +7,7 @@ use Rattle.vault_cli.proofs.runs.gathering.read_secret_files.Given as goal
 abbrev pub invariant-loop-i : goal.invariant-loop-i
 invariant-loop-i g l =
     (vec_len l.contents ≡ l.i)
-    × GivesFront (g.F.FileSystem.meets l.initial.files) (secret_paths l.request) l.i (map (λ file. file.items) l.contents.items)
+    × GivesFront (g.F.FileSystem.meets l.initial.files) (secret_paths l.request) l.i
+    (map (λ file. file.items) l.contents.items)
     × g.F.FileSystem.opens l.initial.files (take l.i (secret_paths l.request)) l.files
     × (g.F.Sink.stage l.files ≡ Unbegun)

@@ -6,5 +6,6 @@ use Rattle.vault_cli.proofs.runs.passwords.secrets_of.Given as goal
 abbrev pub invariant-loop-i : goal.invariant-loop-i
 invariant-loop-i l =
     (length l.secrets.secrets ≡ l.i) × (l.secrets.rule ≡ l.request.rule)
-    × (with_front l.secrets.secrets (secrets_of (drop l.i l.request.secret_files) (drop l.i (map (λ file. file.items) l.secret_files)))
-    ≡ secrets_of l.request.secret_files (map (λ file. file.items) l.secret_files))
+    × (with_front l.secrets.secrets
+    (secrets_of (drop l.i l.request.secrets) (drop l.i (map (λ file. file.items) l.secret_files)))
+    ≡ secrets_of l.request.secrets (map (λ file. file.items) l.secret_files))

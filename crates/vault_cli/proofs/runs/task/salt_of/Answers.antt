@@ -6,6 +6,7 @@ pub unwrap-requires : goal.unwrap-requires
 unwrap-requires c = elim c.match-salt_text.branch [
   | in-Some w ↦
       let text = rw w.in-Some.is at c.salt_text.ensures.length in
-      c.new.ensures.fits.1 (rw (w.bytes-is, w.as_bytes-bytes.ensures.value) (omega (arith, text.limit)))
+      c.new.ensures.fits.1
+      (rw (w.bytes-is, w.as_bytes-bytes.ensures.value) (omega (arith, text.limit)))
   | in-None-2 w ↦ c.new.ensures.fits.1 (rw w.bytes-is (search rules))
 ]

@@ -6,28 +6,39 @@ use Rattle.vault_core.proofs.ready.Ready.write_to.Goals as goal
 pub returns-in_err-write-clause-prefix : goal.returns-in_err-write-clause-prefix
 returns-in_err-write-clause-prefix g c =
     let output = ap (λ (r : Ready). r.output) c.self.view_is in
-    let prefix = c.in_err-write.ensures.prefix in
-    (prefix.0, rw output at (g.met.K.Sink.takes_more _ _ _ [] _ c.in_ok-begin.ensures.takes prefix.1))
+    let prefix = c.in_err-write.ensures.prefix in (
+      prefix.0,
+      rw output at (g.met.K.Sink.takes_more _ _ _ [] _ c.in_ok-begin.ensures.takes prefix.1),
+    )
 
 pub returns-in_err-finish-clause-prefix : goal.returns-in_err-finish-clause-prefix
 returns-in_err-finish-clause-prefix g c =
     let output = ap (λ (r : Ready). r.output) c.self.view_is in
     let more = g.met.K.Sink.takes_more in
-    let taken = rw output at (more _ _ _ [] _ c.in_ok-begin.ensures.takes c.in_ok-write.ensures.takes) in
-    let whole : take (length c.args.self.output) c.args.self.output ≡ c.args.self.output = take_all _ _ (omega arith) in
-    (length c.args.self.output, rw whole (taken_none g.K.Sink.takes more _ _ _ _ taken c.in_err-finish.ensures.takes))
+    let taken =
+    rw output at (more _ _ _ [] _ c.in_ok-begin.ensures.takes c.in_ok-write.ensures.takes) in
+    let whole : take (length c.args.self.output) c.args.self.output ≡ c.args.self.output =
+    take_all _ _ (omega arith) in (
+      length c.args.self.output,
+      rw whole (taken_none g.K.Sink.takes more _ _ _ _ taken c.in_err-finish.ensures.takes),
+    )
 
 pub returns-clause-written : goal.returns-clause-written
 returns-clause-written g c =
     let output = ap (λ (r : Ready). r.output) c.self.view_is in
     let more = g.met.K.Sink.takes_more in
-    let taken = rw output at (more _ _ _ [] _ c.in_ok-begin.ensures.takes c.in_ok-write.ensures.takes) in
+    let taken =
+    rw output at (more _ _ _ [] _ c.in_ok-begin.ensures.takes c.in_ok-write.ensures.takes) in
     taken_none g.K.Sink.takes more _ _ _ _ taken c.in_ok-finish.ensures.takes
 
 pub returns-clause-prefix : goal.returns-clause-prefix
 returns-clause-prefix g c =
     let output = ap (λ (r : Ready). r.output) c.self.view_is in
     let more = g.met.K.Sink.takes_more in
-    let taken = rw output at (more _ _ _ [] _ c.in_ok-begin.ensures.takes c.in_ok-write.ensures.takes) in
-    let whole : take (length c.args.self.output) c.args.self.output ≡ c.args.self.output = take_all _ _ (omega arith) in
-    (length c.args.self.output, rw whole (taken_none g.K.Sink.takes more _ _ _ _ taken c.in_ok-finish.ensures.takes))
+    let taken =
+    rw output at (more _ _ _ [] _ c.in_ok-begin.ensures.takes c.in_ok-write.ensures.takes) in
+    let whole : take (length c.args.self.output) c.args.self.output ≡ c.args.self.output =
+    take_all _ _ (omega arith) in (
+      length c.args.self.output,
+      rw whole (taken_none g.K.Sink.takes more _ _ _ _ taken c.in_ok-finish.ensures.takes),
+    )

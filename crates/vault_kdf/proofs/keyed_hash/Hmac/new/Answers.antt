@@ -8,7 +8,9 @@ unfolding StandsFor inner_key outer_key
 returns c =
     let key : List ℕ = c.args.key.now in
     let inner : c.exclusive_or.result ≡ inner_key key =
-    c.exclusive_or.ensures ∙ ap (λ (block : List ℕ). exclusive_or block (replicate 64 0x36)) c.padded_key-block.ensures in
+    c.exclusive_or.ensures
+    ∙ ap (λ (block : List ℕ). exclusive_or block (replicate 64 0x36)) c.padded_key-block.ensures in
     let outer : c.exclusive_or-2.result ≡ outer_key key =
-    c.exclusive_or-2.ensures ∙ ap (λ (block : List ℕ). exclusive_or block (replicate 64 0x5c)) c.padded_key-block.ensures in
+    c.exclusive_or-2.ensures
+    ∙ ap (λ (block : List ℕ). exclusive_or block (replicate 64 0x5c)) c.padded_key-block.ensures in
     (rw (append-nil, ← inner) c.new_with_prefix.ensures, rw (← outer) c.new_with_prefix-2.ensures)

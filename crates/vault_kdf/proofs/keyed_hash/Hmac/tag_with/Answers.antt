@@ -4,4 +4,5 @@ use Rattle.vault_kdf.proofs.keyed_hash.Hmac.tag_with.Goals as goal
 
 pub returns : goal.returns
 unfolding StandsFor hmac
-returns c = λ key message stands. rw (← append_assoc (inner_key key) message c.args.last.now) (search rules)
+returns c = λ key message stands.
+    rw (← append_assoc (inner_key key) message c.args.last.now) (search rules)

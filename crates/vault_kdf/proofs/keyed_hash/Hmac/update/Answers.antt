@@ -4,4 +4,8 @@ use Rattle.vault_kdf.proofs.keyed_hash.Hmac.update.Goals as goal
 
 pub returns : goal.returns
 unfolding StandsFor
-returns c = λ key message stands. (rw (← append_assoc (inner_key key) message c.args.piece.now) (c.update.ensures (inner_key key ++ message) stands.0), stands.1)
+returns c = λ key message stands. (
+  rw (← append_assoc (inner_key key) message c.args.piece.now)
+      (c.update.ensures (inner_key key ++ message) stands.0),
+  stands.1,
+)

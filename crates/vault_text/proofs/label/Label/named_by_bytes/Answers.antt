@@ -3,4 +3,5 @@ use Rattle.vault_text.proofs.LabelFacts.{no_text_is_no_label}
 use Rattle.vault_text.proofs.label.Label.named_by_bytes.Goals as goal
 
 pub returns-in-Err-clause-allowed : goal.returns-in-Err-clause-allowed
-returns-in-Err-clause-allowed c = sym (no_text_is_no_label c.args.bytes.now c.in-Err.ensures.cases.0)
+returns-in-Err-clause-allowed c =
+    sym (no_text_is_no_label c.args.bytes.now c.in-Err.ensures.cases.0)

@@ -6,5 +6,6 @@ use Rattle.vault_text.proofs.reader.EnvelopeReader.in_memory.Goals as goal
 pub returns-clause-nothing : goal.returns-clause-nothing
 returns-clause-nothing c =
     let limit = limit_of c.room.result in
-    let room : ciphertext_limit limit ≡ c.args.memory.limit = omega (arith, c.requires.room, c.room.ensures, ap length c.requires.empty) in
+    let room : ciphertext_limit limit ≡ c.args.memory.limit =
+    omega (arith, c.requires.room, c.room.ensures, ap length c.requires.empty) in
     StandsFor-nothing limit _ _ c.new.ensures (rw room c.new-2.ensures)

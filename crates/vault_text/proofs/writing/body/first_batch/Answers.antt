@@ -7,8 +7,11 @@ use Rattle.vault_text.proofs.writing.body.first_batch.Goals as goal
 pub returns-clause-text : goal.returns-clause-text
 returns-clause-text c =
     let both : c.split_at.result.0.now ++ c.split_at.result.1.now ≡ c.args.cipher.now =
-    rw (c.split_at.ensures.front, c.split_at.ensures.back) (take-append-drop c.min.result c.args.cipher.now) in
-    inner_text-split c.args.salt.now c.args.tag.now c.args.cipher.now c.salt_and_tag-inner.result.items c.append_hexadecimal.new.text.items c.split_at.result.0.now c.split_at.result.1.now c.salt_and_tag-inner.ensures.text c.append_hexadecimal.ensures.text both
+    rw (c.split_at.ensures.front, c.split_at.ensures.back)
+    (take-append-drop c.min.result c.args.cipher.now) in
+    inner_text-split c.args.salt.now c.args.tag.now c.args.cipher.now
+    c.salt_and_tag-inner.result.items c.append_hexadecimal.new.text.items c.split_at.result.0.now
+    c.split_at.result.1.now c.salt_and_tag-inner.ensures.text c.append_hexadecimal.ensures.text both
 
 pub returns-clause-full : goal.returns-clause-full
 returns-clause-full c =

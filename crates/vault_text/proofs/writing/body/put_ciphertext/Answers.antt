@@ -21,10 +21,13 @@ loop-done-preserved g c =
     let l = c.loop-done in
     let more = l.done + 1280 in
     let cipher = c.args.cipher.now in
-    let next = cipher_text-next c.args.indentation.now cipher l.done more l.invariant.0 (omega arith) (omega arith) in (
+    let next = cipher_text-next c.args.indentation.now cipher l.done more l.invariant.0
+    (omega arith) (omega arith) in (
       omega arith,
       omega arith,
-      takes_both g.K.Sink.takes g.met.K.Sink.takes_more _ _ _ (hexadecimal_lines c.args.indentation.now (encode_lower (take l.done cipher))) _ _ next l.invariant.2 c.in_ok-put_batch.ensures.takes,
+      takes_both g.K.Sink.takes g.met.K.Sink.takes_more _ _ _
+          (hexadecimal_lines c.args.indentation.now (encode_lower (take l.done cipher))) _ _ next
+          l.invariant.2 c.in_ok-put_batch.ensures.takes,
       search rules,
       search rules,
     )
@@ -34,23 +37,36 @@ returns-in_err-put_batch-clause-prefix g c =
     let l = c.loop-done in
     let more = l.done + 1280 in
     let cipher = c.args.cipher.now in
-    let next = cipher_text-next c.args.indentation.now cipher l.done more l.invariant.0 (omega arith) (omega arith) in
+    let next = cipher_text-next c.args.indentation.now cipher l.done more l.invariant.0
+    (omega arith) (omega arith) in
     let rest = cipher_text-rest c.args.indentation.now cipher more (omega arith) (omega arith) in
-    let front = prefix_second g.K.Sink.takes g.met.K.Sink.takes_more _ _ _ (hexadecimal_lines c.args.indentation.now (encode_lower (take l.done cipher))) _ _ next l.invariant.2 c.put_batch.ensures.prefix in
+    let front = prefix_second g.K.Sink.takes g.met.K.Sink.takes_more _ _ _
+    (hexadecimal_lines c.args.indentation.now (encode_lower (take l.done cipher))) _ _ next
+    l.invariant.2 c.put_batch.ensures.prefix in
     prefix_first g.K.Sink.takes _ _ _ _ _ rest front
 
 pub returns-clause-takes : goal.returns-clause-takes
 returns-clause-takes g c =
     let l = c.loop-done in
     let cipher = c.args.cipher.now in
-    let next = cipher_text-next c.args.indentation.now cipher l.done (length cipher) l.invariant.0 (omega arith) (omega arith)
-    ∙ ap (λ (bytes : List ℕ). hexadecimal_lines c.args.indentation.now (encode_lower bytes)) (take_all (length cipher) cipher (omega arith)) in
-    on_ok_weaker c.put_batch-2.result (λ taken. takes_both g.K.Sink.takes g.met.K.Sink.takes_more _ _ _ (hexadecimal_lines c.args.indentation.now (encode_lower (take l.done cipher))) _ _ next l.invariant.2 taken) c.put_batch-2.ensures.takes
+    let next = cipher_text-next c.args.indentation.now cipher l.done (length cipher) l.invariant.0
+    (omega arith) (omega arith)
+    ∙ ap (λ (bytes : List ℕ). hexadecimal_lines c.args.indentation.now (encode_lower bytes))
+    (take_all (length cipher) cipher (omega arith)) in
+    on_ok_weaker c.put_batch-2.result
+    (λ taken. takes_both g.K.Sink.takes g.met.K.Sink.takes_more _ _ _
+    (hexadecimal_lines c.args.indentation.now (encode_lower (take l.done cipher))) _ _ next
+    l.invariant.2 taken)
+    c.put_batch-2.ensures.takes
 
 pub returns-clause-prefix : goal.returns-clause-prefix
 returns-clause-prefix g c =
     let l = c.loop-done in
     let cipher = c.args.cipher.now in
-    let next = cipher_text-next c.args.indentation.now cipher l.done (length cipher) l.invariant.0 (omega arith) (omega arith)
-    ∙ ap (λ (bytes : List ℕ). hexadecimal_lines c.args.indentation.now (encode_lower bytes)) (take_all (length cipher) cipher (omega arith)) in
-    prefix_second g.K.Sink.takes g.met.K.Sink.takes_more _ _ _ (hexadecimal_lines c.args.indentation.now (encode_lower (take l.done cipher))) _ _ next l.invariant.2 c.put_batch-2.ensures.prefix
+    let next = cipher_text-next c.args.indentation.now cipher l.done (length cipher) l.invariant.0
+    (omega arith) (omega arith)
+    ∙ ap (λ (bytes : List ℕ). hexadecimal_lines c.args.indentation.now (encode_lower bytes))
+    (take_all (length cipher) cipher (omega arith)) in
+    prefix_second g.K.Sink.takes g.met.K.Sink.takes_more _ _ _
+    (hexadecimal_lines c.args.indentation.now (encode_lower (take l.done cipher))) _ _ next
+    l.invariant.2 c.put_batch-2.ensures.prefix

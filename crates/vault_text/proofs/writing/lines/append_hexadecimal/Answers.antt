@@ -1,4 +1,5 @@
-use Rattle.std.proofs.Common.{◌++◌, take, drop, ◌-◌, arith, refl, ◌∙◌, append_assoc, ap, length-drop, length-take, List, ℕ}
+use Rattle.std.proofs.Common.{◌++◌, take, drop, ◌-◌, arith, refl, ◌∙◌, append_assoc, ap}
+use Rattle.std.proofs.Common.{length-drop, length-take, List, ℕ}
 use Rattle.std.proofs.lemmas.List.{append-nil}
 use Rattle.hex.specs.Hex.{encode_lower}
 use Rattle.vault_text.proofs.BodyFacts.{encode_lower-next, encode_lower-nil}
@@ -24,8 +25,10 @@ loop-done-preserved c =
     let next = encode_lower-next bytes l.done end (omega arith) in (
       omega arith,
       c.append_digits.ensures.text
-          ∙ ap (λ (text : List ℕ). text ++ encode_lower (take (end - l.done) (drop l.done bytes))) l.invariant.1
-          ∙ append_assoc c.args.text.now.items (encode_lower (take l.done bytes)) (encode_lower (take (end - l.done) (drop l.done bytes)))
+          ∙ ap (λ (text : List ℕ). text ++ encode_lower (take (end - l.done) (drop l.done bytes)))
+          l.invariant.1
+          ∙ append_assoc c.args.text.now.items (encode_lower (take l.done bytes))
+          (encode_lower (take (end - l.done) (drop l.done bytes)))
           ∙ ap (λ (digits : List ℕ). c.args.text.now.items ++ digits) next,
       omega arith,
     )

@@ -6,7 +6,8 @@ use Rattle.vault_text.proofs.reader.body.BodyReader.extend.Given as goal
 
 abbrev pub invariant-loop-rest : goal.invariant-loop-rest
 invariant-loop-rest l =
-    (limit : ℕ) → TakesUpTo (BodyHas limit) l.fn.self (without_line_ends l.text) (without_line_ends l.rest) l.self
+    (limit : ℕ) → TakesUpTo (BodyHas limit) l.fn.self (without_line_ends l.text)
+    (without_line_ends l.rest) l.self
 
 abbrev pub decreases-loop-rest : goal.decreases-loop-rest
 decreases-loop-rest l = length l.rest

@@ -11,4 +11,5 @@ returns-clause-taken c limit =
     let text = take-append-drop LINE_DIGITS c.args.text.now in
     let whole = c.if-not-decode_whole.ensures in
     let taken = BodyHas-more limit _ _ _ _ _ _ (whole.decoded refl) (c.extend.ensures limit) in
-    rw (← c.self.view_is) (TakesUpTo-whole_line limit _ _ c.args.text.now _ c.in_ok-line.rest.now _ (whole.good refl) taken (rw (cut.1, cut.2) text))
+    rw (← c.self.view_is) (TakesUpTo-whole_line limit _ _ c.args.text.now _ c.in_ok-line.rest.now _
+    (whole.good refl) taken (rw (cut.1, cut.2) text))

@@ -15,4 +15,5 @@ pub returns : goal.returns
 returns c input has =
     let test : starts_with nat_eq c.self.inside.kept.items marker ≡ true =
     rw c.as_slice.ensures.value at (sym c.starts_with.ensures.value ∙ c.if-not-starts_with.false) in
-    rw (c.read_header.ensures, c.as_slice-2.ensures.value) (rw test at (read_head-kept _ input (rw (← c.self.view_is) at has)))
+    rw (c.read_header.ensures, c.as_slice-2.ensures.value)
+    (rw test at (read_head-kept _ input (rw (← c.self.view_is) at has)))

@@ -7,8 +7,18 @@ returns-in-Salt-clause-taken c limit text has =
     let here = rw (← c.self.view_is, c.in-Salt.is) at has in
     let more = c.args.digits.now in
     rw c.in-Salt.is (record {
-      digits = record { salt = here.digits.salt ++ more; tag = here.digits.tag; cipher = here.digits.cipher };
-      cut = (ap (λ xs. xs ++ more) here.cut.0, one_line-append here.digits.salt more here.cut.1 (rw (← c.self.view_is, c.in-Salt.is) at c.requires.digits), here.cut.2, here.cut.3);
+      digits = record {
+        salt = here.digits.salt ++ more;
+        tag = here.digits.tag;
+        cipher = here.digits.cipher;
+      };
+      cut = (
+        ap (λ xs. xs ++ more) here.cut.0,
+        one_line-append here.digits.salt more here.cut.1
+            (rw (← c.self.view_is, c.in-Salt.is) at c.requires.digits),
+        here.cut.2,
+        here.cut.3,
+      );
       salt = c.extend.ensures here.digits.salt here.salt;
       tag = here.tag;
       cipher = here.cipher;
@@ -19,8 +29,18 @@ returns-in-Tag-clause-taken c limit text has =
     let here = rw (← c.self.view_is, c.in-Tag.is) at has in
     let more = c.args.digits.now in
     rw c.in-Tag.is (record {
-      digits = record { salt = here.digits.salt; tag = here.digits.tag ++ more; cipher = here.digits.cipher };
-      cut = (rw here.cut.0 (simp append_assoc), here.cut.1, one_line-append here.digits.tag more here.cut.2 (rw (← c.self.view_is, c.in-Tag.is) at c.requires.digits), here.cut.3);
+      digits = record {
+        salt = here.digits.salt;
+        tag = here.digits.tag ++ more;
+        cipher = here.digits.cipher;
+      };
+      cut = (
+        rw here.cut.0 (simp append_assoc),
+        here.cut.1,
+        one_line-append here.digits.tag more here.cut.2
+            (rw (← c.self.view_is, c.in-Tag.is) at c.requires.digits),
+        here.cut.3,
+      );
       salt = here.salt;
       tag = c.extend-in-Tag.ensures here.digits.tag here.tag;
       cipher = here.cipher;
@@ -31,7 +51,11 @@ returns-in-Cipher-clause-taken c limit text has =
     let here = rw (← c.self.view_is, c.in-Cipher.is) at has in
     let more = c.args.digits.now in
     rw c.in-Cipher.is (record {
-      digits = record { salt = here.digits.salt; tag = here.digits.tag; cipher = here.digits.cipher ++ more };
+      digits = record {
+        salt = here.digits.salt;
+        tag = here.digits.tag;
+        cipher = here.digits.cipher ++ more;
+      };
       cut = (rw here.cut.0 (simp append_assoc), here.cut.1, here.cut.2);
       salt = here.salt;
       tag = here.tag;

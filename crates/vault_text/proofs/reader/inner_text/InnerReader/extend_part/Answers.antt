@@ -18,5 +18,7 @@ returns-clause-taken c limit =
       cut ∙ sym (append_assoc digits (10 ∷ []) _),
       λ text has.
           let taken = rw (← c.self-2.view_is) at (c.extend_digits.ensures.taken limit text has) in
-          rw (c.next-self-inside.ensures, ← append_assoc text digits (10 ∷ [])) (InnerHas-end limit _ (text ++ digits) (λ late. early (ap (λ inner. inner.part) c.self.view_is ∙ sym same ∙ late)) taken),
+          rw (c.next-self-inside.ensures, ← append_assoc text digits (10 ∷ []))
+          (InnerHas-end limit _ (text ++ digits)
+          (λ late. early (ap (λ inner. inner.part) c.self.view_is ∙ sym same ∙ late)) taken),
     )

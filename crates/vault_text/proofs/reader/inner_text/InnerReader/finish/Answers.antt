@@ -4,12 +4,15 @@ use Rattle.vault_text.specs.Hexadecimal.{unhex}
 use Rattle.vault_text.specs.declared.limits.TheConstants.{TAG_LENGTH}
 use Rattle.std.proofs.lemmas.Option.{IfSome_then}
 use Rattle.std.proofs.lemmas.Result.{err_from_is_err_and}
-use Rattle.vault_text.proofs.PartsFacts.{payload_of-bad_cipher, payload_of-bad_salt, payload_of-bad_tag, payload_of-whole, read_inner-cut_off, read_inner-parts}
+use Rattle.vault_text.proofs.PartsFacts.{payload_of-bad_cipher, payload_of-bad_salt}
+use Rattle.vault_text.proofs.PartsFacts.{payload_of-bad_tag, payload_of-whole, read_inner-cut_off}
+use Rattle.vault_text.proofs.PartsFacts.{read_inner-parts}
 use Rattle.vault_text.proofs.reader.inner_text.InnerReader.finish.Goals as goal
 
 pub returns-in_default : goal.returns-in_default
 returns-in_default c limit text has =
-    sym (read_inner-cut_off limit c.args.label text _ (rw (← c.self.view_is) at has) c.in_default.not-Cipher)
+    sym (read_inner-cut_off limit c.args.label text _ (rw (← c.self.view_is) at has)
+    c.in_default.not-Cipher)
 
 pub returns-in_err-finish : goal.returns-in_err-finish
 returns-in_err-finish c limit text has =
@@ -17,39 +20,47 @@ returns-in_err-finish c limit text has =
     let p = err_from_is_err_and c.from_residual.result c.from_residual.ensures.1 in
     let salt = c.in_err-finish.ensures here.digits.salt here.salt in
     rw (p.1, p.2, salt.0)
-    (sym (read_inner-parts limit c.args.label text _ here c.in-Cipher.is ∙ payload_of-bad_salt limit c.args.label _ _ _ salt.1))
+    (sym (read_inner-parts limit c.args.label text _ here c.in-Cipher.is
+    ∙ payload_of-bad_salt limit c.args.label _ _ _ salt.1))
 
 pub returns-in_default-new : goal.returns-in_default-new
 returns-in_default-new c limit text has =
     let here = rw (← c.self.view_is) at has in
-    let fits = c.in_default-new.ensures.fits.1 (c.in_ok-finish.ensures here.digits.salt here.salt).1 in
+    let fits =
+    c.in_default-new.ensures.fits.1 (c.in_ok-finish.ensures here.digits.salt here.salt).1 in
     cc
 
 pub returns-in_err-finish-2 : goal.returns-in_err-finish-2
 returns-in_err-finish-2 c limit text has =
     let here = rw (← c.self.view_is) at has in
-    let p = err_from_is_err_and c.from_residual-in_err-finish-2.result c.from_residual-in_err-finish-2.ensures.1 in
+    let p = err_from_is_err_and c.from_residual-in_err-finish-2.result
+    c.from_residual-in_err-finish-2.ensures.1 in
     let tag = c.in_err-finish-2.ensures here.digits.tag here.tag in
-    let odd : IfSome (unhex here.digits.tag) (λ t. length t ≢ TAG_LENGTH) = IfSome_then (unhex here.digits.tag) tag.1 (λ t long same. omega (arith, long, same)) in
+    let odd : IfSome (unhex here.digits.tag) (λ t. length t ≢ TAG_LENGTH) =
+    IfSome_then (unhex here.digits.tag) tag.1 (λ t long same. omega (arith, long, same)) in
     rw (p.1, p.2, tag.0)
-    (sym (read_inner-parts limit c.args.label text _ here c.in-Cipher.is ∙ payload_of-bad_tag limit c.args.label _ _ _ odd))
+    (sym (read_inner-parts limit c.args.label text _ here c.in-Cipher.is
+    ∙ payload_of-bad_tag limit c.args.label _ _ _ odd))
 
 pub returns-in_default-try_from : goal.returns-in_default-try_from
 returns-in_default-try_from c limit text has =
     let here = rw (← c.self.view_is) at has in
     let tag = c.in_ok-finish-2.ensures here.digits.tag here.tag in
     sym (read_inner-parts limit c.args.label text _ here c.in-Cipher.is
-    ∙ payload_of-bad_tag limit c.args.label _ (unhex here.digits.tag) _ (rw tag.0 c.in_default-try_from.ensures.1))
+    ∙ payload_of-bad_tag limit c.args.label _ (unhex here.digits.tag) _
+    (rw tag.0 c.in_default-try_from.ensures.1))
 
 pub returns-in_err-cipher : goal.returns-in_err-cipher
 returns-in_err-cipher c limit text has =
     let here = rw (← c.self.view_is) at has in
-    let p = err_from_is_err_and c.from_residual-in_err-cipher.result c.from_residual-in_err-cipher.ensures.1 in
+    let p = err_from_is_err_and c.from_residual-in_err-cipher.result
+    c.from_residual-in_err-cipher.ensures.1 in
     let salt = c.in_ok-finish.ensures here.digits.salt here.salt in
     let tag = c.in_ok-finish-2.ensures here.digits.tag here.tag in
     rw (p.1, p.2)
     (sym (rw (salt.0, tag.0) at (read_inner-parts limit c.args.label text _ here c.in-Cipher.is)
-    ∙ payload_of-bad_cipher limit c.args.label _ _ _ _ salt.1 c.in-Ok.ensures.1.long (c.in_err-cipher.ensures _ here.digits.cipher here.cipher)))
+    ∙ payload_of-bad_cipher limit c.args.label _ _ _ _ salt.1 c.in-Ok.ensures.1.long
+    (c.in_err-cipher.ensures _ here.digits.cipher here.cipher)))
 
 pub returns : goal.returns
 returns c limit text has =
@@ -59,5 +70,6 @@ returns c limit text has =
     let cipher = c.in_ok-cipher.ensures _ here.digits.cipher here.cipher in
     let whole = c.in-Ok.ensures.1 in
     rw (c.new-2.ensures, c.in-Some.ensures.bytes, whole.same)
-    (sym (rw (salt.0, tag.0, cipher.0) at (read_inner-parts limit c.args.label text _ here c.in-Cipher.is)
+    (sym (rw (salt.0, tag.0, cipher.0)
+    at (read_inner-parts limit c.args.label text _ here c.in-Cipher.is)
     ∙ payload_of-whole limit c.args.label _ _ _ salt.1 whole.long cipher.1))

@@ -1,0 +1,1 @@
+"""What the companions of ansible-vault share. Nothing of it is proved."""

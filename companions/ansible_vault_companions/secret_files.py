@@ -1,0 +1,79 @@
+"""The password files that a command line names, as ansible-vault names them."""
+
+from __future__ import annotations
+
+import argparse
+import os
+import stat
+from typing import NamedTuple
+
+# One byte more than a password file may have: a longer one is refused by the tool.
+READ_AT_MOST = 4097
+
+
+class Secret(NamedTuple):
+    """A password file and the label of its secret."""
+
+    label: str
+    path: str
+    # As the command line has it.
+    given: str
+    # Of a password that is kept in memory.
+    descriptor: int | None = None
+
+    def option(self, name: str = "--vault-id", label: str | None = None) -> str:
+        """The word by which the tool is told of it, under a label of its own or another."""
+        return f"{name}={self.label if label is None else label}@{self.path}"
+
+
+def add_options(parser: argparse.ArgumentParser, prefix: str = "", which: str = "") -> None:
+    """The options that name secrets; they may be repeated."""
+    group = parser.add_argument_group(f"{which or 'secrets'}, at least one")
+    group.add_argument(
+        f"--{prefix}vault-id",
+        action="append",
+        default=[],
+        metavar="[LABEL@]FILE",
+        help="a password file, with the label of its secret; may be repeated",
+    )
+    group.add_argument(
+        f"--{prefix}vault-password-file",
+        action="append",
+        default=[],
+        metavar="FILE",
+        help="a password file for the label default; may be repeated",
+    )
+
+
+def from_options(parser: argparse.ArgumentParser, ids: list[str], paths: list[str]) -> list[Secret]:
+    """The secrets in the order in which the tool has them."""
+    if not ids and not paths:
+        parser.error("no secret is given")
+    return [*map(_of_id, ids), *map(_of_path, paths)]
+
+
+def _of_id(text: str) -> Secret:
+    label, at, path = text.partition("@")
+    if not at:
+        label, path = "", text
+    return _kept(Secret(label or "default", path, text))
+
+
+def _of_path(path: str) -> Secret:
+    # As the value of --vault-id this name alone would ask for a password.
+    return _kept(Secret("default", "./prompt" if path == "prompt" else path, path))
+
+
+def _kept(secret: Secret) -> Secret:
+    """What can be read but once, as `<(..)`, is kept in memory for all runs of the tool. What cannot be
+    opened is left to the tool to refuse."""
+    try:
+        if stat.S_ISREG(os.stat(secret.path).st_mode):
+            return secret
+        with open(secret.path, "rb") as file:
+            password = file.read(READ_AT_MOST)
+    except OSError:
+        return secret
+    descriptor = os.memfd_create("password")
+    os.write(descriptor, password)
+    return secret._replace(path=f"/dev/fd/{descriptor}", descriptor=descriptor)

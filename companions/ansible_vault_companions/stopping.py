@@ -1,0 +1,120 @@
+"""How a companion ends by a signal: between its steps and never inside of one, with nothing left behind.
+
+A signal is noted and passed on to the programs that run; what comes of it is an exception before or
+behind the run of a program, and nowhere else. So what stands in a `finally` is always done whole.
+"""
+
+from __future__ import annotations
+
+import os
+import signal
+import subprocess
+import time
+from contextlib import suppress
+from typing import Iterable, NoReturn
+
+# All that end a program by default and can be noted.
+ENDING = [
+    getattr(signal, f"SIG{name}")
+    for name in ("HUP", "INT", "QUIT", "TERM", "ALRM", "USR1", "USR2", "XCPU", "VTALRM", "PROF", "IO")
+]
+# What a terminal sends to all that run on it.
+KEYS = {signal.SIGINT, signal.SIGQUIT}
+# Seconds.
+PATIENCE = 5
+
+_noted: list[int] = []
+_left_to_programs: set[int] = set()
+_running: set[subprocess.Popen] = set()
+# What these started, where a signal was passed on to it.
+_reached: set[int] = set()
+
+
+class Stopped(Exception):
+    """A signal asks the companion to end."""
+
+
+def listen() -> None:
+    """From now on signals are noted; one that is ignored already stays so."""
+    for number in ENDING:
+        if signal.getsignal(number) != signal.SIG_IGN:
+            signal.signal(number, _note)
+
+
+def _note(number: int, _frame) -> None:
+    if number in _left_to_programs:
+        return
+    _noted.append(number)
+    for program in list(_running):
+        _pass_on(program, number if len(_noted) == 1 else signal.SIGKILL)
+
+
+def _pass_on(program: subprocess.Popen, number: int) -> None:
+    """To a program and all that it started, as the shell of an editor starts the editor."""
+    if program.returncode is None:
+        _reached.update(_below(program.pid))
+    program.send_signal(number)
+    for process in _reached:
+        with suppress(OSError):
+            os.kill(process, number)
+
+
+def _below(process: int) -> list[int]:
+    try:
+        with open(f"/proc/{process}/task/{process}/children") as file:
+            children = [int(word) for word in file.read().split()]
+    except OSError:
+        return []
+    return [each for child in children for each in (child, *_below(child))]
+
+
+def _is_alive(process: int) -> bool:
+    try:
+        with open(f"/proc/{process}/stat") as file:
+            return file.read().rpartition(")")[2].split()[0] != "Z"
+    except OSError:
+        return False
+
+
+def _wait_for_reached() -> None:
+    """What is ended by the signal, too, may still write where something is to be removed."""
+    end = time.monotonic() + PATIENCE
+    while any(map(_is_alive, _reached)) and time.monotonic() < end:
+        time.sleep(0.02)
+
+
+def check() -> None:
+    if _noted:
+        raise Stopped
+
+
+def end_by_signal() -> NoReturn:
+    """Ends as the signal would have ended it, so that a shell sees why."""
+    signal.signal(_noted[0], signal.SIG_DFL)
+    os.kill(os.getpid(), _noted[0])
+    raise SystemExit(128 + _noted[0])
+
+
+def run(words: list[str], data: bytes | None = None, **options) -> subprocess.CompletedProcess:
+    """Runs a program to its end."""
+    check()
+    with subprocess.Popen(words, **options) as program:
+        _running.add(program)
+        try:
+            if _noted:
+                _pass_on(program, _noted[0])
+            output, errors = program.communicate(data)
+            _wait_for_reached()
+        finally:
+            _running.discard(program)
+    check()
+    return subprocess.CompletedProcess(words, program.returncode, output, errors)
+
+
+def run_on_terminal(words: list[str], own: Iterable[int] = KEYS) -> int:
+    """Runs a program that has the terminal, and so the signals of its keys, for itself."""
+    _left_to_programs.update(own)
+    try:
+        return run(words).returncode
+    finally:
+        _left_to_programs.clear()

@@ -1,0 +1,99 @@
+"""The ansible-vault that does all that is secret. Plaintext and envelopes go through pipes alone."""
+
+from __future__ import annotations
+
+import os
+import re
+import shutil
+import subprocess
+from typing import Iterator
+
+from ansible_vault_companions import stopping
+from ansible_vault_companions.envelopes import label_of
+from ansible_vault_companions.program import Refused
+from ansible_vault_companions.secret_files import Secret
+
+NAME = "ansible-vault"
+NOT_OPENED = "no secret decrypts this vault"
+NOT_A_VAULT = "input is not vault encrypted data"
+
+
+class Tool:
+    """The ansible-vault beside a companion, else the one on PATH."""
+
+    def __init__(self, companion: str) -> None:
+        beside = (os.path.join(folder, NAME) for folder in _folders(companion))
+        path = next((each for each in beside if os.access(each, os.X_OK)), None) or shutil.which(NAME)
+        if path is None:
+            raise Refused(f"there is no {NAME} beside this program and on PATH")
+        silent = {"stdin": subprocess.DEVNULL, "stderr": subprocess.DEVNULL}
+        told = stopping.run([path, "--version"], stdout=subprocess.PIPE, **silent).stdout
+        if not re.match(rb"ansible-vault \d", told):
+            raise Refused(f"{path} is another tool of this name")
+        self.path = path
+
+    def run(self, words: list[str], data: bytes, secrets: list[Secret]) -> bytes:
+        """What the tool writes; what it refuses is refused here, in its words."""
+        pipes = {"stdin": subprocess.PIPE, "stdout": subprocess.PIPE, "stderr": subprocess.PIPE}
+        kept = [secret.descriptor for secret in secrets if secret.descriptor is not None]
+        done = stopping.run([self.path, *words], data, pass_fds=kept, **pipes)
+        if done.returncode != 0:
+            raise Refused(_message(done))
+        return done.stdout
+
+    def view(self, envelope: bytes, secret: Secret) -> bytes:
+        return self.run(["view", secret.option()], envelope, [secret])
+
+    def accept(self, secrets: list[Secret]) -> None:
+        """Refuses a secret that the tool refuses, by its name: with no input the secrets alone are looked at."""
+        for secret in secrets:
+            try:
+                self.view(b"", secret)
+            except Refused as fault:
+                if str(fault) != NOT_A_VAULT:
+                    raise Refused(f"{secret.given}: {fault}") from None
+
+    def open(self, envelope: bytes, secrets: list[Secret]) -> tuple[Secret, bytes]:
+        """The secret that opens it, those of its label first, and the plaintext."""
+        label = label_of(envelope)
+        for secret in sorted(secrets, key=lambda each: each.label != label):
+            try:
+                return secret, self.view(envelope, secret)
+            except Refused as fault:
+                if str(fault) != NOT_OPENED:
+                    raise
+        raise Refused(NOT_OPENED)
+
+    def is_opened(self, envelope: bytes, secret: Secret) -> bool:
+        try:
+            self.open(envelope, [secret])
+        except Refused as fault:
+            if str(fault) != NOT_OPENED:
+                raise
+            return False
+        return True
+
+    def seal(self, plaintext: bytes, secret: Secret, label: str) -> bytes:
+        """The plaintext under a secret and this label."""
+        return self.run(["encrypt", secret.option(label=label)], plaintext, [secret])
+
+    def rekey(self, envelope: bytes, secrets: list[Secret], new: Secret) -> bytes:
+        """The same plaintext under a new secret."""
+        words = ["rekey", *(secret.option() for secret in secrets), new.option("--new-vault-id")]
+        return self.run(words, envelope, [*secrets, new])
+
+
+def _message(done: subprocess.CompletedProcess) -> str:
+    text = done.stderr.decode(errors="replace").strip()
+    if done.returncode < 0:
+        text = f"{NAME} was ended by signal {-done.returncode}"
+    return text.removeprefix("ERROR! ") or f"{NAME} ended with status {done.returncode}"
+
+
+def _folders(program: str) -> Iterator[str]:
+    """The folders that a program stands in, from link to link."""
+    path = os.path.abspath(program)
+    yield os.path.dirname(path)
+    while os.path.islink(path):
+        path = os.path.normpath(os.path.join(os.path.dirname(path), os.readlink(path)))
+        yield os.path.dirname(path)

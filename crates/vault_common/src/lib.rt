@@ -1,0 +1,16 @@
+//! What requests and vaults both speak of: the table of faults, the rule for labels, and how many
+//! secrets a list holds.
+//!
+//! ```rust
+//! assert_eq!(rt; Fault::NoSecretFits.number(), 20);
+//! assert_eq!(rt; Fault::NoSecretFits.text(), "no secret decrypts this vault");
+//! ```
+#![tactic(auto)]
+
+mod fault;
+mod label_rule;
+mod limits;
+
+pub use fault::{Fault, Role};
+pub use label_rule::LabelRule;
+pub use limits::SECRET_COUNT_LIMIT;

@@ -1,0 +1,83 @@
+//! Files in memory.
+use std::test::Fail;
+use vault_files::{Access, FileFault, FileSystem, MemFile, MemFiles, read_front};
+use vault_text::{Sink, put_all};
+
+#[test]
+fn reads_fronts(rt: HostRuntime) {
+    let entries = [
+        MemFile::whole("one", b"abc"),
+        MemFile::broken("two", b"abc"),
+        MemFile::whole("one", b"later"),
+    ];
+    let mut files = MemFiles::new(rt.alloc(), &entries);
+    let mut buf = [0; 4];
+    assert_eq!(rt; read_front(&mut files, "one", &mut buf), Ok(3));
+    assert_eq!(rt; &buf[..3], b"abc".as_slice());
+    assert_eq!(rt; read_front(&mut files, "one", &mut buf[..2]), Ok(2));
+    assert_eq!(rt;
+        read_front(&mut files, "two", &mut buf),
+        Err(FileFault::CannotRead)
+    );
+    assert_eq!(rt; read_front(&mut files, "two", &mut buf[..3]), Ok(3));
+    assert_eq!(rt;
+        read_front(&mut files, "none", &mut buf),
+        Err(FileFault::CannotOpen)
+    );
+}
+
+/// Whether a file of these bytes stands at the path.
+fn has(files: &MemFiles, path: &str, bytes: &[u8]) -> bool {
+    files.content(path) == Some(bytes)
+}
+
+#[test]
+fn keeps_what_is_written(rt: HostRuntime) -> Result<(), Fail> {
+    let alloc = rt.alloc();
+    let entries = [MemFile::whole("one", b"abc"), MemFile::whole("two", b"de")];
+    let mut files = MemFiles::new(alloc, &entries);
+    files.aim(alloc, "one", Access::Kept)?;
+    assert!(rt; has(&files, "one", b"abc"));
+    files.begin()?;
+    assert!(rt; has(&files, "one", b""));
+    put_all(&mut files, b"new")?;
+    files.finish()?;
+    assert!(rt; has(&files, "one", b"new"));
+    assert!(rt; has(&files, "two", b"de"));
+    assert!(rt; files.content("none").is_none());
+    Ok(())
+}
+
+/// Whether these are the paths of the log.
+fn has_opened(files: &MemFiles, paths: &[&str]) -> bool {
+    let log = files.log();
+    log.len() == paths.len()
+        && log
+            .iter()
+            .zip(paths)
+            .all(|(noted, path)| noted.as_str() == *path)
+}
+
+#[test]
+fn logs_each_open(rt: HostRuntime) -> Result<(), Fail> {
+    let alloc = rt.alloc();
+    let entries = [MemFile::whole("one", b"abc")];
+    let mut files = MemFiles::with_limit(alloc, &entries, 2);
+    let mut buf = [0; 4];
+    assert_eq!(rt;
+        read_front(&mut files, "none", &mut buf),
+        Err(FileFault::CannotOpen)
+    );
+    assert_eq!(rt; read_front(&mut files, "one", &mut buf), Ok(3));
+    assert_eq!(rt;
+        read_front(&mut files, "one", &mut buf),
+        Err(FileFault::Memory)
+    );
+    files.aim(alloc, "out", Access::Kept)?;
+    files.begin()?;
+    put_all(&mut files, b"new")?;
+    files.finish()?;
+    assert!(rt; has(&files, "out", b"new"));
+    assert!(rt; has_opened(&files, &["none", "one", "one"]));
+    Ok(())
+}

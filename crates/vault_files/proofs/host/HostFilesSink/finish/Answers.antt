@@ -1,0 +1,48 @@
+use Rattle.std.proofs.Common.{◌≡◌, ◌∙◌, ap, refl, arith, true, false}
+use Rattle.std.specs.Result.{is_ok}
+use Rattle.std.proofs.lemmas.Bool.{false≢true}
+use Rattle.vault_files.specs.HostLaws.{HostTakes-none}
+use Rattle.vault_files.proofs.HostFacts.{finished, unfinished, unasked, rises}
+use Rattle.vault_files.proofs.HostFacts.{if_failed-ok, if_failed-err}
+use Rattle.vault_files.proofs.host.HostFilesSink.finish.Goals as goal
+use Rattle.vault_files.proofs.host.HostFilesSink.finish.Goals.{in-Some, in-None}
+
+pub returns-then-is_last-clause-takes : goal.returns-then-is_last-clause-takes
+returns-then-is_last-clause-takes g c = HostTakes-none g.D.Disk.asks g.met.D.Disk.asks_none _
+
+pub returns-then-not-synced-clause-takes : goal.returns-then-not-synced-clause-takes
+returns-then-not-synced-clause-takes g c =
+    let stage = ap (λ s. s.stage) c.self.view_is ∙ c.requires in
+    let unstopped = c.if-is_last.ensures.last in
+    elim c.match-self.branch [
+      | in-Some w ↦
+          let call = w.sync.ensures in
+          let made : is_ok w.sync.result ≡ false =
+          grind (arith, w.is_ok-synced.ensures, w.synced-is, c.if-not-synced.true) in
+          let asked = rw (if_failed-err _ made) at call in
+          let raised = c.raise.ensures.risen in
+          let counted = rw w.self-inside-is at raised in
+          rw (← c.self.view_is, w.self-inside-is)
+          (unfinished g.D.Disk.asks _ _ asked stage stage (rises _ _ unstopped counted) refl)
+      | in-None w ↦
+          let raised = c.raise.ensures.later in
+          let later = rw w.self-inside-is at raised in
+          rw (← c.self.view_is, w.self-inside-is)
+          (unasked g.D.Disk.asks _ _ (g.met.D.Disk.asks_none _) refl later refl)
+    ]
+
+pub returns-clause-takes : goal.returns-clause-takes
+returns-clause-takes g c =
+    let stage = ap (λ s. s.stage) c.self.view_is ∙ c.requires in
+    elim c.match-self.branch [
+      | in-Some w ↦
+          let call = w.sync.ensures in
+          let made : is_ok w.sync.result ≡ true =
+          grind (arith, w.is_ok-synced.ensures, w.synced-is, c.if-not-synced.false) in
+          let asked = rw (if_failed-ok _ made) at call in
+          rw (← c.self.view_is, w.self-inside-is)
+          (finished g.D.Disk.asks _ _ asked stage refl (omega arith) refl)
+      | in-None w ↦
+          let never : false ≡ true = grind (arith, w.synced-is, c.if-not-synced.false) in
+          absurd (false≢true never)
+    ]

@@ -1,0 +1,56 @@
+use Rattle.std.proofs.Common.{◌≡◌, ◌∙◌, sym, ap, refl, arith, []}
+use Rattle.vault_files.specs.HostLaws.{HostTakes-none}
+use Rattle.vault_files.proofs.HostFacts.{written, unwritten, unasked, rises}
+use Rattle.vault_files.proofs.host.HostFilesSink.put.Goals as goal
+use Rattle.vault_files.proofs.host.HostFilesSink.put.Goals.{in-Some, in-None}
+use Rattle.vault_files.proofs.host.HostFilesSink.put.Goals.{in_default-via-in-Ok+else-n-gt0}
+use Rattle.vault_files.proofs.host.HostFilesSink.put.Goals.{in_default-via-in_default}
+
+pub returns-then-is_last-clause-takes : goal.returns-then-is_last-clause-takes
+returns-then-is_last-clause-takes g c = HostTakes-none g.D.Disk.asks g.met.D.Disk.asks_none _
+
+pub returns-in-Ok-clause-takes : goal.returns-in-Ok-clause-takes
+returns-in-Ok-clause-takes g c =
+    let stage = ap (λ s. s.stage) c.self.view_is ∙ c.requires.begun in
+    elim c.match-self.branch [
+      | in-Some w ↦
+          let call = w.write-written.ensures.asks in
+          let made = sym w.written-is ∙ c.in-Ok.is in
+          let asked = rw made at call in
+          rw (← c.self.view_is, w.self-inside-is)
+          (written g.D.Disk.asks _ _ _ asked stage stage (omega arith) refl)
+      | in-None w ↦
+          let none : 0 ≡ c.in-Ok.n = grind (arith, sym w.written-is ∙ c.in-Ok.is) in
+          absurd (omega (arith, none, c.if-n-gt0.true))
+    ]
+
+pub returns-in_default-clause-takes : goal.returns-in_default-clause-takes
+returns-in_default-clause-takes g c =
+    let stage = ap (λ s. s.stage) c.self.view_is ∙ c.requires.begun in
+    let unstopped = c.if-is_last.ensures.last in
+    elim c.match-self.branch [
+      | in-Some w ↦
+          let call = w.write-written.ensures.asks in
+          elim c.in_default.branch [
+            | in_default-via-in-Ok+else-n-gt0 v ↦
+                let none : v.in-Ok.n ≡ 0 = omega (arith, v.if-n-gt0.false) in
+                let made = sym w.written-is ∙ v.in-Ok.is in
+                let asked = rw (made, none) at call in
+                let raised = c.raise.ensures.later in
+                let later = rw w.self-inside-is at raised in
+                rw (← c.self.view_is, w.self-inside-is)
+                (written g.D.Disk.asks _ _ [] asked stage stage later refl)
+            | in_default-via-in_default v ↦
+                let made = sym w.written-is ∙ v.in_default.is in
+                let asked = rw made at call in
+                let raised = c.raise.ensures.risen in
+                let counted = rw w.self-inside-is at raised in
+                rw (← c.self.view_is, w.self-inside-is)
+                (unwritten g.D.Disk.asks _ _ asked stage stage (rises _ _ unstopped counted) refl)
+          ]
+      | in-None w ↦
+          let raised = c.raise.ensures.later in
+          let later = rw w.self-inside-is at raised in
+          rw (← c.self.view_is, w.self-inside-is)
+          (unasked g.D.Disk.asks _ _ (g.met.D.Disk.asks_none _) refl later refl)
+    ]

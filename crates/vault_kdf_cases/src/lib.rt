@@ -1,0 +1,5 @@
+//! Tests of the derivation of keys.
+#![tactic(auto)]
+
+#[cfg(test)]
+mod keys;

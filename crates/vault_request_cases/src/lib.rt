@@ -1,0 +1,5 @@
+//! Tests of requests.
+#![tactic(auto)]
+
+#[cfg(test)]
+mod requests;

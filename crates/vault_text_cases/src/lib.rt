@@ -1,0 +1,17 @@
+//! Tests of devices and envelopes.
+#![tactic(auto)]
+
+#[cfg(test)]
+mod asked_once;
+#[cfg(test)]
+mod failing_source;
+#[cfg(test)]
+mod labels;
+#[cfg(test)]
+mod reading;
+#[cfg(test)]
+mod text_memory;
+#[cfg(test)]
+mod whole_list;
+#[cfg(test)]
+mod writing;

@@ -1,0 +1,84 @@
+"""Standard error is text: no byte below 32 but line ends, no 127, and none that is not of a character.
+
+Each control byte comes in each word of a command line, in a path, and in the files that a run reads.
+"""
+
+import itertools
+import os
+
+from cases import Cases, by_file
+from cases.modes import with_output
+from cases.samples import samples
+from model.vaults import HEADER
+
+LINE_END = 10
+# All but 0, which no word can hold, and two that are controls in other alphabets.
+CONTROLS = [*map(chr, range(1, 32)), "\x7f", "\x1b[31m", "\x1b]0;title\x07", "\r\n", "\x80", "\x9b31m"]
+COMMANDS = ["encrypt", "decrypt", "view", "rekey", "encrypt_string"]
+
+
+def is_text(message: bytes) -> bool:
+    try:
+        message.decode()
+    except UnicodeDecodeError:
+        return False
+    return all(byte == LINE_END or byte >= 32 and byte != 127 for byte in message)
+
+
+def check_text(cases: Cases, words: list, stdin: bytes = b"") -> None:
+    """The words are refused, in a text."""
+    done = cases.done(words, stdin)
+    found = done.returncode != 0, done.stdout, done.stderr != b"" and is_text(done.stderr)
+    cases.check(f"{words!r:.200}: standard error is text ({done.stderr!r:.200})", found, (True, b"", True))
+
+
+def in_words(cases: Cases) -> None:
+    """Words that the parser names in its text."""
+    for control in CONTROLS:
+        word = f"a{control}b"
+        check_text(cases, [word])
+        check_text(cases, [f"--{word}"])
+        check_text(cases, [f"-{control}"])
+        for command in COMMANDS:
+            for words in ([f"--{word}"], [f"--{word}=x"], ["x", word], [f"-{control}"], ["--vault-id", "x", f"--vault-id{control}", "y"]):
+                check_text(cases, [command, *words])
+        check_text(cases, ["view", f"--require-id-match={word}"])
+
+
+def in_bytes(cases: Cases) -> None:
+    """Words that are not UTF-8, and words too many of them."""
+    for byte in (b"\x80", b"\xff", b"\xc3", b"\xed\xa0\x80", b"\x1b\xff"):
+        for words in ([byte], [b"view", b"--" + byte], [b"view", b"x", byte], [b"view", b"--vault-id", byte]):
+            check_text(cases, words)
+
+
+def in_values(cases: Cases) -> None:
+    """Paths, labels, names and salts, which no message names."""
+    for control in CONTROLS:
+        path = os.path.join(cases.path(), f"a{control}b")
+        for sample in samples(cases):
+            check_text(cases, [*sample.words, *by_file(path)], sample.stdin)
+            check_text(cases, [*sample.words, "--vault-id", f"a{control}b@{path}"], sample.stdin)
+        for sample in with_output(cases):
+            check_text(cases, [*sample.words, "--output", path], sample.stdin)
+        if ord(control[0]) < 128:
+            check_text(cases, ["encrypt_string", "--name", f"a{control}b", "x"])
+
+
+def in_files(cases: Cases) -> None:
+    """A vault and a password that are refused."""
+    right = by_file(cases.file(b"right\n"))
+    for byte in itertools.chain(range(32), range(127, 256)):
+        control = bytes([byte])
+        check_text(cases, ["view", *right], control * 3)
+        check_text(cases, ["view", *right], HEADER + b";" + control * 200 + b"\n")
+        check_text(cases, ["view", *right], HEADER + b"\n" + control * 3 + b"zz")
+        check_text(cases, ["view", *by_file(cases.file(b"#!" + control * 3))])
+
+
+GROUPS = [
+    in_words,
+    in_bytes,
+    in_values,
+    in_files,
+]

@@ -1,0 +1,83 @@
+"""How many keys a run derives, by the instructions that Valgrind counts: one for each secret that is tried,
+and for each envelope that is written.
+
+Nothing else in a run costs as much: reading the other password files is far below one derivation.
+"""
+
+import concurrent.futures
+import re
+import subprocess
+import tempfile
+from typing import NamedTuple
+
+from cases import SECONDS, TEXT, Cases, by_file, by_id
+from cases.samples import SALT_TEXT, SALT_WORDS
+from model.faults import Fault
+from model.vaults import ENVELOPE, parts, seal, spelled
+
+WORKERS = 2
+COLLECTED = re.compile(r"Collected *: *(\d+)")
+# Ten thousand rounds, of which each takes six compressions of 64 steps, take more instructions than this.
+LEAST_DERIVATION = 10_000 * 6 * 64 * 10
+# What a run may cost besides, in derivations.
+TOLERANCE = 0.02
+MOST_SECRETS = 16
+
+
+class Run(NamedTuple):
+    name: str
+    words: list[str]
+    stdin: bytes
+    derivations: int
+    status: int = 0
+    output: bytes = b""
+
+
+def runs(cases: Cases) -> list[Run]:
+    right, wrong, new = (cases.file(each) for each in (b"right\n", b"wrong\n", b"new\n"))
+    vault, rekeyed = seal(b"right", TEXT), seal(b"new", TEXT, salt=SALT_TEXT)
+    others = lambda count: by_id(wrong, "other") * count
+    unpadded = spelled(*parts(b"right", bytes(16)))
+    refused = Fault.NO_SECRET_FITS.status
+    to_new = ["--new-vault-password-file", new, *SALT_WORDS]
+    chosen = ["--encrypt-vault-id", "dev", *SALT_WORDS]
+    most = MOST_SECRETS - 1
+    return [
+        Run("no vault", ["view", *by_file(right), *others(most)], b"", 0, Fault.NOT_VAULT.status),
+        Run("one secret", ["view", *by_id(right)], vault, 1, 0, TEXT),
+        Run("two secrets, the first fits", ["view", *by_id(right), *others(1)], vault, 1, 0, TEXT),
+        Run("all secrets, the first fits", ["view", *by_id(right), *others(most)], vault, 1, 0, TEXT),
+        Run("the last has the label", ["decrypt", *others(most), *by_id(right)], vault, 1, 0, TEXT),
+        Run("the third of four fits", ["view", *others(2), *by_id(right, "x"), *others(1)], vault, 3, 0, TEXT),
+        Run("none of two fits", ["decrypt", *others(2)], ENVELOPE, 2, refused),
+        Run("none may be tried", ["view", "--require-id-match", *others(most)], vault, 0, refused),
+        Run("a wrong padding", ["view", *by_id(right), *others(most)], unpadded, 1, Fault.BAD_PADDING.status),
+        Run("a choice of all", ["encrypt", *others(most), *by_id(right, "dev"), *chosen], TEXT, 1, 0, seal(b"right", TEXT, b"dev", SALT_TEXT)),
+        Run("another secret", ["rekey", *by_id(right), *others(most), *to_new], vault, 2, 0, rekeyed),
+    ]
+
+
+def collected(program: str, run: Run) -> tuple[subprocess.CompletedProcess, int]:
+    """The run, and how many instructions it took."""
+    with tempfile.NamedTemporaryFile("r") as log:
+        tool = ["--tool=callgrind", "--callgrind-out-file=/dev/null", f"--log-file={log.name}"]
+        done = subprocess.run(["valgrind", *tool, program, *run.words], input=run.stdin, capture_output=True, timeout=SECONDS)
+        found = COLLECTED.search(log.read())
+    return done, int(found[1]) if found else 0
+
+
+def derivations(cases: Cases) -> None:
+    every = runs(cases)
+    with concurrent.futures.ThreadPoolExecutor(WORKERS) as pool:
+        counted = list(pool.map(lambda run: collected(cases.program, run), every))
+    base, one = counted[0][1], counted[1][1] - counted[0][1]
+    cases.holds("a derivation takes its rounds", one > LEAST_DERIVATION, f"it takes {one} instructions")
+    for run, (done, count) in zip(every, counted):
+        cases.check(f"{run.name}: answer", (done.returncode, done.stdout), (run.status, run.output))
+        found = (count - base) / max(one, 1)
+        cases.holds(f"{run.name}: derivations", abs(found - run.derivations) < TOLERANCE, f"got {found:.3f}, want {run.derivations}")
+
+
+GROUPS = [
+    derivations,
+]

@@ -1,0 +1,171 @@
+"""Standard streams of every kind: those that do not wait, that append, that go one way only, sockets,
+terminals, and one pipe for both outputs.
+"""
+
+import os
+import socket
+import subprocess
+import termios
+from pathlib import Path
+
+from cases import SECONDS, Cases, by_file
+from cases.modes import OLD
+from cases.samples import Sample, samples
+from model.faults import Fault
+
+LARGE = 1 << 20
+REFUSED = Fault.NO_SECRET_FITS
+# What ends the input on a terminal, at the start of a line.
+END_OF_INPUT = b"\x04"
+
+
+def refused_sample(cases: Cases) -> Sample:
+    """A run whose one line goes to standard error."""
+    vault = next(sample.stdin for sample in samples(cases) if sample.command == "view")
+    return Sample(["view", *by_file(cases.file(b"wrong\n"))], vault, b"")
+
+
+def check_run(cases: Cases, name: str, words: list[str], wanted: tuple, **streams) -> None:
+    """The status, and what came through each output that is captured."""
+    given = {"stdout": subprocess.PIPE, "stderr": subprocess.PIPE, **streams}
+    done = subprocess.run([cases.program, *words], timeout=SECONDS, **given)
+    cases.check(name, (done.returncode, done.stdout, done.stderr), wanted)
+
+
+def failed(fault: Fault, output=b"") -> tuple:
+    return fault.status, output, fault.line
+
+
+def non_blocking_input(cases: Cases) -> None:
+    """Where nothing is there yet reading fails; what is there before the end is read."""
+    for sample in samples(cases):
+        reader, writer = os.pipe()
+        os.set_blocking(reader, False)
+        os.write(writer, sample.stdin)
+        check_run(cases, f"{sample.command}, input that does not wait", sample.words, failed(Fault.INPUT_NOT_READ), stdin=reader)
+        os.write(writer, sample.stdin)
+        os.close(writer)
+        check_run(cases, f"{sample.command}, input that has ended", sample.words, (0, sample.output, b""), stdin=reader)
+        os.close(reader)
+
+
+def non_blocking_output(cases: Cases) -> None:
+    """What does not go into the pipe at once is a write fault behind a prefix."""
+    for size, fault in ((1, None), (LARGE, Fault.NOT_WRITTEN)):
+        for sample in samples(cases, bytes(size)):
+            reader, writer = os.pipe()
+            os.set_blocking(writer, False)
+            wanted = failed(fault, None) if fault else (0, None, b"")
+            name = f"{sample.command} of {size} bytes to a pipe that does not wait"
+            check_run(cases, name, sample.words, wanted, input=sample.stdin, stdout=writer)
+            os.close(writer)
+            with open(reader, "rb") as pipe:
+                content = pipe.read()
+            cases.holds(f"{name}: a prefix", sample.output.startswith(content), f"got {content!r:.300}")
+            cases.check(f"{name}: the whole", content == sample.output, fault is None)
+
+
+def appending(cases: Cases) -> None:
+    """The output comes behind what is there; a name of the stream opens its file anew, which cuts it."""
+    for sample in samples(cases):
+        path = cases.file(OLD)
+        with open(path, "ab") as out:
+            check_run(cases, f"{sample.command} behind a file", sample.words, (0, None, b""), input=sample.stdin, stdout=out)
+            cases.check(f"{sample.command} behind a file: content", Path(path).read_bytes(), OLD + sample.output)
+            if sample.command != "view":
+                words = [*sample.words, "--output", "/dev/stdout"]
+                check_run(cases, f"{sample.command} to its name", words, (0, None, b""), input=sample.stdin, stdout=out)
+                cases.check(f"{sample.command} to its name: content", Path(path).read_bytes(), sample.output)
+    refused, path = refused_sample(cases), cases.file(OLD)
+    with open(path, "ab") as both:
+        check_run(cases, "a refusal behind a file", refused.words, (REFUSED.status, None, None), input=refused.stdin, stdout=both, stderr=both)
+    cases.check("a refusal behind a file: content", Path(path).read_bytes(), OLD + REFUSED.line)
+
+
+def one_way(cases: Cases) -> None:
+    """Standard input that is open for writing alone, and outputs that are open for reading alone."""
+    for sample in samples(cases):
+        path = cases.file(sample.stdin)
+        with open(path, "ab") as to_write, open(path, "rb") as to_read:
+            name = sample.command
+            check_run(cases, f"{name}, input that is to be written", sample.words, failed(Fault.INPUT_NOT_READ), stdin=to_write)
+            check_run(cases, f"{name}, output that is to be read", sample.words, failed(Fault.NOT_WRITTEN, None), input=sample.stdin, stdout=to_read)
+            check_run(cases, f"{name}, standard error that is to be read", sample.words, (0, sample.output, None), input=sample.stdin, stderr=to_read)
+        cases.check(f"{name}: the file stays", Path(path).read_bytes(), sample.stdin)
+    refused = refused_sample(cases)
+    with open(cases.file(b""), "rb") as to_read:
+        check_run(cases, "a refusal nobody hears", refused.words, (REFUSED.status, b"", None), input=refused.stdin, stderr=to_read)
+
+
+def sockets(cases: Cases) -> None:
+    for sample in samples(cases):
+        ours, theirs = socket.socketpair()
+        with ours, theirs:
+            ours.sendall(sample.stdin)
+            ours.shutdown(socket.SHUT_WR)
+            check_run(cases, f"{sample.command} from and to a socket", sample.words, (0, None, b""), stdin=theirs, stdout=theirs)
+            theirs.close()
+            with ours.makefile("rb") as stream:
+                cases.check(f"{sample.command}: what the socket gave", stream.read(), sample.output)
+
+
+def left_sockets(cases: Cases) -> None:
+    """The other side of a socket has gone, and has not read what was sent to it."""
+    for sample in samples(cases):
+        ours, theirs = socket.socketpair()
+        ours.close()
+        with theirs:
+            check_run(cases, f"{sample.command} to a socket that was left", sample.words, failed(Fault.NOT_WRITTEN, None), input=sample.stdin, stdout=theirs)
+        ours, theirs = socket.socketpair()
+        theirs.sendall(b"nobody reads it")
+        ours.close()
+        with theirs:
+            check_run(cases, f"{sample.command} from a socket that was left", sample.words, failed(Fault.INPUT_NOT_READ), stdin=theirs)
+
+
+def terminal(cases: Cases) -> None:
+    """The text is typed, and so is its end; the terminal shows each line end as two bytes."""
+    for sample in [*samples(cases), refused_sample(cases)]:
+        ours, theirs = os.openpty()
+        settings = termios.tcgetattr(theirs)
+        settings[3] &= ~termios.ECHO
+        termios.tcsetattr(theirs, termios.TCSANOW, settings)
+        os.write(ours, sample.stdin + END_OF_INPUT)
+        child = subprocess.Popen([cases.program, *sample.words], stdin=theirs, stdout=theirs, stderr=theirs)
+        os.close(theirs)
+        shown = all_shown(ours)
+        name = f"{sample.command} {sample.words[-1]} on a terminal"
+        status, text = (0, sample.output) if sample.output else (REFUSED.status, REFUSED.line)
+        cases.check(name, (child.wait(SECONDS), shown), (status, text.replace(b"\n", b"\r\n")))
+
+
+def all_shown(terminal: int) -> bytes:
+    """What comes until nobody holds the other side any more."""
+    pieces = []
+    with open(terminal, "rb", buffering=0) as stream:
+        try:
+            while piece := stream.read(LARGE):
+                pieces.append(piece)
+        except OSError:
+            pass
+    return b"".join(pieces)
+
+
+def one_pipe(cases: Cases) -> None:
+    """Both outputs are one pipe: a run writes its output there or its line, and nothing else."""
+    for sample in samples(cases):
+        check_run(cases, f"{sample.command}, both outputs one", sample.words, (0, sample.output, None), input=sample.stdin, stderr=subprocess.STDOUT)
+    refused = refused_sample(cases)
+    check_run(cases, "a refusal, both outputs one", refused.words, (REFUSED.status, REFUSED.line, None), input=refused.stdin, stderr=subprocess.STDOUT)
+
+
+GROUPS = [
+    non_blocking_input,
+    non_blocking_output,
+    appending,
+    one_way,
+    sockets,
+    left_sockets,
+    terminal,
+    one_pipe,
+]

@@ -1,0 +1,138 @@
+"""What a run finds around it: the program's name, the environment, and the limits of the system."""
+
+import ctypes
+import itertools
+import os
+import resource
+import subprocess
+from pathlib import Path
+
+from cases import SECONDS, TEXT, Cases, by_file, by_id
+from cases.files import to_output, with_files
+from cases.modes import with_output
+from cases.samples import Sample, samples
+from model.faults import Fault
+from model.vaults import seal
+
+KIB = 1 << 10
+NOT_UTF8 = b"error: an argument is not UTF-8\n"
+LOCALES = ["", "C", "POSIX", "C.UTF-8", "tr_TR.UTF-8", "xx_YY.no-such", "/", "\udcff", "a" * 5_000]
+LOCALE_NAMES = ["LANG", "LC_ALL", "LC_CTYPE", "LC_MESSAGES", "LANGUAGE"]
+# What other programs read: this one's answers are the same.
+NOT_READ = {
+    "ANSIBLE_VAULT_PASSWORD_FILE": "/dev/null",
+    "ANSIBLE_VAULT_IDENTITY_LIST": "dev@/dev/null",
+    "ANSIBLE_VAULT_ENCRYPT_IDENTITY": "dev",
+    "ANSIBLE_CONFIG": "/dev/null",
+    "CLICOLOR_FORCE": "1",
+    "COLORTERM": "truecolor",
+    "TERM": "xterm-256color",
+    "COLUMNS": "20",
+    "RUST_BACKTRACE": "full",
+    "TZ": "Nowhere/Never",
+}
+# Files that may be open at once, standard streams too: the fewest under which a program starts, and the
+# fewest under which every run ends well.
+STARTS, ENOUGH = 4, 8
+STACK = 128 * KIB
+LARGE = 1 << 20
+
+
+def without_words(cases: Cases) -> None:
+    """A program that is given no word at all, not even its name, answers as without a command."""
+    library = ctypes.CDLL(None, use_errno=True)
+    nothing = (ctypes.c_char_p * 1)(None)
+    start = lambda: library.execve(os.fsencode(cases.program), nothing, nothing)
+    done = subprocess.run([cases.program], preexec_fn=start, stdin=subprocess.DEVNULL, capture_output=True, timeout=SECONDS)
+    wanted = cases.done([])
+    cases.check("no words at all", (done.returncode, done.stdout, done.stderr), (2, b"", wanted.stderr))
+
+
+def program_names(cases: Cases) -> None:
+    """Another name changes nothing; one that is not UTF-8 is refused as any argument is."""
+    for sample in samples(cases):
+        for name in ("", "other", "-x", "two words", "a\nb", "view"):
+            done = subprocess.run([name, *sample.words], executable=cases.program, input=sample.stdin, capture_output=True, timeout=SECONDS)
+            cases.check(f"{sample.command} under the name {name!r}", (done.returncode, done.stdout, done.stderr), (0, sample.output, b""))
+        done = subprocess.run([b"\xff", *sample.words], executable=cases.program, input=sample.stdin, capture_output=True, timeout=SECONDS)
+        cases.check(f"{sample.command} under a name that is not UTF-8", (done.returncode, done.stdout, done.stderr), (2, b"", NOT_UTF8))
+
+
+def names_of_files(cases: Cases) -> None:
+    """A path that is not UTF-8 is refused, where it is that of a file, too."""
+    path = os.fsencode(cases.path()) + b"\xff"
+    for sample in with_files(cases):
+        Path(os.fsdecode(path)).write_bytes(sample.stdin)
+        runs = {"FILE": [path, *to_output(sample)], "a password file": by_file(path), "a label": ["--vault-id", b"\xff@" + path]}
+        for role, words in runs.items():
+            cases.run(f"{sample.command}, {role} that is not UTF-8", [*sample.words, *words], sample.stdin, 2, b"", NOT_UTF8)
+        cases.check(f"{sample.command}: the file stays", Path(os.fsdecode(path)).read_bytes(), sample.stdin)
+    os.unlink(path)
+    for sample in with_output(cases):
+        cases.run(f"{sample.command}, an output that is not UTF-8", [*sample.words, "--output", path], sample.stdin, 2, b"", NOT_UTF8)
+        cases.check(f"{sample.command}: no file of that name", os.path.exists(path), False)
+
+
+def environments(cases: Cases) -> None:
+    """No variable is read."""
+    settings = [{}, dict.fromkeys(LOCALE_NAMES, ""), NOT_READ]
+    settings += [dict.fromkeys(LOCALE_NAMES, locale) for locale in LOCALES]
+    runs = [(sample.words, sample.stdin, (0, sample.output, b"")) for sample in samples(cases)]
+    fault = Fault.NO_SECRET_FITS
+    runs.append((["view", *by_file(cases.file(b"wrong\n"))], seal(b"right", TEXT), (fault.status, b"", fault.line)))
+    for words in (["--help"], ["rekey", "--help"], ["view", "--loud"], ["größe"], []):
+        usual = cases.done(words)
+        runs.append((words, b"", (usual.returncode, usual.stdout, usual.stderr)))
+    for given, (words, stdin, wanted) in itertools.product(settings, runs):
+        done = subprocess.run([cases.program, *words], input=stdin, capture_output=True, timeout=SECONDS, env=given)
+        name = f"{words[:1]} with {' '.join(f'{name}={value}' for name, value in given.items())!r:.100}"
+        cases.check(name, (done.returncode, done.stdout, done.stderr), wanted)
+
+
+def run_under(cases: Cases, limit: int, amount: int, words: list[str], stdin: bytes) -> tuple:
+    restrict = lambda: resource.setrlimit(limit, (amount, amount))
+    done = subprocess.run([cases.program, *words], input=stdin, capture_output=True, timeout=SECONDS, preexec_fn=restrict)
+    return done.returncode, done.stdout, done.stderr
+
+
+def few_files(cases: Cases) -> None:
+    """Where no more files may be open a run says which one it lacks, and changes none."""
+    faults = [Fault.SECRET_NOT_OPENED, Fault.INPUT_NOT_OPENED, Fault.NOT_WRITTEN]
+    lacks = [(fault.status, b"", fault.line, None) for fault in faults]
+    for sample in with_files(cases):
+        given = cases.file(sample.stdin)
+        for amount in range(STARTS, ENOUGH + 2):
+            path = Path(cases.path())
+            output = [] if sample.command == "view" else ["--output", str(path)]
+            answer = run_under(cases, resource.RLIMIT_NOFILE, amount, [*sample.words, given, *output], b"")
+            written = path.read_bytes() if path.exists() else None
+            name = f"{sample.command} with {amount} files"
+            whole = (0, b"", b"", sample.output) if output else (0, sample.output, b"", None)
+            allowed = [whole, *(lacks if amount < ENOUGH else [])]
+            cases.holds(name, (*answer, written) in allowed, f"got {answer!r:.300}, written {written!r:.100}")
+            cases.check(f"{name}: FILE stays", Path(given).read_bytes(), sample.stdin)
+
+
+def small_stack(cases: Cases) -> None:
+    """With long texts, and with all secrets that a run may have."""
+    others = [word for number in range(15) for word in by_id(cases.file(b"wrong\n"), f"l{number}")]
+    words = ["decrypt", *others, *by_file(cases.file(b"right\n"))]
+    runs = [("sixteen secrets", Sample(words, seal(b"right", TEXT, b"other"), TEXT))]
+    runs += [(f"{len(text)} bytes", sample) for text in (TEXT, bytes(LARGE)) for sample in samples(cases, text)]
+    for name, sample in runs:
+        answer = run_under(cases, resource.RLIMIT_STACK, STACK, sample.words, sample.stdin)
+        cases.check(f"{sample.command}, {name} with a small stack", answer, (0, sample.output, b""))
+    for words, status in ((["--help"], 0), (["rekey", "--help"], 0), (["view", "--loud"], 2), ([], 2)):
+        usual = cases.done(words)
+        answer = run_under(cases, resource.RLIMIT_STACK, STACK, words, b"")
+        cases.check(f"{words} with a small stack", answer, (status, usual.stdout, usual.stderr))
+
+
+GROUPS = [
+    without_words,
+    program_names,
+    names_of_files,
+    environments,
+    few_files,
+    small_stack,
+]

@@ -1,0 +1,104 @@
+"""What goes out in one write: a message's line, and an envelope's header line with its first lines.
+
+A pipe of packets keeps what each write gave apart.
+"""
+
+import fcntl
+import os
+import subprocess
+
+from cases import SECONDS, TEXT, Cases, by_file, by_id
+from cases.samples import samples
+from lib.resident import wait_for_sleep
+from model.faults import Fault
+from model.vaults import seal
+
+ROUNDS = 20
+# How many runs there are beside each other.
+BESIDE = 8
+# The longest packet, and room for many.
+PACKET, PIPE_SIZE = 4_096, 1 << 20
+
+
+def packets(words: list[str], stdin: bytes, stream: str) -> tuple[int, list[bytes]]:
+    """The status of a run, and what each of its writes gave to a stream."""
+    reader, writer = os.pipe2(os.O_DIRECT)
+    fcntl.fcntl(writer, fcntl.F_SETPIPE_SZ, PIPE_SIZE)
+    streams = {"stdout": subprocess.DEVNULL, "stderr": subprocess.DEVNULL, stream: writer}
+    done = subprocess.run(words, input=stdin, timeout=SECONDS, **streams)
+    os.close(writer)
+    given = list(iter(lambda: os.read(reader, PACKET), b""))
+    os.close(reader)
+    return done.returncode, given
+
+
+def refusals(cases: Cases) -> list[tuple[list[str], bytes, Fault]]:
+    """Runs with a fault each."""
+    empty, short, missing = cases.file(b""), cases.file(b"short"), cases.path()
+    right = by_file(cases.file(b"right\n"))
+    return [
+        (["view"], b"text\n", Fault.NOT_VAULT),
+        (["decrypt", *by_file(missing)], b"", Fault.SECRET_NOT_OPENED),
+        (["view", *by_file(empty)], b"", Fault.SECRET_EMPTY),
+        (["encrypt"], TEXT, Fault.NO_ENCRYPT_SECRET),
+        (["encrypt", *right, "--salt-file", short], TEXT, Fault.SALT_SHORT),
+        (["encrypt_string", *right, "--salt", "s"], b"", Fault.EMPTY_STRING),
+        (["rekey", *right], b"", Fault.NEED_NEW_SECRET),
+        (["encrypt", *by_id(empty, "a"), *by_id(empty, "b;")], TEXT, Fault.BAD_LABEL),
+    ]
+
+
+def lines_of_messages(cases: Cases) -> None:
+    for words, stdin, fault in refusals(cases):
+        found = packets([cases.program, *words], stdin, "stderr")
+        cases.check(f"the writes of `{fault.text}`", found, (fault.status, [fault.line]))
+
+
+def refused_beside(cases: Cases) -> None:
+    """Runs beside each other that wait for the end of one input, and have one pipe as standard error."""
+    fault = Fault.NOT_VAULT
+    for number in range(ROUNDS):
+        stdin, to_end = os.pipe()
+        reader, stderr = os.pipe()
+        children = [subprocess.Popen([cases.program, "view"], stdin=stdin, stderr=stderr) for _ in range(BESIDE)]
+        os.close(stdin)
+        os.close(stderr)
+        for child in children:
+            wait_for_sleep(child.pid)
+        os.close(to_end)
+        with open(reader, "rb") as pipe:
+            lines = pipe.read().splitlines(keepends=True)
+        statuses = [child.wait(SECONDS) for child in children]
+        wanted = [fault.status] * BESIDE, [fault.line] * BESIDE
+        cases.check(f"runs beside each other, round {number}", (statuses, lines), wanted)
+
+
+def header_lines(cases: Cases) -> None:
+    """The header line comes with the first line of digits behind it."""
+    for size in (1, 1_000):
+        for sample in samples(cases, (TEXT * size)[:size]):
+            if sample.command in ("encrypt", "rekey"):
+                status, given = packets([cases.program, *sample.words], sample.stdin, "stdout")
+                name = f"{sample.command} of {size} bytes"
+                cases.check(f"{name}: all writes", (status, b"".join(given)), (0, sample.output))
+                first_lines = b"".join(sample.output.splitlines(keepends=True)[:2])
+                cases.holds(f"{name}: the first write", given[0].startswith(first_lines), f"got {given[0]!r:.300}")
+
+
+def head_of_envelope(cases: Cases) -> None:
+    """`encrypt .. | head -n 1` gives the header line, and says nothing."""
+    vault = seal(b"right", TEXT)
+    header = vault.splitlines(keepends=True)[0]
+    pipeline = 'set -o pipefail; "$@" | head -n 1'
+    words = ["encrypt", *by_file(cases.file(b"right\n"))]
+    for number in range(ROUNDS):
+        done = subprocess.run(["bash", "-c", pipeline, "bash", cases.program, *words], input=TEXT, capture_output=True, timeout=SECONDS)
+        cases.check(f"the head of an envelope, round {number}", (done.returncode, done.stdout, done.stderr), (0, header, b""))
+
+
+GROUPS = [
+    lines_of_messages,
+    refused_beside,
+    header_lines,
+    head_of_envelope,
+]

@@ -1,0 +1,194 @@
+"""The cases of the companions by topic, and what runs them.
+
+Vaults are made by `model.vaults` or by Ansible's tool, and what the companions wrote is opened by
+`model.vaults`, so that nothing is judged by the program itself.
+"""
+
+import hmac
+import os
+import shutil
+import stat
+import subprocess
+import tempfile
+from contextlib import contextmanager
+from pathlib import Path
+from typing import Iterator
+
+from lib.outcome import Outcome
+from lib.paths import ROOT
+from model.vaults import applied, seal, tag_of, yaml_block
+
+COMPANIONS = ROOT / "companions"
+EDIT, ROTATE, CHECK, TEXTCONV, HOOK = (
+    f"ansible-vault-{name}" for name in ("edit", "rotate", "check", "textconv", "hook")
+)
+SECONDS = 120
+NOBODY = 65_534
+TEXT = b"db_password: correct horse\n"
+# Passwords by the names of their files.
+PASSWORDS = {name: f"the password {name}".encode() for name in ("old", "new", "dev", "dev2", "prod", "prod2")}
+# Names that a shell, an option or a line of text would break.
+AWKWARD = [
+    "with a space.yml",
+    "it's.yml",
+    'say "so".yml',
+    "a\nline.yml",
+    "-rf.yml",
+    "--help",
+    "$(touch x);`y`.yml",
+    "back\\slash.yml",
+    "größe.yml",
+    "*.yml",
+]
+
+
+def sealed(password: str, text: bytes = TEXT, label: str = "") -> bytes:
+    return seal(PASSWORDS[password], text, label.encode())
+
+
+def opened(password: str, envelope: bytes) -> bytes | None:
+    """The plaintext; None where the password is another."""
+    inner = bytes.fromhex(b"".join(envelope.split(b"\n")[1:]).decode())
+    salt, tag, cipher = (bytes.fromhex(part.decode()) for part in inner.split(b"\n", 2))
+    if not hmac.compare_digest(tag_of(PASSWORDS[password], salt, cipher), tag):
+        return None
+    padded = applied(PASSWORDS[password], salt, cipher)
+    return padded[: -padded[-1]]
+
+
+def block(password: str, text: bytes = TEXT, label: str = "", name: str = "secret") -> bytes:
+    """A block as Ansible's tool writes it."""
+    return yaml_block(sealed(password, text, label), name.encode())
+
+
+class Place:
+    """A tree of files, the companions beside the program, password files, and a folder for what runs."""
+
+    def __init__(self, path: str, program: str) -> None:
+        self.path = Path(path)
+        self.tools, self.tree, self.secrets, self.runtime = (
+            self.path / name for name in ("tools", "tree", "secrets", "runtime")
+        )
+        for folder in (self.tools, self.tree, self.secrets, self.runtime):
+            folder.mkdir()
+        self.program = Path(program).resolve()
+        (self.tools / "ansible-vault").symlink_to(self.program)
+        for each in COMPANIONS.glob("ansible-vault-*"):
+            (self.tools / each.name).symlink_to(each)
+        for name, password in PASSWORDS.items():
+            (self.secrets / name).write_bytes(password + b"\n")
+        kept = {name: value for name, value in os.environ.items() if name in ("PATH", "LANG", "LC_ALL")}
+        self.environment = kept | {
+            "HOME": path,
+            "PATH": f"{self.tools}{os.pathsep}{kept['PATH']}",
+            "XDG_RUNTIME_DIR": str(self.runtime),
+            "GIT_CONFIG_GLOBAL": "/dev/null",
+            "GIT_CONFIG_SYSTEM": "/dev/null",
+        }
+
+    def secret(self, name: str) -> str:
+        return str(self.secrets / name)
+
+    def by_file(self, name: str, prefix: str = "") -> list[str]:
+        return [f"--{prefix}vault-password-file", self.secret(name)]
+
+    def by_id(self, label: str, name: str, prefix: str = "") -> list[str]:
+        return [f"--{prefix}vault-id", f"{label}@{self.secret(name)}"]
+
+    def put(self, name: str, content: bytes, mode: int = 0o644) -> None:
+        path = self.tree / name
+        path.parent.mkdir(parents=True, exist_ok=True)
+        path.write_bytes(content)
+        path.chmod(mode)
+
+    def get(self, name: str) -> bytes:
+        return (self.tree / name).read_bytes()
+
+    def mode(self, name: str) -> str:
+        return oct(stat.S_IMODE((self.tree / name).stat().st_mode))
+
+    def files(self) -> dict[str, bytes]:
+        """What each file of the tree holds."""
+        found = {str(each.relative_to(self.tree)): each for each in self.tree.rglob("*")}
+        return {name: path.read_bytes() for name, path in found.items() if path.is_file() and ".git/" not in name}
+
+    def names(self) -> list[str]:
+        return sorted(str(each.relative_to(self.tree)) for each in self.tree.rglob("*"))
+
+    def left(self) -> list[str]:
+        """What is left in the folder for what runs."""
+        return sorted(str(each) for each in self.runtime.rglob("*"))
+
+    def script(self, text: str, name: str = "script", interpreter: str = "/bin/sh") -> str:
+        """The path of a program that runs this text."""
+        path = self.path / name
+        path.write_text(f"#!{interpreter}\n{text}\n")
+        path.chmod(0o755)
+        return str(path)
+
+    def stand_before_tool(self, text: str) -> None:
+        """Lets shell run before each run of the program; what it does not end itself is then the program."""
+        path = self.tools / "ansible-vault"
+        path.unlink()
+        path.write_text(f'#!/bin/sh\n{text}\nexec {self.program} "$@"\n')
+        path.chmod(0o755)
+
+    def run(self, *words: str, **variables: str) -> subprocess.CompletedProcess:
+        return subprocess.run(
+            [*words],
+            cwd=self.tree,
+            env=self.environment | variables,
+            stdin=subprocess.DEVNULL,
+            capture_output=True,
+            text=True,
+            errors="surrogateescape",
+            timeout=SECONDS,
+        )
+
+    def shell(self, text: str, interpreter: str = "sh", folder: str = ".", **variables: str):
+        return subprocess.run(
+            [interpreter, "-c", text],
+            cwd=self.tree / folder,
+            env=self.environment | variables,
+            stdin=subprocess.DEVNULL,
+            capture_output=True,
+            text=True,
+            timeout=SECONDS,
+        )
+
+    def as_nobody(self, *words: str) -> subprocess.CompletedProcess:
+        """As somebody who owns nothing, where root runs the tests; root may read and write everything."""
+        if os.geteuid() == 0:
+            words = ("setpriv", f"--reuid={NOBODY}", f"--regid={NOBODY}", "--clear-groups", *words)
+        return self.run(*words)
+
+
+class Companions(Outcome):
+    """Counts the cases of a topic."""
+
+    def __init__(self, program: str) -> None:
+        super().__init__()
+        self.program = program
+
+    @contextmanager
+    def place(self) -> Iterator[Place]:
+        with tempfile.TemporaryDirectory() as path:
+            os.chmod(path, 0o755)
+            yield Place(path, self.program)
+
+    def ended(self, what: str, done: subprocess.CompletedProcess, status: int, *parts: str) -> None:
+        """The status, and parts of what is told, on whichever stream."""
+        told = done.stdout + done.stderr
+        self.check(f"{what}: status ({told!r:.400})", done.returncode, status)
+        for part in parts:
+            self.holds(f"{what}: `{part}` is told", part in told, repr(told))
+
+    def silent(self, what: str, done: subprocess.CompletedProcess) -> None:
+        self.check(f"{what}: it ends well and in silence", (done.returncode, done.stdout, done.stderr), (0, "", ""))
+
+    def needs(self, what: str, *tools: str) -> bool:
+        """Whether the tools are there; else what needs them is left out by its name."""
+        missing = [tool for tool in tools if not shutil.which(tool)]
+        if missing:
+            self.left_out(what, f"without {', '.join(missing)}")
+        return not missing

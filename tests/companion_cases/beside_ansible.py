@@ -1,0 +1,123 @@
+"""A repository that Ansible's tool made, rotated: that tool opens all of it, and a playbook says what it
+said before. And how long a rotation takes beside that tool.
+"""
+
+import os
+import re
+import subprocess
+import time
+from pathlib import Path
+
+from companion_cases import CHECK, ROTATE, SECONDS, TEXT, Companions, Place, opened, sealed
+from companion_cases.rotating import summary, to_new
+from lib.ansible import ansible_vault
+
+# The old and the new password of each label.
+LABELS = {"default": ("old", "new"), "dev": ("dev", "dev2"), "prod": ("prod", "prod2")}
+FILES_OF_A_LABEL = 8
+PLAYBOOK = """\
+- hosts: all
+  gather_facts: false
+  vars_files: [{files}]
+  tasks:
+    - ansible.builtin.debug:
+        msg: "{{{{ item }}}}={{{{ lookup('vars', item) }}}}"
+      loop: [{names}]
+    - ansible.builtin.copy:
+        src: whole.txt
+        dest: "{{{{ playbook_dir }}}}/../copied"
+        mode: "0600"
+"""
+
+
+def secrets(place: Place, which: int, prefix: str = "") -> list[str]:
+    """The old or the new secrets of all labels."""
+    return [word for label, names in LABELS.items() for word in place.by_id(label, names[which], prefix)]
+
+
+def theirs(place: Place, ansible: str, *words: str) -> subprocess.CompletedProcess:
+    environment = place.environment | {"PATH": os.environ["PATH"], "LC_ALL": "C.UTF-8"}
+    done = subprocess.run([ansible, *words], cwd=place.tree, env=environment, capture_output=True, timeout=SECONDS)
+    if done.returncode != 0:
+        raise AssertionError(f"{ansible} {words[0]}: {done.stderr.decode()}")
+    return done
+
+
+def make_repository(place: Place, ansible: str) -> tuple[list[str], list[str]]:
+    """Eight vaults of each label, six files of blocks; their names, and those of the variables."""
+    files, names = [], []
+    for label, (old, _) in LABELS.items():
+        vaults = [f"vars/{label}{number}.yml" for number in range(FILES_OF_A_LABEL)]
+        for number, name in enumerate(vaults):
+            place.put(name, f"{label}{number}: text {number} of {label}\n".encode())
+        if label == "prod":
+            place.put("files/whole.txt", b"a whole file\n")
+            vaults.append("files/whole.txt")
+        choice = [*place.by_id(label, old), "--encrypt-vault-id", label]
+        theirs(place, ansible, "encrypt", *choice, *vaults)
+        names += [f"{label}{number}" for number in range(FILES_OF_A_LABEL)]
+        strings = [word for number in range(3) for word in ("-n", f"{label}_block{number}")]
+        texts = [f"block {number} of {label}" for number in range(3)]
+        blocks = theirs(place, ansible, "encrypt_string", *choice, *strings, *texts).stdout
+        first, second, third = (f"{each.strip()}\n" for each in re.split(r"(?m)^(?=\w+:)", blocks.decode())[1:])
+        place.put(f"vars/{label}_blocks.yml", f"# blocks\n{first}{second}".encode())
+        place.put(f"vars/{label}_more.yml", third.rstrip("\n").replace("\n", "\r\n").encode())
+        names += [f"{label}_block{number}" for number in range(3)]
+        files += vaults + [f"vars/{label}_{name}.yml" for name in ("blocks", "more")]
+    return files, names
+
+
+def played(place: Place, playbook: str, which: int) -> list[str]:
+    (place.path / "copied").unlink(missing_ok=True)
+    done = theirs(place, playbook, *secrets(place, which), "-i", "localhost,", "-c", "local", "play.yml")
+    return [*re.findall(r'"msg": "(.*)"', done.stdout.decode()), (place.path / "copied").read_text()]
+
+
+def a_repository(cases: Companions) -> None:
+    ansible = ansible_vault()
+    playbook = ansible and Path(ansible).with_name("ansible-playbook")
+    if not ansible or not playbook.exists():
+        cases.left_out("a repository of Ansible's tool", "it is not installed")
+        return
+    with cases.place() as place:
+        files, names = make_repository(place, ansible)
+        listed = ", ".join(name for name in files if name.startswith("vars/"))
+        place.put("play.yml", PLAYBOOK.format(files=listed, names=", ".join(names)).encode())
+        cases.check("the repository has so many files", len(files), 31)
+        before = played(place, str(playbook), 0)
+        cases.check("the playbook reads each", len(before), len(names) + 1)
+        total = 3 * FILES_OF_A_LABEL + 1 + 3 * 3
+        done = place.run(ROTATE, *secrets(place, 0), *secrets(place, 1, "new-"), ".")
+        cases.ended("the rotation", done, 0, summary(total))
+        cases.check("the playbook says the same", played(place, str(playbook), 1), before)
+        cases.ended("the check", place.run(CHECK, *secrets(place, 1), "."), 0, f"{total} opened, 0 not")
+        cases.ended("the old ones open none", place.run(CHECK, *secrets(place, 0), "."), 1, f"0 opened, {total} not")
+        for label, (_, new) in LABELS.items():
+            vaults = [name for name in files if re.match(rf"vars/{label}\d", name)]
+            header = b"$ANSIBLE_VAULT;1.1;AES256\n" if label == "default" else f"$ANSIBLE_VAULT;1.2;AES256;{label}\n".encode()
+            cases.check(f"{label}: the label", {place.get(name).startswith(header) for name in vaults}, {True})
+            shown = theirs(place, ansible, "view", *place.by_id(label, new), *vaults).stdout.decode()
+            wanted = [f"{label}{number}: text {number} of {label}" for number in range(FILES_OF_A_LABEL)]
+            cases.check(f"{label}: Ansible's tool opens each", shown.split("\n")[:-1], wanted)
+
+
+def many_vaults(cases: Companions) -> None:
+    """Tells how long it takes; that every vault is under the new secret is a case."""
+    with cases.place() as place:
+        names = [f"{number}.yml" for number in range(cases.vaults)]
+        for name in names:
+            place.put(name, sealed("old", TEXT * 38))
+        begun = time.monotonic()
+        done = place.run(ROTATE, *to_new(place), ".")
+        took = time.monotonic() - begun
+        cases.ended("many vaults", done, 0, summary(len(names)))
+        sampled = names[:: max(1, len(names) // 10)]
+        cases.check("are rotated", {opened("new", place.get(name)) for name in sampled}, {TEXT * 38})
+        print(f"{len(names)} vaults of 1 KiB were rotated in {took:.1f} s")
+        if ansible := ansible_vault():
+            begun = time.monotonic()
+            theirs(place, ansible, "rekey", *place.by_file("new"), *place.by_file("old", "new-"), *names)
+            print(f"Ansible's tool rekeyed them in {time.monotonic() - begun:.1f} s, in one run")
+
+
+GROUPS = [a_repository, many_vaults]

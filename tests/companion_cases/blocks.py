@@ -1,0 +1,105 @@
+"""Blocks of YAML: what stands around them keeps every byte."""
+
+import re
+
+from companion_cases import CHECK, ROTATE, TEXT, Companions, block, opened, sealed
+from companion_cases.rotating import summary, to_new
+
+
+def lines_of(envelope: bytes, spaces: int, end: bytes = b"\n") -> bytes:
+    """An envelope behind spaces, with no end at its last line."""
+    return end.join(b" " * spaces + line for line in envelope.splitlines())
+
+
+BODY = lines_of(sealed("old"), 10)
+LABELLED = lines_of(sealed("old", label="default"), 2)
+# What stands in a file, and how many blocks of it are rotated.
+FILES = {
+    "no last line end": (b"a: !vault |\n" + BODY, 1),
+    "a last line without an end": (b"a: !vault |\n" + BODY + b"\nb: 1", 1),
+    "CR LF": (b"---\r\na: !vault |\r\n" + lines_of(sealed("old"), 6, b"\r\n") + b"\r\nb: 1\r\n", 1),
+    "CR LF and no last line end": (b"a: !vault |\r\n" + lines_of(sealed("old"), 2, b"\r\n"), 1),
+    "lists": (b"a:\n  - !vault |\n" + lines_of(sealed("old"), 4) + b"\n  - b\n  - - !vault |\n" + BODY + b"\n", 2),
+    "quoted keys": (b"\"a: b\": !vault |\n" + BODY + b"\n'it''s': !vault |\n" + BODY + b"\n", 2),
+    "any depth": (b"".join(b" " * n + b"a:\n" for n in range(30)) + b" " * 30 + b"b: !vault |\n" + lines_of(sealed("old"), 31) + b"\n", 1),
+    "marks": (b"a: !vault |-\n" + BODY + b"\nb: !vault |+\n" + BODY + b"\nc: !vault |2-   # why\n" + LABELLED + b"\n", 3),
+    "the long tag": (b"a: !vault-encrypted |\n" + BODY + b"\n", 1),
+    "an anchor": (b"a: &x !vault |\n" + BODY + b"\nb: !vault &y |\n" + BODY + b"\nc: *x\n", 2),
+    "a document of its own": (b"--- !vault |\n" + BODY + b"\n...\n--- !vault |\n" + lines_of(sealed("old"), 0) + b"\n", 2),
+    "digits as keys": (b"a: !vault |\n" + BODY + b"\ndeadbeef: 1\nabcd\n", 1),
+    "empty lines": (b"\n\na: !vault |\n\n\n" + BODY + b"\n\n\nb:\n\n", 1),
+    "upper case": (b"a: !vault |\n" + re.sub(rb"(?m)^ +[0-9a-f]+$", lambda found: found[0].upper(), BODY) + b"\n", 1),
+    "bytes of any kind": (b"\xef\xbb\xbf# \xff\x00\x85\xe2\x80\xa8\t\r\na: !vault |\n" + BODY + b"\n# \x0c \xfe", 1),
+    "side by side": (b"a: !vault |\n" + BODY + b"\nb: !vault |\n" + lines_of(sealed("old"), 12) + b"\n", 2),
+    "a comment like a block": (b"# $ANSIBLE_VAULT;1.1;AES256\na: !vault |\n" + BODY + b"\n#  6162\n", 1),
+    "words about vaults": (b"a: $ANSIBLE_VAULT;1.1;AES256 is a header\nb: '!vault |'\n  $ANSIBLE_VAULT;1.1;AES256\n", 0),
+}
+DIGITS = re.compile(rb"(?m)^( *)[0-9a-fA-F]{20,}(?=\r?$)")
+FOUND = re.compile(rb"(?m)^ *\$ANSIBLE_VAULT;1.*(?:\n *[0-9a-fA-F]+\r?$)+")
+
+
+def without_digits(data: bytes) -> bytes:
+    return DIGITS.sub(rb"\1digits", data)
+
+
+def texts(data: bytes, password: str) -> list[bytes | None]:
+    """The plaintext of each block."""
+    found = [re.sub(rb"[ \r]", b"", each) for each in FOUND.findall(data)]
+    return [opened(password, each + b"\n") for each in found]
+
+
+def around(cases: Companions) -> None:
+    with cases.place() as place:
+        for name, (content, count) in FILES.items():
+            place.put(name, content)
+        done = place.run(ROTATE, *to_new(place), ".")
+        cases.ended("blocks", done, 0, summary(sum(count for _, count in FILES.values())))
+        for name, (content, count) in FILES.items():
+            after = place.get(name)
+            cases.check(f"{name}: all around stays", without_digits(after), without_digits(content).replace(b"1.2;AES256;default", b"1.1;AES256"))
+            cases.check(f"{name}: the blocks are rotated", texts(after, "new"), [TEXT] * count)
+
+
+def mixed(cases: Companions) -> None:
+    """One block that is not opened keeps no other from being rotated, and stays."""
+    stray = block("dev", name="stray")
+    content = block("old", name="a") + stray + block("prod", label="prod", name="b") + block("old", name="c") + b"d: 1"
+    with cases.place() as place:
+        place.put("vars.yml", content)
+        done = place.run(ROTATE, *to_new(place), "vars.yml")
+        line = 1 + block("old").count(b"\n") + 1
+        parts = [f"vars.yml:{line}: no secret decrypts this vault", "vars.yml: 2 blocks rotated"]
+        cases.ended("a stray block", done, 1, *parts, summary(2, 0, 1, " (prod 1)", 1))
+        after = place.get("vars.yml")
+        cases.check("all around stays", without_digits(after), without_digits(content))
+        cases.holds("the strays stay", stray in after and block("prod", label="prod", name="b") in after)
+        cases.check("the others are rotated", [texts(after, "new")[place] for place in (0, 3)], [TEXT, TEXT])
+
+
+def no_blocks_of_lines(cases: Companions) -> None:
+    """Envelopes that cannot be put back as they stand are told and left."""
+    quoted = sealed("old", label="prod").replace(b"\n", b"\\n")
+    wrapped = sealed("old").replace(b"\n", b"\n\n  ")
+    forms = {
+        "quotes": b'a: !vault "' + quoted + b'"\n',
+        "JSON": b'{"a": {"__ansible_vault": "' + quoted + b'"}}\n',
+        "single quotes": b"a: !vault '" + wrapped + b"'\n",
+        "one line": b"a: !vault " + sealed("old").replace(b"\n", b" ") + b"\n",
+        "a damaged block": b"a: !vault |\n  $ANSIBLE_VAULT;1.1;AES256\n  not digits\n",
+        "a block that is cut": b"a: !vault |\n" + BODY[:-100] + b"\n  x\n",
+        "a merge": b"a: !vault |\n" + BODY[:300] + b"\n<<<<<<< ours\n" + BODY[300:] + b"\n",
+    }
+    for name, content in forms.items():
+        with cases.place() as place:
+            place.put("vars.yml", content)
+            both = [*to_new(place), *place.by_id("prod", "new", "new-")]
+            cases.ended(name, place.run(ROTATE, *both, "."), 1, "./vars.yml:", summary(0, failed=1))
+            cases.check(f"{name}: it stays", place.get("vars.yml"), content)
+            if b";prod" in content:
+                done = place.run(ROTATE, *to_new(place), ".")
+                cases.ended(f"{name}: another label", done, 0, summary(0, 0, 1, " (prod 1)"))
+            done = place.run(CHECK, *place.by_file("old"), "vars.yml")
+            cases.ended(f"{name}: it is not passed over", done, 1, "0 opened, 1 not")
+
+
+GROUPS = [around, mixed, no_blocks_of_lines]

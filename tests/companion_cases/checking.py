@@ -1,0 +1,85 @@
+"""ansible-vault-check, the help of all, and what they say of themselves."""
+
+from companion_cases import CHECK, COMPANIONS, TEXT, Companions, block, sealed
+
+
+def labels_and_secrets(cases: Companions) -> None:
+    with cases.place() as place:
+        place.put("a.yml", sealed("old"))
+        place.put("b.yml", sealed("prod", label="prod"))
+        place.put("c.yml", b"x: 1\n" + block("dev", label="dev") + block("prod", label="strange"))
+        place.put("d.yml", sealed("old", label="prod"))
+        secrets = [*place.by_id("dev", "dev"), *place.by_id("prod", "prod"), *place.by_file("old")]
+        before = place.files()
+        done = place.run(CHECK, *secrets, ".")
+        dev, prod, old = secrets[1::2]
+        line = 3 + block("dev", label="dev").count(b"\n")
+        wanted = [
+            f"./a.yml: default: opened by {old}",
+            f"./b.yml: prod: opened by {prod}",
+            f"./c.yml:3: dev: opened by {dev}",
+            f"./c.yml:{line}: strange: opened by {prod}",
+            f"./d.yml: prod: opened by {old}",
+            "5 opened, 0 not",
+        ]
+        cases.check("labels and secrets", (done.returncode, done.stdout.splitlines(), done.stderr), (0, wanted, ""))
+        cases.check("nothing is written", place.files(), before)
+
+
+def the_label_comes_first(cases: Companions) -> None:
+    """Where two secrets open a vault, the one of its label is told, as the tool has it."""
+    with cases.place() as place:
+        place.put("a.yml", sealed("prod", label="prod"))
+        done = place.run(CHECK, *place.by_file("prod"), *place.by_id("prod", "prod"), "a.yml")
+        cases.ended("the label first", done, 0, f"a.yml: prod: opened by prod@{place.secret('prod')}\n")
+
+
+def what_does_not_open(cases: Companions) -> None:
+    with cases.place() as place:
+        place.put("a.yml", sealed("old"))
+        place.put("b.yml", block("dev", label="dev"))
+        done = place.run(CHECK, *place.by_file("old"), ".")
+        cases.ended("a wrong password", done, 1, "./b.yml:2: dev: no secret decrypts this vault\n", "1 opened, 1 not\n")
+        cases.check("is told on standard error", done.stderr, "./b.yml:2: dev: no secret decrypts this vault\n")
+        done = place.run(CHECK, *place.by_file("old"), "a.yml", "missing")
+        cases.ended("what is not there", done, 1, "missing: No such file or directory", "1 opened, 1 not")
+        done = place.run(CHECK, *place.by_file("missing"), ".")
+        cases.ended("a password file that is not there", done, 1, "missing: a password file cannot be opened")
+        place.put("closed.yml", sealed("old"), 0o000)
+        cases.ended("what cannot be read", place.as_nobody(CHECK, *place.by_file("old"), "."), 1, "closed.yml: Permission")
+        place.put("header.yml", b"$ANSIBLE_VAULT\x1b[31m;1.1\n")
+        cases.ended("a header", place.run(CHECK, *place.by_file("old"), "header.yml"), 1, "header.yml: no label: vault")
+
+
+def nothing(cases: Companions) -> None:
+    with cases.place() as place:
+        place.put("plain.yml", TEXT)
+        done = place.run(CHECK, *place.by_file("old"), ".")
+        cases.check("nothing", (done.returncode, done.stdout, done.stderr), (0, "0 opened, 0 not\n", ""))
+        for words in ([], ["."], place.by_file("old"), [*place.by_file("old"), "--loud", "."]):
+            cases.ended(f"{words}", place.run(CHECK, *words), 2, "usage: ansible-vault-check")
+
+
+def no_plaintext(cases: Companions) -> None:
+    with cases.place() as place:
+        place.put("a.yml", sealed("old"))
+        place.put("b.yml", sealed("old", label="\x1b[2J"))
+        done = place.run(CHECK, *place.by_file("old"), ".")
+        cases.check("no plaintext is told", "horse" in done.stdout + done.stderr, False)
+        cases.check("and nothing that a terminal would obey", "\x1b" in done.stdout + done.stderr, False)
+
+
+def help_of_each(cases: Companions) -> None:
+    with cases.place() as place:
+        names = sorted(each.name for each in COMPANIONS.glob("ansible-vault-*"))
+        cases.check("there are five", len(names), 5)
+        for name in names:
+            for word in ("--help", "-h"):
+                done = place.run(name, word)
+                parts = [f"usage: {name}", "Exit status: 0", "Nothing of this program is proved"]
+                cases.ended(f"{name} {word}", done, 0, *parts)
+                wide = [line for line in done.stdout.splitlines() if len(line) > 80]
+                cases.check(f"{name}: the help is no wider than a terminal", (wide, done.stderr), ([], ""))
+
+
+GROUPS = [labels_and_secrets, the_label_comes_first, what_does_not_open, nothing, no_plaintext, help_of_each]

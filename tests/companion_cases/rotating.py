@@ -1,0 +1,234 @@
+"""ansible-vault-rotate: which vaults get which secret, what is told, and what stays."""
+
+import os
+
+from companion_cases import NOBODY, ROTATE, TEXT, Companions, Place, block, opened, sealed
+
+SUMMARY = "{} rotated, {} under the new secret already, {} of other labels{}, {} failed"
+
+
+def summary(changed: int, had_it: int = 0, others: int = 0, named: str = "", failed: int = 0) -> str:
+    return SUMMARY.format(changed, had_it, others, named, failed)
+
+
+def to_new(place: Place) -> list[str]:
+    return [*place.by_file("old"), *place.by_file("new", "new-")]
+
+
+def labelled_tree(place: Place) -> None:
+    """Vaults of three labels and a file of blocks of two."""
+    place.put("all.yml", sealed("old"))
+    place.put("dev/vars.yml", sealed("dev", label="dev"))
+    place.put("prod/vars.yml", sealed("prod", label="prod"))
+    place.put("prod/more.yml", sealed("prod", label="prod"))
+    place.put("blocks.yml", block("dev", label="dev", name="a") + block("prod", label="prod", name="b"))
+    place.put("plain.yml", TEXT)
+
+
+def by_label(cases: Companions) -> None:
+    """A label that is not named keeps its secret, to the byte."""
+    with cases.place() as place:
+        labelled_tree(place)
+        before = place.files()
+        old = [*place.by_file("old"), *place.by_id("dev", "dev"), *place.by_id("prod", "prod")]
+        done = place.run(ROTATE, *old, *place.by_id("prod", "prod2", "new-"), ".")
+        told = summary(3, 0, 3, " (default 1, dev 2)")
+        cases.ended("prod alone", done, 0, "./prod/vars.yml: rotated\n", "./blocks.yml: 1 block rotated\n", told)
+        after = place.files()
+        stays = [name for name in before if before[name] == after[name]]
+        cases.check("the others stay", sorted(stays), ["all.yml", "dev/vars.yml", "plain.yml"])
+        for name in ("prod/vars.yml", "prod/more.yml"):
+            cases.check(f"{name} is under the new secret", opened("prod2", after[name]), TEXT)
+            cases.holds(f"{name} keeps its label", after[name].startswith(b"$ANSIBLE_VAULT;1.2;AES256;prod\n"))
+        cases.holds("the block of dev stays", after["blocks.yml"].startswith(block("dev", label="dev", name="a")))
+        new = [*place.by_file("new", "new-"), *place.by_id("dev", "dev2", "new-")]
+        done = place.run(ROTATE, *old, *new, ".")
+        cases.ended("two labels at once", done, 0, summary(3, 0, 3, " (prod 3)"))
+        cases.check("default has its own", opened("new", place.get("all.yml")), TEXT)
+        cases.check("dev has its own", opened("dev2", place.get("dev/vars.yml")), TEXT)
+
+
+def default_is_a_label(cases: Companions) -> None:
+    """A new password without a label takes no vault of another label with it."""
+    with cases.place() as place:
+        labelled_tree(place)
+        old = [*place.by_file("old"), *place.by_file("dev"), *place.by_file("prod")]
+        done = place.run(ROTATE, *old, *place.by_file("new", "new-"), ".")
+        cases.ended("the label default", done, 0, summary(1, 0, 5, " (dev 2, prod 3)"))
+        cases.check("dev stays", opened("dev", place.get("dev/vars.yml")), TEXT)
+
+
+def again(cases: Companions) -> None:
+    """What has the new secret already stays as it is, whether the old ones open it or not."""
+    with cases.place() as place:
+        place.put("one.yml", sealed("new"))
+        place.put("two.yml", sealed("old"))
+        place.put("blocks.yml", block("new") + block("old", name="b"))
+        cases.ended("half is done", place.run(ROTATE, *to_new(place), "."), 0, summary(2, 2))
+        cases.check("what has it stays", place.get("one.yml"), sealed("new"))
+        cases.holds("and a block that has it", place.get("blocks.yml").startswith(block("new")))
+        before = place.files()
+        for words in (to_new(place), [*place.by_file("new"), *to_new(place)]):
+            cases.ended("all is done", place.run(ROTATE, *words, "."), 0, summary(0, 4))
+            cases.check("all stays", place.files(), before)
+
+
+def nothing(cases: Companions) -> None:
+    with cases.place() as place:
+        cases.ended("an empty tree", place.run(ROTATE, *to_new(place), "."), 0, summary(0))
+        place.put("plain.yml", TEXT)
+        place.put("empty.yml", b"")
+        done = place.shell(f"set -e; {ROTATE} {' '.join(to_new(place))} . | cat", "bash")
+        cases.ended("no vault", done, 0, summary(0))
+
+
+def failures(cases: Companions) -> None:
+    """Each is told, the others go on, and the status says so."""
+    strays = {
+        "stray.yml": (sealed("dev"), "no secret decrypts this vault"),
+        "version.yml": (b"$ANSIBLE_VAULT;1.0;AES\n" + b"61" * 40 + b"\n", "vault format version"),
+        "header.yml": (b"$ANSIBLE_VAULT;1.1\n61\n", "first line is malformed"),
+        "cut.yml": (sealed("old")[:-5], "vault"),
+        "block.yml": (b"a: 1\nb: !vault |\n  $ANSIBLE_VAULT;1.1;AES256\nc: 2\n", "block.yml:3: vault"),
+    }
+    for name, (content, part) in strays.items():
+        with cases.place() as place:
+            place.put("a.yml", sealed("old"))
+            place.put(name, content)
+            place.put("z.yml", sealed("old"))
+            done = place.run(ROTATE, *to_new(place), ".")
+            cases.ended(name, done, 1, f"./{name}", part, summary(2, failed=1))
+            cases.check(f"{name} stays", place.get(name), content)
+            cases.check("the others are done", [opened("new", place.get(each)) for each in ("a.yml", "z.yml")], [TEXT] * 2)
+            cases.check("no other file is left", place.names(), sorted(["a.yml", name, "z.yml"]))
+
+
+def wrong_passwords(cases: Companions) -> None:
+    with cases.place() as place:
+        place.put("a.yml", sealed("old"))
+        place.put("b.yml", block("old"))
+        (place.path / "empty").write_bytes(b" \n")
+        before = place.files()
+        new = place.by_file("new", "new-")
+        refused = [
+            ([*place.by_file("dev"), *new], "b.yml:2: no secret decrypts this vault\n"),
+            ([*place.by_file("missing"), *new], "missing: a password file cannot be opened"),
+            ([*place.by_file("old"), "--new-vault-password-file", "../empty"], "../empty: a password is empty"),
+            ([*place.by_file("old"), "--new-vault-id", "dev;@../empty"], "a vault id label is not allowed"),
+        ]
+        for words, part in refused:
+            cases.ended(part, place.run(ROTATE, *words, "."), 1, part)
+            cases.check("all stays", place.files(), before)
+
+
+def unreadable(cases: Companions) -> None:
+    """What cannot be read may be a vault under an old secret; what cannot be written stays."""
+    with cases.place() as place:
+        place.put("closed.yml", sealed("old"), 0o000)
+        place.put("folder/a.yml", sealed("old"))
+        (place.tree / "folder").chmod(0o000)
+        done = place.as_nobody(ROTATE, *to_new(place), ".")
+        parts = ["./closed.yml: Permission denied", "./folder: Permission denied"]
+        cases.ended("what cannot be read", done, 1, *parts, summary(0, failed=2))
+        (place.tree / "folder").chmod(0o755)
+    with cases.place() as place:
+        place.put("folder/a.yml", sealed("old"))
+        (place.tree / "folder").chmod(0o555)
+        done = place.as_nobody(ROTATE, *to_new(place), ".")
+        cases.ended("what cannot be written", done, 1, "./folder/a.yml: Permission denied", summary(0, failed=1))
+        (place.tree / "folder").chmod(0o755)
+        cases.check("it stays", place.files(), {"folder/a.yml": sealed("old")})
+    with cases.place() as place:
+        done = place.run(ROTATE, *to_new(place), "missing")
+        cases.ended("what is not there", done, 1, "missing: No such file or directory")
+
+
+def owners_and_modes(cases: Companions) -> None:
+    with cases.place() as place:
+        modes = {"a.yml": 0o600, "b.yml": 0o664, "c.yml": 0o444, "d.yml": 0o2755}
+        for name, mode in modes.items():
+            place.put(name, sealed("old"), mode)
+            if os.geteuid() == 0:
+                os.chown(place.tree / name, NOBODY, NOBODY)
+                os.chmod(place.tree / name, mode)
+        owners = [(place.tree / name).stat()[4:6] for name in modes]
+        try:
+            os.setxattr(place.tree / "a.yml", "user.note", b"kept")
+            attributes = {"user.note": b"kept"}
+        except OSError:
+            cases.left_out("extended attributes", "the file system has none")
+            attributes = {}
+        cases.ended("modes", place.run(ROTATE, *to_new(place), "."), 0, summary(4))
+        cases.check("modes stay", [place.mode(name) for name in modes], [oct(mode) for mode in modes.values()])
+        cases.check("owners stay", [(place.tree / name).stat()[4:6] for name in modes], owners)
+        found = {name: os.getxattr(place.tree / "a.yml", name) for name in attributes}
+        cases.check("attributes stay", found, attributes)
+        if os.geteuid() == 0:
+            place.tree.chmod(0o777)
+            os.chown(place.tree / "a.yml", 0, 0)
+            (place.tree / "a.yml").chmod(0o644)
+            words = [*place.by_file("new"), *place.by_file("old", "new-")]
+            done = place.as_nobody(ROTATE, *words, "a.yml")
+            cases.ended("an owner that cannot be kept", done, 1, "a.yml: Operation not permitted", summary(0, failed=1))
+            cases.check("its file stays", opened("new", place.get("a.yml")), TEXT)
+            cases.check("nothing is left", place.names(), sorted(modes))
+
+
+def dry_run(cases: Companions) -> None:
+    with cases.place() as place:
+        place.put("a.yml", sealed("old"))
+        place.put("b.yml", block("old") + block("new", name="c"))
+        before = place.files()
+        parts = ["./a.yml: would be rotated", "./b.yml: 1 block would be rotated", "2 to be rotated, 1 under"]
+        cases.ended("something is left", place.run(ROTATE, "--dry-run", *to_new(place), "."), 1, *parts)
+        cases.check("nothing is written", place.files(), before)
+        place.put("c.yml", sealed("dev"))
+        done = place.run(ROTATE, "--dry-run", *to_new(place), ".")
+        cases.ended("one is not opened", done, 1, "./c.yml: no secret decrypts this vault", "1 failed")
+        place.run(ROTATE, *to_new(place), "a.yml", "b.yml")
+        done = place.run(ROTATE, "--dry-run", *to_new(place), "a.yml", "b.yml")
+        cases.ended("nothing is left", done, 0, "0 to be rotated, 3 under the new secret already")
+
+
+def changed_meanwhile(cases: Companions) -> None:
+    with cases.place() as place:
+        place.put("a.yml", block("old"))
+        place.stand_before_tool('[ "$1" = rekey ] && echo "b: theirs" >> a.yml')
+        done = place.run(ROTATE, *to_new(place), ".")
+        cases.ended("changed meanwhile", done, 1, "./a.yml: it was changed meanwhile", summary(0, failed=1))
+        cases.check("their change stays", place.files(), {"a.yml": block("old") + b"b: theirs\n"})
+
+
+def closed_output(cases: Companions) -> None:
+    """Where nobody reads on, the files are whole, and nothing is left."""
+    with cases.place() as place:
+        for number in range(6):
+            place.put(f"{number}.yml", sealed("old"))
+        done = place.shell(f"{ROTATE} --jobs 2 {' '.join(to_new(place))} . | :; echo ${{PIPESTATUS[0]}}", "bash")
+        cases.check("it fails, and says no more", (done.stdout, done.stderr), ("1\n", ""))
+        whole = [TEXT in (opened("old", content), opened("new", content)) for content in place.files().values()]
+        cases.check("each vault is whole", whole, [True] * 6)
+
+
+def command_line(cases: Companions) -> None:
+    with cases.place() as place:
+        old, new = place.by_file("old"), place.by_file("new", "new-")
+        lines = [
+            [],
+            [*old, "."],
+            [*new, "."],
+            [*old, *new],
+            [*old, *new, *place.by_file("dev", "new-"), "."],
+            [*old, *new, "--jobs", "0", "."],
+            [*old, *new, "--jobs", "many", "."],
+            [*old, *new, "--dry", "."],
+        ]
+        for words in lines:
+            cases.ended(f"{words}", place.run(ROTATE, *words), 2, "usage: ansible-vault-rotate")
+        place.put("a.yml", sealed("old"))
+        for jobs in ("1", "7"):
+            cases.ended(f"{jobs} at once", place.run(ROTATE, *old, *new, "--jobs", jobs, "."), 0)
+
+
+GROUPS = [by_label, default_is_a_label, again, nothing, failures, wrong_passwords, unreadable, owners_and_modes]
+GROUPS += [dry_run, changed_meanwhile, closed_output, command_line]

@@ -1,0 +1,168 @@
+"""Signals at each step: nothing is lost, nothing is left, and the end is that of the signal."""
+
+import shutil
+import signal
+import subprocess
+import time
+from pathlib import Path
+
+from companion_cases import CHECK, EDIT, ROTATE, SECONDS, TEXT, TEXTCONV, Companions, Place, block, opened, sealed
+from companion_cases.rotating import summary, to_new
+
+CHANGE = 'sed -i s/correct/wrong/ "$1"'
+CHANGED = TEXT.replace(b"correct", b"wrong")
+# Signals the companion before the run of the program of this number, which then dies by it or goes on.
+AT_RUN = """
+count=1; mkdir -p ../counted; until mkdir ../counted/$count 2>/dev/null; do count=$((count + 1)); done
+[ $count -ne {number} ] || {{ {trap}kill -{signal} $PPID; sleep 0.1; }}
+"""
+# Calls of the library by which files come and go.
+CALLS = ["os.replace", "os.unlink", "os.fsync", "os.fchmod", "tempfile.mkstemp", "tempfile.mkdtemp", "shutil.rmtree"]
+# Runs a companion that signals itself before and behind a call.
+AT_CALL = """
+import importlib, os, runpy, signal, sys
+module, name = sys.argv[1].split(".")
+module, when, number = importlib.import_module(module), sys.argv[2], int(sys.argv[3])
+call = getattr(module, name)
+def signalling(*words, **options):
+    if when == "before":
+        os.kill(os.getpid(), number)
+    done = call(*words, **options)
+    if when == "behind":
+        os.kill(os.getpid(), number)
+    return done
+setattr(module, name, signalling)
+sys.argv = sys.argv[4:]
+sys.path[0] = os.path.dirname(os.path.realpath(sys.argv[0]))
+runpy.run_path(sys.argv[0], run_name="__main__")
+"""
+
+
+def tree(place: Place) -> None:
+    place.put("a.yml", sealed("old"), 0o640)
+    place.put("b.yml", b"x: 1\n" + block("old") + block("old", name="c"), 0o600)
+    place.environment["EDITOR"] = place.script(CHANGE, "editor")
+
+
+def calls_of(place: Place) -> dict[str, list[str]]:
+    return {
+        EDIT: [*place.by_file("old"), "a.yml"],
+        ROTATE: [*to_new(place), "--jobs", "1", "."],
+        CHECK: [*place.by_file("old"), "."],
+        TEXTCONV: [*place.by_file("old"), "b.yml"],
+    }
+
+
+def check_whole(cases: Companions, what: str, place: Place) -> None:
+    """Each vault is the old one or the new one, and no other file is there."""
+    vault = place.get("a.yml")
+    cases.holds(f"{what}: the vault is whole", {opened("old", vault), opened("new", vault)} & {TEXT, CHANGED} != set())
+    blocks = place.get("b.yml").split(b": !vault |\n")[1:]
+    envelopes = [b"".join(line.strip() + b"\n" for line in each.splitlines()[:6]) for each in blocks]
+    whole = [TEXT in (opened("old", each), opened("new", each)) for each in envelopes]
+    cases.check(f"{what}: the blocks are whole", whole, [True, True])
+    cases.check(f"{what}: nothing is left", (place.names(), place.left()), (["a.yml", "b.yml"], []))
+    cases.check(f"{what}: modes stay", [place.mode(name) for name in ("a.yml", "b.yml")], ["0o640", "0o600"])
+
+
+def at_each_run(cases: Companions) -> None:
+    """Before each run of the program, which dies by the signal, or goes on in spite of it."""
+    with cases.place() as place:
+        for companion, words in calls_of(place).items():
+            for number in range(1, 20):
+                tree(place)
+                trap, name = ("", "TERM") if number % 2 else ("trap '' INT; ", "INT")
+                place.stand_before_tool(AT_RUN.format(number=number, trap=trap, signal=name))
+                shutil.rmtree(place.path / "counted", ignore_errors=True)
+                done = place.run(companion, *words)
+                if done.returncode == 0:
+                    break
+                what = f"{companion}, run {number}"
+                cases.check(f"{what}: the status", done.returncode, -signal.Signals[f"SIG{name}"])
+                cases.check(f"{what}: no word of Python", "Traceback" in done.stderr, False)
+                check_whole(cases, what, place)
+            cases.holds(f"{companion}: there were such runs", 3 < number < 19, str(number))
+
+
+def at_each_call(cases: Companions) -> None:
+    """Before and behind each call by which files come and go."""
+    with cases.place() as place:
+        script = place.script(AT_CALL, "signalling", "/usr/bin/env -S python3 -ISB")
+        words = calls_of(place)
+        runs = [(EDIT, call) for call in CALLS] + [(ROTATE, call) for call in CALLS[:5]]
+        for number, (companion, call) in enumerate(runs):
+            when, name = [("before", "SIGHUP"), ("behind", "SIGTERM")][number % 2]
+            tree(place)
+            path = str(place.tools / companion)
+            done = place.run(script, call, when, str(signal.Signals[name].value), path, *words[companion])
+            what = f"{companion}, {when} {call}"
+            reached = not (companion == ROTATE and call == "os.unlink")
+            cases.check(f"{what}: the status", done.returncode, -signal.Signals[name] if reached else 0)
+            check_whole(cases, what, place)
+
+
+def interrupted_then_finished(cases: Companions) -> None:
+    with cases.place() as place:
+        for number in range(12):
+            place.put(f"{number}.yml", sealed("old"))
+        place.stand_before_tool(AT_RUN.format(number=14, trap="", signal="INT"))
+        done = place.run(ROTATE, *to_new(place), "--jobs", "1", ".")
+        cases.check("interrupted", done.returncode, -signal.SIGINT)
+        half = [opened("new", content) == TEXT for content in place.files().values()]
+        cases.holds("some are done and some are not", True in half and False in half, repr(half))
+        place.stand_before_tool(":")
+        done = place.run(ROTATE, *to_new(place), ".")
+        cases.ended("run again", done, 0, summary(half.count(False), half.count(True)))
+        cases.check("all are done", {opened("new", each) for each in place.files().values()}, {TEXT})
+
+
+def while_the_editor_runs(cases: Companions) -> None:
+    """The signals of a terminal's keys are the editor's, the others end it, and the plaintext is gone."""
+    for name, status in (("INT", 0), ("QUIT", 0), ("TERM", None), ("HUP", None), ("USR1", None)):
+        with cases.place() as place:
+            tree(place)
+            # The editor stands below a shell.
+            companion = "$(cut -d ' ' -f 4 /proc/$PPID/stat)"
+            text = f"{CHANGE}; kill -{name} {companion}; sleep 0.3; touch ../survived"
+            place.environment["EDITOR"] = place.script(text, "editor")
+            done = place.run(EDIT, *place.by_file("old"), "a.yml")
+            number = signal.Signals[f"SIG{name}"]
+            cases.check(f"{name}: the status", done.returncode, -number if status is None else status)
+            cases.check(f"{name}: the editor ends", (place.path / "survived").exists(), status == 0)
+            wanted = CHANGED if status == 0 else TEXT
+            cases.check(f"{name}: the vault", opened("old", place.get("a.yml")), wanted)
+            cases.check(f"{name}: nothing is left", (place.names(), place.left()), (["a.yml", "b.yml"], []))
+
+
+def stubborn_programs(cases: Companions) -> None:
+    """A second signal ends what does not end by the first."""
+    with cases.place() as place:
+        tree(place)
+        place.environment["EDITOR"] = place.script("trap '' TERM; echo $$ > ../started; exec sleep 60", "editor")
+        begun = time.monotonic()
+        words = [EDIT, *place.by_file("old"), "a.yml"]
+        streams = {"stdin": subprocess.DEVNULL, "stdout": subprocess.DEVNULL, "stderr": subprocess.DEVNULL}
+        process = subprocess.Popen(words, cwd=place.tree, env=place.environment, **streams)
+        started = place.path / "started"
+        while not (started.exists() and started.read_text()) and time.monotonic() < begun + SECONDS:
+            time.sleep(0.02)
+        process.terminate()
+        time.sleep(0.1)
+        process.terminate()
+        cases.check("the second signal", process.wait(SECONDS), -signal.SIGTERM)
+        cases.holds("does not wait", time.monotonic() < begun + 30)
+        editor = Path("/proc", started.read_text().strip(), "cmdline")
+        cases.check("the editor is gone", editor.read_text() if editor.exists() else "", "")
+        check_whole(cases, "the second signal", place)
+
+
+def ignored_signals(cases: Companions) -> None:
+    """What is ignored from the beginning, as by nohup, stays ignored."""
+    with cases.place() as place:
+        tree(place)
+        place.stand_before_tool(AT_RUN.format(number=4, trap="", signal="HUP"))
+        done = place.shell(f"trap '' HUP; {ROTATE} {' '.join(to_new(place))} --jobs 1 .")
+        cases.ended("an ignored signal", done, 0, summary(3))
+
+
+GROUPS = [at_each_run, at_each_call, interrupted_then_finished, while_the_editor_runs, stubborn_programs, ignored_signals]

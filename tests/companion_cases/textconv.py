@@ -1,0 +1,116 @@
+"""ansible-vault-textconv, alone and below git."""
+
+import re
+
+from companion_cases import AWKWARD, TEXT, TEXTCONV, Companions, Place, block, sealed
+from companion_cases.repository import add_and_commit, under_git
+
+ATTRIBUTES = "*.yml diff=ansible-vault\n* diff=ansible-vault\n"
+
+
+def with_driver(place: Place, *secrets: str) -> None:
+    under_git(place, ATTRIBUTES)
+    place.run("git", "config", "diff.ansible-vault.textconv", " ".join([TEXTCONV, *secrets]))
+
+
+def changed_lines(text: str) -> list[str]:
+    return [line for line in text.splitlines() if re.match(r"[-+][^-+]", line)]
+
+
+def alone(cases: Companions) -> None:
+    around = "# größe\r\n".encode()
+    shown = {
+        "a vault": (sealed("old"), TEXT),
+        "a vault of another label": (sealed("old", b"\x00\xff", "prod"), b"\x00\xff"),
+        "blocks": (around + block("old", b"one") + block("new", b"two\nthree", name="x") + b"end", None),
+    }
+    with cases.place() as place:
+        for name, (content, wanted) in shown.items():
+            place.put("file", content)
+            command = [TEXTCONV, *place.by_file("old"), *place.by_file("new")]
+            done = place.run("sh", "-c", '"$@" > ../shown', "sh", *command, "file")
+            cases.silent(name, done)
+            found = (place.path / "shown").read_bytes()
+            spaces = b" " * 10
+            lines = around + b"secret: !vault |\n" + spaces + b"one\nx: !vault |\n" + spaces + b"two\n" + spaces + b"three\nend"
+            cases.check(f"{name}: what is shown", found, lines if wanted is None else wanted)
+
+
+def as_it_is(cases: Companions) -> None:
+    """What is not opened is shown as it is, with the reason, and git goes on."""
+    files = {
+        "unknown.yml": (sealed("dev"), "no secret decrypts this vault"),
+        "plain.yml": (TEXT, "it is no vault and holds no block"),
+        "empty.yml": (b"", "it is no vault"),
+        "header.yml": (b"$ANSIBLE_VAULT;1.1\n", "vault header line is malformed"),
+        "block.yml": (block("dev"), "block.yml:2: shown as it is: no secret decrypts this vault"),
+    }
+    with cases.place() as place:
+        for name, (content, part) in files.items():
+            place.put(name, content)
+            done = place.run(TEXTCONV, *place.by_file("old"), name)
+            cases.check(f"{name}: as it is", (done.returncode, done.stdout.encode()), (0, content))
+            cases.holds(f"{name}: why is told", part in done.stderr and name in done.stderr, done.stderr)
+        place.put("mixed.yml", block("dev") + block("old", b"shown"))
+        done = place.run(TEXTCONV, *place.by_file("old"), "mixed.yml")
+        wanted = block("dev").decode() + "secret: !vault |\n          shown\n"
+        cases.check("the other blocks are shown", (done.returncode, done.stdout), (0, wanted))
+        place.put("a.yml", sealed("old"))
+        done = place.run(TEXTCONV, *place.by_file("missing"), *place.by_file("old"), "a.yml")
+        cases.check("a missing password file is no end", (done.returncode, done.stdout), (0, TEXT.decode()))
+        cases.holds("but told", "missing: a password file cannot be opened" in done.stderr, done.stderr)
+        cases.ended("no file", place.run(TEXTCONV, *place.by_file("old"), "missing.yml"), 1, "missing.yml")
+        for words in ([], ["a.yml"], ["--loud", "a.yml"], place.by_file("old")[:1] + ["a.yml"]):
+            cases.ended(f"{words}", place.run(TEXTCONV, *words), 2, "usage: ansible-vault-textconv")
+
+
+def differences(cases: Companions) -> None:
+    """A file that is at first plaintext, then under the old password, then under the new one."""
+    if not cases.needs("differences in git", "git"):
+        return
+    with cases.place() as place:
+        with_driver(place, *place.by_file("new"), *place.by_file("old"))
+        texts = [f"password: {each}\n".encode() for each in ("first", "second", "third")]
+        for content in (texts[0], sealed("old", texts[1]), sealed("new", texts[2])):
+            place.put("vars/db.yml", content)
+            add_and_commit(place)
+        wanted = ["-password: second", "+password: third", "-password: first", "+password: second", "+password: first"]
+        (place.tree / "vars/inner").mkdir()
+        for folder in (".", "vars/inner"):
+            shown = place.shell("git log -p --format= -- :/vars", folder=folder)
+            cases.check(f"in `{folder}`", (shown.returncode, changed_lines(shown.stdout)), (0, wanted))
+
+
+def awkward_names(cases: Companions) -> None:
+    """No name ends the differences of the others."""
+    if not cases.needs("awkward names in git", "git"):
+        return
+    with cases.place() as place:
+        with_driver(place, *place.by_file("old"))
+        for name in AWKWARD:
+            place.put(name, sealed("old", b"password: first\n"))
+        add_and_commit(place)
+        for name in AWKWARD:
+            place.put(name, sealed("old", b"password: second\n"))
+        for words in ("git diff", "git add -A && git diff --cached"):
+            done = place.shell(words)
+            found = (done.returncode, changed_lines(done.stdout), done.stderr)
+            cases.check(words, found, (0, ["-password: first", "+password: second"] * len(AWKWARD), ""))
+
+
+def untouched_differences(cases: Companions) -> None:
+    """One that is not opened ends nothing, and says why."""
+    if not cases.needs("an unknown vault in git", "git"):
+        return
+    with cases.place() as place:
+        with_driver(place, *place.by_file("old"))
+        place.put("a.yml", sealed("dev", b"one\n"))
+        place.put("b.yml", sealed("old", b"password: first\n"))
+        add_and_commit(place)
+        place.put("a.yml", sealed("dev", b"two\n"))
+        place.put("b.yml", sealed("old", b"password: second\n"))
+        done = place.shell("git diff")
+        cases.ended("an unknown vault", done, 0, "+password: second", "shown as it is: no secret decrypts this vault")
+
+
+GROUPS = [alone, as_it_is, differences, awkward_names, untouched_differences]

@@ -1,0 +1,103 @@
+"""Runs that the system disturbs: by a call that fails or carries little, by a signal, by a limit.
+
+Their inputs are shared. Each run writes in a folder of its own, in which nothing may stand afterwards
+but its output.
+"""
+
+import os
+import stat
+import subprocess
+import tempfile
+from enum import Enum
+from pathlib import Path
+from typing import NamedTuple
+
+from lib.limits import SECONDS
+
+WORKERS = min(4, os.cpu_count() or 1)
+OUTPUT = "output"
+OLD = b"what stood here before\n" * 1_000
+OLD_MODE, OWNER_ONLY = 0o640, 0o600
+# In memory, where the system has it: thousands of files are made.
+SCRATCH = "/dev/shm" if os.access("/dev/shm", os.W_OK) else None
+
+
+class Target(Enum):
+    """Where the output goes."""
+
+    NEW = "a new file"
+    OLD = "an old file"
+    STREAM = "standard output"
+
+
+class Left(NamedTuple):
+    """What a run leaves: its status, its streams, and each file in its folder with its mode."""
+
+    status: int
+    output: bytes
+    message: bytes
+    files: dict[str, tuple[bytes, int]]
+
+    def __str__(self) -> str:
+        files = {name: (len(content), content[:20], oct(mode)) for name, (content, mode) in self.files.items()}
+        return f"status {self.status}, {len(self.output)} bytes, {self.message!r:.200}, files {files}"
+
+
+class Scenario(NamedTuple):
+    """A run with its whole output, and the status and line with which it ends; where it is refused, nothing is
+    written. `stdin` is the path of its standard input."""
+
+    name: str
+    words: list[str]
+    stdin: str
+    whole: bytes
+    target: Target
+    status: int = 0
+    message: bytes = b""
+
+    def lay_out(self, folder: str) -> None:
+        if self.target is Target.OLD:
+            path = Path(folder) / OUTPUT
+            path.write_bytes(OLD)
+            path.chmod(OLD_MODE)
+
+    def untouched(self, status: int, message: bytes) -> Left:
+        """What is left where the output was not begun."""
+        return Left(status, b"", message, {OUTPUT: (OLD, OLD_MODE)} if self.target is Target.OLD else {})
+
+    def written(self, status: int, message: bytes, size: int, mode: int) -> Left:
+        """What is left where the output holds so many bytes, and its file has the mode."""
+        front = self.whole[:size]
+        if self.target is Target.STREAM:
+            return Left(status, front, message, {})
+        return Left(status, b"", message, {OUTPUT: (front, mode)})
+
+    def undisturbed(self) -> Left:
+        if self.status:
+            return self.untouched(self.status, self.message)
+        return self.written(0, b"", len(self.whole), self.last_mode())
+
+    def first_mode(self) -> int:
+        return OLD_MODE if self.target is Target.OLD else OWNER_ONLY
+
+    def last_mode(self) -> int:
+        """Plaintext is for its owner alone."""
+        return OWNER_ONLY if self.words[0] == "decrypt" else self.first_mode()
+
+
+def files_in(folder: str) -> dict[str, tuple[bytes, int]]:
+    found = {}
+    for path in Path(folder).iterdir():
+        found[path.name] = path.read_bytes(), stat.S_IMODE(path.stat().st_mode)
+    return found
+
+
+def run(scenario: Scenario, command: list[str], environment: dict[str, str] | None = None) -> Left:
+    """The scenario's run by this command, which is the program and what stands before it."""
+    with tempfile.TemporaryDirectory(dir=SCRATCH) as folder, open(scenario.stdin, "rb") as stdin:
+        scenario.lay_out(folder)
+        done = subprocess.run(
+            [*command, *scenario.words], stdin=stdin, capture_output=True, cwd=folder,
+            env=environment, timeout=SECONDS,
+        )
+        return Left(done.returncode, done.stdout, done.stderr, files_in(folder))

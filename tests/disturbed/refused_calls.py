@@ -1,0 +1,200 @@
+"""Each call that a run makes of the system fails once, with each error that fits it.
+
+`strace` lets it fail. It counts the calls of a name from the program's start, those of the loader too; what a
+call is about, and what has come of the output before it, is known from a run without a failure.
+"""
+
+import tempfile
+from collections import Counter
+from concurrent.futures import ThreadPoolExecutor
+from pathlib import Path
+from random import Random
+from typing import Iterator, NamedTuple
+
+from cases import Cases
+from disturbed import OWNER_ONLY, WORKERS, Left, Scenario, Target, run
+from lib.system_calls import Call, own_calls, tracing
+from model.faults import Fault
+
+# All calls for memory fail from the one on that is refused: a single one is made good by another.
+NO_MORE_MEMORY = "ENOMEM from then on"
+ERRORS = {
+    "openat": ["EINTR", "EAGAIN", "EIO", "EACCES", "EMFILE", "ENOMEM"],
+    "read": ["EINTR", "EAGAIN", "EIO", "EBADF", "ENOMEM"],
+    "write": ["EINTR", "EAGAIN", "EIO", "ENOSPC", "EDQUOT", "EPIPE", "EBADF"],
+    "statx": ["EACCES", "EIO", "ENOMEM", "EBADF"],
+    "fchmod": ["EINTR", "EACCES", "EIO", "EBADF"],
+    "fsync": ["EINTR", "EIO", "ENOSPC", "EDQUOT", "EBADF", "EINVAL"],
+    "close": ["EINTR", "EIO", "ENOSPC", "EDQUOT", "EBADF"],
+    "mmap": ["ENOMEM", NO_MORE_MEMORY],
+    "mremap": ["ENOMEM", NO_MORE_MEMORY],
+    "brk": ["ENOMEM", NO_MORE_MEMORY],
+}
+# Of a file that is created.
+CREATING = [*ERRORS["openat"], "ENOSPC", "EDQUOT"]
+# What is made besides; none of it can fail for want of something.
+OTHERS = {"rt_sigaction", "getrandom", "munmap", "exit_group"}
+MEMORY = ("mmap", "mremap", "brk")
+# Where these are interrupted the library may try them again.
+TRIED_AGAIN = ("openat", "fchmod", "fsync")
+# The folder that takes the numbers of closed streams.
+STAND_IN = "/"
+STDIN, STDERR = 0, 2
+SECRET = Fault.SECRET_NOT_OPENED, Fault.SECRET_NOT_READ
+SALT = Fault.SALT_NOT_OPENED, Fault.SALT_NOT_READ
+INPUT = Fault.INPUT_NOT_OPENED, Fault.INPUT_NOT_READ
+ROLES = {"--vault-password-file": SECRET, "--vault-id": SECRET, "--new-vault-id": SECRET, "--salt-file": SALT}
+
+
+class Step(NamedTuple):
+    """A call of a run; the numbers that the next calls of each name have, itself among them; the path or the
+    stream that it is about; what has come before it: bytes of the output, None where that was not begun, its
+    mode, and bytes of the message."""
+
+    call: Call
+    numbers: dict[str, int]
+    about: str | int | None
+    written: int | None
+    mode: int
+    told: int
+
+    @property
+    def number(self) -> int:
+        return self.numbers[self.call.name]
+
+    def errors(self) -> list[str]:
+        return CREATING if "O_CREAT" in self.call.words else ERRORS[self.call.name]
+
+
+class Refusal(NamedTuple):
+    scenario: Scenario
+    step: Step
+    error: str
+
+    @property
+    def name(self) -> str:
+        return f"{self.scenario.name}: {self.step.call.name} {self.step.number} fails with {self.error}"
+
+    @property
+    def kind(self) -> tuple[str, Target, str, str]:
+        return self.scenario.words[0], self.scenario.target, self.step.call.name, self.error
+
+
+def subject(call: Call, paths: dict[int, str]) -> str | int | None:
+    if call.name == "openat":
+        return call.path
+    if call.name in MEMORY or call.name in OTHERS:
+        return None
+    return paths.get(call.number, call.number)
+
+
+def steps(scenario: Scenario, loading: list[Call], own: list[Call]) -> Iterator[Step]:
+    counts, paths = Counter(call.name for call in loading), {}
+    written, mode, told = None, scenario.first_mode(), 0
+    for call in own:
+        about = subject(call, paths)
+        numbers = {name: counts[name] + 1 for name in (call.name, *MEMORY)}
+        yield Step(call, numbers, about, written, mode, told)
+        counts[call.name] += 1
+        if call.name == "openat":
+            paths[call.result] = call.path
+            written = 0 if "O_CREAT" in call.words else written
+        elif call.name == "write" and about == STDERR:
+            told += call.result
+        elif call.name == "write":
+            written = (written or 0) + call.result
+        elif call.name == "fchmod":
+            mode = OWNER_ONLY
+
+
+def undisturbed(cases: Cases, scenario: Scenario) -> list[Step]:
+    """The steps of a run without a failure."""
+    with tempfile.NamedTemporaryFile() as log:
+        path = Path(log.name)
+        left = run(scenario, [*tracing(path), cases.program])
+        loading, own = own_calls(path)
+    cases.check(scenario.name, left, scenario.undisturbed())
+    names = {call.name for call in own}
+    cases.check(f"{scenario.name}: calls that are not refused", names - set(ERRORS) - OTHERS, set())
+    return [step for step in steps(scenario, loading, own) if step.call.name in ERRORS]
+
+
+def fault_of(scenario: Scenario, step: Step, error: str) -> Fault:
+    """What a run tells that cannot go on from here."""
+    if step.call.name not in ("openat", "read") or "O_CREAT" in step.call.words:
+        return Fault.NOT_WRITTEN
+    values = [value.rpartition("@")[2] for value in scenario.words]
+    options = [option for option, value in zip(scenario.words, values[1:]) if value == step.about]
+    not_opened, not_read = ROLES.get(next(iter(options), ""), INPUT)
+    if step.call.name == "read":
+        return not_read
+    return Fault.MEMORY if error == "ENOMEM" else not_opened
+
+
+def wanted(refusal: Refusal) -> list[Left]:
+    """What may be left: where memory is refused a run may do without; closing, and what cannot be synced, are
+    passed over."""
+    scenario, step, error = refusal
+    whole, memory = scenario.undisturbed(), Fault.MEMORY
+    if step.call.name == "close" or step.about == STAND_IN or (step.call.name, error) == ("fsync", "EINVAL"):
+        return [whole]
+    if step.call.name in MEMORY:
+        return [whole, scenario.untouched(memory.status, memory.line)]
+    if step.about == STDERR:
+        return [whole._replace(message=scenario.message[: step.told])]
+    again = [whole] if error == "EINTR" and step.call.name in TRIED_AGAIN else []
+    fault = fault_of(scenario, step, error)
+    if step.written is None:
+        return [scenario.untouched(fault.status, fault.line), *again]
+    return [scenario.written(fault.status, fault.line, step.written, step.mode), *again]
+
+
+def injections(step: Step, error: str) -> list[str]:
+    """What strace is told. The system answers a `brk` that it refuses with an address, and any below the one
+    that is asked for will do."""
+    how = {"brk": "retval=0"}
+    if error == NO_MORE_MEMORY:
+        return [f"inject={name}:{how.get(name, 'error=ENOMEM')}:when={step.numbers[name]}+" for name in MEMORY]
+    name = step.call.name
+    return [f"inject={name}:{how.get(name, f'error={error}')}:when={step.number}"]
+
+
+def run_refused(program: str, refusal: Refusal) -> tuple[Left, bool]:
+    """What a run leaves, and whether the call was met and failed."""
+    step = refusal.step
+    names = MEMORY if step.call.name in MEMORY else (step.call.name,)
+    expressions = [f"trace={','.join(names)}", *injections(step, refusal.error)]
+    with tempfile.NamedTemporaryFile() as log:
+        options = [word for expression in expressions for word in ("-e", expression)]
+        left = run(refusal.scenario, ["strace", "-f", "-s", "0", *options, "-o", log.name, program])
+        return left, b"(INJECTED)" in log.read()
+
+
+def refusals(cases: Cases, scenarios: list[Scenario]) -> list[Refusal]:
+    with ThreadPoolExecutor(WORKERS) as pool:
+        courses = list(pool.map(lambda scenario: undisturbed(cases, scenario), scenarios))
+    made = zip(scenarios, courses)
+    return [Refusal(scenario, step, error) for scenario, course in made for step in course for error in step.errors()]
+
+
+def some_of(every: list[Refusal], seed: int, share: int) -> list[Refusal]:
+    """One in so many, and one of each kind at least, in an order that goes by the seed."""
+    random, kinds, chosen = Random(seed), set(), []
+    for refusal in random.sample(every, len(every)):
+        if refusal.kind not in kinds or random.randrange(share) == 0:
+            chosen.append(refusal)
+        kinds.add(refusal.kind)
+    return chosen
+
+
+def refused_calls(cases: Cases, scenarios: list[Scenario], seed: int, share: int) -> None:
+    every = refusals(cases, scenarios)
+    chosen = some_of(every, seed, share)
+    with ThreadPoolExecutor(WORKERS) as pool:
+        answers = pool.map(lambda refusal: run_refused(cases.program, refusal), chosen)
+        for refusal, (left, met) in zip(chosen, answers):
+            fits = left in wanted(refusal)
+            cases.holds(refusal.name, fits, "" if fits else f"{left}, want {' or '.join(map(str, wanted(refusal)))}")
+            cases.holds(f"{refusal.name}: it is met", met)
+    counts = Counter(refusal.step.call.name for refusal in chosen)
+    print(f"refused calls: {len(chosen)} of {len(every)} runs; {', '.join(f'{count} {name}' for name, count in counts.items())}")

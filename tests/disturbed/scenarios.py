@@ -1,0 +1,95 @@
+"""Each command over inputs of several sizes, from FILE and standard input, to each target."""
+
+from typing import NamedTuple
+
+from cases import TEXT, Cases, by_file, by_id
+from disturbed import OUTPUT, Scenario, Target
+from lib.paths import version
+from model.faults import Fault
+from model.vaults import PLAINTEXT_LIMIT, SALT, seal, yaml_block
+
+KIB = 1 << 10
+SIZES = KIB, 200 * KIB
+SALT_TEXT = b"a salt"
+
+
+class Request(NamedTuple):
+    """A command with its options, what it reads and what it writes."""
+
+    words: list[str]
+    input: bytes
+    whole: bytes
+
+
+def requests(cases: Cases, text: bytes, salt: bytes) -> list[Request]:
+    """One of each command; a salt of 32 bytes comes from a file, and a shorter one is a text."""
+    right = lambda: by_file(cases.file(b"right\n"))
+    new = ["--new-vault-id", f"prod@{cases.file(b'new')}"]
+    salted = ["--salt-file", cases.file(salt)] if len(salt) == len(SALT) else ["--salt", salt.decode()]
+    vault = seal(b"right", text, salt=salt)
+    return [
+        Request(["encrypt", *right(), *salted], text, vault),
+        Request(["decrypt", *right()], vault, text),
+        Request(["view", *by_id(cases.file(b"right\n"), "dev")], vault, text),
+        Request(["rekey", *right(), *new, *salted], vault, seal(b"new", text, b"prod", salt)),
+        Request(["encrypt_string", *right(), *salted], text, yaml_block(vault)),
+    ]
+
+
+def targets(request: Request) -> list[tuple[Target, list[str]]]:
+    """With the words that name each."""
+    to_file = ["--output", OUTPUT]
+    if request.words[0] == "view":
+        return [(Target.STREAM, [])]
+    return [(Target.NEW, to_file), (Target.OLD, to_file), (Target.STREAM, ["--output", "-"])]
+
+
+def inputs(cases: Cases, request: Request) -> list[tuple[str, list[str], str]]:
+    """The name, the words and the standard input of each way in which the input comes."""
+    path, other = cases.file(request.input), cases.file(b"not asked for")
+    ways = [("standard input", [], path)]
+    if request.words[0] != "encrypt_string":
+        ways.append(("FILE", [path], other))
+    elif len(request.input) <= KIB:
+        ways.append(("STRING", [request.input.decode()], other))
+    return ways
+
+
+def scenarios(cases: Cases, size: int, salt: bytes) -> list[Scenario]:
+    made = []
+    for request in requests(cases, (TEXT * size)[:size], salt):
+        for way, given, stdin in inputs(cases, request):
+            for target, to_target in targets(request):
+                name = f"{request.words[0]} of {size} bytes from {way} to {target.value}"
+                words = [*request.words, *to_target, *given]
+                made.append(Scenario(name, words, stdin, request.whole, target))
+    return made
+
+
+def small_and_large(cases: Cases) -> list[Scenario]:
+    """The small ones have their salt from a file."""
+    return [*scenarios(cases, SIZES[0], SALT), *scenarios(cases, SIZES[1], SALT_TEXT)]
+
+
+def refused_scenarios(cases: Cases) -> list[Scenario]:
+    """Runs that are refused, or only explain something."""
+    wrong, other = cases.file(b"wrong\n"), cases.file(b"not asked for")
+    vault, fault = cases.file(seal(b"right", TEXT)), Fault.NO_SECRET_FITS
+    decrypt = ["decrypt", *by_file(wrong), "--output", OUTPUT, vault]
+    options = Fault.OUTPUT_NEEDED
+    mistake = cases.done(["view", "--loud"]).stderr
+    refused = [
+        Scenario(f"a wrong password, to {target.value}", decrypt, other, b"", target, fault.status, fault.line)
+        for target in (Target.NEW, Target.OLD)
+    ]
+    return refused + [
+        Scenario("refused options", ["encrypt", vault], other, b"", Target.STREAM, options.status, options.line),
+        Scenario("no command line", ["view", "--loud"], other, b"", Target.STREAM, 2, mistake),
+        Scenario("the version", ["--version"], other, f"ansible-vault {version()}\n".encode(), Target.STREAM),
+    ]
+
+
+def long_scenarios(cases: Cases) -> list[Scenario]:
+    """Of the longest plaintext, from FILE to files."""
+    made = scenarios(cases, PLAINTEXT_LIMIT, SALT_TEXT)
+    return [scenario for scenario in made if scenario.target is not Target.STREAM and "FILE" in scenario.name]

@@ -1,0 +1,37 @@
+"""Reads and writes that carry less than they were asked for change no answer."""
+
+import os
+import tempfile
+from concurrent.futures import ThreadPoolExecutor
+from pathlib import Path
+
+from cases import Cases
+from disturbed import WORKERS, Left, Scenario, run
+from lib.preloaded import build_library
+
+LIBRARY = "short_transfers"
+# How many bytes a call carries at most: of small inputs, and of large ones.
+SMALL_MOST, LARGE_MOST = (1, 100), (10, 10_000)
+# The outputs of large inputs have more bytes.
+LARGE = 100_000
+
+
+def run_short(program: str, library: str, scenario: Scenario, most: int) -> tuple[Left, bool]:
+    """What a run leaves, and whether a call was cut short."""
+    with tempfile.TemporaryDirectory() as folder:
+        told = Path(folder) / "told"
+        environment = {"LD_PRELOAD": library, "MOST_BYTES": str(most), "TOLD_AT": str(told)}
+        return run(scenario, [program], environment), told.exists()
+
+
+def short_transfers(cases: Cases, scenarios: list[Scenario]) -> None:
+    most_of = lambda scenario: SMALL_MOST if len(scenario.whole) < LARGE else LARGE_MOST
+    runs = [(scenario, most) for scenario in scenarios for most in most_of(scenario)]
+    with tempfile.TemporaryDirectory() as folder, ThreadPoolExecutor(WORKERS) as pool:
+        library = os.path.abspath(build_library(folder, LIBRARY))
+        answers = list(pool.map(lambda pair: run_short(cases.program, library, *pair), runs))
+    for (scenario, most), (left, cut) in zip(runs, answers):
+        name = f"{scenario.name}, at most {most} bytes a call"
+        cases.holds(name, left == scenario.undisturbed(), f"{left}, want {scenario.undisturbed()}")
+        cases.holds(f"{name}: a call is cut short", cut)
+    print(f"short reads and writes: {len(runs)} runs")

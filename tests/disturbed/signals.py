@@ -1,0 +1,116 @@
+"""A signal comes at some moment of a long run: the output's file is absent or old, a prefix or whole, and
+nothing else is there."""
+
+import signal
+import subprocess
+import tempfile
+import time
+from collections import Counter
+from concurrent.futures import ThreadPoolExecutor
+from pathlib import Path
+from random import Random
+from typing import NamedTuple
+
+from cases import Cases
+from disturbed import OLD, OUTPUT, SCRATCH, SECONDS, WORKERS, Left, Scenario, files_in
+
+SIGNALS = signal.SIGTERM, signal.SIGINT, signal.SIGHUP
+# Between two looks at a run, in seconds.
+PAUSE = 0.0002
+
+
+class Moment(NamedTuple):
+    """So many seconds after the run has started, or after its output has begun."""
+
+    in_output: bool
+    seconds: float
+
+
+def has_begun(folder: str) -> bool:
+    path = Path(folder) / OUTPUT
+    return path.exists() and path.stat().st_size != len(OLD)
+
+
+def wait_for_output(child: subprocess.Popen, folder: str) -> None:
+    while not has_begun(folder) and child.poll() is None:
+        time.sleep(PAUSE)
+
+
+def started(program: str, scenario: Scenario, folder: str) -> subprocess.Popen:
+    scenario.lay_out(folder)
+    with open(scenario.stdin, "rb") as stdin:
+        words = [program, *scenario.words]
+        return subprocess.Popen(words, stdin=stdin, stdout=subprocess.PIPE, stderr=subprocess.PIPE, cwd=folder)
+
+
+def ended(child: subprocess.Popen, folder: str) -> Left:
+    output, message = child.communicate(timeout=SECONDS)
+    return Left(child.returncode, output, message, files_in(folder))
+
+
+def state(scenario: Scenario, left: Left) -> str | None:
+    """What has come of the output; None where it is nothing that may come of it."""
+    if (left.output, left.message) != (b"", b""):
+        return None
+    if left.files == scenario.untouched(0, b"").files:
+        return "untouched"
+    if set(left.files) != {OUTPUT}:
+        return None
+    [(content, mode)] = left.files.values()
+    modes = {scenario.last_mode()} if content else {scenario.first_mode(), scenario.last_mode()}
+    if not scenario.whole.startswith(content) or mode not in modes:
+        return None
+    return "whole" if len(content) == len(scenario.whole) else "a front"
+
+
+def measured(program: str, scenario: Scenario) -> tuple[int, str | None, float, float]:
+    """How a run ends that is left alone, and for how long it reads and then writes."""
+    with tempfile.TemporaryDirectory(dir=SCRATCH) as folder:
+        start = time.monotonic()
+        child = started(program, scenario, folder)
+        wait_for_output(child, folder)
+        begun = time.monotonic()
+        child.wait(SECONDS)
+        end = time.monotonic()
+        left = ended(child, folder)
+        return left.status, state(scenario, left), begun - start, end - begun
+
+
+def interrupted(program: str, scenario: Scenario, number: signal.Signals, moment: Moment) -> tuple[int, str | None]:
+    """How a run ends."""
+    with tempfile.TemporaryDirectory(dir=SCRATCH) as folder:
+        child = started(program, scenario, folder)
+        if moment.in_output:
+            wait_for_output(child, folder)
+        time.sleep(moment.seconds)
+        child.send_signal(number)
+        left = ended(child, folder)
+        return left.status, state(scenario, left)
+
+
+def moments_of(cases: Cases, scenario: Scenario, random: Random, count: int) -> list[Moment]:
+    """Random ones, each second of them in the time in which the output is written."""
+    status, found, reading, writing = measured(cases.program, scenario)
+    cases.check(f"{scenario.name}, no signal", (status, found), (0, "whole"))
+    moments = []
+    for place in range(count):
+        in_output = place % 2 == 1
+        moments.append(Moment(in_output, random.random() * (writing if in_output else reading + writing)))
+    return moments
+
+
+def signals(cases: Cases, scenarios: list[Scenario], seed: int, count: int) -> None:
+    """So many moments of each scenario and for each signal."""
+    random, runs = Random(seed), []
+    for scenario in scenarios:
+        moments = moments_of(cases, scenario, random, count * len(SIGNALS))
+        numbers = [number for number in SIGNALS for _ in range(count)]
+        runs += [(scenario, number, moment) for number, moment in zip(numbers, moments)]
+    states = Counter()
+    with ThreadPoolExecutor(WORKERS) as pool:
+        answers = pool.map(lambda run: interrupted(cases.program, *run), runs)
+        for (scenario, number, moment), (status, found) in zip(runs, answers):
+            fits = found is not None and status == -number or (status, found) == (0, "whole")
+            cases.holds(f"{scenario.name}, {number.name} at {moment}", fits, f"status {status}, output {found}")
+            states[found] += 1
+    print(f"signals: {len(runs)} runs; {', '.join(f'{count} {found}' for found, count in states.items())}")
