@@ -56,13 +56,13 @@ pub fn drive<F: FileSystem, S: Source, K: Sink, E: Sink>(
         → (files.new ≡ files.old) × (src.new ≡ src.old) }
 {
     match parse(alloc, words) {
-        Ok(matches) => carry_out(files, alloc, &matches, src, out, err),
+        Ok(matches) => drive_matches(files, alloc, &matches, src, out, err),
         Err(error) => explain(alloc, &error, out, err),
     }
 }
 
-/// Settles what the matches ask for, and answers it.
-fn carry_out<F: FileSystem, S: Source, K: Sink, E: Sink>(
+/// Settles what the matches ask for, and runs it.
+fn drive_matches<F: FileSystem, S: Source, K: Sink, E: Sink>(
     files: &mut F,
     alloc: Global,
     matches: &ArgMatches<'_>,
@@ -81,14 +81,14 @@ fn carry_out<F: FileSystem, S: Source, K: Sink, E: Sink>(
     ensures memory { result ≡ Status.OutOfMemory → src.new ≡ src.old }
 {
     match settle(alloc, matches) {
-        Ok(request) => answer(files, alloc, &request, src, out, err),
+        Ok(request) => drive_request(files, alloc, &request, src, out, err),
         Err(fault) => report(fault, err),
     }
 }
 
-/// Answers a request over its files, its input and its output, in memory for the longest text,
+/// Runs a request over its files, its input and its output, in memory for the longest text,
 /// which is reserved before any file is opened.
-fn answer<F: FileSystem, S: Source, K: Sink, E: Sink>(
+fn drive_request<F: FileSystem, S: Source, K: Sink, E: Sink>(
     files: &mut F,
     alloc: Global,
     request: &Request,
@@ -128,13 +128,13 @@ fn answer<F: FileSystem, S: Source, K: Sink, E: Sink>(
         memory,
     };
     match input {
-        Some(mut reader) => send(files, alloc, job, &mut reader, out, err),
-        None => send(files, alloc, job, src, out, err),
+        Some(mut reader) => run_to_output(files, alloc, job, &mut reader, out, err),
+        None => run_to_output(files, alloc, job, src, out, err),
     }
 }
 
-/// Runs a request, and sends its output where the request says.
-fn send<F: FileSystem, S: Source, K: Sink, E: Sink>(
+/// Runs a request, whose output goes where the request says.
+fn run_to_output<F: FileSystem, S: Source, K: Sink, E: Sink>(
     files: &mut F,
     alloc: Global,
     job: Job<'_, '_>,

@@ -20,7 +20,6 @@ mod fault_texts;
 #[cfg(test)]
 mod host_files;
 #[cfg(test)]
-#[cfg(test)]
 mod memory_files;
 #[cfg(test)]
 mod opening;

@@ -27,4 +27,4 @@ returns-in-Err-clause-answered g c = λ parses.
 
 pub returns-in-Ok-clause-answered : goal.returns-in-Ok-clause-answered
 returns-in-Ok-clause-answered g c =
-    λ parses. rw c.in-Ok.ensures.matches at c.carry_out.ensures.drives
+    λ parses. rw c.in-Ok.ensures.matches at c.drive_matches.ensures.drives

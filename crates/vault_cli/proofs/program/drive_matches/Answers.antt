@@ -4,17 +4,18 @@ use Rattle.vault_cli.specs.Call.{sink, source}
 use Rattle.vault_request.specs.Settled.{asked}
 use Rattle.vault_cli.proofs.facts.DriveFacts.{drives-settled, drives-unsettled}
 use Rattle.vault_cli.proofs.facts.runs.EndingFacts.{store_between}
-use Rattle.vault_cli.proofs.program.carry_out.Goals as goal
+use Rattle.vault_cli.proofs.program.drive_matches.Goals as goal
 
 pub returns-in-Ok-clause-drives : goal.returns-in-Ok-clause-drives
 returns-in-Ok-clause-drives g c =
-    drives-settled (store_between g.F.Sink g.F.FileSystem c.args.files.now c.answer.new.files)
-    (source g.S.Source c.args.src.now c.answer.new.src)
-    (sink g.K.Sink c.args.out.now c.answer.new.out)
-    (sink g.E.Sink c.args.err.now c.answer.new.err) c.answer.result
+    drives-settled
+    (store_between g.F.Sink g.F.FileSystem c.args.files.now c.drive_request.new.files)
+    (source g.S.Source c.args.src.now c.drive_request.new.src)
+    (sink g.K.Sink c.args.out.now c.drive_request.new.out)
+    (sink g.E.Sink c.args.err.now c.drive_request.new.err) c.drive_request.result
     (asked (subcommand_rows_of c.args.matches.now)) c.in-Ok.request
     c.requires.asks
-    c.in-Ok.ensures c.answer.ensures.drives
+    c.in-Ok.ensures c.drive_request.ensures.drives
 
 pub returns-in-Err-clause-drives : goal.returns-in-Err-clause-drives
 returns-in-Err-clause-drives g c =

@@ -4,7 +4,7 @@ use Rattle.vault_cli.specs.runs.Status.{status_of}
 use Rattle.vault_cli.proofs.facts.DriveFacts.{drives-file, drives-no_memory, drives-refused}
 use Rattle.vault_cli.proofs.facts.DriveFacts.{drives-stdin}
 use Rattle.vault_cli.proofs.facts.runs.EndingFacts.{store_between}
-use Rattle.vault_cli.proofs.program.answer.Goals as goal
+use Rattle.vault_cli.proofs.program.drive_request.Goals as goal
 
 pub returns-in-Err-clause-drives : goal.returns-in-Err-clause-drives
 returns-in-Err-clause-drives g c =
@@ -29,29 +29,32 @@ returns-in-Err-gather-clause-drives g c =
 
 pub returns-in-Some-clause-drives : goal.returns-in-Some-clause-drives
 returns-in-Some-clause-drives g c =
-    drives-file (store_between g.F.Sink g.F.FileSystem c.args.files.now c.send.new.files)
-    (source g.S.Source c.args.src.now c.args.src.now) (sink g.K.Sink c.args.out.now c.send.new.out)
-    (sink g.E.Sink c.args.err.now c.send.new.err) c.send.result c.args.request.now
+    drives-file (store_between g.F.Sink g.F.FileSystem c.args.files.now c.run_to_output.new.files)
+    (source g.S.Source c.args.src.now c.args.src.now)
+    (sink g.K.Sink c.args.out.now c.run_to_output.new.out)
+    (sink g.E.Sink c.args.err.now c.run_to_output.new.err) c.run_to_output.result c.args.request.now
     (map (λ file. file.items) c.as_slice-secret_files.result.now) c.as_slice-salt.result.now
     (rw c.as_slice-secret_files.ensures.value c.in-Ok-gather.ensures.secrets)
     (rw c.as_slice-salt.ensures.value c.in-Ok-gather.ensures.salt)
     c.gather.new.files c.in-Ok-gather.ensures.opens
     refl (g.F.FileSystem.opened c.args.files.now)
-    (source g.F.Reader.Source c.in-Some.reader c.send.new.src)
+    (source g.F.Reader.Source c.in-Some.reader c.run_to_output.new.src)
     (rw c.in-Some.is at c.in-Ok-gather.ensures.input)
     (g.met.F.Reader.Source.gives_none c.in-Some.reader)
     (g.met.F.FileSystem.front_met c.args.files.now) (g.met.F.FileSystem.break_met c.args.files.now)
-    c.send.ensures.ends
+    c.run_to_output.ensures.ends
 
 pub returns-clause-drives : goal.returns-clause-drives
 returns-clause-drives g c =
-    drives-stdin (store_between g.F.Sink g.F.FileSystem c.args.files.now c.send-in-None.new.files)
-    (source g.S.Source c.args.src.now c.send-in-None.new.src)
-    (sink g.K.Sink c.args.out.now c.send-in-None.new.out)
-    (sink g.E.Sink c.args.err.now c.send-in-None.new.err) c.send-in-None.result c.args.request.now
+    drives-stdin
+    (store_between g.F.Sink g.F.FileSystem c.args.files.now c.run_to_output-in-None.new.files)
+    (source g.S.Source c.args.src.now c.run_to_output-in-None.new.src)
+    (sink g.K.Sink c.args.out.now c.run_to_output-in-None.new.out)
+    (sink g.E.Sink c.args.err.now c.run_to_output-in-None.new.err)
+    c.run_to_output-in-None.result c.args.request.now
     (map (λ file. file.items) c.as_slice-secret_files.result.now) c.as_slice-salt.result.now
     (rw c.as_slice-secret_files.ensures.value c.in-Ok-gather.ensures.secrets)
     (rw c.as_slice-salt.ensures.value c.in-Ok-gather.ensures.salt)
     c.gather.new.files c.in-Ok-gather.ensures.opens
     (g.F.FileSystem.opened c.args.files.now) (rw c.in-None.is at c.in-Ok-gather.ensures.input)
-    c.send-in-None.ensures.ends
+    c.run_to_output-in-None.ensures.ends

@@ -10,7 +10,7 @@ use Rattle.vault_cli.specs.runs.Outcome.{input_asked, outcome, outcome_within}
 use Rattle.vault_cli.specs.runs.Status.{status_of}
 use Rattle.vault_cli.proofs.facts.runs.EndingFacts.{alone-memory, ends-file, ends-out}
 use Rattle.vault_cli.proofs.facts.runs.EndingFacts.{store_between}
-use Rattle.vault_cli.proofs.program.send.Goals as goal
+use Rattle.vault_cli.proofs.program.run_to_output.Goals as goal
 
 pub returns-in_default-clause-ends : goal.returns-in_default-clause-ends
 returns-in_default-clause-ends g c =
