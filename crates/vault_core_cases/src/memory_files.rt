@@ -7,21 +7,30 @@ use vault_text::{Sink, put_all};
 fn reads_fronts(rt: HostRuntime) {
     let entries = [
         MemFile::whole("one", b"abc"),
-        MemFile::broken("two", b"abc"),
         MemFile::whole("one", b"later"),
     ];
     let mut files = MemFiles::new(rt.alloc(), &entries);
-    let mut buf = [0; 4];
-    assert_eq!(rt; read_front(&mut files, "one", &mut buf), Ok(3));
-    assert_eq!(rt; &buf[..3], b"abc".as_slice());
-    assert_eq!(rt; read_front(&mut files, "one", &mut buf[..2]), Ok(2));
+    let mut longer = [0; 4];
+    assert_eq!(rt; read_front(&mut files, "one", &mut longer), Ok(3));
+    assert_eq!(rt; &longer[..3], b"abc".as_slice());
+    let mut shorter = [0; 2];
+    assert_eq!(rt; read_front(&mut files, "one", &mut shorter), Ok(2));
+    assert_eq!(rt; shorter, *b"ab");
+}
+
+#[test]
+fn tells_files_that_break_or_are_missing(rt: HostRuntime) {
+    let entries = [MemFile::broken("two", b"abc")];
+    let mut files = MemFiles::new(rt.alloc(), &entries);
+    let mut up_to_the_break = [0; 3];
+    assert_eq!(rt; read_front(&mut files, "two", &mut up_to_the_break), Ok(3));
+    let mut past_it = [0; 4];
     assert_eq!(rt;
-        read_front(&mut files, "two", &mut buf),
+        read_front(&mut files, "two", &mut past_it),
         Err(FileFault::CannotRead)
     );
-    assert_eq!(rt; read_front(&mut files, "two", &mut buf[..3]), Ok(3));
     assert_eq!(rt;
-        read_front(&mut files, "none", &mut buf),
+        read_front(&mut files, "none", &mut past_it),
         Err(FileFault::CannotOpen)
     );
 }
