@@ -21,9 +21,9 @@ struct Opened {
 }
 
 /// A run over these files, with memory for `limit` opens.
-fn run_over(
+fn run_over<'a>(
     alloc: Global,
-    entries: &[MemFile],
+    entries: &'a [MemFile<'a>],
     words: &[&str],
     limit: usize,
 ) -> Result<Opened, Fail> {

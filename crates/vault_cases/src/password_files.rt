@@ -6,9 +6,9 @@ use vault_made::{CountingReader, EMPTY_ENVELOPE};
 use vault_runs::{Ran, run_program};
 
 /// Runs the program on these words over these files and this input.
-fn ran_over(
+fn ran_over<'a>(
     alloc: Global,
-    files: &[MemFile],
+    files: &'a [MemFile<'a>],
     words: &[&str],
     stdin: &mut CountingReader,
 ) -> Result<Ran, Fail> {
