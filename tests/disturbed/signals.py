@@ -60,7 +60,7 @@ def state(scenario: Scenario, left: Left) -> str | None:
     modes = {scenario.last_mode()} if content else {scenario.first_mode(), scenario.last_mode()}
     if not scenario.whole.startswith(content) or mode not in modes:
         return None
-    return "whole" if len(content) == len(scenario.whole) else "a front"
+    return "whole" if len(content) == len(scenario.whole) else "a prefix"
 
 
 def measured(program: str, scenario: Scenario) -> tuple[int, str | None, float, float]:
