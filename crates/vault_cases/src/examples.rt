@@ -79,7 +79,7 @@ fn of_vault_files(rt: HostRuntime) -> Result<(), Fail> {
     let alloc = rt.alloc();
     let entries = [MemFile::whole("one", b"first\n")];
     let mut files = MemFiles::new(alloc, &entries);
-    files.aim(alloc, "two", Access::OwnerOnly)?;
+    files.aim(String::from_str(alloc, "two")?, Access::OwnerOnly);
     files.begin()?;
     put_all(&mut files, b"second\n")?;
     files.finish()?;

@@ -4,6 +4,7 @@ pub mod Gathered
 pub mod Outcome
 pub mod ReportLine
 pub mod Reports
+pub mod Reserved
 pub mod Status
 pub mod StoredTask
 pub mod Task

@@ -1,12 +1,13 @@
 //! What the program does with its arguments, its files and its standard streams.
-ghost use Rattle.std.specs.Prelude.{◌≡◌, ◌≢◌, [], Ok, Some, is_some, length, map, true};
+ghost use Rattle.std.specs.Prelude.{◌≡◌, ◌≢◌, ◌⊎◌, [], Ok, Some, is_some, length, map, true};
+ghost use Rattle.std.specs.Option.{option_map};
 ghost use Rattle.std.specs.String.{string_bytes};
 ghost use Rattle.clap.specs.Words.{fault_of, subcommand_rows_of};
 ghost use Rattle.vault_text.specs.declared.limits.TheConstants.{CIPHERTEXT_LIMIT, PLAINTEXT_LIMIT};
 ghost use Rattle.vault_cli.specs.Call.{sink, source, store};
 ghost use Rattle.vault_request.specs.CommandLine.{vault_app};
 ghost use Rattle.vault_cli.specs.Drive.{Drives};
-ghost use Rattle.vault_cli.specs.runs.Ending.{EndsUnlessMemory, to_path};
+ghost use Rattle.vault_cli.specs.runs.Ending.{Ends, to_path};
 ghost use Rattle.vault_cli.specs.Explained.{ExplainsOneOf};
 ghost use Rattle.vault_cli.specs.runs.Outcome.{input_asked, outcome};
 ghost use Rattle.vault_cli.specs.Program.{answer_to, output_access, program};
@@ -14,7 +15,7 @@ ghost use Rattle.vault_request.specs.Request.{files_of};
 ghost use Rattle.vault_request.specs.Settled.{asked, asked_by};
 
 use crate::explaining::explain;
-use crate::runs::{Gathered, Job, Status, gather, report, run_job};
+use crate::runs::{Gathered, Job, Reserved, Status, gather, report, reserve, run_job};
 use clap::ArgMatches;
 use std::alloc::Global;
 use vault_core::Fault;
@@ -45,8 +46,10 @@ pub fn drive<F: FileSystem, S: Source, K: Sink, E: Sink>(
         (sink K.Sink out.old out.new) (sink E.Sink err.old err.new) result
         (asked_by texts) (program texts) }
 
-    // Out of memory comes before the input.
+    // Out of memory comes before the input, and before any file, unless opening one finds none.
     ensures memory { result ≡ Status.OutOfMemory → src.new ≡ src.old }
+    ensures lacks { result ≡ Status.OutOfMemory
+        → (files.new ≡ files.old) ⊎ F.lacks files.old files.new }
 
     // Others are explained, and neither a file nor the input is asked for.
     ensures explained { let kinds = fault_of vault_app (map string_bytes words.now) in
@@ -79,6 +82,8 @@ fn drive_matches<F: FileSystem, S: Source, K: Sink, E: Sink>(
         (sink K.Sink out.old out.new) (sink E.Sink err.old err.new) result
         asked (answer_to asked) }
     ensures memory { result ≡ Status.OutOfMemory → src.new ≡ src.old }
+    ensures lacks { result ≡ Status.OutOfMemory
+        → (files.new ≡ files.old) ⊎ F.lacks files.old files.new }
 {
     match settle(alloc, matches) {
         Ok(request) => drive_request(files, alloc, &request, src, out, err),
@@ -86,8 +91,8 @@ fn drive_matches<F: FileSystem, S: Source, K: Sink, E: Sink>(
     }
 }
 
-/// Runs a request over its files, its input and its output, in memory for the longest text,
-/// which is reserved before any file is opened.
+/// Runs a request over its files, its input and its output, in memory that is reserved before any
+/// file is opened.
 fn drive_request<F: FileSystem, S: Source, K: Sink, E: Sink>(
     files: &mut F,
     alloc: Global,
@@ -104,12 +109,19 @@ fn drive_request<F: FileSystem, S: Source, K: Sink, E: Sink>(
         (sink K.Sink out.old out.new) (sink E.Sink err.old err.new) result
         asked (answer_to asked) }
     ensures memory { result ≡ Status.OutOfMemory → src.new ≡ src.old }
+    ensures lacks { result ≡ Status.OutOfMemory
+        → (files.new ≡ files.old) ⊎ F.lacks files.old files.new }
 {
-    let mut room = match Vec::with_capacity(alloc, CIPHERTEXT_LIMIT) {
-        Ok(room) => room,
+    let reserved = match reserve(alloc, request) {
+        Ok(reserved) => reserved,
         Err(error) => return report(Fault::from(error), err),
     };
-    let found = match gather(files, alloc, request) {
+    let Reserved {
+        mut text,
+        buffers,
+        output,
+    } = reserved;
+    let found = match gather(files, request, buffers) {
         Ok(found) => found,
         Err(fault) => return report(fault, err),
     };
@@ -120,7 +132,7 @@ fn drive_request<F: FileSystem, S: Source, K: Sink, E: Sink>(
     } = found;
     let secret_files = secret_files.as_slice();
     let salt = salt.as_slice();
-    let memory = TextMemory::reserved(&mut room, CIPHERTEXT_LIMIT);
+    let memory = TextMemory::reserved(&mut text, CIPHERTEXT_LIMIT);
     let job = Job {
         request,
         secret_files,
@@ -128,15 +140,15 @@ fn drive_request<F: FileSystem, S: Source, K: Sink, E: Sink>(
         memory,
     };
     match input {
-        Some(mut reader) => run_to_output(files, alloc, job, &mut reader, out, err),
-        None => run_to_output(files, alloc, job, src, out, err),
+        Some(mut reader) => run_to_output(files, output, job, &mut reader, out, err),
+        None => run_to_output(files, output, job, src, out, err),
     }
 }
 
-/// Runs a request, whose output goes where the request says.
+/// Runs a request, whose output goes to its path, where it names one.
 fn run_to_output<F: FileSystem, S: Source, K: Sink, E: Sink>(
     files: &mut F,
-    alloc: Global,
+    output: Option<String>,
     job: Job<'_, '_>,
     src: &mut S,
     out: &mut K,
@@ -145,6 +157,7 @@ fn run_to_output<F: FileSystem, S: Source, K: Sink, E: Sink>(
     requires files { length job.secret_files.now ≡ length (files_of job.request.now) }
     requires empty { job.memory.bytes ≡ [] }
     requires room { job.memory.limit ≡ CIPHERTEXT_LIMIT }
+    requires output { option_map string_bytes output ≡ job.request.now.output }
     requires files_unbegun { F.stage files.old ≡ Stage.Unbegun }
     requires out_unbegun { K.stage out.old ≡ Stage.Unbegun }
     requires err_unbegun { E.stage err.old ≡ Stage.Unbegun }
@@ -153,18 +166,17 @@ fn run_to_output<F: FileSystem, S: Source, K: Sink, E: Sink>(
         let salt = job.entry.salt.now in
         let files = store F.FileSystem files.old files.new in
         let out = sink K.Sink out.old out.new in
-        EndsUnlessMemory (to_path request.output (output_access request.command) files out)
+        Ends (to_path request.output (output_access request.command) files out)
         (sink E.Sink err.old err.new) result (source S.Source src.old src.new)
         (input_asked PLAINTEXT_LIMIT request contents salt) (outcome request contents salt) }
-    ensures memory { result ≡ Status.OutOfMemory → src.new ≡ src.old }
+    ensures memory_suffices { result ≢ Status.OutOfMemory }
 {
-    let request = job.request;
-    let Some(path) = request.output() else {
-        return run_job(job, src, out, err);
-    };
-    match files.aim(alloc, path, output_access(request.command())) {
-        Ok(()) => run_job(job, src, files, err),
-        Err(error) => report(Fault::from(error), err),
+    match output {
+        Some(path) => {
+            files.aim(path, output_access(job.request.command()));
+            run_job(job, src, files, err)
+        }
+        None => run_job(job, src, out, err),
     }
 }
 

@@ -28,7 +28,7 @@ fn tells_what_cannot_be_written(rt: HostRuntime) -> Result<(), Fail> {
         ("/dev/null", true, true),
     ] {
         let mut files = HostFiles::new(&rt);
-        files.aim(rt.alloc(), path, Access::Kept)?;
+        files.aim(String::from_str(rt.alloc(), path)?, Access::Kept);
         assert_eq!(rt; files.begin().is_ok(), begins, "{path}");
         if begins {
             assert_eq!(rt; put_all(&mut files, b"text").is_ok(), takes, "{path}");

@@ -45,7 +45,7 @@ fn keeps_what_is_written(rt: HostRuntime) -> Result<(), Fail> {
     let alloc = rt.alloc();
     let entries = [MemFile::whole("one", b"abc"), MemFile::whole("two", b"de")];
     let mut files = MemFiles::new(alloc, &entries);
-    files.aim(alloc, "one", Access::Kept)?;
+    files.aim(String::from_str(alloc, "one")?, Access::Kept);
     assert!(rt; has(&files, "one", b"abc"));
     files.begin()?;
     assert!(rt; has(&files, "one", b""));
@@ -82,7 +82,7 @@ fn logs_each_open(rt: HostRuntime) -> Result<(), Fail> {
         read_front(&mut files, "one", &mut buf),
         Err(FileFault::Memory)
     );
-    files.aim(alloc, "out", Access::Kept)?;
+    files.aim(String::from_str(alloc, "out")?, Access::Kept);
     files.begin()?;
     put_all(&mut files, b"new")?;
     files.finish()?;

@@ -1,15 +1,15 @@
 //! What a program asks of its files.
 ghost use Rattle.std.specs.Prelude.{◌≡◌, ◌≢◌, ℕ, ◌<◌, ◌≤◌, ◌⊎◌, ◌++◌, List, [], ◌∷◌, IsTrue};
 ghost use Rattle.std.specs.Prelude.{length, take};
-ghost use Rattle.std.specs.Prelude.{Ok, Err, IfOk, IfErr, OnOk, OnErr};
+ghost use Rattle.std.specs.Prelude.{Ok, Err, IfOk, IfErr};
+ghost use Rattle.std.specs.String.{string_bytes};
 ghost use Rattle.vault_text.specs.Failures.{HasRisen};
 ghost use Rattle.vault_files.specs.File.{Answers, Finding, UnlessMemory};
 ghost use Rattle.vault_files.specs.File.Finding.{Missing};
-ghost use Rattle.vault_files.specs.declared.fault.FileFault.TheVariants.{CannotRead};
+ghost use Rattle.vault_files.specs.declared.fault.FileFault.TheVariants.{CannotRead, Memory};
 
 use crate::access::Access;
 use crate::fault::FileFault;
-use std::alloc::{AllocError, Global};
 use vault_text::{Sink, Source, SourceFailed, Stage, fill_up};
 
 /// Where a program finds its files. As a sink it is one file of its own, the output, which `aim`
@@ -29,6 +29,9 @@ pub trait FileSystem: Sink {
     // Between two states it was asked to open these paths, in this order.
     ghost opens: { Self → List (List ℕ) → Self → Type 0 };
 
+    // Between two states files were asked for, and the last of them found no memory.
+    ghost lacks: { Self → Self → Type 0 };
+
     // The same files, the output at this path, for those who may read it.
     ghost aimed: { Self → List ℕ → Access → Self → Type 0 };
 
@@ -40,15 +43,15 @@ pub trait FileSystem: Sink {
             (opens self.old (path.now ∷ []) self.new) (opens self.old [] self.new) }
         ensures opened { IfOk result (λ reader. opened self.old path.now reader) }
         ensures missing { IfErr result (λ fault. fault ≢ FileFault.Memory →
-            (fault ≡ FileFault.CannotOpen) × meets self.old path.now Missing) };
+            (fault ≡ FileFault.CannotOpen) × meets self.old path.now Missing) }
+        ensures lacks { result ≡ Err Memory → lacks self.old self.new };
 
     /// Chooses the path of the output, and who may read it. Nothing is created yet.
-    fn aim(&mut self, alloc: Global, path: &str, access: Access) -> Result<(), AllocError>
+    fn aim(&mut self, path: String, access: Access)
         requires { Self.stage self.old ≡ Stage.Unbegun }
-        ensures aimed { OnOk result (aimed self.old path.now access self.new) }
+        ensures aimed { aimed self.old (string_bytes path) access self.new }
         ensures unbegun { Self.stage self.new ≡ Stage.Unbegun }
-        ensures failures { Self.failures self.new ≡ Self.failures self.old }
-        ensures refused { OnErr result (self.new ≡ self.old) };
+        ensures failures { Self.failures self.new ≡ Self.failures self.old };
 
     ghost opens_none: { (s : Self) → opens s [] s };
 
@@ -68,6 +71,10 @@ pub trait FileSystem: Sink {
     // What was opened behind them could be opened before.
     ghost opens_opened: { (s t : Self) (paths : List (List ℕ)) (path : List ℕ) (r : Self.Reader)
         → opens s paths t → opened t path r → opened s path r };
+
+    // What is asked for behind opens is asked for behind what came before them.
+    ghost opens_lacks: { (s t u : Self) (paths : List (List ℕ))
+        → opens s paths t → lacks t u → lacks s u };
 
     // Something may be met at each path.
     ghost meets_some: { (s : Self) (path : List ℕ) → (file : Finding) × meets s path file };
@@ -101,6 +108,7 @@ pub fn read_front<F: FileSystem>(
         Answers (F.meets files.old path.now) (length buf.new) (Ok (take n buf.new))) }
     ensures refused { IfErr result (λ fault. fault ≢ FileFault.Memory →
         Answers (F.meets files.old path.now) (length buf.new) (Err fault)) }
+    ensures lacks { result ≡ Err Memory → F.lacks files.old files.new }
 {
     let mut reader = files.open(path)?;
     match fill_up(&mut reader, buf) {

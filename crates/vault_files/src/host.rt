@@ -6,7 +6,6 @@ use crate::access::Access;
 use crate::disk::Disk;
 use crate::fault::FileFault;
 use crate::file_system::FileSystem;
-use std::alloc::{AllocError, Global};
 use std::io::ErrorKind;
 use std::marker::Model;
 use vault_text::{FailureCount, ReadSource, Sink, SinkFailed, Stage};
@@ -168,6 +167,8 @@ impl<D: Disk> FileSystem for HostFiles<D> {
 
     ghost opens = { HostOpens D.asks };
 
+    ghost lacks = { λ s t. Unit {0} };
+
     ghost aimed = { λ s path access t. t ≡ record s { aim = Some path; access = access } };
 
     ghost opens_none = { HostOpens-none D.asks D.asks_none };
@@ -181,6 +182,8 @@ impl<D: Disk> FileSystem for HostFiles<D> {
     ghost opens_meets = { λ s t paths path file opens met. met };
 
     ghost opens_opened = { λ s t paths path reader opens opened. opened };
+
+    ghost opens_lacks = { λ s t u paths opens lacks. lacks };
 
     ghost meets_some = { λ s path. (Missing, tt) };
 
@@ -197,9 +200,8 @@ impl<D: Disk> FileSystem for HostFiles<D> {
         }
     }
 
-    fn aim(&mut self, alloc: Global, path: &str, access: Access) -> Result<(), AllocError> {
-        self.aim = Some(String::from_str(alloc, path)?);
+    fn aim(&mut self, path: String, access: Access) {
+        self.aim = Some(path);
         self.access = access;
-        Ok(())
     }
 }

@@ -3,7 +3,7 @@
 //! ```rust
 //! let entries = [MemFile::whole("one", b"first\n")];
 //! let mut files = MemFiles::new(alloc, &entries);
-//! files.aim(alloc, "two", Access::OwnerOnly)?;
+//! files.aim(String::from_str(alloc, "two")?, Access::OwnerOnly);
 //! files.begin()?;
 //! put_all(&mut files, b"second\n")?;
 //! files.finish()?;

@@ -15,8 +15,8 @@ use Rattle.vault_common.specs.declared.fault.Fault.TheVariants.{Memory, Read}
 use Rattle.vault_common.specs.declared.fault.Role.TheVariants.{Input}
 use Rattle.vault_cli.specs.Call.{SinkCall, SourceCall, StoreCall, files_from}
 use Rattle.vault_cli.specs.Drive.{AllMet, Drives, EndsOver}
-use Rattle.vault_cli.specs.runs.Ending.{EndsUnasked, EndsUnlessMemory, Finishes, LacksMemory}
-use Rattle.vault_cli.specs.runs.Ending.{Output, to_path}
+use Rattle.vault_cli.specs.runs.Ending.{Ends, EndsUnasked, EndsUnlessMemory, Finishes, Output}
+use Rattle.vault_cli.specs.runs.Ending.{to_path}
 use Rattle.vault_cli.specs.runs.Found.{AtPath, asked_paths, fault_in, secret_paths}
 use Rattle.vault_cli.specs.runs.Gathered.{ContentsMet, RefusedBy, SaltMet}
 use Rattle.vault_cli.specs.runs.ReportLine.{line_of}
@@ -144,12 +144,12 @@ module _ {F R S K E : Type 0} (files : StoreCall F R) (src : SourceCall S) (out 
 
     abbrev SentFrom : {T : Type 0} → SourceCall T → Type 0
     SentFrom from =
-        EndsUnlessMemory SentTo err result from (input_asked PLAINTEXT_LIMIT request contents salt)
+        Ends SentTo err result from (input_asked PLAINTEXT_LIMIT request contents salt)
         (outcome request contents salt)
 
     -- over this input file and this task
     abbrev EndsWith : Option Finding → Result Task Fault → Type 0
-    EndsWith input task = EndsUnlessMemory SentTo err result src
+    EndsWith input task = Ends SentTo err result src
         (unless_file input
         (asked_for task request.string (input_limit PLAINTEXT_LIMIT request.command)))
         (λ stdin. answered
@@ -169,8 +169,9 @@ module _ {F R S K E : Type 0} (files : StoreCall F R) (src : SourceCall S) (out 
             (
               inl (subst (λ (paths : List (List ℕ)). files.opens files.old paths opened) (sym all)
                   went),
-              subst (λ (file : Option Finding). EndsWith file (task_over request found)) (sym is)
-                  (subst (λ (task : Result Task Fault). EndsWith input task) (sym same) ends),
+              inr (subst (λ (file : Option Finding). EndsWith file (task_over request found))
+                  (sym is)
+                  (subst (λ (task : Result Task Fault). EndsWith input task) (sym same) ends)),
             ),
           ),
         )
@@ -193,32 +194,27 @@ module _ {F R S K E : Type 0} (files : StoreCall F R) (src : SourceCall S) (out 
       FileEnds prepares string =
           (file : Finding) × AtPath (files.meets files.old) request.input (Some file)
           × (input_file_opened (Some file) ≡ Ok tt)
-          × (LacksMemory SentTo err result
-          ⊎ Finishes SentTo err result
+          × Finishes SentTo err result
           (answered
           (ready_by PLAINTEXT_LIMIT prepares string
-          (input_in (input_limit PLAINTEXT_LIMIT request.command + 1) (Some file) []))))
+          (input_in (input_limit PLAINTEXT_LIMIT request.command + 1) (Some file) [])))
 
       abbrev FileSent : Result Task Fault → Option (List ℕ) → Type 0
-      FileSent prepares string = EndsUnlessMemory SentTo err result reader
+      FileSent prepares string = Ends SentTo err result reader
           (asked_for prepares string (input_limit PLAINTEXT_LIMIT request.command))
           (λ input. answered (ready_by PLAINTEXT_LIMIT prepares string (Ok input)))
 
       file-ends : (prepares : Result Task Fault) (string : Option (List ℕ))
           → FileSent prepares string → FileEnds prepares string
-      file-ends prepares string (inl (unread, memory)) =
+      file-ends (Err fault) string (unread, done) =
           let (file, met, opening, same) = input-read (files.meets files.old) reads reader front_law
           request.input reader.old [] 0 at none (omega arith) (inr refl) refl in
-          (file, met, opening, inl memory)
-      file-ends (Err fault) string (inr (unread, done)) =
+          (file, met, opening, done)
+      file-ends (Ok task) (Some string) (unread, done) =
           let (file, met, opening, same) = input-read (files.meets files.old) reads reader front_law
           request.input reader.old [] 0 at none (omega arith) (inr refl) refl in
-          (file, met, opening, inr done)
-      file-ends (Ok task) (Some string) (inr (unread, done)) =
-          let (file, met, opening, same) = input-read (files.meets files.old) reads reader front_law
-          request.input reader.old [] 0 at none (omega arith) (inr refl) refl in
-          (file, met, opening, inr done)
-      file-ends (Ok task) None (inr (input, (given, fits, inl (u, short)))) =
+          (file, met, opening, done)
+      file-ends (Ok task) None (input, (given, fits, inl (u, short))) =
           let (file, met, opening, same) = input-broken (files.meets files.old) reads reader
           break_law request.input reader.new input
           (input_limit PLAINTEXT_LIMIT request.command + 1) at given (omega (arith, short))
@@ -226,25 +222,25 @@ module _ {F R S K E : Type 0} (files : StoreCall F R) (src : SourceCall S) (out 
             file,
             met,
             opening,
-            inr (subst
+            subst
                 (λ (text : Result (List ℕ) Fault). Finishes SentTo err result
                 (answered (ready_by PLAINTEXT_LIMIT (Ok task) None text)))
                 (sym (same []))
                 (inl
                 (record
-                { status = u.status; unfailed = u.unfailed; output = u.output; line = u.line }))),
+                { status = u.status; unfailed = u.unfailed; output = u.output; line = u.line })),
           )
-      file-ends (Ok task) None (inr (input, (given, fits, inr ((stay, whole), done)))) =
+      file-ends (Ok task) None (input, (given, fits, inr ((stay, whole), done))) =
           let (file, met, opening, same) = input-read (files.meets files.old) reads reader front_law
           request.input reader.new input
           (input_limit PLAINTEXT_LIMIT request.command + 1) at given fits whole stay in (
             file,
             met,
             opening,
-            inr (subst
+            subst
                 (λ (text : Result (List ℕ) Fault). Finishes SentTo err result
                 (answered (ready_by PLAINTEXT_LIMIT (Ok task) None text)))
-                (sym (same [])) done),
+                (sym (same [])) done,
           )
 
       pub drives-file : SentFrom reader → AskedDrives (Some (Ok request))
@@ -252,8 +248,7 @@ module _ {F R S K E : Type 0} (files : StoreCall F R) (src : SourceCall S) (out 
       drives-file sent =
           let (file, met, opening, ends) = file-ends (prepared request contents salt) request.string
           sent in
-          drives-with (Some file) met opening
-          (elim ends [ inl memory ↦ inl (kept, memory) | inr done ↦ inr (kept, done) ])
+          drives-with (Some file) met opening (kept, ends)
 
   -- ---- what was answered before the output was chosen
 

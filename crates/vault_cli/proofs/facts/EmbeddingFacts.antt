@@ -35,6 +35,7 @@ memory_store old new = record {
     meets = λ s path file. file ≡ file_at s.entries path;
     opened = λ s path reader. IsReaderOf (file_at s.entries path) reader;
     opens = StoreOpens;
+    lacks = λ s t. Unit {0};
     aimed = λ s path access t. t ≡ record s { aim = Some path };
   };
   old = old;

@@ -1,9 +1,10 @@
-pub mod Pieces
-pub mod RefusedAlone
-pub mod FoundFacts
+pub mod BufferFacts
 pub mod EndingFacts
+pub mod FoundFacts
 pub mod FrontFacts
 pub mod OutcomeFacts
+pub mod Pieces
+pub mod RefusedAlone
+pub mod RunFacts
 pub mod SecretFacts
 pub mod TaskFacts
-pub mod RunFacts

@@ -1,17 +1,20 @@
 //! What a request needs of its files before its input is read.
-ghost use Rattle.std.specs.Prelude.{◌≡◌, ◌≢◌, ℕ, [], ◌∷◌, length, map, option_to_list, take};
-ghost use Rattle.std.specs.Prelude.{Ok, Err, IfOk, IfErr, OnOk, vec_len};
+ghost use Rattle.std.specs.Prelude.{◌≡◌, ◌≢◌, ℕ, ◌+◌, ◌≤◌, [], ◌∷◌, All, length, map};
+ghost use Rattle.std.specs.Prelude.{option_to_list, take, Ok, Err, IfOk, IfErr, OnOk};
+ghost use Rattle.std.specs.Prelude.{vec_capacity, vec_len};
 ghost use Rattle.vault_files.specs.File.Finding.{Missing};
 ghost use Rattle.vault_common.specs.declared.fault.Fault.TheVariants.{CannotOpen, Memory};
 ghost use Rattle.vault_common.specs.declared.fault.Role.TheVariants.{Input};
 ghost use Rattle.vault_cli.specs.runs.Found.{AtPath, asked_paths, fault_in, secret_paths};
 ghost use Rattle.vault_cli.specs.runs.Gathered.{ContentsMet, FrontMet, SaltMet};
 ghost use Rattle.vault_cli.specs.runs.Gathered.{RefusedBy, SecretsRefuse};
+ghost use Rattle.vault_cli.specs.runs.Reserved.{HasRoomFor};
+ghost use Rattle.vault_core.specs.declared.limits.TheConstants.{PASSWORD_FILE_LIMIT};
+ghost use Rattle.vault_cli.specs.declared.limits.TheConstants.{SEALING_SALT_LENGTH};
 ghost use Rattle.vault_request.specs.Request.{files_of};
 
-use crate::limits::SEALING_SALT_LENGTH;
-use std::alloc::Global;
-use vault_core::{Fault, PASSWORD_FILE_LIMIT, Role};
+use super::reserving::Buffers;
+use vault_core::{Fault, Role};
 use vault_files::{FileFault, FileSystem, read_front};
 use vault_request::Request;
 use vault_text::{Source, Stage};
@@ -25,14 +28,15 @@ pub(crate) struct Gathered<R: Source + Drop> {
     pub input: Option<R>,
 }
 
-/// Reads the password files and the salt file, and opens the input file, up to the first of them
-/// that refuses.
+/// Reads the password files and the salt file into the buffers, and opens the input file, up to
+/// the first of them that refuses.
 pub(crate) fn gather<F: FileSystem>(
     files: &mut F,
-    alloc: Global,
     request: &Request,
+    buffers: Buffers,
 ) -> Result<Gathered<F::Reader>, Fault>
-    requires { F.stage files.old ≡ Stage.Unbegun }
+    requires unbegun { F.stage files.old ≡ Stage.Unbegun }
+    requires room { HasRoomFor request.now buffers }
     ensures count { IfOk result (λ found.
         vec_len found.secret_files ≡ length (files_of request.now)) }
     ensures secrets { IfOk result (λ found.
@@ -46,10 +50,16 @@ pub(crate) fn gather<F: FileSystem>(
     ensures refused { IfErr result (λ fault.
         RefusedBy (F.meets files.old) (λ paths. F.opens files.old paths files.new)
         request.now fault) }
+    ensures lacks { IfErr result (λ fault. fault ≡ Memory → F.lacks files.old files.new) }
     ensures unbegun { F.stage files.new ≡ Stage.Unbegun }
 {
-    let secret_files = read_secret_files(files, alloc, request)?;
-    let salt = read_salt(files, alloc, request)?;
+    let Buffers {
+        unread,
+        contents,
+        salt,
+    } = buffers;
+    let secret_files = read_secret_files(files, request, unread, contents)?;
+    let salt = read_salt(files, request, salt)?;
     let input = open_input(files, request)?;
     Ok(Gathered {
         secret_files,
@@ -69,24 +79,27 @@ fn fault_in(role: Role, fault: FileFault) -> Fault
     }
 }
 
-/// The first bytes of a file, as many as `buf` has room for.
+/// The first bytes of a file, as many as `buf` holds.
 fn front_of<F: FileSystem>(
     files: &mut F,
-    alloc: Global,
     role: Role,
     path: &str,
-    buf: &mut [u8],
+    mut buf: Vec<u8>,
 ) -> Result<Vec<u8>, Fault>
     requires { F.stage files.old ≡ Stage.Unbegun }
     ensures opens { result ≢ Err Memory → F.opens files.old (path.now ∷ []) files.new }
     ensures no_other { (n : ℕ) × F.opens files.old (take n (path.now ∷ [])) files.new }
     ensures read { IfOk result (λ bytes.
-        FrontMet (F.meets files.old path.now) role (length buf.new) (Ok bytes.items)) }
+        FrontMet (F.meets files.old path.now) role (vec_len buf) (Ok bytes.items)) }
     ensures refused { IfErr result (λ fault. fault ≢ Memory →
-        FrontMet (F.meets files.old path.now) role (length buf.new) (Err fault)) }
+        FrontMet (F.meets files.old path.now) role (vec_len buf) (Err fault)) }
+    ensures lacks { IfErr result (λ fault. fault ≡ Memory → F.lacks files.old files.new) }
 {
-    match read_front(files, path, buf) {
-        Ok(n) => Ok(Vec::from_slice(alloc, &buf[..n])?),
+    match read_front(files, path, buf.as_mut_slice()) {
+        Ok(n) => {
+            buf.truncate(n);
+            Ok(buf)
+        }
         Err(fault) => Err(fault_in(role, fault)),
     }
 }
@@ -94,10 +107,15 @@ fn front_of<F: FileSystem>(
 /// The contents of the password files, in their order, each up to one byte more than is taken.
 fn read_secret_files<F: FileSystem>(
     files: &mut F,
-    alloc: Global,
     request: &Request,
+    mut unread: Vec<Vec<u8>>,
+    mut contents: Vec<Vec<u8>>,
 ) -> Result<Vec<Vec<u8>>, Fault>
-    requires { F.stage files.old ≡ Stage.Unbegun }
+    requires unbegun { F.stage files.old ≡ Stage.Unbegun }
+    requires buffers { vec_len unread ≡ length (files_of request.now) }
+    requires long { All (λ buffer. vec_len buffer ≡ PASSWORD_FILE_LIMIT + 1) unread.items }
+    requires empty { contents.items ≡ [] }
+    requires room { length (files_of request.now) ≤ vec_capacity contents }
     ensures count { IfOk result (λ contents. vec_len contents ≡ length (files_of request.now)) }
     ensures read { IfOk result (λ contents.
         ContentsMet (F.meets files.old) (secret_paths request.now)
@@ -106,13 +124,13 @@ fn read_secret_files<F: FileSystem>(
     ensures refused { IfErr result (λ fault.
         SecretsRefuse (F.meets files.old) (λ paths. F.opens files.old paths files.new)
         (secret_paths request.now) fault) }
+    ensures lacks { IfErr result (λ fault. fault ≡ Memory → F.lacks files.old files.new) }
     ensures unbegun { F.stage files.new ≡ Stage.Unbegun }
 {
-    let mut contents = Vec::new(alloc);
-    let mut buf = [0; PASSWORD_FILE_LIMIT + 1];
     for i in 0..request.files() {
-        let bytes = front_of(files, alloc, Role::Secret, request.path(i), &mut buf)?;
-        contents.push(bytes)?;
+        let buf = unread.pop().unwrap();
+        let bytes = front_of(files, Role::Secret, request.path(i), buf)?;
+        contents.push(bytes).unwrap();
     }
     Ok(contents)
 }
@@ -120,10 +138,11 @@ fn read_secret_files<F: FileSystem>(
 /// The salt of a request: the first 32 bytes of its salt file, or none where it names no file.
 fn read_salt<F: FileSystem>(
     files: &mut F,
-    alloc: Global,
     request: &Request,
+    mut buf: Vec<u8>,
 ) -> Result<Vec<u8>, Fault>
-    requires { F.stage files.old ≡ Stage.Unbegun }
+    requires unbegun { F.stage files.old ≡ Stage.Unbegun }
+    requires length { vec_len buf ≡ SEALING_SALT_LENGTH }
     ensures opens { result ≢ Err Memory
         → F.opens files.old (option_to_list request.now.salt_path) files.new }
     ensures no_other { (n : ℕ)
@@ -132,11 +151,14 @@ fn read_salt<F: FileSystem>(
         SaltMet (F.meets files.old) request.now.salt_path (Ok salt.items)) }
     ensures refused { IfErr result (λ fault. fault ≢ Memory →
         SaltMet (F.meets files.old) request.now.salt_path (Err fault)) }
+    ensures lacks { IfErr result (λ fault. fault ≡ Memory → F.lacks files.old files.new) }
 {
-    let mut buf = [0; SEALING_SALT_LENGTH];
     match request.salt_path() {
-        Some(path) => front_of(files, alloc, Role::Salt, path, &mut buf),
-        None => Ok(Vec::new(alloc)),
+        Some(path) => front_of(files, Role::Salt, path, buf),
+        None => {
+            buf.clear();
+            Ok(buf)
+        }
     }
 }
 
@@ -150,6 +172,7 @@ fn open_input<F: FileSystem>(files: &mut F, request: &Request) -> Result<Option<
     ensures opened { IfOk result (λ input. AtPath (F.opened files.old) request.now.input input) }
     ensures refused { IfErr result (λ fault. fault ≢ Memory →
         (fault ≡ CannotOpen Input) × AtPath (F.meets files.old) request.now.input (Some Missing)) }
+    ensures lacks { IfErr result (λ fault. fault ≡ Memory → F.lacks files.old files.new) }
 {
     let Some(path) = request.input() else {
         return Ok(None);

@@ -149,6 +149,8 @@ impl<'a> FileSystem for MemFiles<'a> {
 
     ghost opens = { StoreOpens };
 
+    ghost lacks = { λ s t. Unit {0} };
+
     ghost aimed = { λ s path access t. t ≡ record s { aim = Some path } };
 
     ghost opens_none = { StoreOpens-none };
@@ -162,6 +164,8 @@ impl<'a> FileSystem for MemFiles<'a> {
     ghost opens_meets = { λ s t paths path file opens met. rw opens at met };
 
     ghost opens_opened = { λ s t paths path reader opens opened. rw opens at opened };
+
+    ghost opens_lacks = { λ s t u paths opens lacks. lacks };
 
     ghost meets_some = { λ s path. (file_at s.entries path, refl) };
 
@@ -180,8 +184,7 @@ impl<'a> FileSystem for MemFiles<'a> {
         }
     }
 
-    fn aim(&mut self, alloc: Global, path: &str, _access: Access) -> Result<(), AllocError> {
-        self.aim = Some(String::from_str(alloc, path)?);
-        Ok(())
+    fn aim(&mut self, path: String, _access: Access) {
+        self.aim = Some(path);
     }
 }

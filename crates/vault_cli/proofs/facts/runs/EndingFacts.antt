@@ -7,7 +7,7 @@ use Rattle.vault_files.specs.declared.access.Access.{Access}
 use Rattle.vault_files.specs.declared.file_system.FileSystem.{Ghosts as StoreTerms}
 use Rattle.vault_common.specs.declared.fault.Fault.TheVariants.{Memory}
 use Rattle.vault_cli.specs.Call.{SinkCall, SourceCall, StoreCall, sink}
-use Rattle.vault_cli.specs.runs.Ending.{Ends, EndsUnlessMemory, Finishes, IsAnswered, LacksMemory}
+use Rattle.vault_cli.specs.runs.Ending.{Ends, Finishes, IsAnswered, LacksMemory}
 use Rattle.vault_cli.specs.runs.Ending.{Output, Receives, to_path, to_sink}
 use Rattle.vault_cli.specs.runs.ReportLine.{line_of}
 use Rattle.vault_cli.specs.runs.Outcome.{Outcome}
@@ -112,9 +112,9 @@ module _ {F R K E S : Type 0} (access : Access) (files : StoreCall F R) (out : S
   -- a run whose output is standard output
   pub ends-out : (path : Option (List ℕ)) → None ≡ path → files.new ≡ files.old
       → Ends (to_sink out) err result src asked answers
-      → EndsUnlessMemory (to_path path access files out) err result src asked answers
+      → Ends (to_path path access files out) err result src asked answers
   ends-out path is kept ends =
-      inr (subst
+      subst
       (λ (p : Option (List ℕ)). Ends (to_path p access files out) err result src asked answers) is
       (told-ends (to_sink out) (to_path None access files out) (record {
         untouched = λ same. (same, kept);
@@ -122,7 +122,7 @@ module _ {F R K E S : Type 0} (access : Access) (files : StoreCall F R) (out : S
         finished = λ h. h;
         failed = λ h. h;
         unfailed = λ h. h;
-      }) err result src asked answers ends))
+      }) err result src asked answers ends)
 
   -- one whose output is the file at a path that was chosen
   pub ends-file : (path : Option (List ℕ)) (chosen_path : List ℕ) (chosen : F)
@@ -131,9 +131,9 @@ module _ {F R K E S : Type 0} (access : Access) (files : StoreCall F R) (out : S
       → files.failures chosen ≡ files.failures files.old
       → out.new ≡ out.old
       → Ends (to_sink (sink files.output chosen files.new)) err result src asked answers
-      → EndsUnlessMemory (to_path path access files out) err result src asked answers
+      → Ends (to_path path access files out) err result src asked answers
   ends-file path chosen_path chosen is at fresh stay alone ends =
-      inr (subst
+      subst
       (λ (p : Option (List ℕ)). Ends (to_path p access files out) err result src asked answers) is
       (told-ends (to_sink (sink files.output chosen files.new))
       (to_path (Some chosen_path) access files out) (record {
@@ -142,4 +142,4 @@ module _ {F R K E S : Type 0} (access : Access) (files : StoreCall F R) (out : S
         finished = λ h. h;
         failed = λ h. rw stay at h;
         unfailed = λ h. h ∙ stay;
-      }) err result src asked answers ends))
+      }) err result src asked answers ends)

@@ -1,4 +1,4 @@
-use Rattle.std.proofs.Common.{◌≡◌, rules, length, Some}
+use Rattle.std.proofs.Common.{◌≡◌, Some, vec_len}
 use Rattle.vault_cli.proofs.facts.ProgramFacts.{salt-read, salt-unread}
 use Rattle.vault_cli.proofs.runs.gathering.read_salt.Goals as goal
 
@@ -7,13 +7,11 @@ returns-in-Some-clause-read g c =
     let path : Some c.in-Some.path.now ≡ c.args.request.now.salt_path =
     rw c.in-Some.is at c.salt_path.ensures in
     salt-read (g.F.FileSystem.meets c.args.files.now) c.in-Some.path.now _
-    (length c.front_of.new.buf) c.front_of.result path
-    (let h = c.front_of.auto.buf in search (rules, h)) c.front_of.ensures.read
+    (vec_len c.args.buf) c.front_of.result path c.requires.length c.front_of.ensures.read
 
 pub returns-in-Some-clause-refused : goal.returns-in-Some-clause-refused
 returns-in-Some-clause-refused g c =
     let path : Some c.in-Some.path.now ≡ c.args.request.now.salt_path =
     rw c.in-Some.is at c.salt_path.ensures in
     salt-unread (g.F.FileSystem.meets c.args.files.now) c.in-Some.path.now _
-    (length c.front_of.new.buf) c.front_of.result path
-    (let h = c.front_of.auto.buf in search (rules, h)) c.front_of.ensures.refused
+    (vec_len c.args.buf) c.front_of.result path c.requires.length c.front_of.ensures.refused
