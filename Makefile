@@ -43,7 +43,7 @@ all: bin/ansible-vault
 bin/ansible-vault: $(SOURCES) bin/processor
 	@echo "Proving the program and the crates below it, where they changed; from nothing it takes minutes"
 	@tools/progress.py bin/build.log ansible_vault \
-		env -C crates/ansible_vault rt run ansible_vault $(if $(CPU),--cpu $(CPU)) -- --version
+		tools/build_program $(if $(CPU),--cpu $(CPU))
 	@cp crates/ansible_vault/out/ansible_vault $@
 
 # The program that tests/growths_in_memory runs.
@@ -57,17 +57,19 @@ bin/processor: FORCE
 	@mkdir -p bin
 	@echo '$(CPU)' | cmp -s - $@ || echo '$(CPU)' > $@
 
-# The gate, and then the tests of the program that was built and of the cipher's tables. The programs
-# that the gate builds are those of `make`, but for another processor. They are as old as the
-# gate's beginning: a source that changes meanwhile is newer.
+# The gate, then the wrong bodies that are tried many at a time, over what it proved, and the tests of the
+# program that was built and of the cipher's tables. The programs that the gate builds are those of `make`,
+# but for another processor. They are as old as the gate's beginning: a source that changes meanwhile is newer.
 check: bin/processor
-	@echo "Proving every crate and its tests from nothing, and trying the must-fail edits; it takes about an hour on four cores"
+	@echo "Proving every crate and its tests from nothing, and trying wrong bodies; it takes about 45 minutes on four cores"
 	@touch bin/gate-begun
 	@tools/progress.py bin/ci.log all rt ci
 	@$(if $(CPU),,cp crates/ansible_vault/out/ansible_vault bin/ansible-vault)
 	@$(if $(CPU),,touch -r bin/gate-begun bin/ansible-vault)
 	@cp crates/vault_growths/out/vault_growths bin/vault_growths
 	@touch -r bin/gate-begun bin/vault_growths
+	@echo "Trying the other wrong bodies, those of different functions in one check"
+	@tools/try_edits --behind-gate
 	@$(MAKE) --no-print-directory test
 
 # Four at a time, those first that take longest; each prints what it has to say when it is through.
