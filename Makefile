@@ -61,7 +61,7 @@ bin/processor: FORCE
 # program that was built and of the cipher's tables. The programs that the gate builds are those of `make`,
 # but for another processor. They are as old as the gate's beginning: a source that changes meanwhile is newer.
 check: bin/processor
-	@echo "Proving every crate and its tests from nothing, and trying wrong bodies; it takes about 45 minutes on four cores"
+	@echo "Proving every crate and its tests from nothing, and trying wrong bodies; it takes about 50 minutes on four cores"
 	@touch bin/gate-begun
 	@tools/progress.py bin/ci.log all rt ci
 	@$(if $(CPU),,cp crates/ansible_vault/out/ansible_vault bin/ansible-vault)

@@ -1,18 +1,12 @@
-//! Tests of whole runs: of one request, and of the program.
+//! Tests of runs of one request.
 #![tactic(auto)]
 
 #[cfg(test)]
-mod embedding;
-#[cfg(test)]
 mod encrypting;
-#[cfg(test)]
-mod examples;
 #[cfg(test)]
 mod opening;
 #[cfg(test)]
 mod password_files;
-#[cfg(test)]
-mod program;
 #[cfg(test)]
 mod rekeying;
 #[cfg(test)]
