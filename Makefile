@@ -43,13 +43,13 @@ all: bin/ansible-vault
 bin/ansible-vault: $(SOURCES) bin/processor
 	@echo "Proving the program and the crates below it, where they changed; from nothing it takes minutes"
 	@tools/progress.py bin/build.log ansible_vault \
-		tools/build_program $(if $(CPU),--cpu $(CPU))
+		tools/build_program ansible_vault $(if $(CPU),--cpu $(CPU)) -- --version
 	@cp crates/ansible_vault/out/ansible_vault $@
 
 # The program that tests/growths_in_memory runs.
 bin/vault_growths: $(SOURCES)
 	@mkdir -p bin
-	@tools/progress.py bin/growths.log vault_growths env -C crates/vault_growths rt run -- drive view < /dev/null
+	@tools/progress.py bin/growths.log vault_growths tools/build_program vault_growths -- drive view < /dev/null
 	@cp crates/vault_growths/out/vault_growths $@
 
 # Changes where the processor does.
@@ -72,10 +72,11 @@ check: bin/processor
 	@tools/try_edits --behind-gate
 	@$(MAKE) --no-print-directory test
 
-# Four at a time, those first that take longest; each prints what it has to say when it is through.
-test: all bin/vault_growths
+# Four at a time, that first for which a program is built, then those that take longest; each prints what it has to
+# say when it is through.
+test: all
 	tools/dead_names
-	@$(MAKE) --no-print-directory --jobs=4 --output-sync=target $(PROGRAM_TESTS:%=test-%) test-growths_in_memory test-fuzz $(OTHER_TESTS:%=test-%)
+	@$(MAKE) --no-print-directory --jobs=4 --output-sync=target test-growths_in_memory $(PROGRAM_TESTS:%=test-%) test-fuzz $(OTHER_TESTS:%=test-%)
 
 $(PROGRAM_TESTS:%=test-%): test-%: all
 	tests/$* bin/ansible-vault

@@ -21,8 +21,6 @@ CRATES = pathlib.Path(__file__).resolve().parent.parent / "crates.txt"
 # Seconds between two signs of life: on a terminal in one line, else in a line each.
 TERMINAL_PAUSE, PAUSE = 1, 30
 
-STARTED = re.compile(r"rt: chose --jobs \d+ for (\w+)$")
-CHECKED = re.compile(r"(?:so far: |checked \S+, )(\d+ of \d+)\b")
 PROVED = re.compile(r"rt: (\w+) proved$")
 NOT_PROVED = re.compile(r"rt: (\w+ NOT PROVED\b.*)$")
 TESTS_PROVED = re.compile(r"rt: (\w+): its tests are (proved|NOT PROVED)$")
@@ -52,7 +50,7 @@ def clock(seconds: float) -> str:
 
 
 class Progress:
-    """How many crates are proved, and since when the command runs."""
+    """Which crates are left, and since when the command runs."""
 
     def __init__(self, crates: list[str]):
         self.total = len(crates)
@@ -64,52 +62,10 @@ class Progress:
         ahead = "\r\033[K" if sys.stdout.isatty() else ""
         print(f"{ahead}{clock(time.monotonic() - self.begun):>6}  {text}", end=end, flush=True)
 
-    def proved(self, crate: str):
-        self.left = [each for each in self.left if each != crate]
-        self.tell(f"{crate} is proved, {self.total - len(self.left)} of {self.total}")
-
-    def end(self):
-        """The command has ended well."""
-
-
-class Build(Progress):
-    """The lines of `rt run`, which proves the crates below a program one by one, where they changed."""
-
-    def __init__(self, uses: dict[str, list[str]], top: str):
-        super().__init__(crates_below(uses, top))
-        self.uses = uses
-        self.current = None
-        self.current_begun = self.begun
-        self.checked = ""
-
-    def take(self, line: str):
-        if found := STARTED.match(line):
-            self.end()
-            self.current, self.current_begun, self.checked = found[1], time.monotonic(), ""
-            standing = crates_below(self.uses, found[1])[1:]
-            self.left = [each for each in self.left if each not in standing]
-        elif found := CHECKED.match(line):
-            self.checked = f", {found[1]} functions"
-
-    def end(self):
-        if self.current:
-            self.proved(self.current)
-        self.current = None
-
-    def state(self) -> str:
-        if not self.current:
-            return "looking the sources over"
-        since = clock(time.monotonic() - self.current_begun)
-        place = self.total - len(self.left) + 1
-        return f"proving {self.current}, {place} of {self.total}, for {since}{self.checked}"
-
-
-class Gate(Progress):
-    """The lines of `rt ci`, which proves several crates at once and tells when each has ended."""
-
     def take(self, line: str):
         if found := PROVED.match(line):
-            self.proved(found[1])
+            self.left = [each for each in self.left if each != found[1]]
+            self.tell(f"{found[1]} is proved, {self.total - len(self.left)} of {self.total}")
         elif found := NOT_PROVED.match(line):
             self.tell(found[1])
         elif found := TESTS_PROVED.match(line):
@@ -158,7 +114,7 @@ def main():
     if not shutil.which(command[0]):
         sys.exit(f"{command[0]} is not on PATH; it comes with the Rattle kit")
     uses = libraries(CRATES.read_text())
-    progress = Gate(list(uses)) if top == "all" else Build(uses, top)
+    progress = Progress(list(uses) if top == "all" else crates_below(uses, top))
     lines = queue.Queue()
     with open(path, "w") as log:
         process = subprocess.Popen(
@@ -169,8 +125,6 @@ def main():
         status = process.wait()
     if status:
         print(f"\n{pathlib.Path(path).read_text(errors='replace')}", end="")
-    else:
-        progress.end()
     progress.tell(f"{'FAILED' if status else 'done'}; the whole log is {path}")
     if progress.count:
         print(progress.count)

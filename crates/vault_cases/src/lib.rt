@@ -6,8 +6,6 @@ mod encrypting;
 #[cfg(test)]
 mod opening;
 #[cfg(test)]
-mod password_files;
-#[cfg(test)]
 mod rekeying;
 #[cfg(test)]
 mod runs;

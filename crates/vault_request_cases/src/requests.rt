@@ -1,5 +1,6 @@
 //! Requests, settled from words.
 use std::alloc::{AllocError, Global};
+use std::process::Abort;
 use std::test::Fail;
 use vault_common::{Fault, LabelRule};
 use vault_made::line_of;
@@ -62,6 +63,14 @@ fn fault_of(alloc: Global, line: &str) -> Result<Option<Fault>, Fail> {
     }
 }
 
+/// Asserts that the words of each line are refused for the fault beside it.
+fn assert_refused(rt: &impl Abort, alloc: Global, cases: &[(&str, Fault)]) -> Result<(), Fail> {
+    for &(line, fault) in cases {
+        assert_eq!(rt; fault_of(alloc, line)?, Some(fault), "{line}");
+    }
+    Ok(())
+}
+
 #[test]
 fn names_the_first_fault_of_vault_ids(rt: HostRuntime) -> Result<(), Fail> {
     let cases = [
@@ -78,10 +87,7 @@ fn names_the_first_fault_of_vault_ids(rt: HostRuntime) -> Result<(), Fail> {
         ),
         ("encrypt --encrypt-vault-id= f", Fault::BadLabel),
     ];
-    for (line, fault) in cases {
-        assert_eq!(rt; fault_of(rt.alloc(), line)?, Some(fault), "{line}");
-    }
-    Ok(())
+    assert_refused(&rt, rt.alloc(), &cases)
 }
 
 #[test]
@@ -96,10 +102,7 @@ fn needs_one_new_secret(rt: HostRuntime) -> Result<(), Fail> {
         ("rekey --new-vault-id=a;b@prompt", Fault::BadLabel),
         ("rekey --new-vault-id=prompt f", Fault::PromptSource),
     ];
-    for (line, fault) in cases {
-        assert_eq!(rt; fault_of(rt.alloc(), line)?, Some(fault), "{line}");
-    }
-    Ok(())
+    assert_refused(&rt, rt.alloc(), &cases)
 }
 
 #[test]
@@ -113,27 +116,18 @@ fn fits_the_name_to_the_string(rt: HostRuntime) -> Result<(), Fail> {
         ("encrypt_string --stdin-name \u{7f}", Fault::BadName),
         ("encrypt_string --name=\n s --salt=", Fault::BadName),
     ];
-    for (line, fault) in cases {
-        assert_eq!(rt; fault_of(rt.alloc(), line)?, Some(fault), "{line}");
-    }
-    Ok(())
+    assert_refused(&rt, rt.alloc(), &cases)
 }
 
 #[test]
 fn needs_an_output_for_a_file(rt: HostRuntime) -> Result<(), Fail> {
-    let refused = [
-        "encrypt f",
-        "decrypt f",
-        "rekey --new-vault-id=g f",
-        "encrypt f --salt=",
+    let cases = [
+        ("encrypt f", Fault::OutputNeeded),
+        ("decrypt f", Fault::OutputNeeded),
+        ("rekey --new-vault-id=g f", Fault::OutputNeeded),
+        ("encrypt f --salt=", Fault::OutputNeeded),
     ];
-    for line in refused {
-        assert_eq!(rt;
-            fault_of(rt.alloc(), line)?,
-            Some(Fault::OutputNeeded),
-            "{line}"
-        );
-    }
+    assert_refused(&rt, rt.alloc(), &cases)?;
     for line in ["encrypt --output=- f", "encrypt -- -"] {
         assert_eq!(rt; fault_of(rt.alloc(), line)?, None, "{line}");
     }
@@ -162,11 +156,9 @@ fn refuses_wrong_salts(rt: HostRuntime) -> Result<(), Fail> {
             Fault::SaltChoice,
         ),
         ("encrypt --salt= --salt-file=g", Fault::SaltChoice),
+        ("encrypt --salt-file=g --salt=", Fault::SaltChoice),
     ];
-    for (line, fault) in cases {
-        assert_eq!(rt; fault_of(rt.alloc(), line)?, Some(fault), "{line}");
-    }
-    Ok(())
+    assert_refused(&rt, rt.alloc(), &cases)
 }
 
 #[test]
