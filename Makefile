@@ -3,7 +3,7 @@ DESTDIR ?=
 # The processor that the program is built for, as x86-64-v3; empty: x86-64-v2, as rt has it.
 CPU ?=
 
-VERSION := $(shell sed -n 's/^const VERSION: &str = "\(.*\)";$$/\1/p' crates/vault_request/src/command_line.rt)
+VERSION := $(shell sed -n 's/^const VERSION: &str = "\(.*\)";$$/\1/p' crates/vault_command_line/src/command_line.rt)
 SOURCES := $(shell find crates/*/src crates/*/specs crates/*/proofs) crates.txt
 
 # What is installed, below the prefix, where Debian's tools look. Python finds what the companions share
@@ -61,7 +61,7 @@ bin/processor: FORCE
 # program that was built and of the cipher's tables. The programs that the gate builds are those of `make`,
 # but for another processor. They are as old as the gate's beginning: a source that changes meanwhile is newer.
 check: bin/processor
-	@echo "Proving every crate and its tests from nothing, and trying wrong bodies; it takes about 50 minutes on four cores"
+	@echo "Proving every crate and its tests from nothing, and trying wrong bodies; it takes about an hour on four cores"
 	@touch bin/gate-begun
 	@tools/progress.py bin/ci.log all rt ci
 	@$(if $(CPU),,cp crates/ansible_vault/out/ansible_vault bin/ansible-vault)

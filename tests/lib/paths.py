@@ -7,7 +7,7 @@ ROOT = Path(__file__).resolve().parent.parent.parent
 FIXTURES = ROOT / "tests" / "fixtures"
 PAGE = ROOT / "man" / "ansible-vault.1"
 README = ROOT / "README.md"
-COMMAND_LINE = ROOT / "crates" / "vault_request" / "src" / "command_line.rt"
+COMMAND_LINE = ROOT / "crates" / "vault_command_line" / "src" / "command_line.rt"
 
 
 def version() -> str:

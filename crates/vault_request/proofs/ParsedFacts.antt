@@ -7,7 +7,7 @@ use Rattle.clap.specs.Words.{subcommand_rows_of}
 use Rattle.clap.specs.Faults.{is_simple_and_free}
 use Rattle.clap.specs.declared.error.Error.{Error}
 use Rattle.clap.specs.declared.parser.matches.ArgMatches.{ArgMatches}
-use Rattle.vault_request.specs.CommandLine.{vault_app}
+use Rattle.vault_command_line.specs.CommandLine.{vault_app}
 use Rattle.vault_request.proofs.ParsedSamples.{vault_app-simple}
 
 -- the command and its rows

@@ -10,7 +10,7 @@ use Rattle.vault_common.specs.declared.fault.Fault.TheVariants.{NameMismatch, Ne
 use Rattle.vault_common.specs.declared.fault.Fault.TheVariants.{OutputNeeded, PromptSource}
 use Rattle.vault_common.specs.declared.fault.Fault.TheVariants.{SaltChoice, TooManySecrets}
 use Rattle.vault_common.specs.declared.label_rule.LabelRule.TheVariants.{Hint, Required}
-use Rattle.vault_request.specs.CommandLine.{vault_app}
+use Rattle.vault_command_line.specs.CommandLine.{vault_app}
 use Rattle.vault_request.specs.Refusal.{refusal}
 use Rattle.vault_request.specs.Request.{Request}
 use Rattle.vault_request.specs.Settled.{asked}

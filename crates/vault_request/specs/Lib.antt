@@ -1,5 +1,4 @@
 pub mod CommandName
-pub mod CommandLine
 pub mod Options
 pub mod VaultId
 pub mod Request

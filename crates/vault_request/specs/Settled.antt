@@ -7,7 +7,7 @@ use Rattle.clap.specs.Words.{subcommand_of}
 use Rattle.vault_text.specs.Label.{default_label}
 use Rattle.vault_common.specs.declared.fault.Fault.{Fault}
 use Rattle.vault_common.specs.declared.fault.Fault.TheVariants.{Memory}
-use Rattle.vault_request.specs.CommandLine.{vault_app}
+use Rattle.vault_command_line.specs.CommandLine.{vault_app}
 use Rattle.vault_request.specs.CommandName.{command_of, rekeys, seals}
 use Rattle.vault_request.specs.Options.{Options, not_dash, options_of}
 use Rattle.vault_request.specs.Refusal.{refusal}

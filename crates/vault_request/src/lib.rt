@@ -12,8 +12,6 @@
 //! ```
 #![tactic(auto)]
 
-mod arguments;
-mod command_line;
 mod command_name;
 pub mod laws;
 mod limits;
@@ -24,9 +22,8 @@ mod request;
 mod settling;
 mod vault_id;
 
-pub use command_line::command;
 pub use command_name::CommandName;
 pub use limits::SALT_TEXT_LIMIT;
-pub use parsing::parse;
+pub use parsing::{command, parse};
 pub use request::Request;
 pub use settling::settle;

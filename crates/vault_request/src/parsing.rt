@@ -1,13 +1,22 @@
 //! From arguments to the matches of the command line.
-ghost use Rattle.std.specs.Prelude.{◌≡◌, IfOk, is_some, map, true};
+ghost use Rattle.std.specs.Prelude.{◌≡◌, IfErr, IfOk, is_some, map, true};
 ghost use Rattle.std.specs.String.{string_bytes};
-ghost use Rattle.clap.specs.Words.{FailsBy, fault_of, subcommand_of, subcommand_rows_of};
-ghost use Rattle.vault_request.specs.CommandLine.{vault_app};
+ghost use Rattle.clap.specs.Words.{FailsBy, app_of, fault_of, subcommand_of, subcommand_rows_of};
+ghost use Rattle.vault_command_line.specs.CommandLine.{vault_app};
+ghost use Rattle.vault_common.specs.declared.fault.Fault.TheVariants.{Memory};
 ghost use Rattle.vault_request.specs.Settled.{asked};
 
-use crate::command_line::command;
-use clap::{ArgMatches, Error};
-use std::alloc::{AllocError, Global};
+use clap::{ArgMatches, Command, Error};
+use std::alloc::Global;
+use vault_common::Fault;
+
+/// The command line's description, to be parsed by `clap`.
+pub fn command<'a>(alloc: Global) -> Result<Command<'a>, Fault>
+    ensures shape { IfOk result (λ command. app_of command ≡ vault_app) }
+    ensures refused { IfErr result (λ fault. fault ≡ Memory) }
+{
+    Ok(vault_command_line::command(alloc)?)
+}
 
 /// Parses the arguments, of which the first is the program's name: the command and the values under
 /// its options are those that the parser's definition gives for this command line, and an error is
@@ -18,8 +27,5 @@ pub fn parse<'a>(alloc: Global, words: &'a [String]) -> Result<ArgMatches<'a>, E
     ensures kinds { FailsBy (fault_of vault_app (map string_bytes words.now)) result }
     ensures asks { IfOk result (λ matches. is_some (asked (subcommand_rows_of matches)) ≡ true) }
 {
-    match command(alloc) {
-        Ok(command) => command.try_get_matches_from(words),
-        Err(_) => Err(Error::from(AllocError)),
-    }
+    vault_command_line::command(alloc)?.try_get_matches_from(words)
 }

@@ -11,7 +11,7 @@ use Rattle.vault_files.specs.File.{Finding}
 use Rattle.vault_files.specs.File.Finding.{Whole}
 use Rattle.vault_common.specs.declared.fault.Fault.{Fault}
 use Rattle.vault_core.proofs.SealedOpens.{bytes_eq-same}
-use Rattle.vault_request.specs.CommandLine.{vault_app}
+use Rattle.vault_command_line.specs.CommandLine.{vault_app}
 use Rattle.vault_cli.specs.Embedding.{stands_after}
 use Rattle.vault_cli.specs.Laws as outcomes
 use Rattle.vault_request.specs.Laws.{IsRequest, SettledRequests}

@@ -12,7 +12,7 @@ use Rattle.vault_common.specs.declared.fault.Fault.TheVariants.{Read, SaltShort}
 use Rattle.vault_common.specs.declared.fault.Role.TheVariants.{Input, Salt, Secret}
 use Rattle.vault_files.specs.File.{Finding}
 use Rattle.vault_files.specs.File.Finding.{Missing, Whole, Broken}
-use Rattle.vault_request.specs.CommandLine.{vault_app}
+use Rattle.vault_command_line.specs.CommandLine.{vault_app}
 use Rattle.vault_cli.specs.runs.Found.{contents_of}
 use Rattle.vault_cli.specs.runs.Outcome.{Outcome, reported}
 use Rattle.vault_request.specs.Settled.{asked_by}

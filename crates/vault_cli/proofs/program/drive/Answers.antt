@@ -3,7 +3,7 @@ use Rattle.std.specs.String.{string_bytes}
 use Rattle.clap.specs.Words.{fault_of}
 use Rattle.clap.specs.Values.{kind_of}
 use Rattle.vault_cli.specs.Call.{sink, source}
-use Rattle.vault_request.specs.CommandLine.{vault_app}
+use Rattle.vault_command_line.specs.CommandLine.{vault_app}
 use Rattle.vault_request.specs.Settled.{asked_by}
 use Rattle.vault_cli.proofs.facts.DriveFacts.{drives-no_memory}
 use Rattle.vault_cli.proofs.facts.runs.EndingFacts.{store_between}

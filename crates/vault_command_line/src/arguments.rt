@@ -1,7 +1,8 @@
 //! The arguments that commands share, each with its help.
 ghost use Rattle.std.specs.Prelude.{◌≡◌, false, codes};
 ghost use Rattle.clap.specs.Words.{rule_of};
-ghost use Rattle.vault_request.specs.CommandLine.{flag, name_rule, option, positional, repeated};
+ghost use Rattle.vault_command_line.specs.CommandLine.{flag, name_rule, option};
+ghost use Rattle.vault_command_line.specs.CommandLine.{positional, repeated};
 
 use clap::{Arg, ArgAction};
 use std::alloc::Global;

@@ -1,24 +1,22 @@
 //! The description of the command line.
-ghost use Rattle.std.specs.Prelude.{◌≡◌, ◌++◌, [], false, IfErr, IfOk, codes};
+ghost use Rattle.std.specs.Prelude.{◌≡◌, ◌++◌, [], false, IfOk, codes};
 ghost use Rattle.clap.specs.Words.{app_of};
 ghost use Rattle.clap.specs.declared.builder.command.Command.TheViews.{out-Command as fields_of};
-ghost use Rattle.vault_request.specs.CommandLine.{app_with, decrypt, encrypt, encrypt_string};
-ghost use Rattle.vault_request.specs.CommandLine.{name_rules, new_secret_rules, rekey, salt_rules};
-ghost use Rattle.vault_request.specs.CommandLine.{secret_rules, top_shape, vault_app, view};
-ghost use Rattle.vault_common.specs.declared.fault.Fault.TheVariants.{Memory};
+ghost use Rattle.vault_command_line.specs.CommandLine.{app_with, decrypt, encrypt};
+ghost use Rattle.vault_command_line.specs.CommandLine.{encrypt_string, name_rules};
+ghost use Rattle.vault_command_line.specs.CommandLine.{new_secret_rules, rekey, salt_rules};
+ghost use Rattle.vault_command_line.specs.CommandLine.{secret_rules, top_shape, vault_app, view};
 
 use crate::arguments;
 use clap::Command;
 use std::alloc::{AllocError, Global};
-use vault_common::Fault;
 
 const VERSION: &str = "0.2.0";
 
 /// The command line's description, to be parsed by `clap`.
 #[tactic(auto, unfolding(crate::specs::CommandLine::vault_app))]
-pub fn command<'a>(alloc: Global) -> Result<Command<'a>, Fault>
+pub fn command<'a>(alloc: Global) -> Result<Command<'a>, AllocError>
     ensures shape { IfOk result (λ command. app_of command ≡ vault_app) }
-    ensures refused { IfErr result (λ fault. fault ≡ Memory) }
 {
     let command = top(alloc)?
         .subcommand(encrypt(alloc)?)?

@@ -1,0 +1,7 @@
+//! The command line of `ansible-vault`, as the parser of arguments reads it.
+#![tactic(auto)]
+
+mod arguments;
+mod command_line;
+
+pub use command_line::command;
