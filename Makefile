@@ -35,7 +35,7 @@ SUMS := $(LIBRARY)/installed.sha256
 PROGRAM_TESTS := faults with_ansible growths hostile end_to_end with_strace with_valgrind companions workflows options_agree first_page left_out
 OTHER_TESTS := package cipher_reads_its_tables completions audit_agrees documents_agree progress
 
-.PHONY: all check test fuzz faults bench install uninstall unowned package clean FORCE test-growths_in_memory test-fuzz $(PROGRAM_TESTS:%=test-%) $(OTHER_TESTS:%=test-%)
+.PHONY: all check gate wrong-bodies test fuzz faults bench install uninstall unowned package clean FORCE test-growths_in_memory test-fuzz $(PROGRAM_TESTS:%=test-%) $(OTHER_TESTS:%=test-%)
 
 all: bin/ansible-vault
 
@@ -57,20 +57,25 @@ bin/processor: FORCE
 	@mkdir -p bin
 	@echo '$(CPU)' | cmp -s - $@ || echo '$(CPU)' > $@
 
-# The gate, then the wrong bodies that are tried many at a time, over what it proved, and the tests of the
-# program that was built and of the cipher's tables. The programs that the gate builds are those of `make`,
+# The gate, with the wrong bodies that are tried many at a time beside it where processors are idle, and the tests
+# of the program that was built and of the cipher's tables. The programs that the gate builds are those of `make`,
 # but for another processor. They are as old as the gate's beginning: a source that changes meanwhile is newer.
 check: bin/processor
 	@echo "Proving every crate and its tests from nothing, and trying wrong bodies; it takes about an hour on four cores"
 	@touch bin/gate-begun
-	@tools/progress.py bin/ci.log all rt ci
+	@: > bin/ci.log
+	@$(MAKE) --no-print-directory --jobs=2 gate wrong-bodies
 	@$(if $(CPU),,cp crates/ansible_vault/out/ansible_vault bin/ansible-vault)
 	@$(if $(CPU),,touch -r bin/gate-begun bin/ansible-vault)
 	@cp crates/vault_growths/out/vault_growths bin/vault_growths
 	@touch -r bin/gate-begun bin/vault_growths
-	@echo "Trying the other wrong bodies, those of different functions in one check"
-	@tools/try_edits --behind-gate
 	@$(MAKE) --no-print-directory test
+
+gate:
+	@tools/progress.py bin/ci.log all rt ci
+
+wrong-bodies:
+	@nice -n 19 tools/try_edits --beside-gate bin/ci.log
 
 # Four at a time, that first for which a program is built, then those that take longest; each prints what it has to
 # say when it is through.

@@ -28,6 +28,8 @@ EDITS = re.compile(r"rt: (\w+): trying its must-fail edits \((\d+)\)$")
 EDIT_PASSES = re.compile(r"rt: (must-fail \S+: (?:NOT REFUSED|BAD EDIT).*)$")
 RAN = re.compile(r"rt: (\w+(?: ran\b|: its tests passed|: its tests FAILED).*)$")
 COUNT = re.compile(r"\d+ passed, \d+ failed$")
+# The log's last line.
+ENDED = "The command has ended."
 
 
 def libraries(text: str) -> dict[str, list[str]]:
@@ -121,8 +123,11 @@ def main():
             command, stdout=subprocess.PIPE, stderr=subprocess.STDOUT, text=True, errors="replace"
         )
         threading.Thread(target=lines_of, args=(process, lines, log), daemon=True).start()
-        follow(progress, lines)
-        status = process.wait()
+        try:
+            follow(progress, lines)
+            status = process.wait()
+        finally:
+            log.write(f"{ENDED}\n")
     if status:
         print(f"\n{pathlib.Path(path).read_text(errors='replace')}", end="")
     progress.tell(f"{'FAILED' if status else 'done'}; the whole log is {path}")
