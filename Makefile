@@ -32,8 +32,8 @@ LINK_PATHS := $(foreach link,$(LINKS),$(firstword $(subst :, ,$(link))))
 SUMS := $(LIBRARY)/installed.sha256
 
 # What is run with the program that was built, and what needs none.
-PROGRAM_TESTS := faults with_ansible growths hostile end_to_end with_strace with_valgrind companions workflows options_agree first_page left_out
-OTHER_TESTS := package cipher_reads_its_tables completions audit_agrees documents_agree progress
+PROGRAM_TESTS := end_to_end hostile workflows faults companions with_ansible growths with_strace with_valgrind cipher_reads_its_tables options_agree first_page left_out
+OTHER_TESTS := package completions audit_agrees documents_agree progress
 
 .PHONY: all check gate wrong-bodies test fuzz faults bench install uninstall unowned package clean FORCE test-growths_in_memory test-fuzz $(PROGRAM_TESTS:%=test-%) $(OTHER_TESTS:%=test-%)
 
@@ -77,11 +77,11 @@ gate:
 wrong-bodies:
 	@nice -n 19 tools/try_edits --beside-gate bin/ci.log
 
-# Four at a time, that first for which a program is built, then those that take longest; each prints what it has to
-# say when it is through.
+# Six at a time, since some wait more than they work: that first for which a program is built, then those that take
+# longest. Each prints what it has to say when it is through.
 test: all
 	tools/dead_names
-	@$(MAKE) --no-print-directory --jobs=4 --output-sync=target test-growths_in_memory $(PROGRAM_TESTS:%=test-%) test-fuzz $(OTHER_TESTS:%=test-%)
+	@$(MAKE) --no-print-directory --jobs=6 --output-sync=target test-growths_in_memory $(PROGRAM_TESTS:%=test-%) test-fuzz $(OTHER_TESTS:%=test-%)
 
 $(PROGRAM_TESTS:%=test-%): test-%: all
 	tests/$* bin/ansible-vault
