@@ -61,7 +61,7 @@ bin/processor: FORCE
 # of the program that was built and of the cipher's tables. The programs that the gate builds are those of `make`,
 # but for another processor. They are as old as the gate's beginning: a source that changes meanwhile is newer.
 check: bin/processor
-	@echo "Proving every crate and its tests from nothing, and trying wrong bodies; it takes about an hour on four cores"
+	@echo "Proving every crate and its tests from nothing, and trying wrong bodies; on four cores it takes 45 minutes"
 	@touch bin/gate-begun
 	@: > bin/ci.log
 	@$(MAKE) --no-print-directory --jobs=2 gate wrong-bodies
