@@ -35,13 +35,13 @@ SUMS := $(LIBRARY)/installed.sha256
 PROGRAM_TESTS := end_to_end hostile workflows faults companions with_ansible growths with_strace with_valgrind cipher_reads_its_tables options_agree first_page left_out
 OTHER_TESTS := package completions audit_agrees documents_agree progress
 
-.PHONY: all check gate wrong-bodies test fuzz faults bench install uninstall unowned package clean FORCE test-growths_in_memory test-fuzz $(PROGRAM_TESTS:%=test-%) $(OTHER_TESTS:%=test-%)
+.PHONY: all check mutants test fuzz faults bench install uninstall unowned package clean FORCE test-growths_in_memory test-fuzz $(PROGRAM_TESTS:%=test-%) $(OTHER_TESTS:%=test-%)
 
 all: bin/ansible-vault
 
 # Proves the program and the crates that it stands on, and builds it.
 bin/ansible-vault: $(SOURCES) bin/processor
-	@echo "Proving the program and the crates below it, where they changed; from nothing it takes minutes"
+	@echo "Proving the program and the crates below it, where they changed; from scratch it takes minutes"
 	@tools/progress.py bin/build.log ansible_vault \
 		tools/build_program ansible_vault $(if $(CPU),--cpu $(CPU)) -- --version
 	@cp crates/ansible_vault/out/ansible_vault $@
@@ -57,25 +57,21 @@ bin/processor: FORCE
 	@mkdir -p bin
 	@echo '$(CPU)' | cmp -s - $@ || echo '$(CPU)' > $@
 
-# The gate, with the wrong bodies that are tried many at a time beside it where processors are idle, and the tests
-# of the program that was built and of the cipher's tables. The programs that the gate builds are those of `make`,
-# but for another processor. They are as old as the gate's beginning: a source that changes meanwhile is newer.
+# The gate, and then the tests, with the programs that the gate builds, but for another processor. They are as old as
+# the gate's beginning: a source that changes meanwhile is newer.
 check: bin/processor
-	@echo "Proving every crate and its tests from nothing, and trying wrong bodies; on four cores it takes 45 minutes"
+	@echo "Proving every crate and its tests, and trying their must-fail edits"
 	@touch bin/gate-begun
-	@: > bin/ci.log
-	@$(MAKE) --no-print-directory --jobs=2 gate wrong-bodies
+	@tools/progress.py bin/ci.log all rt ci
 	@$(if $(CPU),,cp crates/ansible_vault/out/ansible_vault bin/ansible-vault)
 	@$(if $(CPU),,touch -r bin/gate-begun bin/ansible-vault)
 	@cp crates/vault_growths/out/vault_growths bin/vault_growths
 	@touch -r bin/gate-begun bin/vault_growths
 	@$(MAKE) --no-print-directory test
 
-gate:
-	@tools/progress.py bin/ci.log all rt ci
-
-wrong-bodies:
-	@nice -n 19 tools/try_edits --beside-gate bin/ci.log
+# No part of the gate: the mutants of each crate beside its must-fail edits, before a release.
+mutants: all
+	tools/mutants
 
 # Six at a time, since some wait more than they work: that first for which a program is built, then those that take
 # longest. Each prints what it has to say when it is through.

@@ -25,11 +25,9 @@ PROVED = re.compile(r"rt: (\w+) proved$")
 NOT_PROVED = re.compile(r"rt: (\w+ NOT PROVED\b.*)$")
 TESTS_PROVED = re.compile(r"rt: (\w+): its tests are (proved|NOT PROVED)$")
 EDITS = re.compile(r"rt: (\w+): trying its must-fail edits \((\d+)\)$")
-EDIT_PASSES = re.compile(r"rt: (must-fail \S+: (?:NOT REFUSED|BAD EDIT).*)$")
+EDIT_FAILED = re.compile(r"rt: (must-fail \S+: (?:NOT REFUSED|BAD EDIT|NOT TRIED).*)$")
 RAN = re.compile(r"rt: (\w+(?: ran\b|: its tests passed|: its tests FAILED).*)$")
 COUNT = re.compile(r"\d+ passed, \d+ failed$")
-# The log's last line.
-ENDED = "The command has ended."
 
 
 def libraries(text: str) -> dict[str, list[str]]:
@@ -74,7 +72,7 @@ class Progress:
             self.tell(f"{found[1]}: its tests are {found[2]}")
         elif found := EDITS.match(line):
             self.tell(f"{found[1]}: {found[2]} must-fail edits are tried")
-        elif found := EDIT_PASSES.match(line) or RAN.match(line):
+        elif found := EDIT_FAILED.match(line) or RAN.match(line):
             self.tell(found[1])
         elif COUNT.match(line):
             self.count = line
@@ -123,11 +121,8 @@ def main():
             command, stdout=subprocess.PIPE, stderr=subprocess.STDOUT, text=True, errors="replace"
         )
         threading.Thread(target=lines_of, args=(process, lines, log), daemon=True).start()
-        try:
-            follow(progress, lines)
-            status = process.wait()
-        finally:
-            log.write(f"{ENDED}\n")
+        follow(progress, lines)
+        status = process.wait()
     if status:
         print(f"\n{pathlib.Path(path).read_text(errors='replace')}", end="")
     progress.tell(f"{'FAILED' if status else 'done'}; the whole log is {path}")
