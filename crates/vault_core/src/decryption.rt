@@ -1,10 +1,13 @@
 //! Decrypting a vault.
-ghost use Rattle.std.specs.Prelude.{◌≡◌, ◌+◌, ◌<◌, ◌^◌, [], length};
+ghost use Rattle.std.specs.Prelude.{◌≡◌, ◌+◌, ◌<◌, ◌^◌, [], Err, length};
+ghost use Rattle.vault_common.specs.declared.fault.Fault.TheVariants.{Read};
+ghost use Rattle.vault_common.specs.declared.fault.Role.TheVariants.{Input};
 ghost use Rattle.vault_core.specs.Agreement.{tries};
 ghost use Rattle.vault_core.specs.Decryption.{decryption, decryption_derivations};
 ghost use Rattle.vault_core.specs.Input.{ReadsThenAnswers};
 ghost use Rattle.vault_core.specs.Opening.{opening};
 ghost use Rattle.vault_core.specs.Secrets.{tried_order};
+ghost use Rattle.vault_text.specs.Failures.{IsLast};
 ghost use Rattle.vault_text.specs.Limits.{IsWorkLength, envelope_limit, limit_of};
 
 use crate::input::read_payload;
@@ -36,6 +39,7 @@ pub fn prepare_decrypt<'a, S: Source>(
         (meter.new ≡ meter.old)
         (λ input. (result ≡ decryption limit secrets.now input)
         × (meter.new ≡ meter.old + decryption_derivations limit secrets.now input)) }
+    ensures full { IsLast (S.failures src.old) → result ≡ Err (Read Input) }
 {
     prepare_decrypt_in(src, TextMemory::lent(work), secrets, meter)
 }
@@ -55,6 +59,7 @@ pub fn prepare_decrypt_in<'a, S: Source>(
         (meter.new ≡ meter.old)
         (λ input. (result ≡ decryption limit secrets.now input)
         × (meter.new ≡ meter.old + decryption_derivations limit secrets.now input)) }
+    ensures full { IsLast (S.failures src.old) → result ≡ Err (Read Input) }
 {
     let payload = read_payload(src, memory)?;
     decrypt_payload(payload, secrets, meter)

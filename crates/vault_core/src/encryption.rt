@@ -1,9 +1,12 @@
 //! Encrypting a plaintext.
-ghost use Rattle.std.specs.Prelude.{◌≡◌, ℕ, ◌+◌, ◌<◌, ◌≤◌, ◌^◌, [], length};
+ghost use Rattle.std.specs.Prelude.{◌≡◌, ℕ, ◌+◌, ◌<◌, ◌≤◌, ◌^◌, [], Err, length};
+ghost use Rattle.vault_common.specs.declared.fault.Fault.TheVariants.{Read};
+ghost use Rattle.vault_common.specs.declared.fault.Role.TheVariants.{Input};
 ghost use Rattle.vault_core.specs.Encryption.{encryption, is_vault};
 ghost use Rattle.vault_core.specs.Form.{form_of};
 ghost use Rattle.vault_core.specs.Input.{ReadsThenAnswers};
 ghost use Rattle.vault_core.specs.Sealing.{sealing_derivations};
+ghost use Rattle.vault_text.specs.Failures.{IsLast};
 ghost use Rattle.vault_text.specs.Limits.{IsWorkLength, limit_of};
 ghost use Rattle.vault_text.specs.declared.limits.TheConstants.{PADDING_LIMIT};
 
@@ -16,7 +19,7 @@ use vault_common::Fault;
 use vault_kdf::Meter;
 use vault_text::{MARKER, PADDING_LIMIT, Salt, Source, TextMemory};
 
-/// Reads a plaintext and seals it with the secret at the index, counted from 0.
+/// Reads a plaintext and seals it with the chosen secret: `choice` is its index, from 0.
 ///
 /// All of it happens in `work`, of 16 bytes to `CIPHERTEXT_LIMIT`: a plaintext is taken that fits
 /// there with a whole block of padding. The input is read to its end, or to one byte more than is
@@ -26,25 +29,26 @@ pub fn prepare_encrypt<'a, S: Source>(
     src: &mut S,
     work: &'a mut [u8],
     secrets: &'a Secrets,
-    index: usize,
+    choice: usize,
     form: Form<'a>,
     salt: &'a Salt,
     meter: &mut Meter,
 ) -> Result<Ready<'a>, Fault>
     requires room { IsWorkLength (length work.old) }
-    requires chosen { index < length secrets.now.secrets }
+    requires chosen { choice < length secrets.now.secrets }
     requires countable { meter.old < 2 ^ 62 }
     ensures answer { let limit = limit_of (length work.old) in
         ReadsThenAnswers S.Source src.old src.new limit result (meter.new ≡ meter.old)
         (λ input. (result
-        ≡ encryption limit secrets.now.secrets index (form_of form.entry) salt.now input)
+        ≡ encryption limit secrets.now.secrets choice (form_of form.entry) salt.now input)
         × (meter.new ≡ meter.old + sealing_derivations result)) }
+    ensures full { IsLast (S.failures src.old) → result ≡ Err (Read Input) }
 {
     prepare_encrypt_in(
         src,
         TextMemory::lent(work),
         secrets,
-        index,
+        choice,
         form,
         salt,
         meter,
@@ -56,23 +60,24 @@ pub fn prepare_encrypt_in<'a, S: Source>(
     src: &mut S,
     mut memory: TextMemory<'a>,
     secrets: &'a Secrets,
-    index: usize,
+    choice: usize,
     form: Form<'a>,
     salt: &'a Salt,
     meter: &mut Meter,
 ) -> Result<Ready<'a>, Fault>
     requires empty { memory.bytes ≡ [] }
     requires room { IsWorkLength memory.limit }
-    requires chosen { index < length secrets.now.secrets }
+    requires chosen { choice < length secrets.now.secrets }
     requires countable { meter.old < 2 ^ 62 }
     ensures answer { let limit = limit_of memory.entry.limit in
         ReadsThenAnswers S.Source src.old src.new limit result (meter.new ≡ meter.old)
         (λ input. (result
-        ≡ encryption limit secrets.now.secrets index (form_of form.entry) salt.now input)
+        ≡ encryption limit secrets.now.secrets choice (form_of form.entry) salt.now input)
         × (meter.new ≡ meter.old + sealing_derivations result)) }
+    ensures full { IsLast (S.failures src.old) → result ≡ Err (Read Input) }
 {
     read_plaintext(src, &mut memory)?;
-    encrypt_plaintext(memory, secrets, index, form, salt, meter)
+    encrypt_plaintext(memory, secrets, choice, form, salt, meter)
 }
 
 /// Seals the plaintext that the memory holds, in which a whole block of padding has room behind it;
@@ -80,16 +85,16 @@ pub fn prepare_encrypt_in<'a, S: Source>(
 fn encrypt_plaintext<'a>(
     memory: TextMemory<'a>,
     secrets: &'a Secrets,
-    index: usize,
+    choice: usize,
     form: Form<'a>,
     salt: &'a Salt,
     meter: &mut Meter,
 ) -> Result<Ready<'a>, Fault>
     requires within { length memory.bytes + PADDING_LIMIT ≤ memory.limit }
-    requires chosen { index < length secrets.now.secrets }
+    requires chosen { choice < length secrets.now.secrets }
     requires countable { meter.old < 2 ^ 62 }
     ensures answer { (limit : ℕ) → length memory.entry.bytes ≤ limit
-        → result ≡ encryption limit secrets.now.secrets index (form_of form.entry) salt.now
+        → result ≡ encryption limit secrets.now.secrets choice (form_of form.entry) salt.now
         memory.entry.bytes }
     ensures counted { meter.new ≡ meter.old + sealing_derivations result }
 {
@@ -101,7 +106,7 @@ fn encrypt_plaintext<'a>(
     if is_vault(&work[..n]) {
         return Err(Fault::AlreadyVault);
     }
-    let secret = secrets.get(index).to_seal_with();
+    let secret = secrets.get(choice).to_seal_with();
     let vault = seal(work, n, &secret, salt, meter);
     Ok(Ready::vault(vault, form, 0))
 }

@@ -1,12 +1,13 @@
 //! Reading the input of a call.
 ghost use Rattle.std.specs.Prelude.{◌≡◌, ℕ, ◌+◌, ◌-◌, ◌<◌, ◌≤◌, ◌↔◌, List, [], ◌++◌, length};
-ghost use Rattle.std.specs.Prelude.{IsTrue, IfOk, OnErr, MatchResult};
+ghost use Rattle.std.specs.Prelude.{IsTrue, IsErr, IfOk, OnErr, Err, MatchResult};
 ghost use Rattle.vault_text.specs.EnvelopeReader.{StandsFor};
-ghost use Rattle.vault_text.specs.Failures.{CountsFailure};
+ghost use Rattle.vault_text.specs.Failures.{CountsFailure, IsLast};
 ghost use Rattle.vault_core.specs.Decryption.{payload_of};
 ghost use Rattle.vault_core.specs.Input.{IsReadToEndOrPastLimit, UnlessUnreadable};
 ghost use Rattle.vault_text.specs.Limits.{IsWorkLength, envelope_limit, limit_of};
-ghost use Rattle.vault_common.specs.declared.fault.Fault.TheVariants.{TooLong};
+ghost use Rattle.vault_common.specs.declared.fault.Fault.TheVariants.{Read, TooLong};
+ghost use Rattle.vault_common.specs.declared.fault.Role.TheVariants.{Input};
 
 use vault_common::Fault;
 use vault_text::{EnvelopeReader, PADDING_LIMIT, Payload, Source, SourceFailed, TextMemory};
@@ -29,6 +30,7 @@ pub(crate) fn read_plaintext<S: Source>(src: &mut S, memory: &mut TextMemory) ->
         (IsReadToEndOrPastLimit limit (S.ended src.new) input × MatchResult result
         (λ _. length input ≤ limit)
         (λ fault. (fault ≡ TooLong) × (limit < length input))) }
+    ensures full { IsLast (S.failures src.old) → result ≡ Err (Read Input) }
 {
     put_input(src, memory)?;
     if memory.room() < PADDING_LIMIT {
@@ -50,6 +52,7 @@ fn put_input<S: Source>(src: &mut S, memory: &mut TextMemory) -> Result<(), Sour
         × MatchResult result (λ _. IsReadToEndOrPastLimit limit (S.ended src.new) input)
         (λ _. length input ≤ limit) }
     ensures failed { CountsFailure (S.failures src.old) (S.failures src.new) result }
+    ensures full { IsLast (S.failures src.old) → IsErr result }
 {
     let mut buffer = [0; PIECE_LIMIT];
     while memory.room() >= PADDING_LIMIT {
@@ -71,13 +74,14 @@ pub(crate) fn read_payload<'a, S: Source>(
 ) -> Result<Payload<'a>, Fault>
     requires empty { memory.bytes ≡ [] }
     requires room { IsWorkLength memory.limit }
-    ensures { let limit = limit_of memory.entry.limit in
+    ensures input { let limit = limit_of memory.entry.limit in
         (input : List ℕ) × S.gives src.old input src.new
         × (length input ≤ envelope_limit limit + 1)
         × UnlessUnreadable (S.failures src.old) (S.failures src.new) result
         (length input ≤ envelope_limit limit)
         (IsReadToEndOrPastLimit (envelope_limit limit) (S.ended src.new) input
         × (result ≡ payload_of limit input)) }
+    ensures full { IsLast (S.failures src.old) → result ≡ Err (Read Input) }
 {
     let mut reader = EnvelopeReader::in_memory(memory);
     feed_input(src, &mut reader)?;
@@ -95,6 +99,7 @@ fn feed_input<S: Source>(src: &mut S, reader: &mut EnvelopeReader) -> Result<(),
         × ((before : List ℕ) → StandsFor reader.old before
         → StandsFor reader.new (before ++ input)) }
     ensures failed { CountsFailure (S.failures src.old) (S.failures src.new) result }
+    ensures full { IsLast (S.failures src.old) → IsErr result }
 {
     let mut buffer = [0; PIECE_LIMIT];
     let mut left = reader.input_limit() + 1;
@@ -117,6 +122,7 @@ fn next_piece<'b, S: Source>(src: &mut S, buffer: &'b mut [u8]) -> Result<&'b [u
     ensures end { IfOk result (λ piece. (length piece.now ≡ 0) ↔ IsTrue (S.ended src.new)) }
     ensures nothing { OnErr result (S.gives src.old [] src.new) }
     ensures failed { CountsFailure (S.failures src.old) (S.failures src.new) result }
+    ensures full { IsLast (S.failures src.old) → IsErr result }
 {
     let n = src.fill(buffer)?;
     Ok(&buffer[..n])

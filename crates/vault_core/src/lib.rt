@@ -4,14 +4,14 @@
 //! ```rust
 //! let mut secrets = Secrets::new();
 //! secrets.push(Label::new("dev")?, password_of(b"secret\n")?)?;
-//! let index = secrets.encrypt_choice(None)?;
+//! let choice = secrets.encrypt_choice(None)?;
 //! let salt = Salt::new(b"a salt of its own").unwrap();
 //! let mut work = [0; 64];
 //! let mut src = MemSource::new(b"plaintext", 4_096);
 //! let mut sink = MemSink::new(alloc, 4_096);
 //! let mut meter = Meter::new();
 //! let form = Form::Envelope;
-//! prepare_encrypt(&mut src, &mut work, &secrets, index, form, &salt, &mut meter)?
+//! prepare_encrypt(&mut src, &mut work, &secrets, choice, form, &salt, &mut meter)?
 //!     .write_to(&mut sink)?;
 //! assert!(rt; sink.bytes().starts_with(b"$ANSIBLE_VAULT;1.2;AES256;dev\n"));
 //! ```

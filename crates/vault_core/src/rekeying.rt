@@ -1,11 +1,14 @@
 //! Giving a vault a new secret.
-ghost use Rattle.std.specs.Prelude.{◌≡◌, ◌+◌, ◌<◌, ◌^◌, [], length};
+ghost use Rattle.std.specs.Prelude.{◌≡◌, ◌+◌, ◌<◌, ◌^◌, [], Err, length};
+ghost use Rattle.vault_common.specs.declared.fault.Fault.TheVariants.{Read};
+ghost use Rattle.vault_common.specs.declared.fault.Role.TheVariants.{Input};
 ghost use Rattle.vault_core.specs.Agreement.{tries};
 ghost use Rattle.vault_core.specs.Decryption.{decryption_derivations};
 ghost use Rattle.vault_core.specs.Input.{ReadsThenAnswers};
 ghost use Rattle.vault_core.specs.Rekeying.{rekeying, resealing};
 ghost use Rattle.vault_core.specs.Sealing.{sealing_derivations};
 ghost use Rattle.vault_core.specs.Secrets.{tried_order};
+ghost use Rattle.vault_text.specs.Failures.{IsLast};
 ghost use Rattle.vault_text.specs.Limits.{IsWorkLength, envelope_limit, limit_of};
 
 use crate::encryption::is_vault;
@@ -44,6 +47,7 @@ pub fn prepare_rekey<'a, S: Source>(
         (record { label = new.now; password = password.now }) salt.now input)
         × (meter.new ≡ meter.old + decryption_derivations limit secrets.now input
         + sealing_derivations result)) }
+    ensures full { IsLast (S.failures src.old) → result ≡ Err (Read Input) }
 {
     let new = SealingSecret {
         label: new,
@@ -70,6 +74,7 @@ pub fn prepare_rekey_in<'a, S: Source>(
         (λ input. (result ≡ rekeying limit secrets.now new.now salt.now input)
         × (meter.new ≡ meter.old + decryption_derivations limit secrets.now input
         + sealing_derivations result)) }
+    ensures full { IsLast (S.failures src.old) → result ≡ Err (Read Input) }
 {
     let payload = read_payload(src, memory)?;
     rekey_payload(payload, secrets, new, salt, meter)

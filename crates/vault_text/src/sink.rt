@@ -85,6 +85,7 @@ pub fn put_all<K: Sink>(sink: &mut K, bytes: &[u8]) -> Result<(), SinkFailed>
     ensures prefix { (n : ℕ) × K.takes sink.old (take n bytes.now) sink.new }
     ensures stage { K.stage sink.new ≡ Stage.Begun }
     ensures failed { CountsFailure (K.failures sink.old) (K.failures sink.new) result }
+    ensures full { IsLast (K.failures sink.old) → 0 < length bytes.now → IsErr result }
 {
     let mut done = 0;
     while done < bytes.len() {

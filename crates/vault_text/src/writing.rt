@@ -1,8 +1,8 @@
 //! Envelopes and blocks, written into a sink.
-ghost use Rattle.std.specs.Prelude.{◌≡◌, ◌≤◌, ◌++◌, [], ℕ, OnOk, length, take, unwrap_or};
+ghost use Rattle.std.specs.Prelude.{◌≡◌, ◌≤◌, ◌++◌, [], ℕ, IsErr, OnOk, length, take, unwrap_or};
 ghost use Rattle.std.specs.Option.{option_copied};
 ghost use Rattle.vault_text.specs.Block.{block, first_line};
-ghost use Rattle.vault_text.specs.Failures.{CountsFailure};
+ghost use Rattle.vault_text.specs.Failures.{CountsFailure, IsLast};
 ghost use Rattle.vault_text.specs.Written.{text_of_lines, written, written_lines};
 
 mod body;
@@ -38,6 +38,7 @@ pub fn write_envelope<K: Sink>(
         × K.takes sink.old (take n (written label.now salt.now tag.now cipher.now)) sink.new }
     ensures stage { K.stage sink.new ≡ Stage.Begun }
     ensures failed { CountsFailure (K.failures sink.old) (K.failures sink.new) result }
+    ensures full { IsLast (K.failures sink.old) → IsErr result }
 {
     put_lines(sink, &[], &[], label, salt, tag, cipher)
 }
@@ -61,6 +62,7 @@ pub fn write_block<K: Sink>(
         (n : ℕ) × K.takes sink.old (take n text) sink.new }
     ensures stage { K.stage sink.new ≡ Stage.Begun }
     ensures failed { CountsFailure (K.failures sink.old) (K.failures sink.new) result }
+    ensures full { IsLast (K.failures sink.old) → IsErr result }
 {
     let name = name_or_empty(name);
     let start = block_start(name);
@@ -110,6 +112,7 @@ fn put_lines<K: Sink>(
         (n : ℕ) × K.takes sink.old (take n text) sink.new }
     ensures stage { K.stage sink.new ≡ Stage.Begun }
     ensures failed { CountsFailure (K.failures sink.old) (K.failures sink.new) result }
+    ensures full { IsLast (K.failures sink.old) → IsErr result }
 {
     let mut text = header_line_of(start, indentation, label);
     let (first, rest) = first_batch(salt, tag, cipher);

@@ -1,5 +1,5 @@
 //! The header line of an envelope.
-ghost use Rattle.std.specs.Prelude.{◌≡◌, ◌+◌, ◌≤◌, ◌++◌, ◌∷◌, [], length};
+ghost use Rattle.std.specs.Prelude.{◌≡◌, ◌+◌, ◌<◌, ◌≤◌, ◌++◌, ◌∷◌, [], length};
 ghost use Rattle.arrayvec.specs.ArrayVec.{array_vec_len};
 ghost use Rattle.vault_text.specs.Written.{text_of_lines, written_header};
 
@@ -17,6 +17,7 @@ pub(super) fn header_line_of(start: &[u8], indentation: &[u8], label: &Label) ->
     ensures text { result.items
         ≡ start.now ++ text_of_lines indentation.now (written_header label.now ∷ []) }
     ensures length { array_vec_len result ≤ HEAD_LIMIT }
+    ensures some { 0 < array_vec_len result }
 {
     let mut line = Text::new();
     append(&mut line, start);

@@ -13,7 +13,7 @@ returns-then-n-eq0-clause-answer c = λ limit fits.
     let input = c.args.memory.bytes in
     let none : length input ≡ 0 =
     omega (arith, c.into_bytes_and_spare-work.ensures.length, c.if-n-eq0.true) in
-    sym (encryption-empty limit c.args.secrets.now.secrets c.args.index (form_of c.args.form)
+    sym (encryption-empty limit c.args.secrets.now.secrets c.args.choice (form_of c.args.form)
     c.args.salt.now input fits (sym c.if-is_block.ensures) none)
 
 pub returns-then-is_vault-clause-answer : goal.returns-then-is_vault-clause-answer
@@ -25,7 +25,7 @@ returns-then-is_vault-clause-answer c = λ limit fits.
     rw (← long) c.into_bytes_and_spare-work.ensures.bytes in
     let some = no_empty_string (form_of c.args.form) input n c.is_block.result c.is_block.ensures
     long c.else-is_block.either in
-    sym (encryption-vault limit c.args.secrets.now.secrets c.args.index (form_of c.args.form)
+    sym (encryption-vault limit c.args.secrets.now.secrets c.args.choice (form_of c.args.form)
     c.args.salt.now input fits some (rw prefix at (sym c.if-is_vault.ensures)))
 
 pub returns-clause-answer : goal.returns-clause-answer
@@ -37,7 +37,7 @@ returns-clause-answer c = λ limit fits.
     rw (← long) c.into_bytes_and_spare-work.ensures.bytes in
     let some = no_empty_string (form_of c.args.form) input n c.is_block.result c.is_block.ensures
     long c.else-is_block.either in
-    let answer = encryption-sealed limit c.args.secrets.now.secrets c.args.index
+    let answer = encryption-sealed limit c.args.secrets.now.secrets c.args.choice
     (form_of c.args.form) c.args.salt.now input fits some
     (rw prefix at (sym c.if-is_vault.ensures)) in
     let written : Payload → Ready =

@@ -1,5 +1,5 @@
 use Rattle.std.proofs.Common.{◌≡◌, ◌≤◌, ℕ, ◌++◌, append_assoc, arith, eqb-true, inl, length}
-use Rattle.std.proofs.Common.{length-append, length-take, sym, ◌∙◌}
+use Rattle.std.proofs.Common.{length-append, length-take, rules, sym, ◌∙◌}
 use Rattle.std.proofs.lemmas.List.{nil_from_length}
 use Rattle.std.proofs.lemmas.Result.{MatchResult-from_err}
 use Rattle.vault_text.proofs.Progress.{taken_none}
@@ -34,6 +34,7 @@ loop-left-preserved g c =
             λ before h.
             rw append_assoc at (c.feed.ensures.taken (before ++ input) (kept.fed before h));
         failures = c.in_ok-piece.ensures.failed ∙ kept.failures;
+        full = search rules;
       },
     )
 

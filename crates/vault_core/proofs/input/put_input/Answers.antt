@@ -1,5 +1,5 @@
 use Rattle.std.proofs.Common.{◌≡◌, ◌≤◌, ◌+◌, ◌-◌, ℕ, arith, eqb-true, inl, length, length-append}
-use Rattle.std.proofs.Common.{length-take, sym, ◌∙◌}
+use Rattle.std.proofs.Common.{length-take, rules, sym, ◌∙◌}
 use Rattle.std.proofs.lemmas.List.{nil_from_length}
 use Rattle.std.proofs.lemmas.Result.{MatchResult-from_err}
 use Rattle.vault_text.proofs.Progress.{taken_none}
@@ -45,4 +45,5 @@ loop-buffer-preserved g c =
         c.loop-buffer-test.true,
       );
       failures = c.in_ok-piece.ensures.failed ∙ kept.failures;
+      full = search rules;
     })

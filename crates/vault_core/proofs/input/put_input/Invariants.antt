@@ -1,4 +1,5 @@
-use Rattle.std.proofs.Common.{◌≡◌, ◌≤◌, ◌+◌, ◌-◌, length}
+use Rattle.std.proofs.Common.{◌≡◌, ◌<◌, ◌≤◌, ◌+◌, ◌-◌, length}
+use Rattle.vault_text.specs.Failures.{last_count}
 use Rattle.vault_text.specs.Limits.{limit_of}
 use Rattle.vault_core.proofs.input.put_input.Given as goal
 
@@ -8,6 +9,7 @@ invariant-loop-buffer g l = record {
   limit : l.memory.limit ≡ l.fn.memory.limit;
   bound : length l.memory.bytes ≤ limit_of l.fn.memory.limit + 1;
   failures : g.S.Source.failures l.src ≡ g.S.Source.failures l.fn.src;
+  full : 0 < length l.memory.bytes → g.S.Source.failures l.fn.src < last_count;
 }
 
 abbrev pub decreases-loop-buffer : goal.decreases-loop-buffer

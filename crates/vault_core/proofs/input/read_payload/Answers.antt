@@ -5,8 +5,8 @@ use Rattle.vault_common.specs.Fault.{of_text}
 use Rattle.vault_core.proofs.DecryptionLemmas.{of_text-is_no_read}
 use Rattle.vault_core.proofs.input.read_payload.Goals as goal
 
-pub returns-in_err-finish : goal.returns-in_err-finish
-returns-in_err-finish g c =
+pub returns-in_err-finish-clause-input : goal.returns-in_err-finish-clause-input
+returns-in_err-finish-clause-input g c =
     let p = err_from_is_err_and c.from_residual-in_err-finish.result
     c.from_residual-in_err-finish.ensures.1 in
     let read = c.in_ok-feed_input.ensures.fed in
@@ -24,8 +24,8 @@ returns-in_err-finish g c =
       ),
     )
 
-pub returns : goal.returns
-returns g c =
+pub returns-clause-input : goal.returns-clause-input
+returns-clause-input g c =
     let read = c.in_ok-feed_input.ensures.fed in
     let new = c.in_memory-reader.ensures.limit in
     let fed = c.in_ok-feed_input.ensures.limit ∙ new in

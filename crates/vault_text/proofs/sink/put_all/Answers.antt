@@ -22,4 +22,5 @@ loop-done-preserved g c = (
       c.in_ok-done.field-0 c.loop-done.invariant.1 c.in_ok-done.ensures.takes,
   search rules,
   search rules,
+  search rules,
 )
