@@ -137,7 +137,7 @@ uninstall:
 	@rmdir --ignore-fail-on-non-empty \
 		$(TOP)/$(DOCUMENTS) $(TOP)/$(LIBRARY)/ansible_vault_companions $(TOP)/$(LIBRARY)
 
-# Debian packages of the program and its companions, and of the debug symbols, in bin/. They are built in a copy,
+# The Debian package of the program and its companions, in bin/. It is built in a copy,
 # so that what debhelper writes does not lie among the sources.
 package: all
 	@rm -rf bin/package && mkdir -p bin/package/source
