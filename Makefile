@@ -1,7 +1,9 @@
 PREFIX ?= /usr/local
 DESTDIR ?=
-# The processor that the program is built for, as x86-64-v3; empty: x86-64-v2, as rt has it.
-CPU ?=
+# The processor that the program is built for, as x86-64-v3; by default that of the last build, at first x86-64-v2.
+CPU ?= $(shell cat bin/processor 2> /dev/null)
+# What `make install` may replace besides its own files, where this is yes: whatever stands at their paths.
+REPLACE ?= no
 
 VERSION := $(shell sed -n 's/^const VERSION: &str = "\(.*\)";$$/\1/p' crates/vault_command_line/src/command_line.rt)
 SOURCES := $(shell find crates/*/src crates/*/specs crates/*/proofs) crates.txt
@@ -18,7 +20,7 @@ ZSH_FOLDER := share/zsh/$(if $(filter /usr,$(PREFIX)),vendor-completions,site-fu
 DOCUMENTS := share/doc/ansible-vault
 INSTALLED := bin/ansible-vault $(PAGES)/ansible-vault.1 $(BASH_FOLDER)/ansible-vault \
 	$(FISH_FOLDER)/ansible-vault.fish $(ZSH_FOLDER)/_ansible-vault \
-	$(DOCUMENTS)/coming-from-ansible.md $(DOCUMENTS)/workflows.md \
+	$(DOCUMENTS)/README.md $(DOCUMENTS)/coming-from-ansible.md $(DOCUMENTS)/workflows.md \
 	$(COMPANIONS:%=$(LIBRARY)/ansible-vault-%) \
 	$(patsubst companions/%,$(LIBRARY)/%,$(wildcard companions/ansible_vault_companions/*.py))
 # Each with what it leads to, behind the colon.
@@ -35,7 +37,8 @@ SUMS := $(LIBRARY)/installed.sha256
 PROGRAM_TESTS := end_to_end hostile workflows faults companions with_ansible growths with_strace with_valgrind cipher_reads_its_tables options_agree first_page left_out
 OTHER_TESTS := package completions audit_agrees documents_agree progress
 
-.PHONY: all check mutants test fuzz faults bench install uninstall unowned package clean FORCE test-growths_in_memory test-fuzz $(PROGRAM_TESTS:%=test-%) $(OTHER_TESTS:%=test-%)
+.DELETE_ON_ERROR:
+.PHONY: all check mutants test fuzz faults bench install replaceable uninstall package lint clean FORCE test-growths_in_memory test-fuzz $(PROGRAM_TESTS:%=test-%) $(OTHER_TESTS:%=test-%)
 
 all: bin/ansible-vault
 
@@ -106,48 +109,42 @@ bench: all
 	bench/counter_mode.py
 	bench/key_derivation.py
 
-install: unowned all
+install: all replaceable
 	install -D -m 0755 bin/ansible-vault $(TOP)/bin/ansible-vault
 	install -D -m 0644 man/ansible-vault.1 $(TOP)/$(PAGES)/ansible-vault.1
 	install -D -m 0644 completions/ansible-vault.bash $(TOP)/$(BASH_FOLDER)/ansible-vault
 	install -D -m 0644 completions/ansible-vault.zsh $(TOP)/$(ZSH_FOLDER)/_ansible-vault
 	install -D -m 0644 completions/ansible-vault.fish $(TOP)/$(FISH_FOLDER)/ansible-vault.fish
 	install -d $(TOP)/$(DOCUMENTS) $(TOP)/$(LIBRARY)/ansible_vault_companions
-	install -m 0644 docs/coming-from-ansible.md docs/workflows.md $(TOP)/$(DOCUMENTS)
+	install -m 0644 README.md docs/coming-from-ansible.md docs/workflows.md $(TOP)/$(DOCUMENTS)
 	install -m 0644 companions/ansible_vault_companions/*.py $(TOP)/$(LIBRARY)/ansible_vault_companions
 	install -m 0755 $(COMPANIONS:%=companions/ansible-vault-%) $(TOP)/$(LIBRARY)
 	@for link in $(LINKS); do ln -sf $${link#*:} $(TOP)/$${link%:*} || exit 1; done
 	@cd $(TOP) && sha256sum $(INSTALLED) >> $(SUMS)
 	@$(if $(DESTDIR),,echo "Type next: hash -r; ansible-vault --version")
 
-# Where the system itself is installed to, no file of a package is overwritten.
-unowned:
-	@$(if $(DESTDIR),,! command -v dpkg > /dev/null || \
-	dpkg -S $(addprefix $(TOP)/,$(INSTALLED) $(LINK_PATHS)) 2> /dev/null | { \
-		! read -r owned || { \
-			echo "$${owned#*: } belongs to the package $${owned%%: *}: give another PREFIX, or make package" >&2; \
-			exit 1; \
-		}; \
-	})
+# Refuses to install where a file of another program would be overwritten.
+replaceable:
+	@tools/installed replaceable $(TOP) $(SUMS) $(REPLACE) $(INSTALLED) -- $(LINKS)
 
-# What is no longer as it was installed is left, and told.
+# Removes what is as it was installed, and lists the rest.
 uninstall:
-	@test -f $(TOP)/$(SUMS) || { echo "nothing is installed below $(TOP)" >&2; exit 1; }
-	@cd $(TOP) && while read -r sum path; do \
-		! echo "$$sum  $$path" | sha256sum --check --status 2> /dev/null || rm "$$path" || exit 1; \
-	done < $(SUMS)
-	@cd $(TOP) && for link in $(LINKS); do \
-		[ "$$(readlink $${link%:*})" != $${link#*:} ] || rm $${link%:*} || exit 1; \
-	done
-	@cd $(TOP) && for path in $$(cut -c 67- $(SUMS) | sort -u) $(LINK_PATHS); do \
-		[ ! -e $$path ] && [ ! -L $$path ] || echo "left, since it was changed: $(TOP)/$$path"; \
-	done
-	@cd $(TOP) && rm $(SUMS) && \
-		rmdir --ignore-fail-on-non-empty $(DOCUMENTS) $(LIBRARY)/ansible_vault_companions $(LIBRARY)
+	@tools/installed uninstall $(TOP) $(SUMS) $(LINKS)
+	@rmdir --ignore-fail-on-non-empty \
+		$(TOP)/$(DOCUMENTS) $(TOP)/$(LIBRARY)/ansible_vault_companions $(TOP)/$(LIBRARY)
 
-# A Debian package of the program and its companions, in bin/.
+# The Debian package of the program and its companions, in bin/. It is built in a copy,
+# so that what debhelper writes does not lie among the sources.
 package: all
-	tools/package.py $(VERSION)
+	@rm -rf bin/package && mkdir -p bin/package/source
+	@tar --create --exclude=.git --exclude=out --exclude=./bin/package --exclude='*.deb' . \
+		| tar --extract --directory=bin/package/source
+	cd bin/package/source && dpkg-buildpackage --build=binary --no-pre-clean --no-sign
+	@mv bin/package/*.deb bin/ && rm -r bin/package
+
+# Every script, the manual page, the length of lines, and names that nothing uses.
+lint:
+	tools/lint
 
 clean:
 	rm -rf bin crates/*/out
