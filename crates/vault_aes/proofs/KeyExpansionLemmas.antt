@@ -10,7 +10,7 @@ use Rattle.vault_aes.specs.declared.key_expansion.TheConstants.{ROUND_CONSTANTS}
 use Rattle.vault_aes.specs.Field.{polynomial_product, remainder, mul}
 use Rattle.vault_aes.specs.KeyExpansion.{first_words, next_word, power_of_x, rot_word}
 use Rattle.vault_aes.specs.KeyExpansion.{round_constant, schedule_step, sub_word}
-use Rattle.vault_aes.proofs.FieldFacts.{all_below, all_below-at}
+use Rattle.vault_aes.proofs.FieldLemmas.{all_below, all_below-at}
 
 abbrev is_round_constant : ℕ → Bool
 is_round_constant j = slice_index ROUND_CONSTANTS j == round_constant (suc j)

@@ -1,7 +1,7 @@
-pub mod FieldFacts
-pub mod TableFacts
+pub mod FieldLemmas
+pub mod TableLemmas
 pub mod WordLemmas
-pub mod RoundLemmas
+pub mod ColumnsLemmas
 pub mod StandardVectors
 pub mod KeyExpansionLemmas
 pub mod PaddingLemmas

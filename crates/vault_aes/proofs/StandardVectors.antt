@@ -8,7 +8,7 @@ use Rattle.vault_aes.specs.Cipher.{add_round_key, cipher, mix_columns, round, ro
 use Rattle.vault_aes.specs.Cipher.{sub_bytes}
 use Rattle.vault_aes.specs.KeyExpansion.{first_words, key_schedule, next_word, power_of_x, rot_word}
 use Rattle.vault_aes.specs.KeyExpansion.{round_constant, schedule_step, sub_word}
-use Rattle.vault_aes.specs.CounterMode.{counter_block, stream_byte, with_stream}
+use Rattle.vault_aes.specs.CounterMode.{counter_block, keystream_byte, xor_keystream}
 
 -- FIPS 197, appendix C.3: the key is 00 01 .. 1f
 pub cipher-counting_key : cipher (key_schedule (range_with_len 0 32)) (
@@ -70,7 +70,7 @@ key_schedule-example_key = refl
 -- a block of the input with block j of the key stream of SP 800-38A, F.5.5, added
 abbrev with_example_block : ℕ → List ℕ → List ℕ
 with_example_block j input =
-    with_stream
+    xor_keystream
     (slice_index (cipher (key_schedule example_key) (counter_block (range_with_len 0xf0 16) j)))
     input
 
@@ -115,12 +115,12 @@ unfolding polynomial_product remainder mul repeated_square product_of_squares in
 with_example_block-3 = refl
 
 -- the last byte of output block 2 of SP 800-38A, F.5.5
-stream_byte-31 : stream_byte (key_schedule example_key) (range_with_len 0xf0 16) 31 ≡ 0x94
+keystream_byte-31 : keystream_byte (key_schedule example_key) (range_with_len 0xf0 16) 31 ≡ 0x94
 unfolding polynomial_product remainder mul repeated_square product_of_squares inverse number_of_bits
     s_box add_round_key cipher mix_columns round rounds shift_rows sub_bytes first_words
     key_schedule next_word power_of_x rot_word round_constant schedule_step sub_word counter_block
-    stream_byte
-stream_byte-31 = refl
+    keystream_byte
+keystream_byte-31 = refl
 
 -- after the counter 2^128 - 1 come 0 and 1
 counter_block-wraps : counter_block (replicate 16 0xff) 1 ≡ replicate 16 0

@@ -11,16 +11,16 @@ unfoldable pub counter_block : List ℕ → ℕ → List ℕ
 counter_block iv j = to_be_bytes w128 ((from_be_bytes w128 iv + j) % 2 ^ 128)
 
 -- byte i of the key stream: the output blocks O_1, O_2, … joined (6.5)
-unfoldable pub stream_byte : List ℕ → List ℕ → ℕ → ℕ
-stream_byte words iv i = slice_index (cipher words (counter_block iv (i / 16))) (i % 16)
+unfoldable pub keystream_byte : List ℕ → List ℕ → ℕ → ℕ
+keystream_byte words iv i = slice_index (cipher words (counter_block iv (i / 16))) (i % 16)
 
--- the input with the stream's byte at the same place added to each byte
-abbrev pub with_stream : (ℕ → ℕ) → List ℕ → List ℕ
-with_stream stream input =
-    map (λ i. bit_xor (slice_index input i) (stream i)) (range_with_len 0 (length input))
+-- the input with the keystream's byte at the same place added to each byte
+abbrev pub xor_keystream : (ℕ → ℕ) → List ℕ → List ℕ
+xor_keystream keystream input =
+    map (λ i. bit_xor (slice_index input i) (keystream i)) (range_with_len 0 (length input))
 
 -- the input with the key stream added, under the words of a key schedule: of a plaintext the
 -- ciphertext, and of that the plaintext. Of the last output block only as many bytes are used as
 -- there is input (6.5).
 unfoldable pub counter_mode : List ℕ → List ℕ → List ℕ → List ℕ
-counter_mode words iv input = with_stream (stream_byte words iv) input
+counter_mode words iv input = xor_keystream (keystream_byte words iv) input

@@ -1,31 +1,31 @@
 //! Counter mode (SP 800-38A, 6.5).
 ghost use Rattle.std.specs.Prelude.{◌≡◌, ◌≤◌, length, slice_index};
 ghost use Rattle.std.specs.Int.{w128, to_be_bytes};
-ghost use Rattle.vault_aes.specs.CounterMode.{counter_mode, with_stream};
+ghost use Rattle.vault_aes.specs.CounterMode.{counter_mode, xor_keystream};
 
 use crate::key::Key;
 use crate::rounds::BLOCK_LEN;
 
-/// Adds the key stream to `bytes`, which enciphers and deciphers alike. `iv` is the initial counter
-/// block.
+/// Combines `bytes`, of any length, with the key stream by exclusive or (SP 800-38A, 6.5): the same
+/// call enciphers and deciphers. `iv` is the initial counter block; the counter wraps at 2^128.
 pub fn ctr_apply(key: &Key, iv: &[u8; BLOCK_LEN], bytes: &mut [u8])
     ensures { bytes.new ≡ counter_mode key.now iv.now bytes.old }
 {
     let mut counter = u128::from_be_bytes(*iv);
     let whole_blocks = bytes.len() / BLOCK_LEN;
     for j in 0..whole_blocks {
-        let stream = key.block(&counter_block(counter));
-        add_stream(&mut bytes[BLOCK_LEN * j..BLOCK_LEN * (j + 1)], &stream);
+        let keystream = key.block(&counter_block(counter));
+        xor_keystream(&mut bytes[BLOCK_LEN * j..BLOCK_LEN * (j + 1)], &keystream);
         counter = counter.wrapping_add(1);
     }
     if bytes.len() % BLOCK_LEN != 0 {
-        let stream = key.block(&counter_block(counter));
-        add_stream(&mut bytes[BLOCK_LEN * whole_blocks..], &stream);
+        let keystream = key.block(&counter_block(counter));
+        xor_keystream(&mut bytes[BLOCK_LEN * whole_blocks..], &keystream);
     }
 }
 
-// The counter's bytes, the highest first. Halves are stored whole, where the 16 bytes of
-// `counter.to_be_bytes()` go one by one.
+/// The counter's bytes, the highest first. Halves are stored whole, where the 16 bytes of
+/// `counter.to_be_bytes()` go one by one.
 #[inline(always)]
 fn counter_block(counter: u128) -> [u8; BLOCK_LEN]
     ensures { result ≡ to_be_bytes w128 counter }
@@ -36,13 +36,13 @@ fn counter_block(counter: u128) -> [u8; BLOCK_LEN]
     block
 }
 
-// A whole block's length is known where this is inlined, and then no byte costs a branch.
+/// A whole block's length is known where this is inlined, and then no byte costs a branch.
 #[inline(always)]
-fn add_stream(bytes: &mut [u8], stream: &[u8; BLOCK_LEN])
+fn xor_keystream(bytes: &mut [u8], keystream: &[u8; BLOCK_LEN])
     requires { length bytes.old ≤ BLOCK_LEN }
-    ensures { bytes.new ≡ with_stream (slice_index stream.now) bytes.old }
+    ensures { bytes.new ≡ xor_keystream (slice_index keystream.now) bytes.old }
 {
     for i in 0..bytes.len() {
-        bytes[i] ^= stream[i];
+        bytes[i] ^= keystream[i];
     }
 }

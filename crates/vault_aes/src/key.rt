@@ -3,7 +3,7 @@ ghost use Rattle.std.specs.Prelude.{◌≡◌};
 ghost use Rattle.vault_aes.specs.Cipher.{cipher};
 ghost use Rattle.vault_aes.specs.KeyExpansion.{key_schedule};
 
-use crate::key_expansion::expanded;
+use crate::key_expansion::expand_key;
 use crate::rounds::{
     BLOCK_LEN, ROUND_COUNT, Words, add_round_key, bytes_of, columns_of, final_round, four_rounds,
     round,
@@ -11,6 +11,7 @@ use crate::rounds::{
 use std::marker::Model;
 
 /// A key of 32 bytes, prepared for the cipher: clauses see it as the 60 words of its key schedule.
+/// It is not erased from memory when it is dropped.
 #[derive(Drop)]
 pub struct Key {
     words: Words,
@@ -30,7 +31,7 @@ impl Key {
         ensures { result ≡ key_schedule key.now }
     {
         Key {
-            words: expanded(key),
+            words: expand_key(key),
         }
     }
 

@@ -4,13 +4,13 @@ ghost use Rattle.std.specs.List.{range_with_len};
 ghost use Rattle.vault_aes.specs.KeyExpansion.{key_schedule, key_word, schedule_step, sub_word};
 
 use crate::rounds::{WORD_COUNT, Words};
-use crate::tables::substituted;
+use crate::tables::sub_byte;
 use std::array;
 
-// The number of words in a key.
+/// The number of words in a key.
 const KEY_WORDS: usize = 8;
 
-// Rcon[1] to Rcon[7] (FIPS 197, table 5).
+/// Rcon[1] to Rcon[7] (FIPS 197, table 5).
 const ROUND_CONSTANTS: [u32; 7] = [
     0x01000000, 0x02000000, 0x04000000, 0x08000000, 0x10000000, 0x20000000, 0x40000000,
 ];
@@ -32,15 +32,10 @@ fn sub_word(word: u32) -> u32
     ensures { result ≡ sub_word word }
 {
     let [a, b, c, d] = word.to_be_bytes();
-    u32::from_be_bytes([
-        substituted(a),
-        substituted(b),
-        substituted(c),
-        substituted(d),
-    ])
+    u32::from_be_bytes([sub_byte(a), sub_byte(b), sub_byte(c), sub_byte(d)])
 }
 
-// What is added to word `i - 8` to make word `i`, from word `i - 1`.
+/// What is added to word `i - 8` to make word `i`, from word `i - 1`.
 fn schedule_step(i: usize, previous: u32) -> u32
     requires low { KEY_WORDS ≤ i }
     requires high { i < WORD_COUNT }
@@ -53,7 +48,7 @@ fn schedule_step(i: usize, previous: u32) -> u32
     }
 }
 
-pub(crate) fn expanded(key: &[u8; 32]) -> Words
+pub(crate) fn expand_key(key: &[u8; 32]) -> Words
     ensures { result ≡ key_schedule key.now }
 {
     let mut words = [0; WORD_COUNT];

@@ -7,10 +7,8 @@ ghost use Rattle.vault_aes.specs.KeyExpansion.{key_schedule};
 ghost use Rattle.vault_aes.specs.Padding.{IsPadded, padded, without_padding};
 ghost use Rattle.vault_aes.specs.SubstitutionBox.{s_box};
 
-use crate::key_expansion::expanded;
-use crate::tables::{
-    first_row_column, fourth_row_column, second_row_column, substituted, third_row_column,
-};
+use crate::key_expansion::expand_key;
+use crate::tables::{sub_byte, te0, te1, te2, te3};
 
 /// Each plaintext has one padded text, each text is that of one plaintext at most, and what is
 /// taken off is what was put on.
@@ -37,7 +35,7 @@ pub fn counter_mode_undoes_itself()
 pub fn table_word(x: u8) -> [u8; 4]
     ensures { result ≡ mul 2 (s_box x) ∷ s_box x ∷ s_box x ∷ mul 3 (s_box x) ∷ [] }
 {
-    first_row_column(x).to_be_bytes()
+    te0(x).to_be_bytes()
 }
 
 /// The entries at `x` of the tables for rows 1, 2 and 3, each that of the row before it rotated by
@@ -48,9 +46,9 @@ pub fn rotated_table_words(x: u8) -> [[u8; 4]; 3]
         ∷ (s ∷ s ∷ thrice ∷ twice ∷ []) ∷ [] }
 {
     [
-        second_row_column(x).to_be_bytes(),
-        third_row_column(x).to_be_bytes(),
-        fourth_row_column(x).to_be_bytes(),
+        te1(x).to_be_bytes(),
+        te2(x).to_be_bytes(),
+        te3(x).to_be_bytes(),
     ]
 }
 
@@ -58,12 +56,12 @@ pub fn rotated_table_words(x: u8) -> [[u8; 4]; 3]
 pub fn table_s(x: u8) -> u8
     ensures { result ≡ s_box x }
 {
-    substituted(x)
+    sub_byte(x)
 }
 
 /// The words of the key schedule, of which `Key::new` makes a key.
 pub fn schedule_words(key: &[u8; 32]) -> [u32; 60]
     ensures { result ≡ key_schedule key.now }
 {
-    expanded(key)
+    expand_key(key)
 }

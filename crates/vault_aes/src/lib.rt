@@ -1,4 +1,4 @@
-//! AES-256 in counter mode, and the padding of RFC 5652.
+//! AES-256 (FIPS 197) in counter mode (SP 800-38A), and PKCS #7 padding (RFC 5652).
 //!
 //! The cipher leaks through caches: it reads tables at places that depend on the key and on the
 //! bytes, and who shares the processor may learn them. Nothing is claimed of its running time.

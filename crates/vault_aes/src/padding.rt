@@ -1,11 +1,12 @@
-//! The padding of RFC 5652, section 6.3, for blocks of 16 bytes.
+//! PKCS #7 padding (RFC 5652, section 6.3) for blocks of 16 bytes.
 ghost use Rattle.std.specs.Prelude.{◌≡◌, ◌≤◌, ◌↔◌, length, take, drop, IfSome, IsTrue, All};
 ghost use Rattle.std.specs.Option.{option_map};
 ghost use Rattle.vault_aes.specs.Padding.{padded, padded_length, without_padding};
 
 use crate::rounds::BLOCK_LEN;
 
-/// Pads the first `n` bytes of `work` in place, and answers the padded length. The bytes past it
+/// Pads the first `n` bytes of `work` in place (RFC 5652, section 6.3), and returns the padded
+/// length, the next multiple of 16 above `n`, for which `work` must have room. The bytes past it
 /// stay.
 pub fn pad(work: &mut [u8], n: usize) -> usize
     requires within { n ≤ length work.old }
@@ -19,7 +20,9 @@ pub fn pad(work: &mut [u8], n: usize) -> usize
     n + count
 }
 
-/// The length of the plaintext whose padding this is, or `None` where the padding is wrong.
+/// The length of the plaintext without its padding (RFC 5652, section 6.3), or `None` where `padded`
+/// is not a positive multiple of 16 bytes long, its last byte n is not 1 to 16, or its last n bytes
+/// do not all equal n. It does not take constant time.
 pub fn unpad(padded: &[u8]) -> Option<usize>
     ensures plaintext { option_map (λ n. take n padded.now) result ≡ without_padding padded.now }
     ensures len { IfSome result (λ n. padded_length n ≡ length padded.now) }

@@ -5,17 +5,15 @@ ghost use Rattle.std.specs.Int.{w32, to_be_bytes};
 ghost use Rattle.vault_aes.specs.Cipher.{add_round_key, round, rounds, shift_rows, sub_bytes};
 ghost use Rattle.vault_aes.specs.Columns.{final_column, round_column, state_of};
 
-use crate::tables::{
-    first_row_column, fourth_row_column, second_row_column, substituted, third_row_column,
-};
+use crate::tables::{sub_byte, te0, te1, te2, te3};
 
-// The length of a block in bytes, which are the entries of a state.
+/// The length of a block in bytes, which are the entries of a state.
 pub(crate) const BLOCK_LEN: usize = 16;
 
-// The number of rounds under a key of 32 bytes.
+/// The number of rounds under a key of 32 bytes.
 pub(crate) const ROUND_COUNT: usize = 14;
 
-// The number of words in a key schedule: four before the first round, and four for each.
+/// The number of words in a key schedule: four before the first round, and four for each.
 pub(crate) const WORD_COUNT: usize = 4 * (ROUND_COUNT + 1);
 
 pub(crate) type Words = [u32; WORD_COUNT];
@@ -34,7 +32,7 @@ pub(crate) fn columns_of(block: &[u8; BLOCK_LEN]) -> State
     ]
 }
 
-// Each word is stored whole, where an array of 16 bytes would be stored byte by byte.
+/// Each word is stored whole, where an array of 16 bytes would be stored byte by byte.
 #[inline(always)]
 pub(crate) fn bytes_of(state: State) -> [u8; BLOCK_LEN]
     ensures { result ≡ state_of state }
@@ -60,13 +58,13 @@ pub(crate) fn add_round_key(words: &Words, n: usize, state: State) -> State
     ]
 }
 
-// SubBytes, MixColumns and AddRoundKey of one column, from the bytes that ShiftRows brings
-// together.
+/// SubBytes, MixColumns and AddRoundKey of one column, from the bytes that ShiftRows brings
+/// together.
 #[inline(always)]
 fn round_column(a: u8, b: u8, c: u8, d: u8, key: u32) -> u32
     ensures { to_be_bytes w32 result ≡ round_column a b c d key }
 {
-    first_row_column(a) ^ second_row_column(b) ^ third_row_column(c) ^ fourth_row_column(d) ^ key
+    te0(a) ^ te1(b) ^ te2(c) ^ te3(d) ^ key
 }
 
 #[inline(always)]
@@ -86,7 +84,7 @@ pub(crate) fn round(words: &Words, n: usize, state: State) -> State
     ]
 }
 
-// The four rounds after round n.
+/// The four rounds after round n.
 #[inline(always)]
 pub(crate) fn four_rounds(words: &Words, n: usize, state: State) -> State
     requires { n + 4 ≤ ROUND_COUNT }
@@ -99,17 +97,12 @@ pub(crate) fn four_rounds(words: &Words, n: usize, state: State) -> State
     round(words, n + 4, state)
 }
 
-// SubBytes and AddRoundKey of one column, from the bytes that ShiftRows brings together.
+/// SubBytes and AddRoundKey of one column, from the bytes that ShiftRows brings together.
 #[inline(always)]
 fn final_column(a: u8, b: u8, c: u8, d: u8, key: u32) -> u32
     ensures { to_be_bytes w32 result ≡ final_column a b c d key }
 {
-    let column = [
-        substituted(a),
-        substituted(b),
-        substituted(c),
-        substituted(d),
-    ];
+    let column = [sub_byte(a), sub_byte(b), sub_byte(c), sub_byte(d)];
     u32::from_be_bytes(column) ^ key
 }
 

@@ -4,7 +4,7 @@ ghost use Rattle.std.specs.Int.{w32, to_be_bytes};
 ghost use Rattle.vault_aes.specs.Columns.{mixed_column};
 ghost use Rattle.vault_aes.specs.SubstitutionBox.{s_box};
 
-// S of each byte (FIPS 197, 5.1.1).
+/// S of each byte (FIPS 197, 5.1.1).
 const S_BOX: [u8; 256] = [
     0x63, 0x7c, 0x77, 0x7b, 0xf2, 0x6b, 0x6f, 0xc5, 0x30, 0x01, 0x67, 0x2b, 0xfe, 0xd7, 0xab, 0x76,
     0xca, 0x82, 0xc9, 0x7d, 0xfa, 0x59, 0x47, 0xf0, 0xad, 0xd4, 0xa2, 0xaf, 0x9c, 0xa4, 0x72, 0xc0,
@@ -24,9 +24,9 @@ const S_BOX: [u8; 256] = [
     0x8c, 0xa1, 0x89, 0x0d, 0xbf, 0xe6, 0x42, 0x68, 0x41, 0x99, 0x2d, 0x0f, 0xb0, 0x54, 0xbb, 0x16,
 ];
 
-// The columns that SubBytes and MixColumns make of a byte in row 0 (FIPS 197, 5.1.1 and 5.1.3):
-// twice S, S, S and three times S of it, the first of them the highest byte.
-const FIRST_ROW_COLUMNS: [u32; 256] = [
+/// The columns that SubBytes and MixColumns make of a byte in row 0 (FIPS 197, 5.1.1 and 5.1.3):
+/// twice S, S, S and three times S of it, the first of them the highest byte.
+const TE0_WORDS: [u32; 256] = [
     0xc66363a5, 0xf87c7c84, 0xee777799, 0xf67b7b8d, 0xfff2f20d, 0xd66b6bbd, 0xde6f6fb1, 0x91c5c554,
     0x60303050, 0x02010103, 0xce6767a9, 0x562b2b7d, 0xe7fefe19, 0xb5d7d762, 0x4dababe6, 0xec76769a,
     0x8fcaca45, 0x1f82829d, 0x89c9c940, 0xfa7d7d87, 0xeffafa15, 0xb25959eb, 0x8e4747c9, 0xfbf0f00b,
@@ -61,8 +61,8 @@ const FIRST_ROW_COLUMNS: [u32; 256] = [
     0x824141c3, 0x299999b0, 0x5a2d2d77, 0x1e0f0f11, 0x7bb0b0cb, 0xa85454fc, 0x6dbbbbd6, 0x2c16163a,
 ];
 
-// The columns of a byte in row 1: those of row 0, rotated by a byte.
-const SECOND_ROW_COLUMNS: [u32; 256] = [
+/// The columns of a byte in row 1: those of row 0, rotated by a byte.
+const TE1_WORDS: [u32; 256] = [
     0xa5c66363, 0x84f87c7c, 0x99ee7777, 0x8df67b7b, 0x0dfff2f2, 0xbdd66b6b, 0xb1de6f6f, 0x5491c5c5,
     0x50603030, 0x03020101, 0xa9ce6767, 0x7d562b2b, 0x19e7fefe, 0x62b5d7d7, 0xe64dabab, 0x9aec7676,
     0x458fcaca, 0x9d1f8282, 0x4089c9c9, 0x87fa7d7d, 0x15effafa, 0xebb25959, 0xc98e4747, 0x0bfbf0f0,
@@ -97,8 +97,8 @@ const SECOND_ROW_COLUMNS: [u32; 256] = [
     0xc3824141, 0xb0299999, 0x775a2d2d, 0x111e0f0f, 0xcb7bb0b0, 0xfca85454, 0xd66dbbbb, 0x3a2c1616,
 ];
 
-// The columns of a byte in row 2: those of row 0, rotated by two bytes.
-const THIRD_ROW_COLUMNS: [u32; 256] = [
+/// The columns of a byte in row 2: those of row 0, rotated by two bytes.
+const TE2_WORDS: [u32; 256] = [
     0x63a5c663, 0x7c84f87c, 0x7799ee77, 0x7b8df67b, 0xf20dfff2, 0x6bbdd66b, 0x6fb1de6f, 0xc55491c5,
     0x30506030, 0x01030201, 0x67a9ce67, 0x2b7d562b, 0xfe19e7fe, 0xd762b5d7, 0xabe64dab, 0x769aec76,
     0xca458fca, 0x829d1f82, 0xc94089c9, 0x7d87fa7d, 0xfa15effa, 0x59ebb259, 0x47c98e47, 0xf00bfbf0,
@@ -133,8 +133,8 @@ const THIRD_ROW_COLUMNS: [u32; 256] = [
     0x41c38241, 0x99b02999, 0x2d775a2d, 0x0f111e0f, 0xb0cb7bb0, 0x54fca854, 0xbbd66dbb, 0x163a2c16,
 ];
 
-// The columns of a byte in row 3: those of row 0, rotated by three bytes.
-const FOURTH_ROW_COLUMNS: [u32; 256] = [
+/// The columns of a byte in row 3: those of row 0, rotated by three bytes.
+const TE3_WORDS: [u32; 256] = [
     0x6363a5c6, 0x7c7c84f8, 0x777799ee, 0x7b7b8df6, 0xf2f20dff, 0x6b6bbdd6, 0x6f6fb1de, 0xc5c55491,
     0x30305060, 0x01010302, 0x6767a9ce, 0x2b2b7d56, 0xfefe19e7, 0xd7d762b5, 0xababe64d, 0x76769aec,
     0xcaca458f, 0x82829d1f, 0xc9c94089, 0x7d7d87fa, 0xfafa15ef, 0x5959ebb2, 0x4747c98e, 0xf0f00bfb,
@@ -169,39 +169,39 @@ const FOURTH_ROW_COLUMNS: [u32; 256] = [
     0x4141c382, 0x9999b029, 0x2d2d775a, 0x0f0f111e, 0xb0b0cb7b, 0x5454fca8, 0xbbbbd66d, 0x16163a2c,
 ];
 
-// S of a byte.
+/// S of a byte.
 #[inline(always)]
-pub(crate) fn substituted(x: u8) -> u8
+pub(crate) fn sub_byte(x: u8) -> u8
     ensures { result ≡ s_box x }
 {
     S_BOX[x as usize]
 }
 
-// What SubBytes and MixColumns make of a byte in row 0. The other rows' functions follow.
+/// What SubBytes and MixColumns make of a byte in row 0. The other rows' functions follow.
 #[inline(always)]
-pub(crate) fn first_row_column(x: u8) -> u32
+pub(crate) fn te0(x: u8) -> u32
     ensures { to_be_bytes w32 result ≡ mixed_column x 0 }
 {
-    FIRST_ROW_COLUMNS[x as usize]
+    TE0_WORDS[x as usize]
 }
 
 #[inline(always)]
-pub(crate) fn second_row_column(x: u8) -> u32
+pub(crate) fn te1(x: u8) -> u32
     ensures { to_be_bytes w32 result ≡ mixed_column x 1 }
 {
-    SECOND_ROW_COLUMNS[x as usize]
+    TE1_WORDS[x as usize]
 }
 
 #[inline(always)]
-pub(crate) fn third_row_column(x: u8) -> u32
+pub(crate) fn te2(x: u8) -> u32
     ensures { to_be_bytes w32 result ≡ mixed_column x 2 }
 {
-    THIRD_ROW_COLUMNS[x as usize]
+    TE2_WORDS[x as usize]
 }
 
 #[inline(always)]
-pub(crate) fn fourth_row_column(x: u8) -> u32
+pub(crate) fn te3(x: u8) -> u32
     ensures { to_be_bytes w32 result ≡ mixed_column x 3 }
 {
-    FOURTH_ROW_COLUMNS[x as usize]
+    TE3_WORDS[x as usize]
 }

@@ -11,7 +11,7 @@ use Rattle.std.proofs.lemmas.List.Elements.{All-replicate, All-take}
 use Rattle.std.proofs.lemmas.Nat.{xor_lt}
 use Rattle.vault_aes.specs.Cipher.{add_round_key, cipher, entry, matrix}
 use Rattle.vault_aes.specs.Cipher.{shift_rows, sub_bytes, word_byte}
-use Rattle.vault_aes.specs.CounterMode.{counter_mode, stream_byte}
+use Rattle.vault_aes.specs.CounterMode.{counter_mode, keystream_byte}
 use Rattle.vault_aes.specs.SubstitutionBox.{number_of_bits, s_box}
 use Rattle.vault_core.specs.Laws.{IsBytes}
 use Rattle.vault_aes.specs.Padding.{padded}
@@ -80,16 +80,16 @@ cipher-bytes words block = add_round_key-bytes words 14 _ (shift_rows-bytes _ (s
 
 -- ---- counter mode and padding
 
-stream_byte-byte : (words iv : List ℕ) (i : ℕ) → stream_byte words iv i < 256
-unfolding stream_byte
-stream_byte-byte words iv i = cipher-bytes words _ (i % 16)
+keystream_byte-byte : (words iv : List ℕ) (i : ℕ) → keystream_byte words iv i < 256
+unfolding keystream_byte
+keystream_byte-byte words iv i = cipher-bytes words _ (i % 16)
 
 pub counter_mode-bytes : (words iv input : List ℕ) → IsBytes input
     → IsBytes (counter_mode words iv input)
 unfolding counter_mode
 counter_mode-bytes words iv input bytes =
     IsBytes-from_All _ (All-map (λ b. b < 256) _ (range_with_len 0 (length input))
-    (λ k d inside. bit_xor-byte _ _ (bytes _) (stream_byte-byte words iv _)))
+    (λ k d inside. bit_xor-byte _ _ (bytes _) (keystream_byte-byte words iv _)))
 
 pub padded-bytes : (plain : List ℕ) → IsBytes plain → IsBytes (padded plain)
 unfolding padded

@@ -3,8 +3,7 @@ use Rattle.std.proofs.Common.{◌≡◌, ℕ, ◌≤◌, List, length, ap, ◌�
 use Rattle.std.specs.Result.{result_map_both}
 use Rattle.vault_aes.proofs.CounterModeLemmas.{length-counter_mode}
 use Rattle.vault_aes.proofs.PaddingLemmas.{length-padded}
-use Rattle.vault_kdf.proofs.Bytes.{hmac-bytes}
-use Rattle.vault_kdf.proofs.Lengths.{length-hmac}
+use Rattle.vault_kdf.proofs.HmacLemmas.{hmac-bytes, length-hmac}
 use Rattle.vault_text.specs.Envelope.{Payload}
 use Rattle.vault_text.specs.Label.{is_label}
 use Rattle.vault_text.specs.Limits.{ciphertext_limit}

@@ -1,7 +1,4 @@
-pub mod Blocks
-pub mod Bytes
-pub mod ExclusiveOrLemmas
-pub mod Lengths
-pub mod PaddedKey
-pub mod Rounds
+pub mod HmacLemmas
+pub mod Pbkdf2Lemmas
 pub mod Vectors
+pub mod XorLemmas

@@ -2,8 +2,8 @@
 use Rattle.std.proofs.Common.{◌≡◌, [], ◌∷◌, codes, replicate, refl}
 use Rattle.sha2.specs.Sha256.{compress, digest_bytes, first_words, hash_after, rounds, schedule}
 use Rattle.sha2.specs.Sha256.{sha256}
-use Rattle.vault_kdf.specs.Derivation.{block, blocks, iterate, iterates, pbkdf2}
-use Rattle.vault_kdf.specs.ExclusiveOr.{exclusive_or, exclusive_or_all}
+use Rattle.vault_kdf.specs.Pbkdf2.{block, blocks, iterate, iterates, pbkdf2}
+use Rattle.vault_kdf.specs.Xor.{xor, xor_all}
 use Rattle.vault_kdf.specs.Hmac.{hmac, inner_key, outer_key, padded_key, shortened_key}
 
 -- RFC 4231, section 4.2
@@ -12,7 +12,7 @@ pub hmac_of_test_case_1 : hmac (replicate 20 0x0b) (codes "Hi There") ≡
     0x5c ∷ 0xa8 ∷ 0xaf ∷ 0xce ∷ 0xaf ∷ 0x0b ∷ 0xf1 ∷ 0x2b ∷
     0x88 ∷ 0x1d ∷ 0xc2 ∷ 0x00 ∷ 0xc9 ∷ 0x83 ∷ 0x3d ∷ 0xa7 ∷
     0x26 ∷ 0xe9 ∷ 0x37 ∷ 0x6c ∷ 0x2e ∷ 0x32 ∷ 0xcf ∷ 0xf7 ∷ []
-unfolding first_words schedule rounds compress hash_after digest_bytes sha256 exclusive_or
+unfolding first_words schedule rounds compress hash_after digest_bytes sha256 xor
     shortened_key padded_key inner_key outer_key hmac
 hmac_of_test_case_1 = refl
 
@@ -22,7 +22,7 @@ pub hmac_of_test_case_2 : hmac (codes "Jefe") (codes "what do ya want for nothin
     0x6a ∷ 0x04 ∷ 0x24 ∷ 0x26 ∷ 0x08 ∷ 0x95 ∷ 0x75 ∷ 0xc7 ∷
     0x5a ∷ 0x00 ∷ 0x3f ∷ 0x08 ∷ 0x9d ∷ 0x27 ∷ 0x39 ∷ 0x83 ∷
     0x9d ∷ 0xec ∷ 0x58 ∷ 0xb9 ∷ 0x64 ∷ 0xec ∷ 0x38 ∷ 0x43 ∷ []
-unfolding first_words schedule rounds compress hash_after digest_bytes sha256 exclusive_or
+unfolding first_words schedule rounds compress hash_after digest_bytes sha256 xor
     shortened_key padded_key inner_key outer_key hmac
 hmac_of_test_case_2 = refl
 
@@ -33,7 +33,7 @@ pub hmac_of_test_case_6 : hmac (replicate 131 0xaa)
     0x0d ∷ 0x8a ∷ 0x26 ∷ 0xaa ∷ 0xcb ∷ 0xf5 ∷ 0xb7 ∷ 0x7f ∷
     0x8e ∷ 0x0b ∷ 0xc6 ∷ 0x21 ∷ 0x37 ∷ 0x28 ∷ 0xc5 ∷ 0x14 ∷
     0x05 ∷ 0x46 ∷ 0x04 ∷ 0x0f ∷ 0x0e ∷ 0xe3 ∷ 0x7f ∷ 0x54 ∷ []
-unfolding first_words schedule rounds compress hash_after digest_bytes sha256 exclusive_or
+unfolding first_words schedule rounds compress hash_after digest_bytes sha256 xor
     shortened_key padded_key inner_key outer_key hmac
 hmac_of_test_case_6 = refl
 
@@ -43,7 +43,7 @@ pub hmac_of_a_key_of_64_bytes : hmac (replicate 64 0xaa) (codes "Hi There") ≡
     0x45 ∷ 0x93 ∷ 0xd0 ∷ 0x43 ∷ 0xbc ∷ 0x7a ∷ 0x86 ∷ 0x51 ∷
     0x06 ∷ 0xdb ∷ 0x06 ∷ 0x04 ∷ 0x21 ∷ 0x1d ∷ 0x40 ∷ 0x4c ∷
     0x18 ∷ 0x20 ∷ 0x6d ∷ 0x86 ∷ 0x2e ∷ 0x5d ∷ 0x78 ∷ 0x52 ∷ []
-unfolding first_words schedule rounds compress hash_after digest_bytes sha256 exclusive_or
+unfolding first_words schedule rounds compress hash_after digest_bytes sha256 xor
     shortened_key padded_key inner_key outer_key hmac
 hmac_of_a_key_of_64_bytes = refl
 
@@ -53,7 +53,7 @@ pub hmac_of_a_key_of_65_bytes : hmac (replicate 65 0xaa) (codes "Hi There") ≡
     0xe1 ∷ 0xd9 ∷ 0xa1 ∷ 0xcd ∷ 0xf1 ∷ 0x54 ∷ 0x7b ∷ 0xe4 ∷
     0x31 ∷ 0xfe ∷ 0x2e ∷ 0x9b ∷ 0xab ∷ 0x32 ∷ 0x15 ∷ 0xc6 ∷
     0x8d ∷ 0x01 ∷ 0x3b ∷ 0xa8 ∷ 0x58 ∷ 0x89 ∷ 0x19 ∷ 0x27 ∷ []
-unfolding first_words schedule rounds compress hash_after digest_bytes sha256 exclusive_or
+unfolding first_words schedule rounds compress hash_after digest_bytes sha256 xor
     shortened_key padded_key inner_key outer_key hmac
 hmac_of_a_key_of_65_bytes = refl
 
@@ -63,8 +63,8 @@ pub pbkdf2_of_two_rounds : pbkdf2 (codes "password") (codes "salt") 2 32 ≡
     0x2d ∷ 0x0a ∷ 0xdf ∷ 0xf9 ∷ 0x28 ∷ 0xf0 ∷ 0x6d ∷ 0xd0 ∷
     0x2a ∷ 0x30 ∷ 0x3f ∷ 0x8e ∷ 0xf3 ∷ 0xc2 ∷ 0x51 ∷ 0xdf ∷
     0xd6 ∷ 0xe2 ∷ 0xd8 ∷ 0x5a ∷ 0x95 ∷ 0x47 ∷ 0x4c ∷ 0x43 ∷ []
-unfolding first_words schedule rounds compress hash_after digest_bytes sha256 exclusive_or
-    shortened_key padded_key inner_key outer_key hmac exclusive_or_all iterate iterates block blocks
+unfolding first_words schedule rounds compress hash_after digest_bytes sha256 xor
+    shortened_key padded_key inner_key outer_key hmac xor_all iterate iterates block blocks
     pbkdf2
 pbkdf2_of_two_rounds = refl
 
@@ -78,8 +78,8 @@ pub pbkdf2_of_two_blocks : pbkdf2 (codes "passwd") (codes "salt") 1 64 ≡
     0x99 ∷ 0x16 ∷ 0x64 ∷ 0xb3 ∷ 0x9d ∷ 0x77 ∷ 0xef ∷ 0x31 ∷
     0x7c ∷ 0x71 ∷ 0xb8 ∷ 0x45 ∷ 0xb1 ∷ 0xe3 ∷ 0x0b ∷ 0xd5 ∷
     0x09 ∷ 0x11 ∷ 0x20 ∷ 0x41 ∷ 0xd3 ∷ 0xa1 ∷ 0x97 ∷ 0x83 ∷ []
-unfolding first_words schedule rounds compress hash_after digest_bytes sha256 exclusive_or
-    shortened_key padded_key inner_key outer_key hmac exclusive_or_all iterate iterates block blocks
+unfolding first_words schedule rounds compress hash_after digest_bytes sha256 xor
+    shortened_key padded_key inner_key outer_key hmac xor_all iterate iterates block blocks
     pbkdf2
 pbkdf2_of_two_blocks = refl
 
@@ -90,7 +90,7 @@ pub pbkdf2_of_part_of_a_block : pbkdf2 (codes "passwd") (codes "salt") 1 40 ≡
     0xf9 ∷ 0x41 ∷ 0x85 ∷ 0x21 ∷ 0x6d ∷ 0xde ∷ 0x04 ∷ 0x65 ∷
     0xe6 ∷ 0x8b ∷ 0x9d ∷ 0x57 ∷ 0xc2 ∷ 0x0d ∷ 0xac ∷ 0xbc ∷
     0x49 ∷ 0xca ∷ 0x9c ∷ 0xcc ∷ 0xf1 ∷ 0x79 ∷ 0xb6 ∷ 0x45 ∷ []
-unfolding first_words schedule rounds compress hash_after digest_bytes sha256 exclusive_or
-    shortened_key padded_key inner_key outer_key hmac exclusive_or_all iterate iterates block blocks
+unfolding first_words schedule rounds compress hash_after digest_bytes sha256 xor
+    shortened_key padded_key inner_key outer_key hmac xor_all iterate iterates block blocks
     pbkdf2
 pbkdf2_of_part_of_a_block = refl

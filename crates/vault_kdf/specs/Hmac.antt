@@ -2,8 +2,8 @@
 use Rattle.std.specs.Prelude.{ℕ, ◌-◌, nat_lt, if◌then◌else◌, List, ◌++◌, length, replicate}
 use Rattle.sha2.specs.Sha256.{sha256}
 use Rattle.sha2.specs.Hashers.{Holds256}
-use Rattle.vault_kdf.specs.ExclusiveOr.{exclusive_or}
-use Rattle.vault_kdf.specs.declared.keyed_hash.Hmac.{Hmac}
+use Rattle.vault_kdf.specs.Xor.{xor}
+use Rattle.vault_kdf.specs.declared.hmac_sha256.Hmac.{Hmac}
 
 -- the key, or its hash where it is longer than a block
 unfoldable pub shortened_key : List ℕ → List ℕ
@@ -15,11 +15,11 @@ padded_key key = shortened_key key ++ replicate (64 - length (shortened_key key)
 
 -- K XOR ipad (step 2)
 unfoldable pub inner_key : List ℕ → List ℕ
-inner_key key = exclusive_or (padded_key key) (replicate 64 0x36)
+inner_key key = xor (padded_key key) (replicate 64 0x36)
 
 -- K XOR opad (step 5)
 unfoldable pub outer_key : List ℕ → List ℕ
-outer_key key = exclusive_or (padded_key key) (replicate 64 0x5c)
+outer_key key = xor (padded_key key) (replicate 64 0x5c)
 
 -- H(K XOR opad, H(K XOR ipad, text))
 unfoldable pub hmac : List ℕ → List ℕ → List ℕ

@@ -1,6 +1,6 @@
 -- The keys of a vault.
 use Rattle.std.specs.Prelude.{ℕ, List, slice_range}
-use Rattle.vault_kdf.specs.Derivation.{pbkdf2}
+use Rattle.vault_kdf.specs.Pbkdf2.{pbkdf2}
 use Rattle.vault_kdf.specs.declared.keys.Keys.{Keys}
 
 -- the keys of a vault of the payload formats 1.1 and 1.2: 80 bytes by 10,000 rounds of PBKDF2, cut

@@ -1,4 +1,4 @@
-pub mod ExclusiveOr
+pub mod Xor
 pub mod Hmac
-pub mod Derivation
+pub mod Pbkdf2
 pub mod Keys

@@ -12,15 +12,15 @@
 //! ```
 #![tactic(auto)]
 
-mod derivation;
-mod exclusive_or;
-mod keyed_hash;
+mod hmac_sha256;
 mod keys;
 mod meter;
+mod pbkdf2_hmac;
 mod tag;
+mod xor;
 
-pub use derivation::pbkdf2;
-pub use keyed_hash::Hmac;
+pub use hmac_sha256::Hmac;
 pub use keys::{Keys, derive};
 pub use meter::Meter;
+pub use pbkdf2_hmac::pbkdf2;
 pub use tag::hmac;

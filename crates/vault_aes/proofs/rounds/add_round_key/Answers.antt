@@ -1,5 +1,5 @@
 use Rattle.std.proofs.Common.{slice_index}
-use Rattle.vault_aes.proofs.RoundLemmas.{state_of-add_round_key}
+use Rattle.vault_aes.proofs.ColumnsLemmas.{state_of-add_round_key}
 use Rattle.vault_aes.proofs.rounds.add_round_key.Goals as goal
 
 pub returns : goal.returns

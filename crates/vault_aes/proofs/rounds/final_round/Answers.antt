@@ -1,4 +1,4 @@
-use Rattle.vault_aes.proofs.RoundLemmas.{state_of-final_round}
+use Rattle.vault_aes.proofs.ColumnsLemmas.{state_of-final_round}
 use Rattle.vault_aes.proofs.rounds.final_round.Goals as goal
 
 pub returns : goal.returns

@@ -1,5 +1,5 @@
 use Rattle.std.proofs.Common.{◌+◌, arith}
-use Rattle.vault_aes.proofs.RoundLemmas.{rounds-more}
+use Rattle.vault_aes.proofs.ColumnsLemmas.{rounds-more}
 use Rattle.vault_aes.proofs.rounds.four_rounds.Goals as goal
 
 pub returns : goal.returns

@@ -1,4 +1,4 @@
-use Rattle.vault_aes.proofs.RoundLemmas.{state_of-round}
+use Rattle.vault_aes.proofs.ColumnsLemmas.{state_of-round}
 use Rattle.vault_aes.proofs.rounds.round.Goals as goal
 
 pub returns : goal.returns

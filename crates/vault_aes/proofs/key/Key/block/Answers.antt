@@ -1,6 +1,6 @@
 use Rattle.std.proofs.Common.{◌∙◌, ap, refl}
 use Rattle.vault_aes.specs.Cipher.{add_round_key, cipher}
-use Rattle.vault_aes.proofs.RoundLemmas.{rounds-more, state_of-cipher, state_of-start}
+use Rattle.vault_aes.proofs.ColumnsLemmas.{rounds-more, state_of-cipher, state_of-start}
 use Rattle.vault_aes.proofs.key.Key.block.Goals as goal
 
 pub returns : goal.returns

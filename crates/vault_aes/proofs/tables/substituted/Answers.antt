@@ -1,5 +1,0 @@
-use Rattle.vault_aes.proofs.TableFacts.{slice_index-S_BOX}
-use Rattle.vault_aes.proofs.tables.substituted.Goals as goal
-
-pub returns : goal.returns
-returns c = slice_index-S_BOX c.args.x c.ranges.x.fits

@@ -1,0 +1,5 @@
+use Rattle.vault_aes.proofs.TableLemmas.{to_be_bytes-TE1_WORDS}
+use Rattle.vault_aes.proofs.tables.te1.Goals as goal
+
+pub returns : goal.returns
+returns c = to_be_bytes-TE1_WORDS c.args.x c.ranges.x.fits

@@ -1,9 +1,0 @@
-use Rattle.std.proofs.Common.{ℕ, List, [], ◌++◌}
-use Rattle.std.specs.Int.{to_be_bytes, w32}
-use Rattle.vault_kdf.specs.Hmac.{StandsFor}
-use Rattle.vault_kdf.proofs.Rounds.{IsAfterRounds}
-use Rattle.vault_kdf.proofs.derivation.block.Given as goal
-
-abbrev pub invariant-loop : goal.invariant-loop
-invariant-loop l = (password : List ℕ) → StandsFor l.keyed password []
-    → IsAfterRounds password (l.salt ++ to_be_bytes w32 l.index) l.iterate l.sum l.counter

@@ -1,0 +1,42 @@
+//! PBKDF2 (RFC 8018, section 5.2).
+ghost use Rattle.std.specs.Prelude.{◌≡◌, ℕ, List, [], ◌≤◌, length};
+ghost use Rattle.vault_kdf.specs.Pbkdf2.{block, pbkdf2};
+ghost use Rattle.vault_kdf.specs.Hmac.{StandsFor};
+
+use crate::hmac_sha256::{DIGEST_LEN, Hmac};
+use crate::xor::xor;
+
+/// T_i, the block of this index, counted from 1 (RFC 8018, section 5.2, step 3). `keyed` holds the
+/// password and no message, so that the password is hashed once for all blocks and iterates.
+fn block(keyed: &Hmac, salt: &[u8], rounds: u32, index: u32) -> [u8; DIGEST_LEN]
+    requires { 1 ≤ rounds }
+    ensures { (password : List ℕ) → StandsFor keyed.now password []
+        → result ≡ block password salt.now rounds index }
+{
+    let mut first = keyed.clone().unwrap();
+    first.update(salt);
+    first.update(&index.to_be_bytes());
+    let mut iterate = first.finish();
+    let mut sum = iterate;
+    for _ in 1..rounds {
+        iterate = keyed.mac_of(&iterate);
+        sum = xor(&sum, &iterate);
+    }
+    sum
+}
+
+/// Fills `out` with the key that PBKDF2 with HMAC-SHA-256 derives (RFC 8018, section 5.2). `rounds`
+/// must be at least 1; `out` may have up to 1,024 bytes.
+pub fn pbkdf2(password: &[u8], salt: &[u8], rounds: u32, out: &mut [u8])
+    requires rounds { 1 ≤ rounds }
+    requires length { length out.old ≤ 1024 }
+    ensures { out.new ≡ pbkdf2 password.now salt.now rounds (length out.old) }
+{
+    let keyed = Hmac::new(password);
+    for i in 0..out.len().div_ceil(DIGEST_LEN) {
+        let start = i * DIGEST_LEN;
+        let end = out.len().min(start + DIGEST_LEN);
+        let bytes = block(&keyed, salt, rounds, i as u32 + 1);
+        out[start..end].copy_from_slice(&bytes[..end - start]);
+    }
+}

@@ -1,0 +1,14 @@
+//! Exclusive or of byte strings.
+ghost use Rattle.std.specs.Prelude.{◌≡◌};
+ghost use Rattle.vault_kdf.specs.Xor.{xor};
+
+/// Each byte is the exclusive or of the two at its place.
+pub(crate) fn xor<const N: usize>(a: &[u8; N], b: &[u8; N]) -> [u8; N]
+    ensures { result ≡ xor a.now b.now }
+{
+    let mut bytes = *a;
+    for (i, byte) in bytes.iter_mut().enumerate() {
+        *byte ^= b[i];
+    }
+    bytes
+}
