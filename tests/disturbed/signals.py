@@ -1,5 +1,5 @@
-"""A signal comes at some moment of a long run: the output's file is absent or old, a prefix or whole, and
-nothing else is there."""
+"""A signal ends a run that waits for its input, or for the reader of its output. It comes at some moment of a long
+run, too: the output's file is absent or old, a prefix or whole, and nothing else is there."""
 
 import signal
 import subprocess
@@ -11,12 +11,15 @@ from pathlib import Path
 from random import Random
 from typing import NamedTuple
 
-from cases import Cases
+from cases import TEXT, Cases, by_file
 from disturbed import OLD, OUTPUT, SCRATCH, SECONDS, WORKERS, Left, Scenario, files_in
+from model.vaults import seal
 
 SIGNALS = signal.SIGTERM, signal.SIGINT, signal.SIGHUP
 # Between two looks at a run, in seconds.
 PAUSE = 0.0002
+# More than a pipe takes.
+MORE_THAN_A_PIPE = 1 << 21
 
 
 class Moment(NamedTuple):
@@ -97,6 +100,28 @@ def moments_of(cases: Cases, scenario: Scenario, random: Random, count: int) -> 
         in_output = place % 2 == 1
         moments.append(Moment(in_output, random.random() * (writing if in_output else reading + writing)))
     return moments
+
+
+def signals_while_blocked(cases: Cases) -> None:
+    """Each signal ends a run that cannot go on by itself."""
+    view = [cases.program, "view", *by_file(cases.file(b"right\n"))]
+    long_vault = cases.file(seal(b"right", (TEXT * MORE_THAN_A_PIPE)[:MORE_THAN_A_PIPE]))
+    for number in SIGNALS:
+        reading = subprocess.Popen(view, stdin=subprocess.PIPE, stdout=subprocess.DEVNULL, stderr=subprocess.PIPE)
+        reading.send_signal(number)
+        cases.check(f"{number.name} where the input is waited for", blocked_end(reading), (-number, b""))
+        pipes = {"stdout": subprocess.PIPE, "stderr": subprocess.PIPE, "bufsize": 0}
+        writing = subprocess.Popen([*view, long_vault], stdin=subprocess.DEVNULL, **pipes)
+        begun = writing.stdout.read(1)
+        writing.send_signal(number)
+        cases.check(f"{number.name} where the output is not taken", (begun, *blocked_end(writing)), (TEXT[:1], -number, b""))
+
+
+def blocked_end(child: subprocess.Popen) -> tuple[int, bytes]:
+    """The status and the message of a run that was signalled. Its streams are closed at last, so that one that
+    does not heed the signal comes to its end, too."""
+    _, message = child.communicate(timeout=SECONDS)
+    return child.returncode, message
 
 
 def signals(cases: Cases, scenarios: list[Scenario], seed: int, count: int) -> None:
