@@ -5,6 +5,7 @@ leaves out, since the machine lacks something, is a skip, and under --require-al
 checks: a test may hold a table of hundreds.
 """
 
+import locale
 import os
 import shutil
 import subprocess
@@ -38,6 +39,8 @@ def pytest_sessionstart(session: pytest.Session) -> None:
     program = session.config.getoption("--program")
     if not program.is_file():
         pytest.exit(f"there is no {program}; `make` builds bin/ansible-vault", pytest.ExitCode.USAGE_ERROR)
+    if locale.getpreferredencoding(False).upper() != "UTF-8":
+        pytest.exit("this locale is not UTF-8: try `python3 -X utf8 -m pytest`", pytest.ExitCode.USAGE_ERROR)
 
 
 class Topic(pytest.Module):
@@ -92,9 +95,10 @@ def pytest_runtest_makereport(item: pytest.Function, call: pytest.CallInfo) -> I
             report.sections.append(("files", f"kept in {item.funcargs['tmp_path']}"))
 
 
-def counted(report: pytest.TestReport, what: str) -> int:
-    """How many checks of a test ended so; one that counts none is a check itself."""
-    return dict(report.user_properties).get(what, int(report.outcome == what))
+def counted(report: pytest.TestReport | pytest.CollectReport, what: str) -> int:
+    """How many checks of a test ended so; one that counts none is a check itself, and so is a module that cannot be
+    collected."""
+    return dict(getattr(report, "user_properties", [])).get(what, int(report.outcome == what))
 
 
 def pytest_terminal_summary(terminalreporter, config: pytest.Config) -> None:
