@@ -170,7 +170,7 @@ def pasted(repository: Repository, shell: str, password: str) -> str:
     os.close(there)
     os.write(here, shell.encode())
     wait_for_question(here)
-    os.write(here, f"{password}\n".encode())
+    os.write(here, f"{password}\nexit\n".encode())
     shown = all_shown(here)
     process.kill()
     process.wait()
