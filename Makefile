@@ -33,12 +33,13 @@ LINK_PATHS := $(foreach link,$(LINKS),$(firstword $(subst :, ,$(link))))
 # The sums of the files that were installed, so that no other is uninstalled.
 SUMS := $(LIBRARY)/installed.sha256
 
-# What is run with the program that was built, and what needs none.
-PROGRAM_TESTS := end_to_end hostile workflows faults companions with_ansible growths with_strace with_valgrind cipher_reads_its_tables options_agree first_page left_out
-OTHER_TESTS := package completions audit_agrees documents_agree progress
+# What compares outcomes is run by pytest, in so many processes; the others are commands in tests/.
+PYTEST ?= /usr/bin/python3 -B -X utf8 -m pytest
+PYTEST_PROCESSES ?= 4
+TESTS := outcomes fuzz with_valgrind faults growths_in_memory growths dead_names
 
 .DELETE_ON_ERROR:
-.PHONY: all check mutants test fuzz faults bench install replaceable uninstall package lint clean FORCE test-growths_in_memory test-fuzz $(PROGRAM_TESTS:%=test-%) $(OTHER_TESTS:%=test-%)
+.PHONY: all check mutants test fuzz faults bench install replaceable uninstall package lint clean FORCE $(TESTS:%=test-%)
 
 all: bin/ansible-vault
 
@@ -76,23 +77,25 @@ check: bin/processor
 mutants: all
 	tools/mutants
 
-# Six at a time, since some wait more than they work: that first for which a program is built, then those that take
-# longest. Each prints what it has to say when it is through.
-test: all
-	tools/dead_names
-	@$(MAKE) --no-print-directory --jobs=6 --output-sync=target test-growths_in_memory $(PROGRAM_TESTS:%=test-%) test-fuzz $(OTHER_TESTS:%=test-%)
+# All of them, whichever fails; each prints what it has to say when it is through. The last line counts all checks.
+test: all bin/vault_growths
+	@tools/counts '[a-z_]+: ' $(MAKE) --no-print-directory --keep-going --jobs=4 --output-sync=target \
+		$(TESTS:%=test-%)
 
-$(PROGRAM_TESTS:%=test-%): test-%: all
+test-outcomes: all
+	$(PYTEST) --quiet --numprocesses=$(PYTEST_PROCESSES)
+
+test-fuzz: all
+	tests/fuzz bin/ansible-vault --seed 1 --runs 6000 --seconds 120 --least 1000
+
+test-with_valgrind test-faults test-growths: test-%: all
 	tests/$* bin/ansible-vault
 
 test-growths_in_memory: bin/vault_growths
 	tests/growths_in_memory bin/vault_growths
 
-test-fuzz: all
-	tests/fuzz bin/ansible-vault --seed 1 --runs 6000 --seconds 120
-
-$(OTHER_TESTS:%=test-%): test-%:
-	tests/$*
+test-dead_names:
+	tools/dead_names
 
 # Random requests, until told to stop.
 fuzz: all

@@ -3,7 +3,7 @@
 
     tools/progress.py LOG TOP COMMAND..
 
-LOG keeps all that the command writes, and is printed where it fails. TOP is the crate that is proved
+LOG keeps all that the command writes, and is printed, indented, where it fails. TOP is the crate that is proved
 with those below it, or `all`. The exit status is the command's, and so is the last line where it
 counts what passed.
 """
@@ -14,6 +14,7 @@ import re
 import shutil
 import subprocess
 import sys
+import textwrap
 import threading
 import time
 
@@ -124,7 +125,7 @@ def main():
         follow(progress, lines)
         status = process.wait()
     if status:
-        print(f"\n{pathlib.Path(path).read_text(errors='replace')}", end="")
+        print(textwrap.indent(pathlib.Path(path).read_text(errors="replace"), "    "), end="")
     progress.tell(f"{'FAILED' if status else 'done'}; the whole log is {path}")
     if progress.count:
         print(progress.count)

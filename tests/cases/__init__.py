@@ -26,10 +26,10 @@ def by_id(path: str, label: str = "default") -> list[str]:
 class Cases(Outcome):
     """Runs the program, with files in a folder of its own."""
 
-    def __init__(self, program: str, folder: str) -> None:
-        super().__init__()
+    def __init__(self, program: str, folder: Path, prints: bool = False) -> None:
+        super().__init__(prints)
         self.program = os.path.abspath(program)
-        self.folder = Path(folder)
+        self.folder = folder
         self.files = 0
 
     def path(self) -> str:
@@ -76,7 +76,7 @@ class Cases(Outcome):
         self.check(f"{name}: status", done.returncode, status)
         for stream, actual, expected in (("output", done.stdout, out), ("message", done.stderr, err)):
             if callable(expected):
-                self.check(f"{name}: {stream} ({actual!r:.300})", expected(actual), True)
+                self.holds(f"{name}: {stream}", expected(actual), actual)
             else:
                 self.check(f"{name}: {stream}", actual, expected)
         return done.stdout

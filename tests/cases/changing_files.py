@@ -66,7 +66,7 @@ def changed_run(cases: Cases, library: str, words: list[str], content: bytes, is
     return (child.returncode, output, message), content[:place] + later[place:]
 
 
-def changing(cases: Cases) -> None:
+def test_changing(cases: Cases) -> None:
     if shutil.which("cc") is None:
         return cases.left_out("files that change", "no C compiler is installed (Debian's package gcc)")
     library = build_library(str(cases.folder), LIBRARY)
@@ -81,8 +81,3 @@ def changing(cases: Cases) -> None:
                 want = answer(words, HostFiles(), io.BytesIO(read or b""))
                 output = b"" if want.output is None else want.output
                 cases.check(name, found, (want.status, output, want.message))
-
-
-GROUPS = [
-    changing,
-]

@@ -54,7 +54,7 @@ class Setting(NamedTuple):
 
 def own_sample(program: str, folder: str, command: str, text: bytes = TEXT) -> Sample:
     """The sample of a command, with its files in this folder."""
-    return next(each for each in samples(Cases(program, folder), text) if each.command == command)
+    return next(each for each in samples(Cases(program, Path(folder)), text) if each.command == command)
 
 
 def named(sample: Sample, path: str) -> Sample:
@@ -126,7 +126,7 @@ def settings(commands: list[str]) -> list[Setting]:
     return [Setting(*each) for each in every if each[0] != "view" or each[2] is None]
 
 
-def every_combination(cases: Cases) -> None:
+def test_every_combination(cases: Cases) -> None:
     every = settings([sample.command for sample in samples(cases)])
     with concurrent.futures.ThreadPoolExecutor(WORKERS) as pool:
         found = list(pool.map(lambda setting: compared(cases.program, setting), every))
@@ -134,7 +134,7 @@ def every_combination(cases: Cases) -> None:
         cases.check(str(setting), left, want)
 
 
-def refused(cases: Cases) -> None:
+def test_refused(cases: Cases) -> None:
     """A refusal ends as with open streams, and no file changes."""
     texts = [(["--version"], 0), (["view", "--loud"], 2)]
     for closed in COMBINATIONS:
@@ -192,7 +192,7 @@ def check_write_fault(cases: Cases, name: str, command: str, closed: set[int], p
     cases.holds(f"{name}: a prefix", is_prefix, f"got {front!r:.300}")
 
 
-def write_faults(cases: Cases) -> None:
+def test_write_faults(cases: Cases) -> None:
     writing = [sample.command for sample in samples(cases) if sample.command != "view"]
     full = cases.device("full")
     for command, closed in itertools.product(writing, COMBINATIONS):
@@ -200,7 +200,7 @@ def write_faults(cases: Cases) -> None:
         check_write_fault(cases, "a limited file, SIGXFSZ ignored", command, closed, NEW_FILE, preexec_fn=limited)
 
 
-def full_standard_output(cases: Cases) -> None:
+def test_full_standard_output(cases: Cases) -> None:
     """Standard output is a full device, and other streams are closed."""
     closings = [closed for closed in COMBINATIONS if 1 not in closed]
     for sample, closed in itertools.product(samples(cases), closings):
@@ -215,7 +215,7 @@ def full_standard_output(cases: Cases) -> None:
         cases.check(f"{own.command} to a full standard output, without {sorted(closed)}", left, failed(Fault.NOT_WRITTEN, closed))
 
 
-def full_file_system(cases: Cases) -> None:
+def test_full_file_system(cases: Cases) -> None:
     writing = [sample.command for sample in samples(cases) if sample.command != "view"]
     folder = Path(cases.path())
     with file_system(folder, PAGE) as is_mounted:
@@ -227,7 +227,7 @@ def full_file_system(cases: Cases) -> None:
             path.unlink()
 
 
-def one_failing_write(cases: Cases) -> None:
+def test_one_failing_write(cases: Cases) -> None:
     """A write fails, and the next one would not: the message does not come into the output."""
     if shutil.which("strace") is None:
         return cases.left_out("a write that fails once", "strace is not installed (Debian's package strace)")
@@ -236,13 +236,3 @@ def one_failing_write(cases: Cases) -> None:
     for sample, closed in itertools.product(samples(cases), COMBINATIONS):
         if sample.command != "view":
             check_write_fault(cases, "a write that fails", sample.command, closed, NEW_FILE, under=strace)
-
-
-GROUPS = [
-    every_combination,
-    refused,
-    write_faults,
-    full_standard_output,
-    full_file_system,
-    one_failing_write,
-]

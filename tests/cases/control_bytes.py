@@ -32,7 +32,7 @@ def check_text(cases: Cases, words: list, stdin: bytes = b"") -> None:
     cases.check(f"{words!r:.200}: standard error is text ({done.stderr!r:.200})", found, (True, b"", True))
 
 
-def in_words(cases: Cases) -> None:
+def test_in_words(cases: Cases) -> None:
     """Words that the parser names in its text."""
     for control in CONTROLS:
         word = f"a{control}b"
@@ -45,14 +45,14 @@ def in_words(cases: Cases) -> None:
         check_text(cases, ["view", f"--require-id-match={word}"])
 
 
-def in_bytes(cases: Cases) -> None:
+def test_in_bytes(cases: Cases) -> None:
     """Words that are not UTF-8, and words too many of them."""
     for byte in (b"\x80", b"\xff", b"\xc3", b"\xed\xa0\x80", b"\x1b\xff"):
         for words in ([byte], [b"view", b"--" + byte], [b"view", b"x", byte], [b"view", b"--vault-id", byte]):
             check_text(cases, words)
 
 
-def in_values(cases: Cases) -> None:
+def test_in_values(cases: Cases) -> None:
     """Paths, labels, names and salts, which no message names."""
     for control in CONTROLS:
         path = os.path.join(cases.path(), f"a{control}b")
@@ -65,7 +65,7 @@ def in_values(cases: Cases) -> None:
             check_text(cases, ["encrypt_string", "--name", f"a{control}b", "x"])
 
 
-def in_files(cases: Cases) -> None:
+def test_in_files(cases: Cases) -> None:
     """A vault and a password that are refused."""
     right = by_file(cases.file(b"right\n"))
     for byte in itertools.chain(range(32), range(127, 256)):
@@ -74,11 +74,3 @@ def in_files(cases: Cases) -> None:
         check_text(cases, ["view", *right], HEADER + b";" + control * 200 + b"\n")
         check_text(cases, ["view", *right], HEADER + b"\n" + control * 3 + b"zz")
         check_text(cases, ["view", *by_file(cases.file(b"#!" + control * 3))])
-
-
-GROUPS = [
-    in_words,
-    in_bytes,
-    in_values,
-    in_files,
-]

@@ -23,7 +23,7 @@ def to_output(sample: Sample) -> list[str]:
     return [] if sample.command == "view" else ["--output", "-"]
 
 
-def inputs(cases: Cases) -> None:
+def test_inputs(cases: Cases) -> None:
     for sample in with_files(cases):
         path, out = cases.file(sample.stdin), to_output(sample)
         link = cases.path()
@@ -44,7 +44,7 @@ def inputs(cases: Cases) -> None:
         cases.check(f"{sample.command}: the input stays", Path(path).read_bytes(), sample.stdin)
 
 
-def input_pipes(cases: Cases) -> None:
+def test_input_pipes(cases: Cases) -> None:
     """FILE is a pipe of the file system, into which single bytes are written."""
     for sample in with_files(cases):
         path = cases.path()
@@ -61,7 +61,7 @@ def write_singly(path: str, content: bytes) -> None:
             pipe.write(bytes([byte]))
 
 
-def output_needed(cases: Cases) -> None:
+def test_output_needed(cases: Cases) -> None:
     for sample in with_files(cases):
         if sample.command == "view":
             continue
@@ -75,7 +75,7 @@ def output_needed(cases: Cases) -> None:
         cases.refused(f"{sample.command} FILE, missing password", missing, Fault.OUTPUT_NEEDED, NOT_ASKED)
 
 
-def outputs(cases: Cases) -> None:
+def test_outputs(cases: Cases) -> None:
     for sample in with_output(cases):
         new, old, name = cases.path(), cases.file(OLD, 0o640), sample.command
         written(cases, f"{name} to a new file", sample, new, oct(0o600))
@@ -92,7 +92,7 @@ def written(cases: Cases, name: str, sample: Sample, path: str, wanted: str) -> 
     cases.check(f"{name}: mode", mode(path), wanted)
 
 
-def output_pipes(cases: Cases) -> None:
+def test_output_pipes(cases: Cases) -> None:
     for sample in with_output(cases):
         path = cases.path()
         os.mkfifo(path)
@@ -101,7 +101,7 @@ def output_pipes(cases: Cases) -> None:
             cases.check(f"{sample.command}: what the pipe gave", reader.stdout.read(), sample.output)
 
 
-def unwritable(cases: Cases) -> None:
+def test_unwritable(cases: Cases) -> None:
     for sample in with_output(cases):
         file = cases.file(OLD)
         refused = [
@@ -119,7 +119,7 @@ def unwritable(cases: Cases) -> None:
             cases.run("nothing to a full device by name", [*sample.words, "--output", cases.device("full")], sample.stdin)
 
 
-def onto_the_input(cases: Cases) -> None:
+def test_onto_the_input(cases: Cases) -> None:
     """All input is read before the output is begun."""
     for text in (TEXT, bytes(range(256)) * 1_000):
         for sample in samples(cases, text):
@@ -128,14 +128,14 @@ def onto_the_input(cases: Cases) -> None:
                 written(cases, f"{sample.command} onto its input", Sample([*sample.words, path], NOT_ASKED, sample.output), path, wanted_mode(sample, 0o644))
 
 
-def onto_a_password_file(cases: Cases) -> None:
+def test_onto_a_password_file(cases: Cases) -> None:
     for sample in with_output(cases):
         path = sample.words[2]
         cases.run(f"{sample.command} onto its password file", [*sample.words, "--output", path], sample.stdin)
         cases.check(f"{sample.command}: content", Path(path).read_bytes(), sample.output)
 
 
-def refused_leaves_outputs(cases: Cases) -> None:
+def test_refused_leaves_outputs(cases: Cases) -> None:
     """A refusal neither makes nor cuts the output, and leaves an output that is the input."""
     for sample in with_output(cases):
         empty, missing = cases.file(b""), cases.path()
@@ -152,7 +152,7 @@ def refused_leaves_outputs(cases: Cases) -> None:
             cases.check(f"{sample.command}, refusal {place}: the old file", (Path(old).read_bytes(), mode(old)), (OLD, oct(0o640)))
 
 
-def order(cases: Cases) -> None:
+def test_order(cases: Cases) -> None:
     """Which of two faults is told."""
     empty, missing = cases.file(b""), cases.path()
     for sample in with_files(cases):
@@ -173,7 +173,7 @@ def order(cases: Cases) -> None:
             cases.refused(f"{sample.command}, {name}", [*words, *out], fault, NOT_ASKED)
 
 
-def without_rights(cases: Cases) -> None:
+def test_without_rights(cases: Cases) -> None:
     """Files that may neither be read nor written; root runs the program as somebody else, since nothing
     keeps root from them."""
     other = {"user": NOBODY, "group": NOBODY} if os.geteuid() == 0 else {}
@@ -197,18 +197,3 @@ def without_rights(cases: Cases) -> None:
         cases.check(f"{sample.command}, a locked password file", (done.returncode, done.stdout, done.stderr), (fault.status, b"", fault.line))
     os.chmod(locked, 0o600)
     cases.check("the locked file stays", Path(locked).read_bytes(), OLD)
-
-
-GROUPS = [
-    inputs,
-    input_pipes,
-    output_needed,
-    outputs,
-    output_pipes,
-    unwritable,
-    onto_the_input,
-    onto_a_password_file,
-    refused_leaves_outputs,
-    order,
-    without_rights,
-]

@@ -5,7 +5,7 @@ from model.faults import Fault
 from model.vaults import HEADER, seal
 
 
-def vault_ids(cases: Cases) -> None:
+def test_vault_ids(cases: Cases) -> None:
     right, missing = cases.file(b"right\n"), str(cases.folder / "missing")
     vault = seal(b"right", TEXT)
     for label in ("a;b", ";", " a", "a ", " ", "a\tb", "a\x7fb", "dév", "a" * 129):
@@ -31,7 +31,7 @@ def vault_ids(cases: Cases) -> None:
         cases.refuses(f"{name}, no vault", options, b"key: value\n", fault)
 
 
-def several_secrets(cases: Cases) -> None:
+def test_several_secrets(cases: Cases) -> None:
     wrong = [cases.file(b"wrong %d\n" % place) for place in range(15)]
     right = cases.file(b"right\n")
     many = [word for place, path in enumerate(wrong) for word in by_id(path, f"w{place}")]
@@ -59,9 +59,3 @@ def several_secrets(cases: Cases) -> None:
         cases.opens(f"{password} of two alike", both, seal(password, TEXT, b"a"), TEXT)
     for name, stdin, fault in (("text", b"key: value\n", Fault.NOT_VAULT), ("odd digits", HEADER + b"\nabc", Fault.BAD_HEX), ("no parts", HEADER, Fault.BAD_PAYLOAD)):
         cases.refuses(f"{name} with a secret", by_file(right), stdin, fault)
-
-
-GROUPS = [
-    vault_ids,
-    several_secrets,
-]

@@ -44,7 +44,7 @@ def written(cases: Cases, name: str, umask: str, sample: Sample, path: str, want
     cases.check(f"{name}: mode", mode(path), wanted)
 
 
-def new_files(cases: Cases) -> None:
+def test_new_files(cases: Cases) -> None:
     for sample in with_output(cases):
         for umask in UMASKS:
             written(cases, "to a new file", umask, sample, cases.path(), oct(0o600))
@@ -53,14 +53,14 @@ def new_files(cases: Cases) -> None:
             written(cases, "to a new file through a link", umask, sample, link, oct(0o600))
 
 
-def masked_new_file(cases: Cases) -> None:
+def test_masked_new_file(cases: Cases) -> None:
     """The umask takes from the mode, but for plaintext, whose mode is set."""
     for sample in with_output(cases):
         wanted = oct(0o600 if sample.command == "decrypt" else 0o400)
         written(cases, "to a new file", "277", sample, cases.path(), wanted)
 
 
-def old_files(cases: Cases) -> None:
+def test_old_files(cases: Cases) -> None:
     for sample in with_output(cases):
         for umask in UMASKS:
             for old in OLD_MODES:
@@ -68,7 +68,7 @@ def old_files(cases: Cases) -> None:
                 written(cases, f"to a file of mode {old:o}", umask, sample, path, wanted)
 
 
-def links(cases: Cases) -> None:
+def test_links(cases: Cases) -> None:
     """A link is followed, and stays; what it names gets the mode."""
     for sample in with_output(cases):
         for umask in UMASKS:
@@ -82,7 +82,7 @@ def links(cases: Cases) -> None:
             cases.check(f"{sample.command}: both names stay", os.stat(twin).st_nlink, 2)
 
 
-def devices(cases: Cases) -> None:
+def test_devices(cases: Cases) -> None:
     for sample in with_output(cases):
         path = cases.device("null")
         for umask in UMASKS:
@@ -92,7 +92,7 @@ def devices(cases: Cases) -> None:
             cases.check(f"{name}: mode", mode(path), oct(0o666))
 
 
-def pipes(cases: Cases) -> None:
+def test_pipes(cases: Cases) -> None:
     for sample in with_output(cases):
         for umask in UMASKS:
             path = cases.path()
@@ -106,7 +106,7 @@ def pipes(cases: Cases) -> None:
             cases.check(f"{name}: mode", mode(path), oct(0o644))
 
 
-def sockets(cases: Cases) -> None:
+def test_sockets(cases: Cases) -> None:
     """The system opens none of them for writing."""
     for sample in with_output(cases):
         path = cases.path()
@@ -117,7 +117,7 @@ def sockets(cases: Cases) -> None:
         cases.check(f"{sample.command} to a socket: mode", mode(path), oct(0o644))
 
 
-def order(cases: Cases) -> None:
+def test_order(cases: Cases) -> None:
     """The file is cut to nothing, then it is made its owner's, and only then the plaintext comes."""
     for sample in with_output(cases):
         path = cases.file(OLD, 0o644)
@@ -127,7 +127,7 @@ def order(cases: Cases) -> None:
         cases.check(f"{sample.command}: what happened to the file", events.told(), wanted)
 
 
-def refused(cases: Cases) -> None:
+def test_refused(cases: Cases) -> None:
     """A refusal changes no mode."""
     for sample in with_output(cases):
         path, other = cases.file(OLD, 0o644), cases.file(b"")
@@ -138,7 +138,7 @@ def refused(cases: Cases) -> None:
             cases.check(f"{sample.command}, refused: the file", (Path(path).read_bytes(), mode(path)), (OLD, oct(0o644)))
 
 
-def of_another_owner(cases: Cases) -> None:
+def test_of_another_owner(cases: Cases) -> None:
     """Whose mode cannot be changed gets no plaintext; the program runs as somebody else for that."""
     if os.geteuid() != 0:
         return cases.left_out("a file of another owner", "that takes the rights of root")
@@ -154,17 +154,3 @@ def of_another_owner(cases: Cases) -> None:
         found = (done.returncode, done.stderr, Path(path).read_bytes())
         cases.check(f"{sample.command} to a file of another owner", found, wanted)
         cases.check(f"{sample.command} to a file of another owner: mode", mode(path), oct(0o666))
-
-
-GROUPS = [
-    new_files,
-    masked_new_file,
-    old_files,
-    links,
-    devices,
-    pipes,
-    sockets,
-    order,
-    refused,
-    of_another_owner,
-]

@@ -67,7 +67,7 @@ def check_opened(cases: Cases, name: str, path: str) -> None:
         place.unlink(missing_ok=True)
 
 
-def sparse_files(cases: Cases) -> None:
+def test_sparse_files(cases: Cases) -> None:
     """No more is read of a file than its limit, and an output is cut to nothing first."""
     path = cases.file(b"")
     try:
@@ -89,14 +89,14 @@ def sparse_files(cases: Cases) -> None:
         cases.check(f"{sample.command} to a sparse file: content", Path(path).read_bytes(), sample.output)
 
 
-def loops_of_links(cases: Cases) -> None:
+def test_loops_of_links(cases: Cases) -> None:
     first, second = cases.path(), cases.path()
     os.symlink(first, second)
     os.symlink(second, first)
     check_not_opened(cases, "a loop of links", first)
 
 
-def running_program(cases: Cases) -> None:
+def test_running_program(cases: Cases) -> None:
     """It is read as any file; the system lets nobody write onto it."""
     path = cases.path()
     shutil.copy(shutil.which("sleep"), path)
@@ -124,7 +124,7 @@ def opens_to_write(path: str) -> bool:
     return True
 
 
-def read_only(cases: Cases) -> None:
+def test_read_only(cases: Cases) -> None:
     folder = Path(cases.path())
     old, new = folder / "old", folder / "new"
     with file_system(folder, 16 * PAGE) as is_mounted:
@@ -141,7 +141,7 @@ def read_only(cases: Cases) -> None:
         cases.run("encrypt of a file that cannot be written", words, NOT_ASKED, 0, seal(b"right", OLD, salt=SALT_TEXT))
 
 
-def long_paths(cases: Cases) -> None:
+def test_long_paths(cases: Cases) -> None:
     folder = f"{cases.folder}/"
     while len(folder) + NAME < LONGEST_PATH:
         folder += "d" * (NAME - 1) + "/"
@@ -152,20 +152,10 @@ def long_paths(cases: Cases) -> None:
     check_not_opened(cases, "a name that is too long", f"{cases.folder}/{'n' * 256}")
 
 
-def odd_names(cases: Cases) -> None:
+def test_odd_names(cases: Cases) -> None:
     """No name comes into a message, which stays one line."""
     folder = Path(cases.path())
     folder.mkdir()
     for name in NAMES:
         check_opened(cases, f"the name {name!r}", str(folder / name))
     check_not_opened(cases, "a missing folder with a line end in its name", str(folder / "line\nend" / "file"))
-
-
-GROUPS = [
-    sparse_files,
-    loops_of_links,
-    running_program,
-    read_only,
-    long_paths,
-    odd_names,
-]

@@ -36,7 +36,7 @@ def failed(fault: Fault, output=b"") -> tuple:
     return fault.status, output, fault.line
 
 
-def non_blocking_input(cases: Cases) -> None:
+def test_non_blocking_input(cases: Cases) -> None:
     """Where nothing is there yet reading fails; what is there before the end is read."""
     for sample in samples(cases):
         reader, writer = os.pipe()
@@ -49,7 +49,7 @@ def non_blocking_input(cases: Cases) -> None:
         os.close(reader)
 
 
-def non_blocking_output(cases: Cases) -> None:
+def test_non_blocking_output(cases: Cases) -> None:
     """What does not go into the pipe at once is a write fault behind a prefix."""
     for size, fault in ((1, None), (LARGE, Fault.NOT_WRITTEN)):
         for sample in samples(cases, bytes(size)):
@@ -65,7 +65,7 @@ def non_blocking_output(cases: Cases) -> None:
             cases.check(f"{name}: the whole", content == sample.output, fault is None)
 
 
-def appending(cases: Cases) -> None:
+def test_appending(cases: Cases) -> None:
     """The output comes behind what is there; a name of the stream opens its file anew, which cuts it."""
     for sample in samples(cases):
         path = cases.file(OLD)
@@ -82,7 +82,7 @@ def appending(cases: Cases) -> None:
     cases.check("a refusal behind a file: content", Path(path).read_bytes(), OLD + REFUSED.line)
 
 
-def one_way(cases: Cases) -> None:
+def test_one_way(cases: Cases) -> None:
     """Standard input that is open for writing alone, and outputs that are open for reading alone."""
     for sample in samples(cases):
         path = cases.file(sample.stdin)
@@ -97,7 +97,7 @@ def one_way(cases: Cases) -> None:
         check_run(cases, "a refusal nobody hears", refused.words, (REFUSED.status, b"", None), input=refused.stdin, stderr=to_read)
 
 
-def sockets(cases: Cases) -> None:
+def test_sockets(cases: Cases) -> None:
     for sample in samples(cases):
         ours, theirs = socket.socketpair()
         with ours, theirs:
@@ -109,7 +109,7 @@ def sockets(cases: Cases) -> None:
                 cases.check(f"{sample.command}: what the socket gave", stream.read(), sample.output)
 
 
-def left_sockets(cases: Cases) -> None:
+def test_left_sockets(cases: Cases) -> None:
     """The other side of a socket has gone, and has not read what was sent to it."""
     for sample in samples(cases):
         ours, theirs = socket.socketpair()
@@ -123,7 +123,7 @@ def left_sockets(cases: Cases) -> None:
             check_run(cases, f"{sample.command} from a socket that was left", sample.words, failed(Fault.INPUT_NOT_READ), stdin=theirs)
 
 
-def terminal(cases: Cases) -> None:
+def test_terminal(cases: Cases) -> None:
     """The text is typed, and so is its end; the terminal shows each line end as two bytes."""
     for sample in [*samples(cases), refused_sample(cases)]:
         ours, theirs = os.openpty()
@@ -151,21 +151,9 @@ def all_shown(terminal: int) -> bytes:
     return b"".join(pieces)
 
 
-def one_pipe(cases: Cases) -> None:
+def test_one_pipe(cases: Cases) -> None:
     """Both outputs are one pipe: a run writes its output there or its line, and nothing else."""
     for sample in samples(cases):
         check_run(cases, f"{sample.command}, both outputs one", sample.words, (0, sample.output, None), input=sample.stdin, stderr=subprocess.STDOUT)
     refused = refused_sample(cases)
     check_run(cases, "a refusal, both outputs one", refused.words, (REFUSED.status, REFUSED.line, None), input=refused.stdin, stderr=subprocess.STDOUT)
-
-
-GROUPS = [
-    non_blocking_input,
-    non_blocking_output,
-    appending,
-    one_way,
-    sockets,
-    left_sockets,
-    terminal,
-    one_pipe,
-]

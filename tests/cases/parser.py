@@ -9,7 +9,7 @@ from model.faults import Fault
 from model.options import COMMON, OPTIONS
 
 
-def helps(cases: Cases) -> None:
+def test_helps(cases: Cases) -> None:
     """Help is told whole, and a mistake behind it changes nothing."""
     for name in MISTAKES:
         command = [] if name == PROGRAM else [name]
@@ -22,13 +22,13 @@ def helps(cases: Cases) -> None:
         cases.run_streams("help to a full device", ["--help"], 3, Fault.NOT_WRITTEN.line, stdin=subprocess.DEVNULL, stdout=full, stderr=subprocess.PIPE)
 
 
-def versions(cases: Cases) -> None:
+def test_versions(cases: Cases) -> None:
     text = f"ansible-vault {version()}\n".encode()
     for words in (["--version"], ["-V"], ["--version", "--loud"], ["-V", "--help"], ["-Vh"]):
         cases.run(f"version by {words}", words, out=text)
 
 
-def mistakes(cases: Cases) -> None:
+def test_mistakes(cases: Cases) -> None:
     """Each has the stored text, which names the word that is wrong."""
     for name, each_mistake in MISTAKES.items():
         stored = stored_mistakes(name)
@@ -39,21 +39,12 @@ def mistakes(cases: Cases) -> None:
             cases.run(f"`{mistake.line}`", mistake.words, status=2, err=text.encode())
 
 
-def not_utf8(cases: Cases) -> None:
+def test_not_utf8(cases: Cases) -> None:
     cases.run("an argument that is not UTF-8", [b"view", b"\xff"], status=2, err=b"error: an argument is not UTF-8\n")
 
 
-def endless_pipe(cases: Cases) -> None:
+def test_endless_pipe(cases: Cases) -> None:
     """Words that are no command line ask for no input."""
     child = subprocess.Popen([cases.program, "view", "--loud"], stdin=subprocess.PIPE, stderr=subprocess.DEVNULL)
     cases.check("no input is asked for", child.wait(SECONDS), 2)
     child.stdin.close()
-
-
-GROUPS = [
-    helps,
-    versions,
-    mistakes,
-    not_utf8,
-    endless_pipe,
-]

@@ -9,7 +9,7 @@ from model.faults import Fault
 from model.vaults import ENVELOPE_LIMIT, HEADER, seal
 
 
-def passwords(cases: Cases) -> None:
+def test_passwords(cases: Cases) -> None:
     """Whitespace around a password is no part of it, and all else is."""
     kept = [
         b"pw", b"p w", b"first\n\nlast", b"#pw", b"$ANSIBLE_VAUL", b"k" * 64, b"k" * 65,
@@ -27,7 +27,7 @@ def passwords(cases: Cases) -> None:
             cases.opens(f"password file {content!r:.60}", options, vault, TEXT)
 
 
-def refused_passwords(cases: Cases) -> None:
+def test_refused_passwords(cases: Cases) -> None:
     refused = [
         ("4097 bytes", b"k" * 4097, Fault.SECRET_TOO_LONG),
         ("4097 bytes, most of them LF", b"pw".ljust(4097, b"\n"), Fault.SECRET_TOO_LONG),
@@ -58,7 +58,7 @@ def refused_passwords(cases: Cases) -> None:
     os.close(writer)
 
 
-def password_paths(cases: Cases) -> None:
+def test_password_paths(cases: Cases) -> None:
     folder, missing = str(cases.folder), str(cases.folder / "missing")
     right, empty = cases.file(b"right\n"), cases.file(b"")
     vault = seal(b"right", TEXT)
@@ -89,10 +89,3 @@ def password_paths(cases: Cases) -> None:
     cases.opens("a path with @", by_id(str(at), "dev"), vault, TEXT)
     cases.opens("a vault id without @", ["--vault-id", right], vault, TEXT)
     cases.opens("a vault id with nothing before @", ["--vault-id", f"@{right}"], vault, TEXT)
-
-
-GROUPS = [
-    passwords,
-    refused_passwords,
-    password_paths,
-]

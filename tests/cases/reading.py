@@ -6,7 +6,7 @@ from model.faults import Fault
 from model.vaults import CIPHERTEXT_LIMIT, ENVELOPE, ENVELOPE_LIMIT, HEADER, PLAINTEXT_LIMIT, padded, parts, seal, spelled
 
 
-def format_faults(cases: Cases) -> None:
+def test_format_faults(cases: Cases) -> None:
     refused = [
         ("empty input", b"", Fault.NOT_VAULT),
         ("text", b"key: value\n", Fault.NOT_VAULT),
@@ -46,7 +46,7 @@ def spellings(vault: bytes) -> list[tuple[str, bytes]]:
     ]
 
 
-def well_formed(cases: Cases) -> None:
+def test_well_formed(cases: Cases) -> None:
     for name, stdin in spellings(ENVELOPE):
         cases.refused(f"no secret for {name}", ["view"], Fault.NO_SECRET_FITS, stdin)
     longest = spelled(bytes(32), bytes(32), bytes(CIPHERTEXT_LIMIT))
@@ -55,7 +55,7 @@ def well_formed(cases: Cases) -> None:
         cases.refused(f"no secret for {vault.name}", ["view"], Fault.NO_SECRET_FITS, vault.read_bytes())
 
 
-def fixtures(cases: Cases) -> None:
+def test_fixtures(cases: Cases) -> None:
     made = [
         ("format-1.1", "one", b"a" * 16),
         ("format-1.2", "two", b"a" * 16),
@@ -73,7 +73,7 @@ def fixtures(cases: Cases) -> None:
             cases.opens(f"Ansible's {name} with {spelling}", by_file(path), stdin, plaintext)
 
 
-def plaintexts(cases: Cases) -> None:
+def test_plaintexts(cases: Cases) -> None:
     right = by_file(cases.file(b"right\n"))
     every_byte = bytes(range(256))
     whole = every_byte * (PLAINTEXT_LIMIT // 256)
@@ -95,7 +95,7 @@ def plaintexts(cases: Cases) -> None:
     cases.refuses("a right tag over too long a ciphertext", right, too_long, Fault.CIPHER_TOO_LONG)
 
 
-def damaged(cases: Cases) -> None:
+def test_damaged(cases: Cases) -> None:
     right, wrong = by_file(cases.file(b"right\n")), by_id(cases.file(b"wrong\n"))
     salt, tag, cipher = parts(b"right", padded(b"a" * 40))
     flipped = lambda part, place: part[:place] + bytes([part[place] ^ 1]) + part[place + 1 :]
@@ -123,12 +123,3 @@ def damaged(cases: Cases) -> None:
         vault = spelled(*parts(b"right", whole))
         cases.refuses(f"wrong padding: {name}", right, vault, Fault.BAD_PADDING)
         cases.refuses(f"wrong padding after a wrong secret: {name}", wrong + right, vault, Fault.BAD_PADDING)
-
-
-GROUPS = [
-    format_faults,
-    well_formed,
-    fixtures,
-    plaintexts,
-    damaged,
-]

@@ -8,7 +8,7 @@ SALT_WORDS = ["--salt", "abc"]
 SALT = b"abc"
 
 
-def rekeyed(cases: Cases) -> None:
+def test_rekeyed(cases: Cases) -> None:
     right, new = cases.file(b"right\n"), cases.file(b" new one\n")
     runs = [
         ("a new vault id", ["--new-vault-id", f"prod@{new}"], b"new one", b"prod"),
@@ -29,7 +29,7 @@ def rekeyed(cases: Cases) -> None:
     cases.run("rekey of the longest plaintext", words, seal(b"right", longest), 0, seal(b"new one", longest, b"", SALT))
 
 
-def worked(cases: Cases) -> None:
+def test_worked(cases: Cases) -> None:
     """An empty vault rekeyed with a salt of 32 bytes 01, and rekeyed with the new secret alone."""
     one, two, ones = cases.file(b"one\n"), cases.file(b"two\n"), cases.file(b"\x01" * 32)
     words = ["rekey", *by_file(one), "--new-vault-id", f"prod@{two}", "--salt-file", ones]
@@ -42,7 +42,7 @@ def worked(cases: Cases) -> None:
     cases.check("two runs differ", runs[0] == runs[1], False)
 
 
-def refused_options(cases: Cases) -> None:
+def test_refused_options(cases: Cases) -> None:
     right, new, missing, empty = cases.file(b"right\n"), cases.file(b"new\n"), cases.path(), cases.file(b"")
     vault = seal(b"right", TEXT)
     refused = [
@@ -71,7 +71,7 @@ def refused_options(cases: Cases) -> None:
     cases.run("rekey, 16 secrets and a new one", [*too_many[:-2], "--new-vault-id", new, *SALT_WORDS], vault, 0, seal(b"new", TEXT, b"", SALT))
 
 
-def refused_inputs(cases: Cases) -> None:
+def test_refused_inputs(cases: Cases) -> None:
     right, new = cases.file(b"right\n"), cases.file(b"new\n")
     words = ["rekey", *by_file(right), "--new-vault-id", f"prod@{new}", *SALT_WORDS]
     refused = [
@@ -91,11 +91,3 @@ def refused_inputs(cases: Cases) -> None:
         cases.refused(f"rekey of {name}", words, fault, stdin)
     almost = MAGIC[:-1]
     cases.run("rekey of almost a vault", words, seal(b"right", almost), 0, seal(b"new", almost, b"prod", SALT))
-
-
-GROUPS = [
-    rekeyed,
-    worked,
-    refused_options,
-    refused_inputs,
-]

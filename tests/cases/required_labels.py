@@ -8,7 +8,7 @@ from model.vaults import ENVELOPE, parts, seal, spelled
 FLAG = "--require-id-match"
 
 
-def required_label(cases: Cases) -> None:
+def test_required_label(cases: Cases) -> None:
     one, two = cases.file(b"one\n"), cases.file(b"two\n")
     both = by_id(one, "a") + by_id(two, "b")
     opening = [
@@ -35,7 +35,7 @@ def required_label(cases: Cases) -> None:
             cases.opens(f"not required: {name}", options, vault, TEXT)
 
 
-def required_in_rekey(cases: Cases) -> None:
+def test_required_in_rekey(cases: Cases) -> None:
     one, two = cases.file(b"one\n"), cases.file(b"two\n")
     words = ["rekey", FLAG, *by_file(one), "--new-vault-id", f"prod@{two}", *SALT_WORDS]
     vault = cases.run("required: rekey", words, seal(b"one", TEXT), 0, seal(b"two", TEXT, b"prod", SALT))
@@ -44,9 +44,3 @@ def required_in_rekey(cases: Cases) -> None:
     cases.refused("required: rekey of another label", words, Fault.NO_SECRET_FITS, seal(b"one", TEXT, b"dev"))
     for command in READING:
         cases.refused(f"{command}, required without secrets", [command, FLAG], Fault.NO_SECRET_FITS, ENVELOPE)
-
-
-GROUPS = [
-    required_label,
-    required_in_rekey,
-]

@@ -17,7 +17,7 @@ def with_salt(cases: Cases, salt: bytes = ZEROS) -> list[str]:
     return [*by_file(cases.file(b"right\n")), "--salt-file", cases.file(salt)]
 
 
-def sizes(cases: Cases) -> None:
+def test_sizes(cases: Cases) -> None:
     options = with_salt(cases)
     for size in (0, 1, 15, 16, 17, 1_024, 65_519, 65_520, 65_521, 65_536, PLAINTEXT_LIMIT - 1, PLAINTEXT_LIMIT):
         text = (bytes(range(256)) * (size // 256 + 1))[:size]
@@ -28,7 +28,7 @@ def sizes(cases: Cases) -> None:
         cases.run_streams("encrypt without end", ["encrypt", *options], 1, Fault.TOO_LONG.line, stdin=endless, stdout=subprocess.DEVNULL, stderr=subprocess.PIPE)
 
 
-def worked(cases: Cases) -> None:
+def test_worked(cases: Cases) -> None:
     """Lengths and lines worked out by hand from the format."""
     right, options = by_file(cases.file(b"right\n")), with_salt(cases)
     run = lambda name, words, stdin=b"": cases.run(name, ["encrypt", *words], stdin, 0, lambda _: True).split(b"\n")
@@ -49,7 +49,7 @@ def worked(cases: Cases) -> None:
         cases.check(f"salt text of {len(text)}: first line", lines[1].startswith(first), True)
 
 
-def salt_texts(cases: Cases) -> None:
+def test_salt_texts(cases: Cases) -> None:
     right = by_file(cases.file(b"right\n"))
     for text in ("abc", "a", "a" * 64, "é" * 32, " ", "\n", "/dev/urandom"):
         salt = text.encode()
@@ -68,7 +68,7 @@ def salt_texts(cases: Cases) -> None:
             cases.refused(f"{command}, {name}", [command, *right, *options], fault, TEXT)
 
 
-def salt_files(cases: Cases) -> None:
+def test_salt_files(cases: Cases) -> None:
     right, missing = by_file(cases.file(b"right\n")), cases.path()
     good = [("32 bytes", cases.file(SALT), SALT), ("40 bytes", cases.file(SALT + SALT[:8]), SALT), ("zeros without end", "/dev/zero", ZEROS)]
     refused = [
@@ -86,7 +86,7 @@ def salt_files(cases: Cases) -> None:
             cases.refused(f"{command}, salt file: {name}", [command, *right, "--salt-file", path], fault, TEXT)
 
 
-def two_runs(cases: Cases) -> None:
+def test_two_runs(cases: Cases) -> None:
     """The salt is really read: each run has its own."""
     right = by_file(cases.file(b"right\n"))
     vaults = [cases.run("encrypt with a salt of its own", ["encrypt", *right], TEXT, 0, lambda _: True) for _ in range(2)]
@@ -95,7 +95,7 @@ def two_runs(cases: Cases) -> None:
         cases.opens("a vault with a salt of its own", right, vault, TEXT)
 
 
-def choices(cases: Cases) -> None:
+def test_choices(cases: Cases) -> None:
     one, two = cases.file(b"right\n"), cases.file(b"two\n")
     both = by_id(one, "dev") + by_id(two, "prod")
     salt = ["--salt", "abc"]
@@ -128,7 +128,7 @@ def choices(cases: Cases) -> None:
             cases.refused(f"{command}, {name}", [command, *options, *salt], fault, TEXT)
 
 
-def plaintexts(cases: Cases) -> None:
+def test_plaintexts(cases: Cases) -> None:
     right, salt = by_file(cases.file(b"right\n")), ["--salt", "abc"]
     for command in SEALING:
         for text in (ENVELOPE, MAGIC, MAGIC + b" and more"):
@@ -139,7 +139,7 @@ def plaintexts(cases: Cases) -> None:
             cases.run(f"{command} of {text!r:.20}", [command, *right, *salt], text, 0, whole)
 
 
-def order(cases: Cases) -> None:
+def test_order(cases: Cases) -> None:
     """Which of two faults is told."""
     right, empty, missing = cases.file(b"right\n"), cases.file(b""), cases.path()
     short = ["--salt-file", cases.file(bytes(31))]
@@ -164,7 +164,7 @@ def order(cases: Cases) -> None:
             cases.refused(f"{command}, {name}", [command, *options], fault, stdin)
 
 
-def input_not_asked(cases: Cases) -> None:
+def test_input_not_asked(cases: Cases) -> None:
     """Nobody writes to this pipe: who reads it waits."""
     right = cases.file(b"right\n")
     runs = [(["encrypt", *by_file(right), "--salt-file", cases.file(bytes(31))], 1), (["encrypt"], 1)]
@@ -175,16 +175,3 @@ def input_not_asked(cases: Cases) -> None:
         cases.run_streams(f"{words[0]}, no input asked", words, status, stdin=reader, stdout=subprocess.DEVNULL, stderr=subprocess.DEVNULL)
         os.close(reader)
         os.close(writer)
-
-
-GROUPS = [
-    sizes,
-    worked,
-    salt_texts,
-    salt_files,
-    two_runs,
-    choices,
-    plaintexts,
-    order,
-    input_not_asked,
-]

@@ -13,7 +13,7 @@ FULL = "/dev/full"
 LARGE = 1 << 20
 
 
-def without_secrets(cases: Cases) -> None:
+def test_without_secrets(cases: Cases) -> None:
     nothing = {"stdin": subprocess.DEVNULL, "stdout": subprocess.DEVNULL}
     with open(FULL, "wb") as full:
         cases.run_streams("full standard error", ["view"], 1, **nothing, stderr=full)
@@ -30,14 +30,14 @@ def shell(cases: Cases, words: list[str], redirections: str, stdin: bytes) -> su
     return subprocess.run(["sh", "-c", script, cases.program, *words], input=stdin, capture_output=True, timeout=SECONDS)
 
 
-def folder_as_input(cases: Cases) -> None:
+def test_folder_as_input(cases: Cases) -> None:
     for sample in samples(cases):
         folder = os.open("/", os.O_RDONLY)
         cases.run_streams(f"{sample.command}, a folder as standard input", sample.words, 3, Fault.INPUT_NOT_READ.line, stdin=folder, stdout=subprocess.DEVNULL, stderr=subprocess.PIPE)
         os.close(folder)
 
 
-def failing_outputs(cases: Cases) -> None:
+def test_failing_outputs(cases: Cases) -> None:
     refused = Sample(["view", *by_file(cases.file(b"wrong\n"))], seal(b"right", TEXT), b"")
     runs = [(sample, Fault.NOT_WRITTEN) for text in (TEXT, bytes(LARGE)) for sample in samples(cases, text)]
     for sample, fault in [*runs, (refused, Fault.NO_SECRET_FITS)]:
@@ -51,14 +51,14 @@ def failing_outputs(cases: Cases) -> None:
         os.close(writer)
 
 
-def nothing_to_write(cases: Cases) -> None:
+def test_nothing_to_write(cases: Cases) -> None:
     for sample in samples(cases, b""):
         if sample.output == b"":
             with open(FULL, "wb") as full:
                 cases.run_streams(f"{sample.command}, nothing to a full device", sample.words, 0, b"", input=sample.stdin, stdout=full, stderr=subprocess.PIPE)
 
 
-def bounded_reading(cases: Cases) -> None:
+def test_bounded_reading(cases: Cases) -> None:
     """Of a file that is too long, one byte more than the limit is read."""
     for sample in samples(cases):
         plain = sample.command.startswith("encrypt")
@@ -70,14 +70,14 @@ def bounded_reading(cases: Cases) -> None:
             cases.check(f"{sample.command}: bytes read", os.lseek(stdin.fileno(), 0, os.SEEK_CUR), limit + 1)
 
 
-def full_standard_error(cases: Cases) -> None:
+def test_full_standard_error(cases: Cases) -> None:
     for sample in samples(cases):
         with open(FULL, "wb") as full:
             done = subprocess.run([cases.program, *sample.words], input=sample.stdin, stdout=subprocess.PIPE, stderr=full, timeout=SECONDS)
         cases.check(f"{sample.command}, full standard error", (done.returncode, done.stdout), (0, sample.output))
 
 
-def single_bytes(cases: Cases) -> None:
+def test_single_bytes(cases: Cases) -> None:
     """Input from a pipe into which each byte is written alone."""
     for sample in samples(cases):
         child = subprocess.Popen([cases.program, *sample.words], stdin=subprocess.PIPE, stdout=subprocess.PIPE, bufsize=0)
@@ -89,7 +89,7 @@ def single_bytes(cases: Cases) -> None:
         cases.check(f"{sample.command}, single bytes", (child.wait(SECONDS), output), (0, sample.output))
 
 
-def leaving_reader(cases: Cases) -> None:
+def test_leaving_reader(cases: Cases) -> None:
     """The reader of the output goes away after its first byte."""
     for sample in samples(cases, bytes(LARGE)):
         with tempfile.TemporaryFile() as stdin:
@@ -101,15 +101,3 @@ def leaving_reader(cases: Cases) -> None:
             message = child.stderr.read()
             child.stderr.close()
             cases.check(f"{sample.command}, a reader that leaves", (child.wait(SECONDS), message), (3, Fault.NOT_WRITTEN.line))
-
-
-GROUPS = [
-    without_secrets,
-    folder_as_input,
-    failing_outputs,
-    nothing_to_write,
-    bounded_reading,
-    full_standard_error,
-    single_bytes,
-    leaving_reader,
-]

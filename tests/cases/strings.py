@@ -6,7 +6,7 @@ from model.faults import Fault
 from model.vaults import MAGIC, seal, yaml_block
 
 
-def strings(cases: Cases) -> None:
+def test_strings(cases: Cases) -> None:
     right = [*by_file(cases.file(b"right\n")), "--salt", "abc"]
     block = lambda text, name=b"": yaml_block(seal(RIGHT, text, salt=b"abc"), name)
     named = [("-n", "k"), ("--name", "k"), ("--name", "a key"), ("--name", "schlüssel"), ("--name", ""), ("--name", "x" * 500)]
@@ -26,7 +26,7 @@ def strings(cases: Cases) -> None:
     cases.check("a block: length", (len(worked), len(worked.splitlines()), worked[:13]), (427, 7, b"k: !vault |\n "))
 
 
-def refused_strings(cases: Cases) -> None:
+def test_refused_strings(cases: Cases) -> None:
     right = [*by_file(cases.file(b"right\n")), "--salt", "abc"]
     refused = [
         ("an empty STRING", [""], Fault.EMPTY_STRING),
@@ -46,9 +46,3 @@ def refused_strings(cases: Cases) -> None:
     ]
     for name, options, fault in refused:
         cases.refused(name, ["encrypt_string", *right, *options], fault, b"")
-
-
-GROUPS = [
-    strings,
-    refused_strings,
-]

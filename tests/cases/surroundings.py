@@ -38,7 +38,7 @@ STACK = 128 * KIB
 LARGE = 1 << 20
 
 
-def without_words(cases: Cases) -> None:
+def test_without_words(cases: Cases) -> None:
     """A program that is given no word at all, not even its name, answers as without a command."""
     library = ctypes.CDLL(None, use_errno=True)
     nothing = (ctypes.c_char_p * 1)(None)
@@ -48,7 +48,7 @@ def without_words(cases: Cases) -> None:
     cases.check("no words at all", (done.returncode, done.stdout, done.stderr), (2, b"", wanted.stderr))
 
 
-def program_names(cases: Cases) -> None:
+def test_program_names(cases: Cases) -> None:
     """Another name changes nothing; one that is not UTF-8 is refused as any argument is."""
     for sample in samples(cases):
         for name in ("", "other", "-x", "two words", "a\nb", "view"):
@@ -58,7 +58,7 @@ def program_names(cases: Cases) -> None:
         cases.check(f"{sample.command} under a name that is not UTF-8", (done.returncode, done.stdout, done.stderr), (2, b"", NOT_UTF8))
 
 
-def names_of_files(cases: Cases) -> None:
+def test_names_of_files(cases: Cases) -> None:
     """A path that is not UTF-8 is refused, where it is that of a file, too."""
     path = os.fsencode(cases.path()) + b"\xff"
     for sample in with_files(cases):
@@ -73,7 +73,7 @@ def names_of_files(cases: Cases) -> None:
         cases.check(f"{sample.command}: no file of that name", os.path.exists(path), False)
 
 
-def environments(cases: Cases) -> None:
+def test_environments(cases: Cases) -> None:
     """No variable is read."""
     settings = [{}, dict.fromkeys(LOCALE_NAMES, ""), NOT_READ]
     settings += [dict.fromkeys(LOCALE_NAMES, locale) for locale in LOCALES]
@@ -95,7 +95,7 @@ def run_under(cases: Cases, limit: int, amount: int, words: list[str], stdin: by
     return done.returncode, done.stdout, done.stderr
 
 
-def few_files(cases: Cases) -> None:
+def test_few_files(cases: Cases) -> None:
     """Where no more files may be open a run says which one it lacks, and changes none."""
     faults = [Fault.SECRET_NOT_OPENED, Fault.INPUT_NOT_OPENED, Fault.NOT_WRITTEN]
     lacks = [(fault.status, b"", fault.line, None) for fault in faults]
@@ -113,7 +113,7 @@ def few_files(cases: Cases) -> None:
             cases.check(f"{name}: FILE stays", Path(given).read_bytes(), sample.stdin)
 
 
-def small_stack(cases: Cases) -> None:
+def test_small_stack(cases: Cases) -> None:
     """With long texts, and with all secrets that a run may have."""
     others = [word for number in range(15) for word in by_id(cases.file(b"wrong\n"), f"l{number}")]
     words = ["decrypt", *others, *by_file(cases.file(b"right\n"))]
@@ -126,13 +126,3 @@ def small_stack(cases: Cases) -> None:
         usual = cases.done(words)
         answer = run_under(cases, resource.RLIMIT_STACK, STACK, words, b"")
         cases.check(f"{words} with a small stack", answer, (status, usual.stdout, usual.stderr))
-
-
-GROUPS = [
-    without_words,
-    program_names,
-    names_of_files,
-    environments,
-    few_files,
-    small_stack,
-]

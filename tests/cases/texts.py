@@ -2,8 +2,8 @@
 answer to each command line that is a mistake, below the line itself.
 
 The texts are clap's, and no outside source has them. They were stored as the program printed them and
-read over by eye, against the help of each option in `crates/vault_command_line`. `tests/end_to_end PROGRAM
---write-texts` stores them anew; what it changes is to be read over again.
+read over by eye, against the help of each option in `crates/vault_command_line`. `tests/store_texts PROGRAM`
+stores them anew; what it changes is to be read over again.
 """
 
 import re

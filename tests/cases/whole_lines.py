@@ -48,13 +48,13 @@ def refusals(cases: Cases) -> list[tuple[list[str], bytes, Fault]]:
     ]
 
 
-def lines_of_messages(cases: Cases) -> None:
+def test_lines_of_messages(cases: Cases) -> None:
     for words, stdin, fault in refusals(cases):
         found = packets([cases.program, *words], stdin, "stderr")
         cases.check(f"the writes of `{fault.text}`", found, (fault.status, [fault.line]))
 
 
-def refused_beside(cases: Cases) -> None:
+def test_refused_beside(cases: Cases) -> None:
     """Runs beside each other that wait for the end of one input, and have one pipe as standard error."""
     fault = Fault.NOT_VAULT
     for number in range(ROUNDS):
@@ -73,7 +73,7 @@ def refused_beside(cases: Cases) -> None:
         cases.check(f"runs beside each other, round {number}", (statuses, lines), wanted)
 
 
-def header_lines(cases: Cases) -> None:
+def test_header_lines(cases: Cases) -> None:
     """The header line comes with the first line of digits behind it."""
     for size in (1, 1_000):
         for sample in samples(cases, (TEXT * size)[:size]):
@@ -85,7 +85,7 @@ def header_lines(cases: Cases) -> None:
                 cases.holds(f"{name}: the first write", given[0].startswith(first_lines), f"got {given[0]!r:.300}")
 
 
-def head_of_envelope(cases: Cases) -> None:
+def test_head_of_envelope(cases: Cases) -> None:
     """`encrypt .. | head -n 1` gives the header line, and says nothing."""
     vault = seal(b"right", TEXT)
     header = vault.splitlines(keepends=True)[0]
@@ -94,11 +94,3 @@ def head_of_envelope(cases: Cases) -> None:
     for number in range(ROUNDS):
         done = subprocess.run(["bash", "-c", pipeline, "bash", cases.program, *words], input=TEXT, capture_output=True, timeout=SECONDS)
         cases.check(f"the head of an envelope, round {number}", (done.returncode, done.stdout, done.stderr), (0, header, b""))
-
-
-GROUPS = [
-    lines_of_messages,
-    refused_beside,
-    header_lines,
-    head_of_envelope,
-]

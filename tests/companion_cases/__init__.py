@@ -9,11 +9,11 @@ import os
 import shutil
 import stat
 import subprocess
-import tempfile
 from contextlib import contextmanager
 from pathlib import Path
 from typing import Iterator
 
+from lib.limits import SECONDS
 from lib.outcome import Outcome
 from lib.paths import ROOT
 from model.vaults import applied, seal, tag_of, yaml_block
@@ -22,7 +22,6 @@ COMPANIONS = ROOT / "companions"
 EDIT, ROTATE, CHECK, TEXTCONV, HOOK = (
     f"ansible-vault-{name}" for name in ("edit", "rotate", "check", "textconv", "hook")
 )
-SECONDS = 120
 NOBODY = 65_534
 TEXT = b"db_password: correct horse\n"
 # Passwords by the names of their files.
@@ -64,22 +63,21 @@ def block(password: str, text: bytes = TEXT, label: str = "", name: str = "secre
 class Place:
     """A tree of files, the companions beside the program, password files, and a folder for what runs."""
 
-    def __init__(self, path: str, program: str) -> None:
-        self.path = Path(path)
+    def __init__(self, path: Path, program: Path, companions: Path) -> None:
+        self.path = path
         self.tools, self.tree, self.secrets, self.runtime = (
             self.path / name for name in ("tools", "tree", "secrets", "runtime")
         )
         for folder in (self.tools, self.tree, self.secrets, self.runtime):
             folder.mkdir()
-        self.program = Path(program).resolve()
-        (self.tools / "ansible-vault").symlink_to(self.program)
-        for each in COMPANIONS.glob("ansible-vault-*"):
+        self.program = program
+        for each in (program, *companions.glob("ansible-vault-*")):
             (self.tools / each.name).symlink_to(each)
         for name, password in PASSWORDS.items():
             (self.secrets / name).write_bytes(password + b"\n")
         kept = {name: value for name, value in os.environ.items() if name in ("PATH", "LANG", "LC_ALL")}
         self.environment = kept | {
-            "HOME": path,
+            "HOME": str(path),
             "PATH": f"{self.tools}{os.pathsep}{kept['PATH']}",
             "XDG_RUNTIME_DIR": str(self.runtime),
             "GIT_CONFIG_GLOBAL": "/dev/null",
@@ -164,17 +162,26 @@ class Place:
 
 
 class Companions(Outcome):
-    """Counts the cases of a topic."""
+    """Runs copies of the companions and of the program, which everybody may read wherever the repository is."""
 
-    def __init__(self, program: str) -> None:
+    def __init__(self, program: str, folder: Path, vaults: int) -> None:
         super().__init__()
-        self.program = program
+        self.folder = folder
+        self.vaults = vaults
+        self.places = 0
+        self.companions = folder / "companions"
+        self.program = folder / "ansible-vault"
+        shutil.copytree(COMPANIONS, self.companions)
+        shutil.copyfile(program, self.program)
+        self.program.chmod(0o755)
+        subprocess.run(["chmod", "-R", "go=rX", str(self.companions)], check=True)
 
     @contextmanager
     def place(self) -> Iterator[Place]:
-        with tempfile.TemporaryDirectory() as path:
-            os.chmod(path, 0o755)
-            yield Place(path, self.program)
+        self.places += 1
+        path = self.folder / f"place{self.places}"
+        path.mkdir()
+        yield Place(path, self.program, self.companions)
 
     def ended(self, what: str, done: subprocess.CompletedProcess, status: int, *parts: str) -> None:
         """The status, and parts of what is told, on whichever stream."""

@@ -2,7 +2,8 @@
 
 import os
 import resource
-import subprocess
+import shutil
+import sys
 
 from companion_cases import CHECK, EDIT, PASSWORDS, ROTATE, TEXT, TEXTCONV, Companions, block, sealed
 from companion_cases.rotating import to_new
@@ -70,9 +71,8 @@ def other_tools(cases: Companions) -> None:
         folders = os.pathsep.join(["/usr/sbin", str(place.tools)])
         place.environment["PATH"] = f"{place.path / 'interpreter'}{os.pathsep}{folders}"
         (place.path / "interpreter").mkdir()
-        for name in ("python3", "env"):
-            found = subprocess.run(["sh", "-c", f"command -v {name}"], capture_output=True, text=True).stdout.strip()
-            (place.path / "interpreter" / name).symlink_to(os.path.realpath(found))
+        for name, path in (("python3", sys.executable), ("env", shutil.which("env"))):
+            (place.path / "interpreter" / name).symlink_to(os.path.realpath(path))
         done = place.run(CHECK, *place.by_file("old"), ".")
         cases.ended("no tool", done, 1, "there is no ansible-vault")
         (place.path / "interpreter" / "ansible-vault").symlink_to(place.program)

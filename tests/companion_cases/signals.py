@@ -1,5 +1,6 @@
 """Signals at each step: nothing is lost, nothing is left, and the end is that of the signal."""
 
+import os
 import shutil
 import signal
 import subprocess
@@ -123,7 +124,10 @@ def while_the_editor_runs(cases: Companions) -> None:
             tree(place)
             # The editor stands below a shell.
             companion = "$(cut -d ' ' -f 4 /proc/$PPID/stat)"
-            text = f"{CHANGE}; kill -{name} {companion}; sleep 0.3; touch ../survived"
+            # One that the companion has to end waits for what never comes.
+            os.mkfifo(place.path / "never")
+            waits = ": < ../never; " if status is None else ""
+            text = f"{CHANGE}; kill -{name} {companion}; {waits}touch ../survived"
             place.environment["EDITOR"] = place.script(text, "editor")
             done = place.run(EDIT, *place.by_file("old"), "a.yml")
             number = signal.Signals[f"SIG{name}"]
@@ -135,10 +139,10 @@ def while_the_editor_runs(cases: Companions) -> None:
 
 
 def stubborn_programs(cases: Companions) -> None:
-    """A second signal ends what does not end by the first."""
+    """Another signal ends what does not end by the first. Two may come as one, so there are more."""
     with cases.place() as place:
         tree(place)
-        place.environment["EDITOR"] = place.script("trap '' TERM; echo $$ > ../started; exec sleep 60", "editor")
+        place.environment["EDITOR"] = place.script(f"trap '' TERM; echo $$ > ../started; exec sleep {2 * SECONDS}", "editor")
         begun = time.monotonic()
         words = [EDIT, *place.by_file("old"), "a.yml"]
         streams = {"stdin": subprocess.DEVNULL, "stdout": subprocess.DEVNULL, "stderr": subprocess.DEVNULL}
@@ -146,11 +150,10 @@ def stubborn_programs(cases: Companions) -> None:
         started = place.path / "started"
         while not (started.exists() and started.read_text()) and time.monotonic() < begun + SECONDS:
             time.sleep(0.02)
-        process.terminate()
-        time.sleep(0.1)
-        process.terminate()
+        while process.poll() is None and time.monotonic() < begun + SECONDS:
+            process.terminate()
+            time.sleep(0.1)
         cases.check("the second signal", process.wait(SECONDS), -signal.SIGTERM)
-        cases.holds("does not wait", time.monotonic() < begun + 30)
         editor = Path("/proc", started.read_text().strip(), "cmdline")
         cases.check("the editor is gone", editor.read_text() if editor.exists() else "", "")
         check_whole(cases, "the second signal", place)

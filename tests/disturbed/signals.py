@@ -1,5 +1,5 @@
-"""A signal comes at some moment of a long run: the output's file is absent or old, a prefix or whole, and
-nothing else is there."""
+"""A signal ends a run that waits for its input, or for the reader of its output. It comes at some moment of a long
+run, too: the output's file is absent or old, a prefix or whole, and nothing else is there."""
 
 import signal
 import subprocess
@@ -11,12 +11,15 @@ from pathlib import Path
 from random import Random
 from typing import NamedTuple
 
-from cases import Cases
+from cases import TEXT, Cases, by_file
 from disturbed import OLD, OUTPUT, SCRATCH, SECONDS, WORKERS, Left, Scenario, files_in
+from model.vaults import seal
 
 SIGNALS = signal.SIGTERM, signal.SIGINT, signal.SIGHUP
 # Between two looks at a run, in seconds.
 PAUSE = 0.0002
+# More than a pipe takes.
+MORE_THAN_A_PIPE = 1 << 21
 
 
 class Moment(NamedTuple):
@@ -97,6 +100,31 @@ def moments_of(cases: Cases, scenario: Scenario, random: Random, count: int) -> 
         in_output = place % 2 == 1
         moments.append(Moment(in_output, random.random() * (writing if in_output else reading + writing)))
     return moments
+
+
+def signals_while_blocked(cases: Cases) -> None:
+    """Each signal ends a run that cannot go on by itself."""
+    secret, text = by_file(cases.file(b"right\n")), (TEXT * MORE_THAN_A_PIPE)[:MORE_THAN_A_PIPE]
+    vault = cases.file(seal(b"right", text))
+    pipes = dict.fromkeys(("stdin", "stdout", "stderr"), subprocess.PIPE)
+    for number in SIGNALS:
+        reading = subprocess.Popen([cases.program, "encrypt", *secret], bufsize=0, **pipes)
+        # It has read of this when all is written.
+        reading.stdin.write(text)
+        left = signalled(reading, number)
+        cases.check(f"{number.name} where the input is waited for", left, (-number, b"", b""))
+        writing = subprocess.Popen([cases.program, "view", *secret, vault], bufsize=0, **pipes)
+        begun = writing.stdout.read(1)
+        status, output, message = signalled(writing, number)
+        is_part = text.startswith(begun + output) and begun + output != text
+        cases.check(f"{number.name} where the output is not taken", (status, is_part, message), (-number, True, b""))
+
+
+def signalled(child: subprocess.Popen, number: signal.Signals) -> tuple[int, bytes, bytes]:
+    """What is left of a run. Its streams are closed behind the signal, so that one that is deaf to it ends, too."""
+    child.send_signal(number)
+    output, message = child.communicate(timeout=SECONDS)
+    return child.returncode, output, message
 
 
 def signals(cases: Cases, scenarios: list[Scenario], seed: int, count: int) -> None:

@@ -1,5 +1,5 @@
 """A limit of file size ends a run by SIGXFSZ, which is at its default here; the output is its front. Where the
-signal is ignored the write fails: `tests/hostile`."""
+signal is ignored the write fails: `hostile.py`."""
 
 import signal
 from concurrent.futures import ThreadPoolExecutor

@@ -8,15 +8,17 @@ import shutil
 import subprocess
 import tempfile
 
+import pytest
+
+from lib.limits import SECONDS
+
 HERE = pathlib.Path(__file__).resolve().parent
 COMPLETIONS = HERE.parent.parent / "completions"
 NAME = "ansible-vault"
-# Seconds after which a shell is taken to wait.
-PAUSE = 60
 
 # Calls the function as readline does: with the words cut at `=` and `@` too, and with the text that
 # a match replaces, which keeps its `@`.
-BASH = """
+BASH = r"""
 source "$1"
 text=$2
 shift 2
@@ -24,7 +26,7 @@ COMP_WORDS=("$@")
 COMP_CWORD=$(($# - 1))
 [[ $(complete -p "$1") =~ -F\ ([^ ]+) ]]
 "${BASH_REMATCH[1]}" "$1" "$text"
-printf '%s\\n' "${COMPREPLY[@]}"
+printf '%s\n' "${COMPREPLY[@]}"
 """
 
 
@@ -46,7 +48,7 @@ def readline_text(line: str) -> str:
 
 
 def printed(command: list[str], folder: pathlib.Path) -> set[str]:
-    run = subprocess.run(command, cwd=folder, capture_output=True, text=True, timeout=60, check=True)
+    run = subprocess.run(command, cwd=folder, capture_output=True, text=True, timeout=SECONDS, check=True)
     return {line for line in run.stdout.split("\n") if line}
 
 
@@ -61,7 +63,7 @@ def all_shown(terminal: int) -> bytes:
     shown = b""
     while True:
         try:
-            waits = not select.select([terminal], [], [], PAUSE)[0]
+            waits = not select.select([terminal], [], [], SECONDS)[0]
             piece = b"" if waits else os.read(terminal, 4096)
         except OSError:
             piece = b""
@@ -101,5 +103,9 @@ def zsh(line: str, folder: pathlib.Path) -> set[str]:
         return printed([str(HERE / "zsh_matches"), functions, line], folder)
 
 
-SHELLS = {name: ask for name, ask in (("bash", bash), ("zsh", zsh), ("fish", fish)) if shutil.which(name)}
-MISSING = [name for name in ("bash", "zsh", "fish") if name not in SHELLS]
+SHELLS = {"bash": bash, "zsh": zsh, "fish": fish}
+
+
+def needs_shell(name: str) -> None:
+    if not shutil.which(name):
+        pytest.skip(f"{name} is not installed")

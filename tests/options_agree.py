@@ -1,20 +1,19 @@
-#!/usr/bin/env -S python3 -B
 """Compares the options of each command in the manual page, in the completions of each shell, in the model
-and in the program's own help: tests/options_agree PROGRAM. Where `mandoc` and `groff` are installed, they
-look the page over.
+and in the program's own help. `mandoc` and `groff` look the page over.
 """
 
 import re
 import shutil
 import subprocess
-import sys
+
+import pytest
 
 from lib.option_sets import described_options, page_sets
 from lib.option_sets import help_commands, help_of, help_options, help_text
 from lib.outcome import Outcome
 from lib.paths import PAGE, ROOT
 from model.options import COMMON, OPTIONS
-from shells import MISSING, SHELLS
+from shells import SHELLS, needs_shell
 
 # What the help of an option has to say, wherever the option stands.
 SAID = {
@@ -39,16 +38,16 @@ def completed(name: str, command: str | None) -> set[str]:
     return SHELLS[name](start + "-", ROOT) | SHELLS[name](start + "--", ROOT)
 
 
-def check_completions(outcome: Outcome, sets: dict[str | None, set[str]]):
-    for name in MISSING:
-        outcome.left_out(name, "it is not installed")
-    for name in SHELLS:
-        for command, options in sets.items():
-            what = f"{name} offers the page's options of {command or 'the program'}"
-            outcome.check(what, sorted(completed(name, command)), sorted(options))
+@pytest.mark.parametrize("shell", SHELLS)
+def test_completions(outcome: Outcome, shell: str) -> None:
+    needs_shell(shell)
+    for command, options in page_sets().items():
+        what = f"{shell} offers the page's options of {command or 'the program'}"
+        outcome.check(what, sorted(completed(shell, command)), sorted(options))
 
 
-def check_help(outcome: Outcome, program: str, sets: dict[str | None, set[str]]):
+def test_help(outcome: Outcome, program: str) -> None:
+    sets = page_sets()
     commands = [command for command in sets if command]
     outcome.check("the help names the page's commands", help_commands(help_text(program, None)), commands)
     for command in [None, *commands]:
@@ -61,35 +60,24 @@ def check_help(outcome: Outcome, program: str, sets: dict[str | None, set[str]])
         outcome.holds("and needs no word that it does not explain", "envelope" not in text)
 
 
-def check_model(outcome: Outcome, sets: dict[str | None, set[str]]):
+def test_model(outcome: Outcome) -> None:
+    sets = page_sets()
     long = lambda options: {option for option in options if option.startswith("--")} - {"--help"}
     for command, options in OPTIONS.items():
         what = f"the model knows the page's options of {command}"
         outcome.check(what, sorted(options | COMMON), sorted(long(sets[command])))
 
 
-def check_page(outcome: Outcome, sets: dict[str | None, set[str]]):
-    named = set().union(*sets.values())
+def test_page(outcome: Outcome) -> None:
+    named = set().union(*page_sets().values())
     outcome.check("the page describes what its synopsis names", sorted(described_options()), sorted(named))
-    for tool, command in LOOKS.items():
-        if not shutil.which(tool):
-            outcome.left_out(f"what {tool} says of the page", f"{tool} is not installed")
-            continue
-        done = subprocess.run([*command, str(PAGE)], capture_output=True, text=True)
-        lines = [re.sub(".\b", "", line) for line in done.stdout.splitlines()]
-        outcome.check(f"{tool} finds nothing in the page", done.stderr, "")
-        outcome.check("the page is no wider than a terminal", [line for line in lines if len(line) > COLUMNS], [])
 
 
-def main():
-    outcome = Outcome()
-    sets = page_sets()
-    check_page(outcome, sets)
-    check_completions(outcome, sets)
-    check_model(outcome, sets)
-    check_help(outcome, sys.argv[1], sets)
-    outcome.finish()
-
-
-if __name__ == "__main__":
-    main()
+@pytest.mark.parametrize("tool", LOOKS)
+def test_page_as_it_is_shown(outcome: Outcome, tool: str) -> None:
+    if not shutil.which(tool):
+        pytest.skip(f"{tool} is not installed")
+    done = subprocess.run([*LOOKS[tool], str(PAGE)], capture_output=True, text=True)
+    lines = [re.sub(".\b", "", line) for line in done.stdout.splitlines()]
+    outcome.check(f"{tool} finds nothing in the page", done.stderr, "")
+    outcome.check("the page is no wider than a terminal", [line for line in lines if len(line) > COLUMNS], [])

@@ -1,16 +1,15 @@
-#!/usr/bin/env -S python3 -B
-"""Runs the built program under limits and on devices that fail midway: tests/hostile PROGRAM [--steps N].
+"""Runs the built program under limits and on devices that fail midway.
 
 Under each limit of address space a run ends with its whole output, or with `out of memory` and none,
 and 20 MiB are enough for each. What a run has resident goes with its text, whether that comes from a
 file or through a pipe. Where writing fails behind some bytes, the output is a prefix.
 """
 
-import argparse
 import resource
 import subprocess
-import tempfile
 from pathlib import Path
+
+import pytest
 
 from cases import SECONDS, TEXT, Cases, by_file
 from cases.samples import SALT_WORDS, Sample, samples
@@ -28,6 +27,8 @@ FILE_SYSTEM_SIZE = 64 * KIB
 ENOUGH = 20 * MIB
 # The most memory that a run over so much plaintext has resident, in MiB.
 RESIDENT = {KIB: 3, MIB: 5, PLAINTEXT_LIMIT: 20}
+# Limits of address space that are tried for each run.
+STEPS = 20
 
 
 def run_with(program: str, words: list[str], limit: int, amount: int, **streams) -> subprocess.CompletedProcess:
@@ -58,26 +59,28 @@ def least_memory(program: str) -> int:
     return low * resource.getpagesize()
 
 
-def sized_samples(cases: Cases) -> list[tuple[int, Sample]]:
-    return [(size, sample) for size in RESIDENT for sample in samples(cases, (TEXT * size)[:size])]
+def sized_samples(cases: Cases, size: int) -> list[Sample]:
+    return samples(cases, (TEXT * size)[:size])
 
 
-def address_space(cases: Cases, steps: int) -> None:
+@pytest.mark.parametrize("size", RESIDENT)
+def test_address_space(cases: Cases, size: int) -> None:
     """From where the program starts at all upward, to that in which every run ends well."""
     least = least_memory(cases.program)
     refused = (Fault.MEMORY.status, b"", Fault.MEMORY.line)
-    for size, sample in sized_samples(cases):
+    for sample in sized_samples(cases, size):
         name, whole = f"{sample.command} of {size} bytes", (0, sample.output, b"")
         answers = []
-        for step in range(steps + 1):
-            done = in_memory(cases.program, sample, least + (ENOUGH - least) * step // steps)
-            answers.append((done.returncode, done.stdout, done.stderr))
-            cases.holds(f"{name}, step {step} of memory", answers[-1] in (whole, refused), f"{answers[-1]!r:.300}")
-        cases.check(f"{name} in the least memory", answers[0], refused)
-        cases.check(f"{name} in enough memory", answers[-1], whole)
+        for step in range(STEPS + 1):
+            done = in_memory(cases.program, sample, least + (ENOUGH - least) * step // STEPS)
+            answer = (done.returncode, done.stdout, done.stderr)
+            cases.holds(f"{name}, step {step} of memory", answer in (whole, refused), answer)
+            answers.append("whole" if answer == whole else "refused" if answer == refused else "neither")
+        cases.check(f"{name} in the least memory", answers[0], "refused")
+        cases.check(f"{name} in enough memory", answers[-1], "whole")
 
 
-def reserved_first(cases: Cases) -> None:
+def test_reserved_first(cases: Cases) -> None:
     """Room for the longest text is reserved before any file is looked for."""
     missing = Sample(["view", "--vault-password-file", cases.path()], b"", b"")
     for amount, fault in ((16 * MIB, Fault.MEMORY), (ENOUGH, Fault.SECRET_NOT_OPENED)):
@@ -85,8 +88,9 @@ def reserved_first(cases: Cases) -> None:
         cases.check(f"a missing file in {amount // MIB} MiB", (done.returncode, done.stderr), (fault.status, fault.line))
 
 
-def resident_memory(cases: Cases) -> None:
-    for size, sample in sized_samples(cases):
+@pytest.mark.parametrize("size", RESIDENT)
+def test_resident_memory(cases: Cases, size: int) -> None:
+    for sample in sized_samples(cases, size):
         for name, path in (("from a file", cases.file(sample.stdin)), ("through a pipe", None)):
             name = f"{sample.command} of {size} bytes {name}"
             done = resident.run([cases.program, *sample.words], sample.stdin, path)
@@ -94,8 +98,8 @@ def resident_memory(cases: Cases) -> None:
             cases.holds(f"{name}: resident memory", 0 < done.resident <= RESIDENT[size] * KIB, f"{done.resident} KiB")
 
 
-def limited_files(cases: Cases) -> None:
-    """A file that takes that many bytes, as standard output and by name, where SIGXFSZ is ignored: `tests/faults`
+def test_limited_files(cases: Cases) -> None:
+    """A file that takes that many bytes, as standard output and by name, where SIGXFSZ is ignored: `faults`
     shows how the signal ends a run."""
     for sample in samples(cases, TEXT * 20):
         length = len(sample.output)
@@ -116,7 +120,7 @@ def check_written(cases: Cases, name: str, done, wanted, path: Path, content: by
     cases.check(f"{name}: what was taken", path.read_bytes(), content)
 
 
-def full_file_system(cases: Cases) -> None:
+def test_full_file_system(cases: Cases) -> None:
     """A small file system in memory, where the tests may mount one."""
     folder = Path(cases.path())
     with file_system(folder, FILE_SYSTEM_SIZE) as is_mounted:
@@ -137,7 +141,7 @@ def fill_file_system(cases: Cases, sample: Sample, path: Path) -> None:
         path.unlink()
 
 
-def failing_reads(cases: Cases) -> None:
+def test_failing_reads(cases: Cases) -> None:
     """Files that open and fail when they are read; no files are left to open."""
     for sample in samples(cases):
         words = [*sample.words, *by_file(UNREADABLE)]
@@ -152,7 +156,7 @@ def failing_reads(cases: Cases) -> None:
             cases.refused(f"{sample.command}, an unreadable FILE", [*sample.words, UNREADABLE, *out], Fault.INPUT_NOT_READ)
 
 
-def long_words(cases: Cases) -> None:
+def test_long_words(cases: Cases) -> None:
     """Paths and labels of the greatest length that the system passes on, and many of them."""
     longest = "p" * (128 * KIB - 1)
     vault = seal(b"right", TEXT)
@@ -161,20 +165,3 @@ def long_words(cases: Cases) -> None:
     cases.refuses("many paths", by_file("x" * 100) * 5_000, vault, Fault.TOO_MANY_SECRETS)
     cases.no_command_line("a long command", [longest], b"")
     cases.no_command_line("a long option", ["view", f"--{longest[:-2]}"], b"")
-
-
-def main() -> None:
-    parser = argparse.ArgumentParser(description=__doc__.splitlines()[0])
-    parser.add_argument("program")
-    parser.add_argument("--steps", type=int, default=20, help="limits of address space that are tried for each run")
-    given = parser.parse_args()
-    with tempfile.TemporaryDirectory() as folder:
-        cases = Cases(given.program, folder)
-        address_space(cases, given.steps)
-        for group in (reserved_first, resident_memory, limited_files, full_file_system, failing_reads, long_words):
-            group(cases)
-    cases.finish()
-
-
-if __name__ == "__main__":
-    main()

@@ -1,4 +1,3 @@
-#!/usr/bin/env -S python3 -B
 """Asks the shells themselves what they offer: the commands, and files where a file is wanted; and of the
 companions the options that their help names.
 
@@ -8,12 +7,13 @@ The options of the program are compared in `options_agree`.
 import pathlib
 import re
 import subprocess
-import tempfile
+
+import pytest
 
 from lib.outcome import Outcome
 from lib.paths import ROOT
 from model.options import OPTIONS
-from shells import MISSING, SHELLS, typed_in_bash
+from shells import SHELLS, needs_shell, typed_in_bash
 
 FILES = ["one.pass", "one.yml", "two.yml", "with a space.pass", "-dash.yml"]
 
@@ -35,15 +35,17 @@ PATHS_BEHIND_LABELS = ["view --vault-id dev@one.p", "rekey --new-vault-id dev@on
 NO_FILES = ["encrypt_string on", "encrypt_string -- on", "encrypt --salt on", "encrypt --encrypt-vault-id on"]
 
 
-def folder_of_files(path: str) -> pathlib.Path:
-    folder = pathlib.Path(path)
-    (folder / "folder").mkdir()
+@pytest.fixture
+def folder(tmp_path: pathlib.Path) -> pathlib.Path:
+    (tmp_path / "folder").mkdir()
     for name in [*FILES, "folder/inner.yml"]:
-        (folder / name).touch()
-    return folder
+        (tmp_path / name).touch()
+    return tmp_path
 
 
-def check_shell(outcome: Outcome, name: str, folder: pathlib.Path):
+@pytest.mark.parametrize("name", SHELLS)
+def test_program(outcome: Outcome, name: str, folder: pathlib.Path) -> None:
+    needs_shell(name)
     ask = lambda words: SHELLS[name](f"ansible-vault {words}", folder)
     outcome.check(f"{name} offers the commands", ask(""), set(OPTIONS))
     outcome.check(f"{name} offers the commands that begin so", ask("encr"), {"encrypt", "encrypt_string"})
@@ -81,7 +83,9 @@ def options_in(told: str) -> set[str]:
     return {option for pair in found for option in pair if option}
 
 
-def check_companions(outcome: Outcome, shell: str, folder: pathlib.Path):
+@pytest.mark.parametrize("shell", SHELLS)
+def test_companions(outcome: Outcome, shell: str, folder: pathlib.Path) -> None:
+    needs_shell(shell)
     for name in COMPANIONS:
         told = subprocess.run([ROOT / "companions" / name, "--help"], capture_output=True, text=True).stdout
         offered = SHELLS[shell](f"{name} -", folder) | SHELLS[shell](f"{name} --", folder)
@@ -121,7 +125,8 @@ QUOTED = {
 }
 
 
-def check_quoted(outcome: Outcome, folder: pathlib.Path):
+def test_quoted_in_fish(outcome: Outcome, folder: pathlib.Path) -> None:
+    needs_shell("fish")
     for value, wanted in QUOTED.items():
         for option in ("--vault-id ", "--vault-id="):
             start = option if option.endswith("=") else ""
@@ -129,25 +134,6 @@ def check_quoted(outcome: Outcome, folder: pathlib.Path):
             outcome.check(f"fish completes `{option}{value}`", offered, {start + wanted})
 
 
-def check_typed(outcome: Outcome, folder: pathlib.Path):
-    for line, wanted in TYPED.items():
-        outcome.check(f"bash on a terminal completes `{line}`", typed_in_bash(line, folder), wanted)
-
-
-def main():
-    outcome = Outcome()
-    for name in MISSING:
-        outcome.left_out(name, "it is not installed")
-    with tempfile.TemporaryDirectory() as path:
-        folder = folder_of_files(path)
-        for name in SHELLS:
-            check_shell(outcome, name, folder)
-            check_companions(outcome, name, folder)
-        check_typed(outcome, folder)
-        if "fish" in SHELLS:
-            check_quoted(outcome, folder)
-    outcome.finish()
-
-
-if __name__ == "__main__":
-    main()
+@pytest.mark.parametrize("line", TYPED)
+def test_typed_in_bash(outcome: Outcome, line: str, folder: pathlib.Path) -> None:
+    outcome.check(f"bash on a terminal completes `{line}`", typed_in_bash(line, folder), TYPED[line])

@@ -66,7 +66,7 @@ def collected(program: str, run: Run) -> tuple[subprocess.CompletedProcess, int]
     return done, int(found[1]) if found else 0
 
 
-def derivations(cases: Cases) -> None:
+def check_derivations(cases: Cases) -> None:
     every = runs(cases)
     with concurrent.futures.ThreadPoolExecutor(WORKERS) as pool:
         counted = list(pool.map(lambda run: collected(cases.program, run), every))
@@ -76,8 +76,3 @@ def derivations(cases: Cases) -> None:
         cases.check(f"{run.name}: answer", (done.returncode, done.stdout), (run.status, run.output))
         found = (count - base) / max(one, 1)
         cases.holds(f"{run.name}: derivations", abs(found - run.derivations) < TOLERANCE, f"got {found:.3f}, want {run.derivations}")
-
-
-GROUPS = [
-    derivations,
-]

@@ -1,14 +1,11 @@
-#!/usr/bin/env -S python3 -B
 """Runs the commands of the README's section "Five minutes" one after the other, with a program as
-`ansible-vault`, and compares what they print: tests/first_page PROGRAM [--document FILE].
+`ansible-vault`, and compares what they print.
 """
 
-import argparse
 import os
 import pathlib
 import re
 import subprocess
-import tempfile
 
 from lib.outcome import Outcome
 from lib.paths import README
@@ -44,31 +41,11 @@ def run(command: str, folder: pathlib.Path, tools: pathlib.Path) -> str:
     return ran.stdout
 
 
-def check(outcome: Outcome, program: str, commands: list[tuple[str, str]]):
-    outcome.holds("the README has a first session", len(commands) > 0)
-    with tempfile.TemporaryDirectory() as path:
-        folder, tools = pathlib.Path(path, "folder"), pathlib.Path(path, "tools")
-        folder.mkdir()
-        tools.mkdir()
-        (tools / "ansible-vault").symlink_to(pathlib.Path(program).resolve())
-        for command, wanted in commands:
-            found = run(command, folder, tools)
-            outcome.holds(command, agrees(found, wanted), f"printed {found!r}")
-
-
-def parsed_arguments() -> argparse.Namespace:
-    parser = argparse.ArgumentParser(description=__doc__.split("\n")[0])
-    parser.add_argument("program")
-    parser.add_argument("--document", type=pathlib.Path, default=README, metavar="FILE")
-    return parser.parse_args()
-
-
-def main():
-    arguments = parsed_arguments()
-    outcome = Outcome()
-    check(outcome, arguments.program, session(arguments.document.read_text()))
-    outcome.finish()
-
-
-if __name__ == "__main__":
-    main()
+def test_five_minutes(outcome: Outcome, program: str, tmp_path: pathlib.Path) -> None:
+    folder, tools = tmp_path / "folder", tmp_path / "tools"
+    folder.mkdir()
+    tools.mkdir()
+    (tools / "ansible-vault").symlink_to(program)
+    for command, wanted in session(README.read_text()):
+        found = run(command, folder, tools)
+        outcome.holds(command, agrees(found, wanted), f"printed {found!r}")

@@ -1,4 +1,3 @@
-#!/usr/bin/env -S python3 -B
 """Installs the program below a folder and takes it away again; builds the Debian package, twice the same,
 and installs, upgrades and removes it in a root of its own, beside a stand-in for Ansible's package.
 """
@@ -7,7 +6,9 @@ import os
 import pathlib
 import shutil
 import subprocess
-import tempfile
+from collections.abc import Callable
+
+import pytest
 
 from lib.outcome import Outcome
 from lib.package_root import Root, later, stand_in
@@ -389,30 +390,29 @@ class Beside:
         self.outcome.check("both removed: no program", files_below(self.root.path / "usr/bin"), {"dpkg-divert", "sh"})
 
 
-def main():
-    outcome = Outcome()
-    for check in (check_install, check_next_step, check_owned, check_replaced, check_changed, check_upgraded):
-        with tempfile.TemporaryDirectory() as path:
-            check(outcome, pathlib.Path(path))
+INSTALLATIONS = [check_install, check_next_step, check_owned, check_replaced, check_changed, check_upgraded]
+
+
+@pytest.mark.parametrize("check", INSTALLATIONS, ids=lambda check: check.__name__.removeprefix("check_"))
+def test_installation(outcome: Outcome, tmp_path: pathlib.Path, check: Callable) -> None:
+    check(outcome, tmp_path)
+
+
+@pytest.fixture
+def package(outcome: Outcome) -> pathlib.Path:
     if not shutil.which("dpkg-deb"):
-        outcome.left_out("the package", "dpkg-deb is not installed")
-        outcome.finish()
+        pytest.skip("dpkg-deb is not installed")
     check_changelog(outcome)
     outcome.check("make package ends well", make("package").returncode, 0)
     architecture = printed("dpkg", "--print-architecture").strip()
-    package = ROOT / "bin" / f"ansible-vault_{VERSION}_{architecture}.deb"
-    with tempfile.TemporaryDirectory() as path:
-        check_package(outcome, package, pathlib.Path(path) / "package")
-        check_same(outcome, pathlib.Path(path), package.name)
-    if os.geteuid() == 0:
-        with tempfile.TemporaryDirectory() as path:
-            beside = Beside(outcome, package, pathlib.Path(path))
-            beside.check_ours_behind_theirs()
-            beside.check_theirs_behind_ours()
-    else:
-        outcome.left_out("the package beside Ansible's", "a root of its own takes the rights of root")
-    outcome.finish()
+    return ROOT / "bin" / f"ansible-vault_{VERSION}_{architecture}.deb"
 
 
-if __name__ == "__main__":
-    main()
+def test_package(outcome: Outcome, tmp_path: pathlib.Path, package: pathlib.Path) -> None:
+    check_package(outcome, package, tmp_path / "package")
+    check_same(outcome, tmp_path, package.name)
+    if os.geteuid() != 0:
+        return outcome.left_out("the package beside Ansible's", "a root of its own takes the rights of root")
+    beside = Beside(outcome, package, tmp_path)
+    beside.check_ours_behind_theirs()
+    beside.check_theirs_behind_ours()

@@ -1,12 +1,10 @@
-#!/usr/bin/env -S python3 -B
 """Holds the lists of docs/audit.md against what the headline contracts name, directly or through what
 they import: nothing is missing there and nothing is too much, each file is named by one before it, what
 `drive` needs stands in the first list, the lengths are right, and the code that it shows is that of the
-files. tests/audit_agrees --write puts the lengths into the document instead.
+files. `python3 tests/audit_agrees.py` puts the lengths into the document.
 """
 
 import re
-import sys
 from collections.abc import Iterator
 from pathlib import Path
 
@@ -118,8 +116,9 @@ def lengths(document: str) -> list[int]:
     return [sum(map(lines_in, paths)) for paths in lists(document)]
 
 
-def check_list(outcome: Outcome, listed: list[Path], of_program: list[Path]) -> None:
-    needed = reached(HEADLINE)
+def test_lists(outcome: Outcome) -> None:
+    of_program, others = ([ROOT / path for path in paths] for paths in lists(DOCUMENT.read_text()))
+    listed, needed = of_program + others, reached(HEADLINE)
     for file in sorted(needed - set(listed)):
         outcome.holds(f"docs/audit.md lists {file.relative_to(ROOT)}", False)
     outcome.check("the first list is what drive needs", set(of_program), reached(PROGRAM))
@@ -132,7 +131,8 @@ def check_list(outcome: Outcome, listed: list[Path], of_program: list[Path]) -> 
             known |= named_by(file)
 
 
-def check_lengths(outcome: Outcome, document: str) -> None:
+def test_lengths(outcome: Outcome) -> None:
+    document = DOCUMENT.read_text()
     for lines, path in ROW.findall(document):
         outcome.check(f"docs/audit.md knows how long {path} is", int(lines), lines_in(path))
     sums = [int(each) for each, _ in SUM.findall(document)]
@@ -144,25 +144,12 @@ def without_comments(code: str) -> list[str]:
     return [line for line in lines if not line.lstrip().startswith("//")]
 
 
-def check_shown(outcome: Outcome, document: str) -> None:
-    blocks = [without_comments(block) for block in BLOCK.findall(document)]
+def test_code_that_is_shown(outcome: Outcome) -> None:
+    blocks = [without_comments(block) for block in BLOCK.findall(DOCUMENT.read_text())]
     for what, (path, pattern) in SHOWN.items():
         code = re.search(pattern, (ROOT / path).read_text(), re.MULTILINE | re.DOTALL)[0]
         outcome.holds(f"docs/audit.md shows {what}", without_comments(code) in blocks)
 
 
-def main():
-    document = DOCUMENT.read_text()
-    if "--write" in sys.argv[1:]:
-        DOCUMENT.write_text(written(document))
-        return
-    outcome = Outcome()
-    of_program, others = ([ROOT / path for path in paths] for paths in lists(document))
-    check_list(outcome, of_program + others, of_program)
-    check_lengths(outcome, document)
-    check_shown(outcome, document)
-    outcome.finish()
-
-
 if __name__ == "__main__":
-    main()
+    DOCUMENT.write_text(written(DOCUMENT.read_text()))

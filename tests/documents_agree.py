@@ -1,4 +1,3 @@
-#!/usr/bin/env -S python3 -B
 """Compares the tables of faults and limits in docs/formats.md, the messages, limits and exit statuses of
 the manual page, and the exit statuses of the README with the code, and the example on each
 crate's first page with the test that runs it.
@@ -101,7 +100,12 @@ def document_limits() -> dict[str, str]:
     return rows | {"secrets": " ".join(secrets)}
 
 
-def check_page(outcome: Outcome):
+def test_formats(outcome: Outcome) -> None:
+    outcome.check("docs/formats.md has the faults of the code", document_faults(), code_faults())
+    check_limits(outcome, document_limits(), DOCUMENT_LIMITS, "docs/formats.md")
+
+
+def test_page(outcome: Outcome) -> None:
     page = sections(PAGE.read_text())
     messages = re.findall(r"^\.It (.*)$", page["DIAGNOSTICS"], re.MULTILINE)
     texts = [text for texts in code_texts().values() for text in texts]
@@ -115,7 +119,7 @@ def code_codes() -> set[int]:
     return {int(code) for code in re.findall(r"Status::\w+ => (\d),", STATUSES)}
 
 
-def check_codes(outcome: Outcome):
+def test_exit_statuses(outcome: Outcome) -> None:
     """The parser's own status is among those of the code."""
     page = sections(PAGE.read_text())["EXIT STATUS"]
     tables = {"the manual page": re.findall(r"^\.It (\d)$", page, re.MULTILINE)}
@@ -130,7 +134,7 @@ def unspaced(code: str) -> str:
     return re.sub(r",(?=[\])])", "", re.sub(r"\s", "", code))
 
 
-def check_examples(outcome: Outcome):
+def test_examples(outcome: Outcome) -> None:
     """Each library's example stands in a test, behind the allocator where it needs one."""
     tests = (CRATES / "vault_program_cases" / "src" / "examples.rt").read_text()
     bodies = dict(re.findall(r"^fn of_(\w+)\(.*?\{\n(.*?)^\}", tests, re.MULTILINE | re.DOTALL))
@@ -145,17 +149,3 @@ def check_examples(outcome: Outcome):
     for crate in sorted(tested | examples):
         outcome.check(f"the example of {crate}", examples.get(crate), tested.get(crate))
     outcome.holds("there are examples", len(examples) > 6)
-
-
-def main():
-    outcome = Outcome()
-    check_examples(outcome)
-    outcome.check("docs/formats.md has the faults of the code", document_faults(), code_faults())
-    check_limits(outcome, document_limits(), DOCUMENT_LIMITS, "docs/formats.md")
-    check_page(outcome)
-    check_codes(outcome)
-    outcome.finish()
-
-
-if __name__ == "__main__":
-    main()

@@ -1,8 +1,7 @@
-#!/usr/bin/env -S python3 -B
 """Shows that tools/progress.py passes on the exit status and the last line of a command, keeps its log,
 prints it where the command fails, and has a line for each crate; that tools/mutants fails unless a goal
-rejects each mutant; and that .ci/run ends as `make check` does, with the counts of all tests behind a list
-of what was left out.
+rejects each mutant; that tools/counts adds up the counts of several tests; and that .ci/run ends as `make check` does, with the counts of all tests, and fails where it cannot install
+what they need.
 """
 
 import os
@@ -10,15 +9,17 @@ import pathlib
 import re
 import shutil
 import subprocess
-import tempfile
+
+import pytest
 
 from lib.outcome import Outcome
 from lib.paths import ROOT
 
 CRATES = re.findall(r"^(\w+):", (ROOT / "crates.txt").read_text(), re.MULTILINE)
 GATE = "".join(f"== {crate}\nits own lines\nrt: {crate} proved\n" for crate in CRATES)
-# What `make check` prints of the gate and of two tests, one of which leaves something out.
-CHECK = "12 passed, 0 failed\nleft out: zsh: it is not installed\n3 passed, {failed} failed, 1 left out\n5 passed, 0 failed, 0 left out\n"
+# What `make check` prints of the gate and of two tests, one of which leaves something out, with their sum.
+TESTS = "left out: zsh: it is not installed\none: 3 passed, {failed} failed, 1 skipped\ntwo: 5 passed, 0 failed, 0 skipped\n"
+CHECK = "12 passed, 0 failed\n" + TESTS + "8 passed, {failed} failed, 1 skipped\n"
 
 
 def run(top: str, text: str, status: int, log: pathlib.Path) -> subprocess.CompletedProcess:
@@ -32,7 +33,8 @@ def proved(printed: str) -> list[str]:
     return re.findall(r"^ +\d+:\d\d  (\w+) is proved", printed, re.MULTILINE)
 
 
-def check_progress(outcome: Outcome, log: pathlib.Path):
+def test_progress(outcome: Outcome, tmp_path: pathlib.Path) -> None:
+    log = tmp_path / "log"
     passed = run("all", GATE + "12 passed, 0 failed\n", 0, log)
     outcome.check("the status of a gate that passes", (passed.returncode, passed.stderr), (0, ""))
     outcome.check("each crate of a gate has its line", proved(passed.stdout), CRATES)
@@ -42,6 +44,7 @@ def check_progress(outcome: Outcome, log: pathlib.Path):
     failed = run("all", GATE + "11 passed, 1 failed\n", 1, log)
     outcome.check("the status of a gate that fails", failed.returncode, 1)
     outcome.holds("the log of a gate that fails is printed", "its own lines" in failed.stdout)
+    outcome.check("its counts stand once by themselves", failed.stdout.splitlines().count("11 passed, 1 failed"), 1)
     outcome.check("its last line is the last", failed.stdout.splitlines()[-1], "11 passed, 1 failed")
     for why in ("NOT REFUSED", "BAD EDIT", "NOT TRIED"):
         edit = f"must-fail {CRATES[0]}/one.edit: {why}: because"
@@ -65,7 +68,8 @@ def run_mutants(folder: pathlib.Path, said: list[str], status: int, *names: str)
     return subprocess.run(command, capture_output=True, text=True, env=environment)
 
 
-def check_mutants(outcome: Outcome, folder: pathlib.Path):
+def test_mutants(outcome: Outcome, tmp_path: pathlib.Path) -> None:
+    folder = tmp_path
     by_goal = "must-fail vault_aes/one.edit: refused, as it must be: note: src/laws.rt:58:1: it is not proved"
     by_name = "must-fail vault_aes/two.edit: refused, as it must be (only because a proof file names it): proofs/x"
     missed = "must-fail vault_aes/two.edit: NOT REFUSED: why"
@@ -85,52 +89,62 @@ def check_mutants(outcome: Outcome, folder: pathlib.Path):
     outcome.check("the edits that rt is to try", sorted(tried), mutants)
 
 
-def run_ci(folder: pathlib.Path, check: str, status: int, installs: bool, mounts: bool) -> subprocess.CompletedProcess:
-    """.ci/run where these stand for `make`, `apt-get` and `unshare`."""
-    tools = folder / "tools"
-    shutil.rmtree(folder, ignore_errors=True)
-    (folder / ".ci").mkdir(parents=True)
+# What a command prints, its exit status, and the last line and the status of tools/counts for it.
+COUNTED = {
+    "all pass": (TESTS.format(failed=0), 0, "8 passed, 0 failed, 1 skipped", 0),
+    "a test fails": (TESTS.format(failed=2), 2, "8 passed, 2 failed, 1 skipped", 2),
+    "a test fails and nobody says so": (TESTS.format(failed=2), 0, "8 passed, 2 failed, 1 skipped", 1),
+    "the command fails and no test does": (TESTS.format(failed=0), 2, "8 passed, 1 failed, 1 skipped", 2),
+    "a count without a name": ("7 passed, 0 failed, 0 skipped\none: 1 passed, 0 failed\n", 0, "1 passed, 0 failed, 0 skipped", 0),
+    "nothing is run": ("", 0, "0 passed, 1 failed, 0 skipped", 1),
+}
+
+
+@pytest.mark.parametrize("what", COUNTED)
+def test_counts(outcome: Outcome, what: str) -> None:
+    text, status, last, end = COUNTED[what]
+    command = [str(ROOT / "tools" / "counts"), "[a-z]+: ", "sh", "-c", 'printf %s "$1"; exit "$2"', "sh", text, str(status)]
+    done = subprocess.run(command, capture_output=True, text=True)
+    outcome.check(f"{what}: the end", (done.returncode, done.stdout.splitlines()[-1]), (end, last))
+    outcome.check(f"{what}: the output", done.stdout, f"{text}{last}\n")
+
+
+def run_ci(folder: pathlib.Path, check: str, status: int, installs: bool) -> subprocess.CompletedProcess:
+    """.ci/run where these stand for `make` and `apt-get`."""
+    tools = folder / "stand-ins"
+    for path in (".ci/run", "tools/counts"):
+        (folder / path).parent.mkdir()
+        shutil.copy(ROOT / path, folder / path)
     tools.mkdir()
-    shutil.copy(ROOT / ".ci" / "run", folder / ".ci" / "run")
+    (folder / "check").write_text(check)
     shells = {
         "make": f"printf 'REQUIRE_ALL is %s\\n' \"${{REQUIRE_ALL-}}\"; cat '{folder}/check'; exit {status}",
-        "apt-get": f"exit {0 if installs else 100}",
-        "unshare": f"exit {0 if mounts else 1}",
+        "apt-get": f"echo 'E: no package'; exit {0 if installs else 100}",
     }
-    (folder / "check").write_text(check)
     for name, shell in shells.items():
         (tools / name).write_text(f"#!/bin/sh\n{shell}\n")
         (tools / name).chmod(0o755)
     environment = {name: value for name, value in os.environ.items() if name != "REQUIRE_ALL"}
     environment["PATH"] = f"{tools}{os.pathsep}{environment['PATH']}"
-    return subprocess.run([str(folder / ".ci" / "run")], capture_output=True, text=True, env=environment)
+    done = [str(folder / ".ci" / "run")]
+    return subprocess.run(done, stdin=subprocess.DEVNULL, capture_output=True, text=True, env=environment)
 
 
-def check_ci(outcome: Outcome, folder: pathlib.Path):
-    passed = CHECK.format(failed=0)
-    for installs in (True, False):
-        for mounts in (True, False):
-            done = run_ci(folder, passed, 0, installs, mounts)
-            wanted = "REQUIRE_ALL is 1" if installs and mounts else "REQUIRE_ALL is "
-            what = f"installed: {installs}, mounted: {mounts}"
-            outcome.check(f"{what}: whether all is required", done.stdout.splitlines()[0], wanted)
-            outcome.check(f"{what}: status", (done.returncode, done.stderr), (0, ""))
-            end = done.stdout.splitlines()[-2:]
-            outcome.check(f"{what}: the end", end, ["left out: zsh: it is not installed", "20 passed, 0 failed"])
-    failed = run_ci(folder, CHECK.format(failed=2), 2, False, False)
-    outcome.check("a test fails", (failed.returncode, failed.stdout.splitlines()[-1]), (2, "20 passed, 2 failed"))
-    broken = run_ci(folder, "12 passed, 0 failed\n", 2, True, True)
-    outcome.check("make fails", (broken.returncode, broken.stdout.splitlines()[-1]), (2, "12 passed, 1 failed"))
+# What `make check` prints, its status, whether the packages are installed, and how .ci/run ends.
+RUNS = {
+    "all pass": (CHECK.format(failed=0), 0, True, (0, "20 passed, 0 failed, 1 skipped")),
+    "a test fails": (CHECK.format(failed=2), 2, True, (2, "20 passed, 2 failed, 1 skipped")),
+    "make fails": ("12 passed, 0 failed\n", 2, True, (2, "12 passed, 1 failed, 0 skipped")),
+    "the gate fails": ("    11 passed, 1 failed\n  0:01  FAILED\n11 passed, 1 failed\n", 2, True, (2, "11 passed, 1 failed, 0 skipped")),
+    "nothing is installed": (CHECK.format(failed=0), 0, False, (1, "20 passed, 1 failed, 1 skipped")),
+    "nothing is installed and a test fails": (CHECK.format(failed=2), 2, False, (2, "20 passed, 3 failed, 1 skipped")),
+}
 
 
-def main():
-    outcome = Outcome()
-    with tempfile.TemporaryDirectory() as folder:
-        check_progress(outcome, pathlib.Path(folder) / "log")
-        check_mutants(outcome, pathlib.Path(folder) / "mutants")
-        check_ci(outcome, pathlib.Path(folder) / "repository")
-    outcome.finish()
-
-
-if __name__ == "__main__":
-    main()
+@pytest.mark.parametrize("what", RUNS)
+def test_ci(outcome: Outcome, tmp_path: pathlib.Path, what: str) -> None:
+    check, status, installs, end = RUNS[what]
+    done = run_ci(tmp_path, check, status, installs)
+    outcome.check(f"{what}: all is required", done.stdout.splitlines()[0], "REQUIRE_ALL is 1")
+    outcome.check(f"{what}: the end", (done.returncode, done.stdout.splitlines()[-1]), end)
+    outcome.check(f"{what}: the reason is told", "E: no package" in done.stdout, not installs)

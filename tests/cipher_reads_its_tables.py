@@ -1,5 +1,4 @@
-#!/usr/bin/env -S python3 -B
-"""Shows that the built program reads the cipher's tables: tests/cipher_reads_its_tables PROGRAM.
+"""Shows that the built program reads the cipher's tables.
 
 No contract can say which way a value was found. So every eighth entry of each table in turn is
 another number in a copy of the program, which then has to encrypt to other bytes.
@@ -8,9 +7,9 @@ another number in a copy of the program, which then has to encrypt to other byte
 import re
 import struct
 import subprocess
-import sys
-import tempfile
 from pathlib import Path
+
+import pytest
 
 from cases import Cases, by_file
 from cases.samples import SALT_TEXT, SALT_WORDS
@@ -32,8 +31,19 @@ def tables() -> dict[str, bytes]:
     return {name: struct.pack(FORMATS[width], *numbers(entries)) for name, width, entries in found}
 
 
-def check_table(cases: Cases, name: str, table: bytes, words: list[str], sealed: bytes) -> None:
-    content = Path(cases.program).read_bytes()
+def sealing(cases: Cases) -> list[str]:
+    return ["encrypt", *by_file(cases.file(b"right\n")), *SALT_WORDS]
+
+
+def test_program_as_it_is(cases: Cases) -> None:
+    cases.run("the program as it is", sealing(cases), TEXT, 0, seal(b"right", TEXT, salt=SALT_TEXT))
+    cases.check("there are tables of S and of four rows", len(tables()), 5)
+
+
+@pytest.mark.parametrize("name", tables())
+def test_other_entries(cases: Cases, name: str) -> None:
+    table, content = tables()[name], Path(cases.program).read_bytes()
+    words, sealed = sealing(cases), seal(b"right", TEXT, salt=SALT_TEXT)
     copy = Path(cases.file(content, 0o755))
     cases.check(f"{name} stands in the program once", content.count(table), 1)
     for place in range(0, len(table), len(table) // 32):
@@ -43,19 +53,3 @@ def check_table(cases: Cases, name: str, table: bytes, words: list[str], sealed:
         done = subprocess.run([copy, *words], input=TEXT, capture_output=True, timeout=SECONDS)
         found = done.returncode, done.stdout != sealed
         cases.check(f"{name}: the text under another entry at byte {place}", found, (0, True))
-
-
-def main() -> None:
-    with tempfile.TemporaryDirectory() as folder:
-        cases = Cases(sys.argv[1], folder)
-        words = ["encrypt", *by_file(cases.file(b"right\n")), *SALT_WORDS]
-        sealed = seal(b"right", TEXT, salt=SALT_TEXT)
-        cases.run("the program as it is", words, TEXT, 0, sealed)
-        cases.check("there are tables of S and of four rows", len(tables()), 5)
-        for name, table in tables().items():
-            check_table(cases, name, table, words, sealed)
-    cases.finish()
-
-
-if __name__ == "__main__":
-    main()

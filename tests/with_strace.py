@@ -1,19 +1,17 @@
-#!/usr/bin/env -S python3 -B
-"""Watches the calls that the built program makes of the system: tests/with_strace PROGRAM.
+"""Watches the calls that the built program makes of the system.
 
 Which paths are opened, in which order and how; how many bytes of each are read, at most and at least, and
 none behind its end; that standard input is left alone where it is not asked for; what is created, when and
 with which mode, and how many bytes go where; that no other call is made. The loader's own calls are passed
-over where they open its list, or a library of the program, for reading. Where strace is not installed
-nothing is run, and the last line says so. The runs stand in `watched`.
+over where they open its list, or a library of the program, for reading. The runs stand in `watched`.
 """
 
-import argparse
 import os
 import shutil
-import tempfile
-from concurrent.futures import ThreadPoolExecutor
+from collections.abc import Callable
 from itertools import groupby
+
+import pytest
 
 from cases import Cases
 from lib.package_root import libraries
@@ -21,7 +19,6 @@ from model.vaults import ENVELOPE_LIMIT
 from watched import STDERR, STDIN, STDOUT, Run, Watched, opened_by, watch
 from watched.runs import GROUPS, Files
 
-WORKERS = min(4, os.cpu_count() or 1)
 OF_FILES = {"openat", "read", "write", "close", "statx", "fchmod", "fsync"}
 OF_MEMORY = {"brk", "mmap", "munmap", "mremap"}
 OTHERS = {"rt_sigaction", "getrandom", "exit_group"}
@@ -129,32 +126,16 @@ def check_others(cases: Cases, run: Run, watched: Watched) -> None:
     cases.check(f"{run.name}: paths that are looked for", by_path, [])
 
 
-def watch_all(cases: Cases) -> None:
+@pytest.mark.skipif(not shutil.which("strace"), reason="strace is not installed (Debian's package strace)")
+@pytest.mark.parametrize("group", GROUPS, ids=lambda group: group.__name__)
+def test_calls(cases: Cases, group: Callable[[Files], list[Run]]) -> None:
     files = Files(cases)
-    runs = [run for group in GROUPS for run in group(files)]
     allowed = LISTS | {os.path.normpath(path) for path in libraries(cases.program)}
-    with ThreadPoolExecutor(WORKERS) as pool:
-        for run, watched in zip(runs, pool.map(lambda run: watch(cases.program, run, cases.folder), runs)):
-            cases.check(f"{run.name}: status", watched.traced.status, run.ending)
-            check_loading(cases, run, watched, allowed)
-            check_opens(cases, run, watched)
-            check_reads(cases, run, watched, files.limits)
-            check_writes(cases, run, watched)
-            check_others(cases, run, watched)
-
-
-def main() -> None:
-    parser = argparse.ArgumentParser(description=__doc__.splitlines()[0])
-    parser.add_argument("program")
-    given = parser.parse_args()
-    with tempfile.TemporaryDirectory() as folder:
-        cases = Cases(given.program, folder)
-        if shutil.which("strace") is None:
-            cases.left_out("the calls of the system", "strace is not installed (Debian's package strace)")
-        else:
-            watch_all(cases)
-    cases.finish()
-
-
-if __name__ == "__main__":
-    main()
+    for run in group(files):
+        watched = watch(cases.program, run, cases.folder)
+        cases.check(f"{run.name}: status", watched.traced.status, run.ending)
+        check_loading(cases, run, watched, allowed)
+        check_opens(cases, run, watched)
+        check_reads(cases, run, watched, files.limits)
+        check_writes(cases, run, watched)
+        check_others(cases, run, watched)

@@ -1,7 +1,6 @@
-#!/usr/bin/env -S python3 -B
 """Runs the shell of docs/workflows.md and the examples of the manual page as they stand there, and what
-its CAVEATS warn of, with a program as `ansible-vault` and its companions beside it:
-tests/workflows PROGRAM. What the companions do otherwise is tested by `companions`.
+its CAVEATS warn of, with the program as `ansible-vault` and its companions beside it. What the companions do
+otherwise is tested by `companion_cases`.
 """
 
 import os
@@ -11,11 +10,13 @@ import re
 import shutil
 import stat
 import subprocess
-import sys
-import tempfile
 import termios
 import time
+from collections.abc import Callable
 
+import pytest
+
+from lib.limits import SECONDS
 from lib.option_sets import sections
 from lib.outcome import Outcome
 from lib.paths import PAGE, ROOT
@@ -26,10 +27,9 @@ PASSWORDS = {"old.pass": b"the old one", "new.pass": b"the new one", "prod.pass"
 # What a piece needs of the machine besides git.
 TOOLS = {
     "Vaults and blocks for playbooks": ["ansible-playbook"],
-    "A password that is typed": ["bash"],
-    "Type a password,": ["bash"],
+    "A password that is typed": ["bash", "zsh"],
+    "Type a password,": ["bash", "zsh"],
 }
-SECONDS = 20
 PLAYBOOK = """\
 - hosts: all
   gather_facts: false
@@ -66,18 +66,18 @@ def shown(text: str) -> str:
 class Repository:
     """A folder under git with the password files, where `ansible-vault` is the program."""
 
-    def __init__(self, path: str, program: str):
-        self.folder = pathlib.Path(path) / "repository"
-        tools = pathlib.Path(path) / "tools"
+    def __init__(self, path: pathlib.Path, program: str):
+        self.folder = path / "repository"
+        tools = path / "tools"
         tools.mkdir()
-        (tools / "ansible-vault").symlink_to(pathlib.Path(program).resolve())
+        (tools / "ansible-vault").symlink_to(program)
         for companion in (ROOT / "companions").glob("ansible-vault-*"):
             (tools / companion.name).symlink_to(companion)
         names = {"GIT_AUTHOR_NAME": "a", "GIT_AUTHOR_EMAIL": "a@b", "GIT_COMMITTER_NAME": "a"}
         self.environment = os.environ | names | {
             "GIT_COMMITTER_EMAIL": "a@b",
             "GIT_CONFIG_GLOBAL": "/dev/null",
-            "HOME": path,
+            "HOME": str(path),
             "PATH": f"{tools}{os.pathsep}{os.environ['PATH']}",
         }
         self.folder.mkdir()
@@ -151,7 +151,7 @@ def check_edit(outcome: Outcome, repository: Repository, shell: str):
 
 def check_typed(outcome: Outcome, repository: Repository, shell: str):
     repository.put("group_vars/all.yml", seal(PASSWORDS["old.pass"], b"shown\n"))
-    for interpreter in filter(shutil.which, ("bash", "zsh")):
+    for interpreter in ("bash", "zsh"):
         for password, wanted in ((PASSWORDS["old.pass"], (0, "shown\n")), (b"another", (1, ""))):
             ran = repository.shell(shell, stdin=password.decode() + "\n", interpreter=interpreter)
             outcome.check(f"{interpreter}: `{password.decode()}` is typed", (ran.returncode, ran.stdout), wanted)
@@ -170,7 +170,7 @@ def pasted(repository: Repository, shell: str, password: str) -> str:
     os.close(there)
     os.write(here, shell.encode())
     wait_for_question(here)
-    os.write(here, f"{password}\n".encode())
+    os.write(here, f"{password}\nexit\n".encode())
     shown = all_shown(here)
     process.kill()
     process.wait()
@@ -274,40 +274,53 @@ def check_cut_log(outcome: Outcome, repository: Repository, shell: str):
         outcome.check(f"a log behind --output {path}", found, (0, "", wanted))
 
 
-def main():
-    program = sys.argv[1]
-    outcome = Outcome()
-    recipes = {
-        "Vaults and blocks for playbooks": check_playbook,
-        "A password that is typed": check_typed,
-        "Editing a vault": check_edit,
-        "A repository under new secrets": check_rotation,
-        "Which secret opens what": check_check,
-        "Differences in git": check_differences,
-        "A hook against plaintext": check_hook,
-    }
-    displays = {
-        "Encrypt a file": check_encrypt,
-        "Make a block": check_string,
-        "Type a password,": check_typed,
-    }
-    warnings = {"A lost password": check_lost_password, "A cut log": check_cut_log}
-    run_each(outcome, program, pieces(), recipes)
-    run_each(outcome, program, examples(), displays)
-    run_each(outcome, program, {"A lost password": LOST_PASSWORD, "A cut log": CUT_LOG}, warnings)
-    outcome.finish()
+RECIPES = {
+    "Vaults and blocks for playbooks": check_playbook,
+    "A password that is typed": check_typed,
+    "Editing a vault": check_edit,
+    "A repository under new secrets": check_rotation,
+    "Which secret opens what": check_check,
+    "Differences in git": check_differences,
+    "A hook against plaintext": check_hook,
+}
+DISPLAYS = {
+    "Encrypt a file": check_encrypt,
+    "Make a block": check_string,
+    "Type a password,": check_typed,
+}
+WARNINGS = {"A lost password": (LOST_PASSWORD, check_lost_password), "A cut log": (CUT_LOG, check_cut_log)}
 
 
-def run_each(outcome: Outcome, program: str, shells: dict[str, str], checks: dict):
-    outcome.check("each piece of shell is run", sorted(shells), sorted(checks))
-    for title, check in checks.items():
-        missing = [tool for tool in ("git", *TOOLS.get(title, [])) if not shutil.which(tool)]
-        if missing:
-            outcome.left_out(title, f"without {', '.join(missing)}")
-            continue
-        with tempfile.TemporaryDirectory() as path:
-            check(outcome, Repository(path, program), shells[title])
+def test_each_piece_is_run(outcome: Outcome) -> None:
+    outcome.check("the pieces of docs/workflows.md", sorted(pieces()), sorted(RECIPES))
+    outcome.check("the examples of the manual page", sorted(examples()), sorted(DISPLAYS))
 
 
-if __name__ == "__main__":
-    main()
+@pytest.fixture
+def repository(tmp_path: pathlib.Path, program: str) -> Repository:
+    if not shutil.which("git"):
+        pytest.skip("git is not installed")
+    return Repository(tmp_path, program)
+
+
+def check_piece(outcome: Outcome, repository: Repository, title: str, check: Callable, shell: str) -> None:
+    missing = [tool for tool in TOOLS.get(title, []) if not shutil.which(tool)]
+    if missing:
+        pytest.skip(f"without {', '.join(missing)}")
+    check(outcome, repository, shell)
+
+
+@pytest.mark.parametrize("title", RECIPES)
+def test_recipe(outcome: Outcome, repository: Repository, title: str) -> None:
+    check_piece(outcome, repository, title, RECIPES[title], pieces()[title])
+
+
+@pytest.mark.parametrize("title", DISPLAYS)
+def test_example(outcome: Outcome, repository: Repository, title: str) -> None:
+    check_piece(outcome, repository, title, DISPLAYS[title], examples()[title])
+
+
+@pytest.mark.parametrize("title", WARNINGS)
+def test_caveat(outcome: Outcome, repository: Repository, title: str) -> None:
+    shell, check = WARNINGS[title]
+    check(outcome, repository, shell)

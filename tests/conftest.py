@@ -1,0 +1,142 @@
+"""What pytest knows of these tests: the program that they run, and how a test ends by its `Outcome`.
+
+A test fails where a check of it does not hold, and goes on behind it; one that checks nothing fails, too. What it
+leaves out, since the machine lacks something, is a skip, and under --require-all a failure. The last line counts
+checks: a test may hold a table of hundreds.
+"""
+
+import locale
+import os
+import shutil
+import subprocess
+import tempfile
+from collections.abc import Iterator
+from inspect import getmembers, isfunction, signature
+from pathlib import Path
+
+import pytest
+
+from cases import Cases
+from companion_cases import Companions
+from lib.outcome import Outcome
+from lib.paths import ROOT
+
+PROGRAM = ROOT / "bin" / "ansible-vault"
+COMPANION_CASES = ROOT / "tests" / "companion_cases"
+
+
+def pytest_addoption(parser: pytest.Parser) -> None:
+    group = parser.getgroup("ansible-vault")
+    group.addoption("--program", type=Path, default=PROGRAM, help="the program; by default bin/ansible-vault")
+    required = os.environ.get("REQUIRE_ALL") == "1"
+    group.addoption("--require-all", action="store_true", default=required, help="what is left out fails")
+    group.addoption("--vaults", type=int, default=200, metavar="N", help="how many are rotated for the time")
+
+
+def pytest_sessionstart(session: pytest.Session) -> None:
+    # The files of a test are read by everybody, whatever the caller's own are.
+    os.umask(0o022)
+    program = session.config.getoption("--program")
+    if not program.is_file():
+        pytest.exit(f"there is no {program}; `make` builds bin/ansible-vault", pytest.ExitCode.USAGE_ERROR)
+    if locale.getpreferredencoding(False).upper() != "UTF-8":
+        pytest.exit("this locale is not UTF-8: try `python3 -X utf8 -m pytest`", pytest.ExitCode.USAGE_ERROR)
+
+
+class Topic(pytest.Module):
+    """The companions' cases of a topic are the functions in its list GROUPS."""
+
+    def collect(self):
+        groups = getattr(self.obj, "GROUPS", [])
+        listed = {group.__name__ for group in groups}
+        alone = lambda value: isfunction(value) and list(signature(value).parameters) == ["cases"]
+        own = {name for name, value in getmembers(self.obj, alone) if value.__module__ == self.obj.__name__}
+        if own - listed:
+            raise self.CollectError(f"GROUPS lacks {', '.join(sorted(own - listed))}")
+        return [pytest.Function.from_parent(self, name=group.__name__, callobj=group) for group in groups]
+
+
+def pytest_pycollect_makemodule(module_path: Path, parent: pytest.Collector) -> pytest.Module | None:
+    return Topic.from_parent(parent, path=module_path) if module_path.parent == COMPANION_CASES else None
+
+
+def conclude(item: pytest.Function, report: pytest.TestReport, outcome: Outcome) -> None:
+    """Ends a test by what it has checked."""
+    failures, omitted = [*outcome.failures], [*outcome.omitted]
+    if item.config.getoption("--require-all"):
+        failures += [f"{each}: it is left out, and all is required" for each in omitted]
+        omitted = []
+    if not (outcome.passed or failures or omitted or report.failed):
+        failures = ["nothing is checked"]
+    if report.failed:
+        report.sections.append(("checks that failed before", "\n".join(failures)))
+        failures.append("it ends by an exception")
+    elif failures:
+        report.outcome, report.longrepr = "failed", "\n".join(failures)
+    elif omitted:
+        reason = f"Skipped: {'; '.join(omitted)}"
+        report.outcome, report.longrepr = "skipped", (str(item.path), item.location[1] or 0, reason)
+    counts = {"passed": outcome.passed, "failed": len(failures), "skipped": len(omitted)}
+    report.user_properties.extend(counts.items())
+
+
+@pytest.hookimpl(hookwrapper=True)
+def pytest_runtest_makereport(item: pytest.Function, call: pytest.CallInfo) -> Iterator[None]:
+    report = (yield).get_result()
+    outcomes = [each for each in item.funcargs.values() if isinstance(each, Outcome)]
+    if report.when == "call" and outcomes and not report.skipped:
+        conclude(item, report, outcomes[0])
+    elif report.skipped and item.config.getoption("--require-all"):
+        report.outcome = "failed"
+        report.longrepr = f"{report.longrepr[2]}: it is left out, and all is required"
+    if report.failed:
+        item.has_failed = True
+        if "tmp_path" in item.funcargs:
+            report.sections.append(("files", f"kept in {item.funcargs['tmp_path']}"))
+
+
+def counted(report: pytest.TestReport | pytest.CollectReport, what: str) -> int:
+    """How many checks of a test ended so; one that counts none is a check itself, and so is a module that cannot be
+    collected."""
+    return dict(getattr(report, "user_properties", [])).get(what, int(report.outcome == what))
+
+
+def pytest_terminal_summary(terminalreporter, config: pytest.Config) -> None:
+    if config.option.collectonly:
+        return
+    reports = [each for kind in ("passed", "failed", "error", "skipped") for each in terminalreporter.getreports(kind)]
+    ends = [each for each in reports if each.when == "call" or not each.passed]
+    for each in ends:
+        if each.skipped:
+            terminalreporter.write_line(f"left out: {each.nodeid}: {each.longrepr[2].removeprefix('Skipped: ')}")
+    counts = [f"{sum(counted(each, what) for each in ends)} {what}" for what in ("passed", "failed", "skipped")]
+    terminalreporter.write_line(f"pytest: {', '.join(counts)}")
+
+
+@pytest.fixture(scope="session")
+def program(request: pytest.FixtureRequest) -> str:
+    return str(request.config.getoption("--program").resolve())
+
+
+@pytest.fixture
+def tmp_path(request: pytest.FixtureRequest) -> Iterator[Path]:
+    """A folder to which everybody may come, unlike to pytest's own. It stays where the test fails."""
+    folder = Path(tempfile.mkdtemp(prefix="ansible-vault-test-"))
+    folder.chmod(0o755)
+    yield folder
+    if not getattr(request.node, "has_failed", False):
+        subprocess.run(["chmod", "-R", "u+rwX", str(folder)], check=True)
+        shutil.rmtree(folder)
+
+
+@pytest.fixture
+def outcome() -> Outcome:
+    return Outcome()
+
+
+@pytest.fixture
+def cases(request: pytest.FixtureRequest, program: str, tmp_path: Path) -> Cases | Companions:
+    """What runs the program; for the cases of the companions, what runs those beside it."""
+    if request.path.parent == COMPANION_CASES:
+        return Companions(program, tmp_path, request.config.getoption("--vaults"))
+    return Cases(program, tmp_path)

@@ -1,0 +1,92 @@
+"""Shows that tests name what they leave out where a tool is missing, and that they fail where all is required.
+
+Each runs with all programs of PATH but some.
+"""
+
+import os
+import re
+import subprocess
+import sys
+from pathlib import Path
+from typing import NamedTuple
+
+import pytest
+
+from lib.outcome import Outcome
+from lib.paths import ROOT
+
+COUNTS = re.compile(r"\w+: (\d+) passed, (\d+) failed, (\d+) skipped")
+
+
+class Lack(NamedTuple):
+    """A command in tests/, or a test of pytest with the name of one in it; and the tools that it does without."""
+
+    words: list[str]
+    tools: list[str]
+    name: str = ""
+
+    def __str__(self) -> str:
+        return f"{self.name or self.words[0]} without {', '.join(self.tools)}"
+
+
+# `{program}` is the path of the program.
+LACKS = [
+    Lack(["with_valgrind", "{program}"], ["valgrind"]),
+    Lack(["fuzz", "{program}", "--runs", "1"], ["ansible-vault"]),
+    Lack(["growths", "{program}"], ["cc"]),
+    Lack(["growths_in_memory", "{program}"], ["cc"]),
+    Lack(["with_strace.py"], ["strace"], "parsing"),
+    Lack(["with_ansible.py"], ["ansible-vault"], "fixed_salt"),
+    Lack(["options_agree.py"], ["zsh", "fish", "mandoc", "groff"], "completions or shown"),
+    Lack(["completions.py"], ["zsh", "fish"], "test_program or quoted"),
+    Lack(["workflows.py"], ["git"], "caveat"),
+    Lack(["workflows.py"], ["zsh"], "typed"),
+    Lack(["cases/changing_files.py"], ["cc"], "changing"),
+    Lack(["cases/closed_streams.py"], ["strace"], "one_failing_write"),
+    Lack(["companion_cases/hook.py"], ["git"], "where_it_runs"),
+    Lack(["companion_cases/secrecy.py"], ["strace"], "written_files"),
+    Lack(["companion_cases/beside_ansible.py"], ["ansible-vault"], "a_repository"),
+]
+
+
+def link_programs(folder: Path, without: list[str]) -> None:
+    """Links to all programs of PATH but these; `python3` is that which runs this test."""
+    (folder / "python3").symlink_to(sys.executable)
+    for place in os.environ["PATH"].split(os.pathsep):
+        for program in Path(place).iterdir() if os.path.isdir(place) else []:
+            link = folder / program.name
+            if program.name not in without and not link.is_symlink():
+                link.symlink_to(program)
+
+
+def command_of(lack: Lack, program: str) -> list[str]:
+    name, *words = (word.format(program=program) for word in lack.words)
+    path = str(ROOT / "tests" / name)
+    if not lack.name:
+        return [sys.executable, "-B", path, *words]
+    options = ["-p", "no:cacheprovider", f"--program={program}", "-k", lack.name]
+    return [sys.executable, "-B", "-m", "pytest", *options, path]
+
+
+def check_run(outcome: Outcome, command: list[str], path: Path, is_required: bool) -> None:
+    """Whether it fails, and whether the last line of counts has what it names."""
+    name = "all required" if is_required else "left out"
+    environment = os.environ | {"PATH": str(path), "REQUIRE_ALL": "1" if is_required else ""}
+    for variable in ("ANSIBLE_VAULT", "PYTEST_ADDOPTS", "PYTEST_XDIST_WORKER"):
+        environment.pop(variable, None)
+    done = subprocess.run(command, capture_output=True, text=True, env=environment, cwd=ROOT)
+    lines = done.stdout.splitlines()
+    found = [each for each in map(COUNTS.fullmatch, lines) if each]
+    failed, skipped = map(int, found[-1].groups()[1:]) if found else (0, 0)
+    named = sum(line.startswith("left out: ") for line in lines)
+    outcome.check(f"{name}: whether it fails", (done.returncode, failed > 0), (int(is_required), is_required))
+    ends = skipped == 0 if is_required else named == skipped > 0
+    outcome.holds(f"{name}: what it leaves out", ends, f"{named} lines, and then {lines[-1:]}")
+
+
+@pytest.mark.parametrize("lack", LACKS, ids=str)
+def test_lack(outcome: Outcome, tmp_path: Path, program: str, lack: Lack) -> None:
+    link_programs(tmp_path, lack.tools)
+    command = command_of(lack, program)
+    check_run(outcome, command, tmp_path, False)
+    check_run(outcome, command, tmp_path, True)

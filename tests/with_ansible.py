@@ -1,0 +1,164 @@
+"""Runs the built program beside Ansible's own tool: what each writes the other reads, and for one salt,
+password and label both write the same bytes.
+
+Ansible's tool (Debian's package `ansible-core`) is found as `lib/ansible.py` says.
+"""
+
+import os
+import subprocess
+from pathlib import Path
+
+import pytest
+
+from cases import SECONDS, Cases, by_file, by_id
+from lib.ansible import ansible_vault
+from model.vaults import seal, yaml_block
+
+SIZES = [0, 1, 15, 16, 17, 1 << 10, 1 << 20]
+NAMED = {
+    "umlauts": "schlüssel: \"größe\"\n→\n".encode(),
+    "every byte": bytes(range(256)),
+    "line ends": b"\r\n\n\r",
+    "an end like padding": b"a" * 15 + b"\x01",
+}
+TEXTS = {f"{size} bytes": (b"key: value\n" * (size // 11 + 1))[:size] for size in SIZES} | NAMED
+STRINGS = {"plain": "a secret", "umlauts": "größe →", "lines": "first\nsecond\n", "sixteen": "a" * 16}
+RIGHT, NEW = b"the right password", b"the new one"
+# Without anybody's settings for Ansible.
+ENVIRONMENT = {name: value for name, value in os.environ.items() if not name.startswith("ANSIBLE_")}
+ENVIRONMENT["LC_ALL"] = "C.UTF-8"
+
+
+def salt_of(vault: bytes) -> bytes:
+    inner = bytes.fromhex(b"".join(vault.split(b"\n")[1:]).decode())
+    return bytes.fromhex(inner.split(b"\n")[0].decode())
+
+
+class Both:
+    """The two tools, with one password for a label or for none."""
+
+    def __init__(self, cases: Cases, ansible: str, label: str) -> None:
+        self.cases = cases
+        self.ansible = ansible
+        self.label = label
+        self.password = cases.file(RIGHT + b"\n")
+        self.new = cases.file(NEW + b"\n")
+        self.options = by_id(self.password, label) if label else by_file(self.password)
+        self.choice = ["--encrypt-vault-id", label] if label else []
+
+    def in_folder(self, command: list[str], **variables: str) -> subprocess.CompletedProcess:
+        """Runs one of Ansible's tools where no file of settings is found."""
+        folder = self.cases.folder
+        environment = {**ENVIRONMENT, "HOME": str(folder), **variables}
+        return subprocess.run(command, capture_output=True, timeout=SECONDS, cwd=folder, env=environment)
+
+    def theirs(self, command: str, *words: str, **variables: str) -> bytes:
+        done = self.in_folder([self.ansible, command, *words], **variables)
+        if done.returncode != 0:
+            raise AssertionError(f"Ansible's {command} fails: {done.stderr.decode()}")
+        return done.stdout
+
+    def ours(self, name: str, words: list[str], stdin: bytes, expected) -> bytes:
+        return self.cases.run(f"{name}, label {self.label!r}", words, stdin, 0, expected)
+
+    def changed_by_them(self, command: str, options: list[str], contents: list[bytes]) -> list[bytes]:
+        """Ansible's tool changes all the files in one run."""
+        paths = [self.cases.file(content) for content in contents]
+        self.theirs(command, *options, *paths)
+        return [Path(path).read_bytes() for path in paths]
+
+    def sealed(self, text: bytes, salt: bytes) -> bytes:
+        return seal(RIGHT, text, self.label.encode(), salt)
+
+
+@pytest.fixture(params=["", "dev"], ids=["no label", "label dev"])
+def both(cases: Cases, request: pytest.FixtureRequest) -> Both:
+    ansible = ansible_vault()
+    if ansible is None:
+        pytest.skip("Ansible's own ansible-vault is not installed (Debian's package ansible-core)")
+    return Both(cases, ansible, request.param)
+
+
+def test_theirs_to_ours(both: Both) -> None:
+    """Their vaults are opened here; sealed here with their salts, they are the same bytes."""
+    vaults = both.changed_by_them("encrypt", [*both.options, *both.choice], list(TEXTS.values()))
+    for (name, text), vault in zip(TEXTS.items(), vaults):
+        salt = salt_of(vault)
+        both.cases.check(f"{name}: the tests' own vault", both.sealed(text, salt), vault)
+        for command in ("decrypt", "view"):
+            both.ours(f"{command} of their vault of {name}", [command, *both.options], vault, text)
+        words = ["encrypt", *both.options, "--salt-file", both.cases.file(salt)]
+        both.ours(f"encrypt of {name} with their salt", words, text, vault)
+
+
+def test_ours_to_theirs(both: Both) -> None:
+    """Our vaults are opened there."""
+    words = ["encrypt", *both.options]
+    vaults = [both.ours(f"encrypt {name}", words, text, lambda _: True) for name, text in TEXTS.items()]
+    for (name, text), opened in zip(TEXTS.items(), both.changed_by_them("decrypt", both.options, vaults)):
+        both.cases.check(f"{name}: Ansible's tool opens it, label {both.label!r}", opened, text)
+
+
+def test_files(both: Both) -> None:
+    plain, vault, back = both.cases.file(TEXTS["1024 bytes"]), both.cases.path(), both.cases.path()
+    both.ours("encrypt FILE", ["encrypt", *both.options, plain, "--output", vault], b"", b"")
+    both.theirs("decrypt", *both.options, "--output", back, vault)
+    both.cases.check("their decrypt of our file", Path(back).read_bytes(), TEXTS["1024 bytes"])
+    both.theirs("encrypt", *both.options, *both.choice, back)
+    both.ours("decrypt FILE", ["decrypt", *both.options, "--output", back, back], b"", b"")
+    both.cases.check("our decrypt of their file", Path(back).read_bytes(), TEXTS["1024 bytes"])
+    both.ours("view FILE", ["view", *both.options, vault], b"", TEXTS["1024 bytes"])
+
+
+def test_blocks(both: Both) -> None:
+    """Blocks of the same string, one with a name and one without."""
+    for name, string in STRINGS.items():
+        for words, written in ((["-n", "größe"], "größe".encode()), ([], b"")):
+            block = both.theirs("encrypt_string", *both.options, *both.choice, *words, string).rstrip(b"\n") + b"\n"
+            vault = b"\n".join(line.strip() for line in block.split(b"\n")[1:])
+            salt = salt_of(vault)
+            both.cases.check(f"{name}: the tests' own block", yaml_block(both.sealed(string.encode(), salt), written), block)
+            salted = ["encrypt_string", *both.options, "--salt-file", both.cases.file(salt), *words, string]
+            both.ours(f"block of {name}", salted, b"", block)
+
+
+def test_playbook_values(both: Both) -> None:
+    """Ansible reads our blocks as values of a file of variables."""
+    tool = Path(both.ansible).parent / "ansible"
+    if not tool.exists():
+        return both.cases.left_out("values in playbooks", f"{tool} is not installed")
+    words = ["encrypt_string", *both.options, "--name", "secret"]
+    for name, string in STRINGS.items():
+        variables = both.cases.file(both.ours(f"block of {name}", [*words, string], b"", lambda _: True))
+        written = both.cases.path()
+        copy = ["-m", "copy", "-a", f"content={{{{ secret }}}} dest={written}", "-e", f"@{variables}"]
+        command = [str(tool), "localhost", "-c", "local", *copy, *both.options]
+        done = both.in_folder(command)
+        value = Path(written).read_bytes() if done.returncode == 0 else done.stdout + done.stderr
+        both.cases.check(f"{name}: the value in a playbook", value, string.encode())
+
+
+def test_rekeyed(both: Both) -> None:
+    """Rekeyed here, opened and rekeyed back there, opened here."""
+    for new_label in ("", "prod"):
+        options = ["--new-vault-id", f"{new_label}@{both.new}"]
+        new = by_id(both.new, new_label) if new_label else by_file(both.new)
+        words = ["rekey", *both.options, *options]
+        given = [both.sealed(text, bytes(32)) for text in TEXTS.values()]
+        ours = [both.ours(f"rekey of {name}", words, vault, lambda _: True) for name, vault in zip(TEXTS, given)]
+        both.cases.check("Ansible's tool opens them", both.changed_by_them("decrypt", new, ours), list(TEXTS.values()))
+        back = ["--new-vault-id", f"{both.label}@{both.password}"] if both.label else ["--new-vault-password-file", both.password]
+        theirs = both.changed_by_them("rekey", [*new, *back], ours)
+        for (name, text), vault in zip(TEXTS.items(), theirs):
+            both.ours(f"view of {name}, rekeyed by them", ["view", *both.options], vault, text)
+
+
+def test_fixed_salt(both: Both) -> None:
+    """Newer versions of Ansible's tool take a salt from the environment, older ones choose their own."""
+    text, salt = TEXTS["17 bytes"], "a salt of the environment"
+    path = both.cases.file(text)
+    both.theirs("encrypt", *both.options, *both.choice, path, ANSIBLE_VAULT_ENCRYPT_SALT=salt)
+    vault = Path(path).read_bytes()
+    both.ours("view of what they encrypt", ["view", *both.options], vault, text)
+    if salt_of(vault) == salt.encode():
+        both.ours("encrypt with a salt text", ["encrypt", *both.options, "--salt", salt], text, vault)
