@@ -1,62 +1,99 @@
 """Envelopes in files: a vault is one, and a block of YAML has one behind the spaces of its lines.
 
-They are found by their lines, with no parser of YAML: all else in a file keeps every byte.
+They are found by their bytes, in one pass and with no parser of YAML: all else in a file keeps every
+byte. One in a form that cannot be put back as it stands is found, too, and says what to do about it.
 """
 
 from __future__ import annotations
 
 import re
-from typing import NamedTuple
+from dataclasses import dataclass
+from typing import Iterator
 
 from ansible_vault_companions.program import Refused, shown
 
 MAGIC = b"$ANSIBLE_VAULT"
+# What every envelope within a file begins with.
+START = MAGIC + b";"
+UTF_16 = tuple(MAGIC.decode().encode(codec) for codec in ("utf-16-le", "utf-16-be"))
+BYTE_ORDER_MARK = b"\xef\xbb\xbf"
+
+# Forms in which an envelope is not put back, with what to do.
+IN_A_LINE = (
+    "an envelope in quotes or within a line; write it as a block (`NAME: !vault |` and its lines below, "
+    "behind spaces), or encrypt the whole file"
+)
+COMMENTED = "an envelope in a comment; remove it, or the comment's marks"
+BEHIND_TABS = "an envelope behind tabs; write spaces"
+FOLDED = "an envelope in a folded scalar (`>`), which is not read; write `!vault |`"
+BEHIND_MARK = "an envelope behind a byte order mark; remove the mark"
+IN_UTF_16 = "envelopes in UTF-16, which are not read; write the file in UTF-8"
 
 # The lines of a block, but for the end of the last one.
 BLOCK = re.compile(
-    rb"^(?P<spaces> *)\$ANSIBLE_VAULT;[^\r\n]*(?P<digits>(?:\r?\n(?P=spaces)[0-9a-fA-F]+(?=\r?\n|\Z))*)", re.MULTILINE
+    rb"(?P<spaces> *)\$ANSIBLE_VAULT;[^\r\n]*(?P<digits>(?:\r?\n(?P=spaces)[0-9a-fA-F]+(?=\r?\n|\Z))*)"
 )
-# What stands before a block: `NAME: !vault |`, with a mark or an anchor.
-TAG = re.compile(rb"!vault(?:-encrypted)?[ \t]+(?:&\S+[ \t]+)?[|>][0-9+-]*[ \t]*(?:[ \t]#[^\r\n]*)?\r?\n\Z")
-# Envelopes that are no lines of their own: in quotes, or with their digits in the same line.
-IN_A_LINE = re.compile(
-    rb"!vault(?:-encrypted)?[ \t]+(?:&\S+[ \t]+)?[\"']?\$ANSIBLE_VAULT;"
-    rb"|\$ANSIBLE_VAULT;1\.\d;AES256[^\r\n]*[^0-9a-fA-F\r\n][0-9a-fA-F]{32}"
+# What the line before a block ends with: `!vault |`, with an anchor, a mark or a comment.
+TAG = re.compile(
+    rb"!vault(?:-encrypted)?[ \t]+(?:&\S+[ \t]+)?(?P<style>[|>])[0-9+-]*[ \t]*(?:[ \t]#[^\r\n]*)?\r?\n\Z"
 )
-# The longest line before a block.
+# What stands before an envelope in the line of its tag.
+TAG_IN_LINE = re.compile(rb"!vault(?:-encrypted)?[ \t]+(?:&\S+[ \t]+)?[\"']?\Z")
+TAG_NAME = b"!vault"
+# As much of a line as is looked at in front of a tag, or of an envelope behind its tag.
 LONGEST_TAG = 4096
-VAULT = re.compile(rb"\$ANSIBLE_VAULT;[^\r\n;]+;[^\r\n]+[\r\n]+[0-9a-fA-F\r\n]*\Z")
-# Where the header of an envelope in a line ends at the latest.
-NO_END = re.compile(rb"[^\r\n\"'\\]*")
+LONGEST_TAG_IN_LINE = 128
+# How a line begins: with spaces, other blanks, and the mark of a comment.
+LINE_HEAD = re.compile(rb"(?P<spaces> *)(?P<blanks>[ \t]*)(?P<comment>#?)")
+# The header of an envelope that is no line of its own, which ends at a quote or an escape.
+HEADER = re.compile(rb"[^\r\n\"'\\]{0,256}")
+KNOWN_HEADER = re.compile(rb"\$ANSIBLE_VAULT;1\.\d;AES")
+DIGITS = re.compile(rb"[0-9a-fA-F]{32}")
+# How far behind the beginning of such an envelope its digits are looked for.
+WINDOW = 512
 
 
-class Envelope(NamedTuple):
+@dataclass(frozen=True)
+class Envelope:
     """An envelope in a file, with the place of its bytes there."""
 
     start: int
     end: int
-    # Of the first line of a block, from 1; 0 where the file is a vault.
+    # Of its first line, from 1; 0 where the file is a vault.
     line: int
     spaces: bytes
-    # As the tool reads it; nothing where it is no lines of its own.
+    # As the tool reads it; nothing where it cannot be put back.
     text: bytes
     label: str | None
+    # Of the variable, where the line has one.
+    name: str | None = None
+    # Why it cannot be put back.
+    obstacle: str = ""
 
     def place(self, path: str) -> str:
         """Where it stands, for a message."""
         return f"{shown(path)}:{self.line}" if self.line else shown(path)
 
     def readable(self) -> bytes:
-        if not self.text:
-            raise Refused("an envelope that is no block of lines (`!vault |`)")
+        if self.obstacle:
+            raise Refused(self.obstacle)
         return self.text
 
     def in_place(self, text: bytes) -> bytes:
-        """Another text as it would stand here."""
+        """A text as it would stand here, behind the same spaces."""
         if not self.line:
             return text
-        end = b"\r\n" if b"\r\n" in self.text else b"\n"
-        return end.join(self.spaces + line if line else b"" for line in text.split(b"\n"))
+        return self._end().join(self.spaces + line if line else b"" for line in text.split(b"\n"))
+
+    def resealed(self, envelope: bytes) -> bytes:
+        """Another envelope as it would stand here, with the same line ends."""
+        if not self.line:
+            return envelope.replace(b"\n", self._end())
+        # The end of a block's last line is none of the block's.
+        return self.in_place(envelope.removesuffix(b"\n"))
+
+    def _end(self) -> bytes:
+        return b"\r\n" if b"\r\n" in self.text else b"\n"
 
 
 def label_of(text: bytes) -> str | None:
@@ -67,43 +104,121 @@ def label_of(text: bytes) -> str | None:
     return (fields[3] if len(fields) > 3 else b"").decode() or "default"
 
 
-def is_vault(data: bytes) -> bool:
-    """Whether these are the lines of a vault and nothing else; what they hold is not looked at."""
-    return VAULT.match(data) is not None
+def mentions_envelope(data: bytes) -> bool:
+    return MAGIC in data or any(each in data for each in UTF_16)
 
 
 def envelopes(data: bytes) -> list[Envelope]:
-    """All that a file holds: itself, or its blocks."""
+    """All that a file holds: itself, or those within it."""
     if data.startswith(MAGIC):
         return [Envelope(0, len(data), 0, b"", data, label_of(data))]
-    blocks = [_block(data, found) for found in BLOCK.finditer(data) if found["digits"] or _is_tagged(data, found.start())]
-    heads = {block.start + len(block.spaces) for block in blocks}
-    others = [found.start() + found[0].index(MAGIC) for found in IN_A_LINE.finditer(data)]
-    return sorted([*blocks, *(_other(data, start) for start in others if start not in heads)])
+    found = list(_within(data))
+    if any(each in data for each in UTF_16):
+        found.append(Envelope(len(data), len(data), 1, b"", b"", None, obstacle=IN_UTF_16))
+    return found
 
 
-def _is_tagged(data: bytes, start: int) -> bool:
-    return TAG.search(data, max(0, start - LONGEST_TAG), start) is not None
+class _Line:
+    """The line of a place in the data. Places come in their order, so that all of them take one pass."""
+
+    def __init__(self, data: bytes) -> None:
+        self.data = data
+        self.place = self.start = 0
+        self.number = 1
+        self.head = LINE_HEAD.match(data)
+
+    def go_to(self, place: int) -> None:
+        self.number += self.data.count(b"\n", self.place, place)
+        end = self.data.rfind(b"\n", self.place, place)
+        if end >= 0:
+            self.start = end + 1
+            self.head = LINE_HEAD.match(self.data, self.start)
+        self.place = place
+
+    def before(self) -> bytes:
+        """The line before this one, or the end of a long one."""
+        first = max(0, self.start - LONGEST_TAG)
+        return self.data[max(first, self.data.rfind(b"\n", first, max(0, self.start - 1)) + 1) : self.start]
 
 
-def _line(data: bytes, start: int) -> int:
-    return data.count(b"\n", 0, start) + 1
+def _within(data: bytes) -> Iterator[Envelope]:
+    line = _Line(data)
+    place = data.find(START)
+    while place >= 0:
+        line.go_to(place)
+        envelope = _block(line) or _elsewhere(line)
+        if envelope:
+            yield envelope
+        place = data.find(START, max(place + len(START), envelope.end if envelope else 0))
 
 
-def _block(data: bytes, found: re.Match) -> Envelope:
-    spaces = found["spaces"]
+def _block(line: _Line) -> Envelope | None:
+    """The block that begins in this line, at this place."""
+    if line.place != line.head.end("spaces"):
+        return None
+    tag_line = line.before()
+    tag = TAG.search(tag_line)
+    found = BLOCK.match(line.data, line.start)
+    if not (tag or found["digits"]):
+        return None
     text = re.sub(rb"^ +", b"", found[0], flags=re.MULTILINE) + b"\n"
-    return Envelope(found.start(), found.end(), _line(data, found.start()), spaces, text, label_of(text))
+    is_folded = tag is not None and tag["style"] == b">"
+    return Envelope(
+        found.start(),
+        found.end(),
+        line.number,
+        found["spaces"],
+        b"" if is_folded else text,
+        label_of(text),
+        _name(tag_line[: tag.start()]) if tag else None,
+        FOLDED if is_folded else "",
+    )
 
 
-def _other(data: bytes, start: int) -> Envelope:
-    return Envelope(start, start, _line(data, start), b"", b"", label_of(NO_END.match(data, start)[0]))
+def _elsewhere(line: _Line) -> Envelope | None:
+    """The envelope at this place, where it has digits nearby or a tag before it."""
+    data, place = line.data, line.place
+    behind = place + len(START)
+    following = data.find(START, behind, behind + WINDOW)
+    digits = DIGITS.search(data, behind, following if following >= 0 else behind + WINDOW)
+    has_digits = digits is not None and KNOWN_HEADER.match(data, place) is not None
+    first = max(line.start, place - LONGEST_TAG)
+    tag = TAG_IN_LINE.search(data, max(first, place - LONGEST_TAG_IN_LINE), place)
+    if not (has_digits or tag):
+        return None
+    header = HEADER.match(data, place, digits.start() if has_digits else len(data))[0]
+    # Behind the brace or the comma that it stands after.
+    name = _name(re.split(rb"[{,]", data[first : tag.start()])[-1]) if tag else None
+    return Envelope(place, behind, line.number, b"", b"", label_of(header), name, _obstacle(line))
+
+
+def _obstacle(line: _Line) -> str:
+    """Why the envelope of this line is no block."""
+    if line.head["comment"]:
+        return COMMENTED
+    if line.place == line.head.end("blanks"):
+        return BEHIND_TABS if line.head["blanks"] else IN_A_LINE
+    if line.place == len(BYTE_ORDER_MARK) and line.data.startswith(BYTE_ORDER_MARK):
+        return BEHIND_MARK
+    return IN_A_LINE
+
+
+def _name(head: bytes) -> str | None:
+    """The name of the variable, from what stands in front of its tag."""
+    words = head[-LONGEST_TAG:].split()
+    if words and words[-1].startswith(b"&"):
+        words.pop()
+    key = b" ".join(words)
+    if not key.endswith(b":"):
+        return None
+    key = re.sub(rb"^(?:- )+", b"", key.removesuffix(b":").rstrip())
+    return key.strip(b"\"'").decode(errors="backslashreplace") or None
 
 
 def replaced(data: bytes, changes: list[tuple[Envelope, bytes]]) -> bytes:
-    """The data with other texts in the places of envelopes, which come in their order."""
+    """The data with other bytes in the places of envelopes, which come in their order."""
     pieces, place = [], 0
     for envelope, text in changes:
-        pieces += [data[place : envelope.start], envelope.in_place(text)]
+        pieces += [data[place : envelope.start], text]
         place = envelope.end
     return b"".join([*pieces, data[place:]])

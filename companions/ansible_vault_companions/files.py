@@ -1,35 +1,35 @@
-"""The files below the paths of a command line, what they hold, and how one takes the place of another."""
+"""The files below the paths of a command line, and what they hold."""
 
 from __future__ import annotations
 
 import errno
 import os
 import stat
-import tempfile
 from concurrent.futures import ThreadPoolExecutor
 from typing import BinaryIO, Callable, Iterable, Iterator, TypeVar
 
-from ansible_vault_companions.envelopes import MAGIC
+from ansible_vault_companions.envelopes import MAGIC, UTF_16, mentions_envelope
 from ansible_vault_companions.program import Refused
 
 # What is read at once of a file that may be no text at all.
 PIECE = 1 << 20
+# Bytes of an envelope's beginning that may stand at the end of one piece and go on in the next.
+OVERLAP = max(map(len, UTF_16)) - 1
 # Prose shows blocks that are not meant.
 PROSE = (".md", ".rst", ".adoc", ".html")
 PLACES = """\
 Looked at are the files PATH and those below a folder PATH, but for folders
 .git. Links to files are followed, and links to folders where they are a PATH.
 Blocks are looked for in every file but prose (.md, .rst, .adoc, .html): an
-envelope whose lines stand behind the same spaces, as after `NAME: !vault |`."""
+envelope whose lines stand behind the same spaces, as after `NAME: !vault |`,
+also within another text; and in the plaintext of a vault. An envelope in
+another form (quotes, JSON, comments, tabs, `!vault >`, UTF-16, behind a byte
+order mark) is reported as a failure, with what to do."""
 
 Result = TypeVar("Result")
 
 
-class Changed(Refused):
-    """The file is no longer what it was when it was read."""
-
-
-def files_below(paths: list[str], refuse: Callable[[str, OSError], None]) -> Iterator[str]:
+def files_below(paths: list[str], refuse: Callable[[str, Exception], None]) -> Iterator[str]:
     """Each file once, whatever leads to it; what cannot be looked at is refused by its name."""
     seen = set()
     for path in paths:
@@ -37,16 +37,23 @@ def files_below(paths: list[str], refuse: Callable[[str, OSError], None]) -> Ite
             try:
                 is_file = stat.S_ISREG(os.stat(file).st_mode)
             except OSError as fault:
-                if is_named or not os.path.islink(file):
+                if is_named or not _leads_nowhere(file, fault):
                     refuse(file, fault)
                 continue
+            if is_named and not is_file:
+                refuse(file, Refused("it is neither a file nor a folder"))
             target = os.path.realpath(file)
             if is_file and target not in seen:
                 seen.add(target)
                 yield file
 
 
-def _candidates(path: str, refuse: Callable[[str, OSError], None]) -> Iterator[tuple[str, bool]]:
+def _leads_nowhere(file: str, fault: OSError) -> bool:
+    """Whether it is a link to nothing, or to itself."""
+    return os.path.islink(file) and fault.errno in (errno.ENOENT, errno.ELOOP)
+
+
+def _candidates(path: str, refuse: Callable[[str, Exception], None]) -> Iterator[tuple[str, bool]]:
     """The path itself where it is no folder, else all files below it; and whether it was named."""
     if not os.path.isdir(path):
         yield path, True
@@ -73,12 +80,13 @@ def processors() -> int:
     return len(os.sched_getaffinity(0))
 
 
-def contents(path: str) -> bytes:
+def contents(path: str, with_prose: bool = False) -> bytes:
     """What a file holds; nothing of one that has no envelope for us."""
-    with open(path, "rb") as file:
+    with _opened(path) as file:
         begins = file.read(len(MAGIC)) == MAGIC
         file.seek(0)
-        if not begins and (path.lower().endswith(PROSE) or not _mentions_envelope(file)):
+        is_prose = path.lower().endswith(PROSE) and not with_prose
+        if not begins and (is_prose or not _mentions_envelope(file)):
             return b""
         file.seek(0)
         return file.read()
@@ -87,73 +95,28 @@ def contents(path: str) -> bytes:
 def _mentions_envelope(file: BinaryIO) -> bool:
     end = b""
     while piece := file.read(PIECE):
-        if MAGIC in end + piece:
+        if mentions_envelope(end + piece):
             return True
-        end = piece[-len(MAGIC) :]
+        end = piece[-OVERLAP:]
     return False
 
 
 def read(path: str) -> bytes | None:
     """What stands at a path, if anything does."""
     try:
-        with open(path, "rb") as file:
+        with _opened(path) as file:
             return file.read()
     except FileNotFoundError:
         return None
 
 
-def replace(path: str, content: bytes, before: bytes | None) -> None:
-    """Puts content in the place of what stands there, and still is as it was read; links are followed."""
-    target = os.path.realpath(path)
-    beside = write_beside(target, content)
-    try:
-        if read(target) != before:
-            raise Changed("it was changed meanwhile")
-        os.replace(beside, target)
-    except BaseException:
-        os.unlink(beside)
-        raise
-
-
-def rehearse(target: str) -> None:
-    """Refuses now what `replace` would refuse."""
-    os.unlink(write_beside(target, b""))
-
-
-def write_beside(target: str, content: bytes) -> str:
-    """The path of a new file with this content, and with the owner and the mode of the target if there is
-    one; else for its owner alone."""
-    descriptor, beside = tempfile.mkstemp(prefix=".ansible-vault-", dir=os.path.dirname(target))
-    try:
-        with open(descriptor, "wb") as file:
-            file.write(content)
-            file.flush()
-            if os.path.lexists(target):
-                _take_over(descriptor, target)
-            os.fsync(descriptor)
-    except BaseException:
-        os.unlink(beside)
-        raise
-    return beside
-
-
-def _take_over(descriptor: int, target: str) -> None:
-    """Owner, attributes (as lists of access) and mode, in the order in which each leaves the others."""
-    old, new = os.stat(target), os.fstat(descriptor)
-    if old.st_nlink > 1:
-        raise Refused(f"it has {old.st_nlink} names (hard links), and one alone would change")
-    if (old.st_uid, old.st_gid) != (new.st_uid, new.st_gid):
-        os.fchown(descriptor, old.st_uid, old.st_gid)
-    os.fchmod(descriptor, stat.S_IMODE(old.st_mode))
-    for name in _attributes(target):
-        os.setxattr(descriptor, name, os.getxattr(target, name))
-
-
-def _attributes(target: str) -> list[str]:
-    """The names of the extended attributes but for those of security modules, which the system gives."""
-    try:
-        return [name for name in os.listxattr(target) if not name.startswith("security.")]
-    except OSError as fault:
-        if fault.errno == errno.ENOTSUP:
-            return []
-        raise
+def _opened(path: str) -> BinaryIO:
+    """A file to read. Anything else is refused: opening a pipe might wait for ever."""
+    descriptor = os.open(path, os.O_RDONLY | os.O_NONBLOCK | os.O_NOCTTY)
+    mode = os.fstat(descriptor).st_mode
+    if stat.S_ISREG(mode):
+        return open(descriptor, "rb")
+    os.close(descriptor)
+    if stat.S_ISDIR(mode):
+        raise IsADirectoryError(errno.EISDIR, os.strerror(errno.EISDIR), path)
+    raise Refused("it is no file")

@@ -7,9 +7,10 @@ import os
 import resource
 import signal
 import sys
+from contextlib import suppress
 from typing import Callable
 
-from ansible_vault_companions import stopping
+from ansible_vault_companions import VERSION, stopping
 
 NOTE = """\
 Nothing of this program is proved: the proofs speak of ansible-vault, which it
@@ -22,7 +23,7 @@ class Refused(Exception):
 
 def parser(name: str, summary: str, statuses: str, **options) -> argparse.ArgumentParser:
     """A command line whose faults end the program with status 2."""
-    return argparse.ArgumentParser(
+    made = argparse.ArgumentParser(
         prog=name,
         description=summary,
         epilog=f"Exit status: {statuses}\n\n{NOTE}",
@@ -30,6 +31,8 @@ def parser(name: str, summary: str, statuses: str, **options) -> argparse.Argume
         allow_abbrev=False,
         **options,
     )
+    made.add_argument("-V", "--version", action="version", version=f"{name} {VERSION}")
+    return made
 
 
 def shown(name: str) -> str:
@@ -37,7 +40,29 @@ def shown(name: str) -> str:
     return name if name.isprintable() else ascii(name)
 
 
+def counted_labels(counts: dict[str, int]) -> str:
+    """How many envelopes have labels that are left alone, and which."""
+    labels = ", ".join(f"{shown(label)} {count}" for label, count in sorted(counts.items()))
+    return f"{sum(counts.values())} of other labels" + (f" ({labels})" if labels else "")
+
+
+def write(data: bytes) -> None:
+    """Writes to standard output."""
+    try:
+        sys.stdout.buffer.write(data)
+        sys.stdout.flush()
+    except OSError as fault:
+        _discard(sys.stdout)
+        raise Refused(f"standard output cannot be written: {reason(fault)}") from None
+
+
+def say(text: str) -> None:
+    """Prints a line on standard output."""
+    write(f"{text}\n".encode(sys.stdout.encoding, "backslashreplace"))
+
+
 def tell(text: str) -> None:
+    """Prints a line on standard error."""
     print(text, file=sys.stderr, flush=True)
 
 
@@ -48,22 +73,60 @@ def reason(fault: Exception) -> str:
 
 def run(name: str, main: Callable[[list[str]], int]) -> None:
     """Runs a companion over its words, and ends with its status or by a signal."""
+    _prepare_streams()
+    _prepare_signals()
     # What is written to a core would be plaintext and passwords.
     resource.setrlimit(resource.RLIMIT_CORE, (0, resource.getrlimit(resource.RLIMIT_CORE)[1]))
-    signal.signal(signal.SIGINT, signal.SIG_DFL)
-    for stream in (sys.stdout, sys.stderr):
-        stream.reconfigure(errors="backslashreplace")
     try:
-        status = main(sys.argv[1:])
-        sys.stdout.flush()
+        status = _status_of(main)
+        write(b"")
         stopping.check()
     except stopping.Stopped:
         stopping.end_by_signal()
-    except BrokenPipeError:
-        # Nobody reads on.
-        os.dup2(os.open(os.devnull, os.O_WRONLY), sys.stdout.fileno())
-        status = 1
     except (Refused, OSError) as fault:
-        tell(f"{name}: {shown(str(fault))}")
+        with suppress(OSError):
+            tell(f"{name}: {shown(str(fault))}")
         status = 1
+    for stream in (sys.stdout, sys.stderr):
+        try:
+            stream.flush()
+        except OSError:
+            _discard(stream)
+            status = status or 1
     sys.exit(status)
+
+
+def _status_of(main: Callable[[list[str]], int]) -> int:
+    try:
+        return main(sys.argv[1:])
+    except SystemExit as end:
+        # After the help, or a fault of the command line.
+        return end.code
+
+
+def _prepare_streams() -> None:
+    """No file that is opened later gets the number of a stream that is closed, and what is written to one
+    fails."""
+    for number in range(3):
+        try:
+            os.fstat(number)
+        except OSError:
+            os.set_inheritable(os.open(os.devnull, os.O_RDONLY), True)
+    sys.stdout = sys.stdout or open(1, "w", closefd=False)
+    sys.stderr = sys.stderr or open(2, "w", buffering=1, closefd=False)
+    for stream in (sys.stdout, sys.stderr):
+        stream.reconfigure(errors="backslashreplace")
+
+
+def _prepare_signals() -> None:
+    # Where it is ignored the system keeps no status of what was started.
+    signal.signal(signal.SIGCHLD, signal.SIG_DFL)
+    if signal.getsignal(signal.SIGINT) == signal.default_int_handler:
+        signal.signal(signal.SIGINT, signal.SIG_DFL)
+
+
+def _discard(stream) -> None:
+    """What could not be written is not tried again when Python ends."""
+    null = os.open(os.devnull, os.O_WRONLY)
+    os.dup2(null, stream.fileno())
+    os.close(null)

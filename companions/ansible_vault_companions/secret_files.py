@@ -4,7 +4,6 @@ from __future__ import annotations
 
 import argparse
 import os
-import stat
 from typing import NamedTuple
 
 # One byte more than a password file may have: a longer one is refused by the tool.
@@ -18,7 +17,7 @@ class Secret(NamedTuple):
     path: str
     # As the command line has it.
     given: str
-    # Of a password that is kept in memory.
+    # Of the password, which is kept in memory; None where the file cannot be read.
     descriptor: int | None = None
 
     def option(self, name: str = "--vault-id", label: str | None = None) -> str:
@@ -65,11 +64,11 @@ def _of_path(path: str) -> Secret:
 
 
 def _kept(secret: Secret) -> Secret:
-    """What can be read but once, as `<(..)`, is kept in memory for all runs of the tool. What cannot be
-    opened is left to the tool to refuse."""
+    """The password is kept in memory for all runs of the tool: the file may be one that can be read but
+    once, as `<(..)`, or be gone before the last run. What cannot be read is left to the tool to refuse."""
+    if secret.path == "prompt":
+        return secret
     try:
-        if stat.S_ISREG(os.stat(secret.path).st_mode):
-            return secret
         with open(secret.path, "rb") as file:
             password = file.read(READ_AT_MOST)
     except OSError:

@@ -13,11 +13,11 @@ import time
 from contextlib import suppress
 from typing import Iterable, NoReturn
 
-# All that end a program by default and can be noted.
-ENDING = [
-    getattr(signal, f"SIG{name}")
-    for name in ("HUP", "INT", "QUIT", "TERM", "ALRM", "USR1", "USR2", "XCPU", "VTALRM", "PROF", "IO")
-]
+# Those that cannot be noted, that end no program by default, and that a fault of Python itself would
+# raise again at once.
+NOT_NOTED = ("KILL", "STOP", "CHLD", "CONT", "URG", "WINCH", "TSTP", "TTIN", "TTOU", "SEGV", "BUS", "FPE", "ILL")
+# All others: those of real time among them.
+ENDING = sorted(signal.valid_signals() - {getattr(signal, f"SIG{name}") for name in NOT_NOTED})
 # What a terminal sends to all that run on it.
 KEYS = {signal.SIGINT, signal.SIGQUIT}
 # Seconds.

@@ -16,6 +16,14 @@ from ansible_vault_companions.secret_files import Secret
 NAME = "ansible-vault"
 NOT_OPENED = "no secret decrypts this vault"
 NOT_A_VAULT = "input is not vault encrypted data"
+# The first bytes of a program that the system runs by itself, and so of no script.
+ELF = b"\x7fELF"
+# How the messages of the tool begin that speak of a secret and not of the input.
+OF_SECRETS = ("a password", "a vault id label", "asking for a password")
+
+
+class SecretRefused(Refused):
+    """The tool does not take a secret, whatever it is to open."""
 
 
 class Tool:
@@ -26,9 +34,7 @@ class Tool:
         path = next((each for each in beside if os.access(each, os.X_OK)), None) or shutil.which(NAME)
         if path is None:
             raise Refused(f"there is no {NAME} beside this program and on PATH")
-        silent = {"stdin": subprocess.DEVNULL, "stderr": subprocess.DEVNULL}
-        told = stopping.run([path, "--version"], stdout=subprocess.PIPE, **silent).stdout
-        if not re.match(rb"ansible-vault \d", told):
+        if not (_has_messages(path) or _says_its_name(path)):
             raise Refused(f"{path} is another tool of this name")
         self.path = path
 
@@ -38,17 +44,23 @@ class Tool:
         kept = [secret.descriptor for secret in secrets if secret.descriptor is not None]
         done = stopping.run([self.path, *words], data, pass_fds=kept, **pipes)
         if done.returncode != 0:
-            raise Refused(_message(done))
+            raise _refusal(done)
         return done.stdout
 
     def view(self, envelope: bytes, secret: Secret) -> bytes:
-        return self.run(["view", secret.option()], envelope, [secret])
+        """The plaintext, by this secret."""
+        try:
+            return self.run(["view", secret.option()], envelope, [secret])
+        except SecretRefused as fault:
+            raise SecretRefused(f"{secret.given}: {fault}") from None
 
     def accept(self, secrets: list[Secret]) -> None:
-        """Refuses a secret that the tool refuses, by its name: with no input the secrets alone are looked at."""
+        """Refuses a secret that the tool refuses: with no input the secrets alone are looked at."""
         for secret in secrets:
             try:
                 self.view(b"", secret)
+            except SecretRefused:
+                raise
             except Refused as fault:
                 if str(fault) != NOT_A_VAULT:
                     raise Refused(f"{secret.given}: {fault}") from None
@@ -64,30 +76,38 @@ class Tool:
                     raise
         raise Refused(NOT_OPENED)
 
-    def is_opened(self, envelope: bytes, secret: Secret) -> bool:
-        try:
-            self.open(envelope, [secret])
-        except Refused as fault:
-            if str(fault) != NOT_OPENED:
-                raise
-            return False
-        return True
-
     def seal(self, plaintext: bytes, secret: Secret, label: str) -> bytes:
         """The plaintext under a secret and this label."""
         return self.run(["encrypt", secret.option(label=label)], plaintext, [secret])
 
-    def rekey(self, envelope: bytes, secrets: list[Secret], new: Secret) -> bytes:
+    def rekey(self, envelope: bytes, old: Secret, new: Secret) -> bytes:
         """The same plaintext under a new secret."""
-        words = ["rekey", *(secret.option() for secret in secrets), new.option("--new-vault-id")]
-        return self.run(words, envelope, [*secrets, new])
+        return self.run(["rekey", old.option(), new.option("--new-vault-id")], envelope, [old, new])
 
 
-def _message(done: subprocess.CompletedProcess) -> str:
-    text = done.stderr.decode(errors="replace").strip()
+def _refusal(done: subprocess.CompletedProcess) -> Refused:
     if done.returncode < 0:
-        text = f"{NAME} was ended by signal {-done.returncode}"
-    return text.removeprefix("ERROR! ") or f"{NAME} ended with status {done.returncode}"
+        return Refused(f"{NAME} was ended by signal {-done.returncode}")
+    text = done.stderr.decode(errors="replace").strip().removeprefix("ERROR! ")
+    if text.startswith(OF_SECRETS):
+        return SecretRefused(text)
+    return Refused(text or f"{NAME} ended with status {done.returncode}")
+
+
+def _has_messages(path: str) -> bool:
+    """Whether it is a program with a message of the tool in it, so that it need not be started to know it."""
+    try:
+        with open(path, "rb") as file:
+            program = file.read()
+    except OSError:
+        return False
+    return program.startswith(ELF) and NOT_OPENED.encode() in program
+
+
+def _says_its_name(path: str) -> bool:
+    silent = {"stdin": subprocess.DEVNULL, "stderr": subprocess.DEVNULL}
+    told = stopping.run([path, "--version"], stdout=subprocess.PIPE, **silent).stdout
+    return re.match(rb"ansible-vault \d", told) is not None
 
 
 def _folders(program: str) -> Iterator[str]:

@@ -96,8 +96,9 @@ def no_blocks_of_lines(cases: Companions) -> None:
             cases.ended(name, place.run(ROTATE, *both, "."), 1, "./vars.yml:", summary(0, failed=1))
             cases.check(f"{name}: it stays", place.get("vars.yml"), content)
             if b";prod" in content:
+                place.put("a.yml", sealed("old"))
                 done = place.run(ROTATE, *to_new(place), ".")
-                cases.ended(f"{name}: another label", done, 0, summary(0, 0, 1, " (prod 1)"))
+                cases.ended(f"{name}: another label", done, 0, summary(1, 0, 1, " (prod 1)"))
             done = place.run(CHECK, *place.by_file("old"), "vars.yml")
             cases.ended(f"{name}: it is not passed over", done, 1, "0 opened, 1 not")
 

@@ -17,8 +17,8 @@ def labels_and_secrets(cases: Companions) -> None:
         wanted = [
             f"./a.yml: default: opened by {old}",
             f"./b.yml: prod: opened by {prod}",
-            f"./c.yml:3: dev: opened by {dev}",
-            f"./c.yml:{line}: strange: opened by {prod}",
+            f"./c.yml:3: secret: dev: opened by {dev}",
+            f"./c.yml:{line}: secret: strange: opened by {prod}",
             f"./d.yml: prod: opened by {old}",
             "5 opened, 0 not",
         ]
@@ -39,8 +39,8 @@ def what_does_not_open(cases: Companions) -> None:
         place.put("a.yml", sealed("old"))
         place.put("b.yml", block("dev", label="dev"))
         done = place.run(CHECK, *place.by_file("old"), ".")
-        cases.ended("a wrong password", done, 1, "./b.yml:2: dev: no secret decrypts this vault\n", "1 opened, 1 not\n")
-        cases.check("is told on standard error", done.stderr, "./b.yml:2: dev: no secret decrypts this vault\n")
+        cases.ended("a wrong password", done, 1, "./b.yml:2: secret: dev: no secret decrypts this vault\n", "1 opened, 1 not\n")
+        cases.check("is told on standard error", done.stderr, "./b.yml:2: secret: dev: no secret decrypts this vault\n")
         done = place.run(CHECK, *place.by_file("old"), "a.yml", "missing")
         cases.ended("what is not there", done, 1, "missing: No such file or directory", "1 opened, 1 not")
         done = place.run(CHECK, *place.by_file("missing"), ".")

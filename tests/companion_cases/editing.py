@@ -55,9 +55,8 @@ def what_stays(cases: Companions) -> None:
     stops = {
         "true": (0, "nothing was changed"),
         CHANGE + "; " + CHANGE.replace("correct/wrong", "wrong/correct"): (0, "nothing was changed"),
-        CHANGE + "; exit 3": (1, "the editor failed"),
+        "exit 3": (1, "the editor failed"),
         'rm "$1"': (1, "left no file"),
-        'printf "\\$ANSIBLE_VAULT" > "$1"': (1, "already vault encrypted"),
         'rm "$1"; mkdir "$1"': (1, "Is a directory"),
     }
     with cases.place() as place:
@@ -120,7 +119,7 @@ def what_cannot_be_removed(cases: Companions) -> None:
         place.environment["EDITOR"] = place.script(f'echo a > "$1"; {lock}', "editor")
         done = place.as_nobody(EDIT, *place.by_file("old"), "new.yml")
         cases.ended("a folder that cannot be removed", done, 1, f"plaintext is left in {place.runtime}/ansible-vault-")
-        cases.check("and no vault is made", place.names(), [])
+        cases.check("but the vault is made", opened("old", place.get("new.yml")), b"a\n")
 
 
 def labels(cases: Companions) -> None:

@@ -14,9 +14,15 @@ def with_hook(place: Place) -> None:
     (place.tree / ".git/hooks/pre-commit").symlink_to(place.tools / HOOK)
 
 
-def refused(cases: Companions, what: str, done, *names: str, why: str = "is not encrypted") -> None:
-    lines = [f"ansible-vault-hook: {name} {why}" for name in names]
+def refused(cases: Companions, what: str, done, *names: str, why: str = "is not encrypted", hint: str = "") -> None:
+    """Each name with the reason, and with the hint below it."""
+    lines = [line for name in names for line in (f"ansible-vault-hook: {name} {why}", hint) if line]
     cases.check(what, (done.returncode, done.stderr.splitlines()), (1, lines))
+
+
+def unmarking(name: str) -> str:
+    """The hint for a file that stands beside a vault."""
+    return f"  encrypt it, or unmark it by a last line of .gitattributes: /{name} !diff !ansible-vault"
 
 
 def what_is_refused(cases: Companions) -> None:
@@ -73,7 +79,8 @@ def links(cases: Companions) -> None:
         cases.silent("links", add_and_commit(place))
         os.unlink(place.tree / "link.vault.yml")
         place.put("link.vault.yml", TEXT)
-        refused(cases, "a file in the place of a link", add_and_commit(place), "link.vault.yml")
+        hint = unmarking("link.vault.yml")
+        refused(cases, "a file in the place of a link", add_and_commit(place), "link.vault.yml", hint=hint)
 
 
 def blocks(cases: Companions) -> None:

@@ -74,12 +74,18 @@ def again(cases: Companions) -> None:
 
 
 def nothing(cases: Companions) -> None:
+    """A new secret whose label nothing has may be a slip."""
+    why = "ansible-vault-rotate: nothing has the label "
     with cases.place() as place:
-        cases.ended("an empty tree", place.run(ROTATE, *to_new(place), "."), 0, summary(0))
+        cases.ended("an empty tree", place.run(ROTATE, *to_new(place), "."), 1, summary(0), f"{why}default\n")
         place.put("plain.yml", TEXT)
         place.put("empty.yml", b"")
-        done = place.shell(f"set -e; {ROTATE} {' '.join(to_new(place))} . | cat", "bash")
-        cases.ended("no vault", done, 0, summary(0))
+        cases.ended("no vault", place.run(ROTATE, *to_new(place), "."), 1, summary(0), f"{why}default\n")
+        place.put("a.yml", sealed("old"))
+        slip = [*to_new(place), *place.by_id("prd", "prod2", "new-")]
+        done = place.run(ROTATE, *slip, ".")
+        cases.ended("a label that nothing has", done, 1, summary(1), f"{why}prd\n")
+        cases.check("the others are rotated", opened("new", place.get("a.yml")), TEXT)
 
 
 def failures(cases: Companions) -> None:
@@ -202,12 +208,15 @@ def changed_meanwhile(cases: Companions) -> None:
 def closed_output(cases: Companions) -> None:
     """Where nobody reads on, the files are whole, and nothing is left."""
     with cases.place() as place:
-        for number in range(6):
+        for number in range(12):
             place.put(f"{number}.yml", sealed("old"))
-        done = place.shell(f"{ROTATE} --jobs 2 {' '.join(to_new(place))} . | :; echo ${{PIPESTATUS[0]}}", "bash")
-        cases.check("it fails, and says no more", (done.stdout, done.stderr), ("1\n", ""))
+        done = place.shell(f"{ROTATE} --jobs 1 {' '.join(to_new(place))} . | :; echo ${{PIPESTATUS[0]}}", "bash")
+        why = "ansible-vault-rotate: standard output cannot be written: Broken pipe\n"
+        cases.check("it fails, and says why", (done.stdout, done.stderr), ("1\n", why))
         whole = [TEXT in (opened("old", content), opened("new", content)) for content in place.files().values()]
-        cases.check("each vault is whole", whole, [True] * 6)
+        cases.check("each vault is whole", whole, [True] * 12)
+        is_old = [opened("old", content) == TEXT for content in place.files().values()]
+        cases.holds("and those that were not begun are not", True in is_old, repr(is_old))
 
 
 def command_line(cases: Companions) -> None:

@@ -1,0 +1,106 @@
+"""What is plaintext where an envelope is to be. No secret is needed to see it."""
+
+from __future__ import annotations
+
+import binascii
+import re
+from collections import Counter
+
+from ansible_vault_companions.envelopes import MAGIC, Envelope, envelopes
+from ansible_vault_companions.program import shown
+
+# The attributes of git that mark a file: the first lets it be YAML with blocks, the second a vault alone.
+DIFF, VAULT_ALONE = "diff", "ansible-vault"
+
+NOT_ENCRYPTED = "is not encrypted"
+DAMAGED = "is a damaged vault"
+UNMERGED = "has git's merge marks"
+
+HEADER = re.compile(rb"\$ANSIBLE_VAULT;1\.(?:1;AES256|2;AES256;[^;\r\n]{1,128})[ \t]*(?=[\r\n]|\Z)")
+# Lengths in bytes.
+TAG_LENGTH = 32
+CIPHER_BLOCK = 16
+MERGE_MARK = re.compile(rb"^(?:<<<<<<<|>>>>>>>|\|\|\|\|\|\|\|)(?:[ \t][^\r\n]*)?\r?$", re.MULTILINE)
+# What stands behind a block, up to its first character.
+NEXT_LINE = re.compile(rb"(?:\r?\n[ \t]*(?=[\r\n]))*\r?\n(?P<spaces> *)\S")
+# A variable of YAML and what it has in its line.
+VARIABLE = re.compile(
+    rb"^[ \t]*(?:-[ \t]+)*(?P<name>\"[^\"\r\n]*\"|'[^'\r\n]*'|[^\s\"'#-][^\s:#]*)[ \t]*:(?=[ \t\r\n]|\Z)", re.MULTILINE
+)
+ITEM = re.compile(rb"^[ \t]*-[ \t]", re.MULTILINE)
+
+
+def is_whole(text: bytes) -> bool:
+    """Whether an envelope has a header, and behind it nothing but the digits of salt, tag and ciphertext."""
+    header = HEADER.match(text)
+    if not header:
+        return False
+    try:
+        inner = binascii.unhexlify(text[header.end() :].translate(None, b"\r\n"))
+        salt, tag, ciphertext = map(binascii.unhexlify, inner.split(b"\n", 2))
+    except ValueError:
+        return False
+    return bool(salt and ciphertext) and len(tag) == TAG_LENGTH and len(ciphertext) % CIPHER_BLOCK == 0
+
+
+def is_unmerged(text: bytes) -> bool:
+    """Whether git has left the marks of a merge in it."""
+    return MERGE_MARK.search(text) is not None
+
+
+def fault_of_marked(content: bytes, marks: set[str]) -> str | None:
+    """Why a file with these attributes is refused."""
+    if is_whole(content):
+        return None
+    if content.startswith(MAGIC):
+        return DAMAGED
+    found = envelopes(content)
+    if not found or VAULT_ALONE in marks:
+        return NOT_ENCRYPTED
+    if is_unmerged(content):
+        return UNMERGED
+    damaged = next((each for each in found if not _is_whole_block(content, each)), None)
+    return f"has a damaged block in line {damaged.line}" if damaged else None
+
+
+def _is_whole_block(content: bytes, block: Envelope) -> bool:
+    """Whether its lines are those of an envelope, and no line of the same text follows them."""
+    following = NEXT_LINE.match(content, block.end)
+    is_longer = bool(block.spaces and following) and len(following["spaces"]) >= len(block.spaces)
+    return not block.obstacle and is_whole(block.text) and not is_longer
+
+
+def decrypted(before: bytes, after: bytes) -> str | None:
+    """What was encrypted in a file and is not any longer; a variable that has gone is none."""
+    if is_whole(before):
+        is_plain = bool(after.strip()) and not is_whole(after)
+        return "was a vault in the parent commit, and is none now" if is_plain else None
+    if before.startswith(MAGIC):
+        return None
+    names = _now_plain(before, after)
+    return f"has {', '.join(names)} in plaintext, encrypted in the parent commit" if names else None
+
+
+def _now_plain(before: bytes, after: bytes) -> list[str]:
+    """The variables of which fewer are encrypted than before, and more are not."""
+    encrypted = _encrypted(before)
+    if not encrypted:
+        return []
+    still, lines, lines_before = _encrypted(after), _lines(after), _lines(before)
+    return [
+        shown(name) if name else "an item of a list"
+        for name, count in encrypted.items()
+        if still[name] < count and lines[name] - still[name] > lines_before[name] - count
+    ]
+
+
+def _encrypted(content: bytes) -> Counter[str | None]:
+    """How many envelopes each variable has; those of lists have no name."""
+    return Counter(each.name for each in envelopes(content) if each.name or not each.obstacle)
+
+
+def _lines(content: bytes) -> Counter[str | None]:
+    """How many lines each variable has, and how many items of lists have no name."""
+    names = [found["name"].strip(b"\"'").decode(errors="backslashreplace") for found in VARIABLE.finditer(content)]
+    unnamed = sum(1 for found in ITEM.finditer(content) if not VARIABLE.match(content, found.start()))
+    return Counter(names) + Counter({None: unnamed})

@@ -1,0 +1,144 @@
+"""How a file takes the place of another: it is written whole beside it, and then renamed."""
+
+from __future__ import annotations
+
+import errno
+import os
+import re
+import stat
+import tempfile
+
+from ansible_vault_companions import files
+from ansible_vault_companions.program import Refused
+
+PREFIX = ".ansible-vault-"
+# What says that a file system has no hard links.
+NO_LINKS = (errno.EPERM, errno.EOPNOTSUPP, errno.ENOSYS, errno.EMLINK)
+
+
+class Changed(Refused):
+    """The file is no longer what it was when it was read."""
+
+
+def replace(path: str, content: bytes, before: bytes | None) -> None:
+    """Puts content in the place of what stands there, and still is as it was read; links are followed. The
+    folder is synced, so that the old content does not come back after a power failure."""
+    target = os.path.realpath(path)
+    beside = _write_beside(target, content)
+    try:
+        if files.read(target) != before:
+            raise Changed("it was changed meanwhile")
+        if before is None:
+            _make(beside, target)
+        else:
+            os.replace(beside, target)
+    except BaseException:
+        os.unlink(beside)
+        raise
+    _sync(os.path.dirname(target))
+
+
+def rehearse(target: str) -> None:
+    """Refuses now what `replace` would refuse."""
+    if target in _mount_points():
+        raise Refused("it is mounted by itself, and no file can take its place")
+    os.unlink(_write_beside(target, b""))
+
+
+def keep_somewhere(target: str, content: bytes) -> str:
+    """The path of a new file with this content, for its owner alone: beside the target, or where
+    temporary files stand."""
+    try:
+        return _write_new(os.path.dirname(target), content)
+    except OSError:
+        return _write_new(tempfile.gettempdir(), content)
+
+
+def _make(beside: str, target: str) -> None:
+    """Gives a new file its name, which nobody else may have taken meanwhile."""
+    try:
+        try:
+            os.link(beside, target)
+        except OSError as fault:
+            if fault.errno not in NO_LINKS:
+                raise
+            os.close(os.open(target, os.O_CREAT | os.O_EXCL | os.O_WRONLY, 0o600))
+            os.replace(beside, target)
+            return
+    except FileExistsError:
+        raise Changed("it was made meanwhile") from None
+    os.unlink(beside)
+
+
+def _write_beside(target: str, content: bytes) -> str:
+    """The path of a new file with this content, and with the owner and the mode of the target if there is
+    one; else for its owner alone."""
+    return _write_new(os.path.dirname(target), content, target if os.path.lexists(target) else None)
+
+
+def _write_new(folder: str, content: bytes, like: str | None = None) -> str:
+    descriptor, path = tempfile.mkstemp(prefix=PREFIX, dir=folder)
+    try:
+        with open(descriptor, "wb") as file:
+            file.write(content)
+            file.flush()
+            if like is not None:
+                _take_over(descriptor, like)
+            os.fsync(descriptor)
+    except BaseException:
+        os.unlink(path)
+        raise
+    return path
+
+
+def _take_over(descriptor: int, target: str) -> None:
+    """Owner, mode and attributes (as lists of access), in the order in which each leaves the others."""
+    old, new = os.stat(target), os.fstat(descriptor)
+    if stat.S_ISREG(old.st_mode) and old.st_nlink > 1:
+        raise Refused(f"it has {old.st_nlink} names (hard links), and one alone would change")
+    if (old.st_uid, old.st_gid) != (new.st_uid, new.st_gid):
+        os.fchown(descriptor, old.st_uid, old.st_gid)
+    wanted = _attributes(target)
+    # Those that the folder gives to every new file.
+    for name in set(_attributes(descriptor)) - set(wanted):
+        os.removexattr(descriptor, name)
+    os.fchmod(descriptor, stat.S_IMODE(old.st_mode))
+    for name in wanted:
+        os.setxattr(descriptor, name, os.getxattr(target, name))
+
+
+def _attributes(target: str | int) -> list[str]:
+    """The names of the extended attributes but for those of security modules, which the system gives."""
+    try:
+        return [name for name in os.listxattr(target) if not name.startswith("security.")]
+    except OSError as fault:
+        if fault.errno == errno.ENOTSUP:
+            return []
+        raise
+
+
+def _sync(folder: str) -> None:
+    try:
+        descriptor = os.open(folder, os.O_RDONLY | os.O_DIRECTORY)
+    except PermissionError:
+        # A folder that may be written and not be read.
+        os.sync()
+        return
+    try:
+        os.fsync(descriptor)
+    except OSError as fault:
+        # Some file systems sync no folders.
+        if fault.errno != errno.EINVAL:
+            raise
+    finally:
+        os.close(descriptor)
+
+
+def _mount_points() -> set[str]:
+    try:
+        with open("/proc/self/mountinfo", "rb") as file:
+            fields = [line.split(b" ")[4] for line in file]
+    except OSError:
+        return set()
+    unescaped = (re.sub(rb"\\([0-7]{3})", lambda found: bytes([int(found[1], 8)]), field) for field in fields)
+    return {os.fsdecode(each) for each in unescaped}

@@ -1,0 +1,130 @@
+"""In which forms an envelope may stand in a file, and that none is passed over in silence."""
+
+import sys
+import time
+
+from companion_cases import CHECK, COMPANIONS, ROTATE, TEXT, Companions, block, opened, sealed
+from companion_cases.blocks import BODY, lines_of, texts
+from companion_cases.rotating import summary, to_new
+
+LINE = sealed("old").decode().replace("\n", "\\n")
+COMMENT = b"".join(b"# " + line for line in block("old").splitlines(keepends=True))
+# What stands in a file, and the reason that is told of it.
+REPORTED = {
+    "quotes": (f'a: !vault "{LINE}"\n'.encode(), "in quotes or within a line"),
+    "JSON": (f'{{"a": {{"__ansible_vault": "{LINE}"}}}}\n'.encode(), "encrypt the whole file"),
+    "one line": (b"a: !vault " + sealed("old").replace(b"\n", b" ") + b"\n", "write it as a block"),
+    "a comment": (COMMENT, "an envelope in a comment"),
+    "a comment behind a value": (b"a: 1 # " + sealed("old").replace(b"\n", b" "), "within a line"),
+    "tabs": (b"a: !vault |\n" + BODY.replace(b"          ", b"\t"), "behind tabs; write spaces"),
+    "a folded scalar": (b"a: !vault >\n" + BODY + b"\n", "in a folded scalar"),
+    "a byte order mark": (b"\xef\xbb\xbf" + sealed("old"), "behind a byte order mark"),
+    "UTF-16": ("\ufeff".encode("utf-16-le") + block("old").decode().encode("utf-16-le"), "write the file in UTF-8"),
+    "UTF-16, big-endian": (block("old").decode().encode("utf-16-be"), "write the file in UTF-8"),
+}
+
+
+def reported(cases: Companions) -> None:
+    for name, (content, why) in REPORTED.items():
+        with cases.place() as place:
+            place.put("vars.yml", content)
+            done = place.run(ROTATE, *to_new(place), ".")
+            cases.ended(f"{name}: rotated", done, 1, "./vars.yml", why, summary(0, failed=1))
+            cases.check(f"{name}: it stays", place.get("vars.yml"), content)
+            done = place.run(CHECK, *place.by_file("old"), ".")
+            cases.ended(f"{name}: checked", done, 1, "./vars.yml", why, "0 opened, 1 not")
+
+
+def several_in_a_line(cases: Companions) -> None:
+    """Each is looked at, with its own label."""
+    lines = [LINE, sealed("prod", label="prod").decode().replace("\n", "\\n")]
+    with cases.place() as place:
+        for name, order in (("a.json", lines), ("b.json", lines[::-1])):
+            place.put(name, "{{{}}}".format(", ".join(f'"x": "{line}"' for line in order)).encode())
+        place.put("c.json", f'{{"x": "{LINE}", "y": "{LINE}"}}'.encode())
+        done = place.run(ROTATE, *to_new(place), ".")
+        told = summary(0, 0, 2, " (prod 2)", 4)
+        cases.ended("minified JSON", done, 1, "./a.json:1: ", "./b.json:1: ", "./c.json:1: ", told)
+
+
+def taken_as_blocks(cases: Companions) -> None:
+    """A block within another text is one, too."""
+    text = b"script: |\n  x: !vault |\n" + lines_of(sealed("old"), 6) + b"\n  y: 1\n"
+    with cases.place() as place:
+        place.put("vars.yml", text)
+        cases.ended("within a text", place.run(ROTATE, *to_new(place), "."), 0, "1 block rotated", summary(1))
+        cases.check("it is rotated", texts(place.get("vars.yml"), "new"), [TEXT])
+
+
+def line_ends(cases: Companions) -> None:
+    """A vault keeps its line ends."""
+    with cases.place() as place:
+        place.put("a.yml", sealed("old").replace(b"\n", b"\r\n"))
+        cases.ended("CR LF", place.run(ROTATE, *to_new(place), "."), 0, summary(1))
+        after = place.get("a.yml")
+        cases.check("each line ends so", after.count(b"\r\n"), after.count(b"\n"))
+        cases.check("it is rotated", opened("new", after.replace(b"\r\n", b"\n")), TEXT)
+
+
+# Pieces of hostile files, of which each is repeated.
+PIECES = [
+    b"$ANSIBLE_VAULT;",
+    b"$ANSIBLE_VAULT;1.1;AES256",
+    b"$ANSIBLE_VAULT;1.1;AES256\n",
+    b"  $ANSIBLE_VAULT;1.1;AES256\n  6162\n",
+    b'"$ANSIBLE_VAULT;1.1;AES256\\n' + b"61" * 40 + b'", ',
+    b"$ANSIBLE_VAULT;1.1;AES256 " + b"61" * 16 + b" ",
+    b"a: !vault |\n  $ANSIBLE_VAULT;1.1;AES256\n  6162\n",
+    b" " * 4000 + b"$ANSIBLE_VAULT;1.1;AES256\n",
+    b"!vault &" + b"x" * 4000 + b"\n$ANSIBLE_VAULT;1.1;AES256\n",
+    b"!vault | ",
+    b"!vault &a ",
+    b"&",
+    b" ",
+    b"\t",
+    b"\n",
+    b"\r\n",
+    b"- ",
+    b"a: b\n",
+    b"61",
+    b"<<<<<<< ",
+]
+SMALL = 1 << 16
+TIMES = 8
+# The larger is eight times as long; with quadratic steps it would take 64 times as long.
+MOST = 24
+
+
+def seconds(work, data: bytes) -> float:
+    """Of the processor, so that others on the machine count for little."""
+    taken = []
+    for _ in range(2):
+        begun = time.process_time()
+        work(data)
+        taken.append(time.process_time() - begun)
+    return min(taken)
+
+
+def linear_time(cases: Companions) -> None:
+    """Eight times as long a file takes eight times as long, whatever it holds."""
+    sys.path.insert(0, str(COMPANIONS))
+    from ansible_vault_companions import envelopes, leaks
+
+    start = b"x: !vault |\n  $ANSIBLE_VAULT;1.1;AES256\n  61\n"
+    works = {
+        "the envelopes": envelopes.envelopes,
+        "behind a first line": lambda data: envelopes.envelopes(b"x: 1\n" + data),
+        "a marked file": lambda data: leaks.fault_of_marked(b"x: 1\n" + data, {"diff"}),
+        "what is decrypted": lambda data: leaks.decrypted(start + data, b"x: 1\n" + data),
+        "a whole vault": lambda data: leaks.is_whole(b"$ANSIBLE_VAULT;1.1;AES256\n" + data),
+        "merge marks": leaks.is_unmerged,
+    }
+    for piece in PIECES:
+        small = (piece * (SMALL // len(piece) + 1))[:SMALL]
+        for name, work in works.items():
+            times = [seconds(work, small), seconds(work, small * TIMES)]
+            # Below a few milliseconds the clock says little.
+            cases.holds(f"{name}: {piece[:30]!r}", times[1] < 0.02 or times[1] < MOST * times[0], repr(times))
+
+
+GROUPS = [reported, several_in_a_line, taken_as_blocks, line_ends, linear_time]

@@ -1,0 +1,144 @@
+"""ansible-vault-hook in a pipeline (--all, --since), and how it is installed."""
+
+import os
+
+from companion_cases import HOOK, TEXT, Companions, Place, block, sealed
+from companion_cases.hook import all_of_git, refused, unmarking
+from companion_cases.leaks import IN_PART, MEANT, WHOLE, again
+from companion_cases.repository import add_and_commit, commit, under_git
+
+ATTRIBUTES = "*.vault.yml diff=ansible-vault\n"
+
+
+def committed(place: Place, name: str, content: bytes) -> str:
+    """The commit that has this, whatever a hook says."""
+    place.put(name, content)
+    place.shell("git add -A && git commit -qm change --no-verify")
+    return place.shell("git rev-parse HEAD").stdout.strip()
+
+
+def every_file(cases: Companions) -> None:
+    """The second of the usual leaks: a pipeline that sees what no hook saw."""
+    with cases.place() as place:
+        under_git(place, ATTRIBUTES)
+        committed(place, "a.vault.yml", sealed("old"))
+        committed(place, "vars.yml", block("old"))
+        committed(place, "deep/b.vault.yml", block("old"))
+        cases.silent("all is well", place.run(HOOK, "--all"))
+        committed(place, "deep/c.vault.yml", TEXT)
+        committed(place, "other.yml", TEXT)
+        (place.tree / "link.vault.yml").symlink_to("other.yml")
+        committed(place, "vars.yml", b"secret: plain\n")
+        names = ("deep/c.vault.yml", "vars.yml")
+        done = place.shell(f"{HOOK} --all", folder="deep")
+        lines = [f"{HOOK}: deep/c.vault.yml is not encrypted", f"{HOOK}: vars.yml {IN_PART.format('secret')}", MEANT]
+        cases.check("each is refused", (done.returncode, done.stderr.splitlines()), (1, lines))
+        # The commit counts, and neither the index nor the folder.
+        for name in names:
+            place.put(name, sealed("old"))
+        place.shell("git add -A")
+        cases.check("what is staged does not count", place.run(HOOK, "--all").stderr.splitlines(), lines)
+        cases.silent("it is staged still", place.run(HOOK))
+        cases.check("and the index stays", place.shell("git diff --cached --name-only").stdout.split(), list(names))
+        place.shell("git commit -qm mended")
+        cases.silent("all is well again", place.run(HOOK, "--all"))
+
+
+def each_commit(cases: Companions) -> None:
+    """Also one that a later commit takes back: history keeps it."""
+    with cases.place() as place:
+        under_git(place, ATTRIBUTES)
+        first = committed(place, "vars.yml", sealed("old"))
+        cases.silent("nothing since", place.run(HOOK, "--since", "HEAD"))
+        leak = committed(place, "vars.yml", TEXT)
+        committed(place, "vars.yml", sealed("new"))
+        refused(cases, "taken back", place.run(HOOK, "--since", first), f"{leak[:10]}: vars.yml", why=WHOLE, hint=MEANT)
+        cases.silent("--all sees it no more", place.run(HOOK, "--all"))
+        cases.silent("and neither what came before", place.run(HOOK, "--since", leak))
+        marked = committed(place, "a.vault.yml", TEXT)
+        done = place.run(HOOK, "--since", leak)
+        refused(cases, "one that is marked", done, f"{marked[:10]}: a.vault.yml", hint=unmarking("a.vault.yml"))
+        for name in ("nowhere", "--all"):
+            cases.ended(f"--since={name}", place.run(HOOK, f"--since={name}"), 1, "ansible-vault-hook: git rev-parse failed")
+        place.shell("git checkout -q --orphan empty && git commit -qm one")
+        done = place.run(HOOK, "--since", first)
+        cases.ended("a first commit", done, 1, "a.vault.yml is not encrypted")
+
+
+def cherry_picks(cases: Companions) -> None:
+    """git runs no hook for these; --since sees them."""
+    with cases.place() as place:
+        under_git(place, "")
+        place.shell(f"{HOOK} --install")
+        base = committed(place, "vars.yml", sealed("old"))
+        place.shell("git checkout -qb branch")
+        leak = committed(place, "vars.yml", TEXT)
+        place.shell(f"git checkout -q - && git cherry-pick {leak}")
+        picked = place.shell("git rev-parse HEAD").stdout.strip()
+        done = place.run(HOOK, "--since", base)
+        refused(cases, "a cherry-pick", done, f"{picked[:10]}: vars.yml", why=WHOLE, hint=MEANT)
+        place.shell(f"git reset -q --hard {base} && git commit -q --allow-empty -m x && git merge -q --no-verify branch")
+        done = place.run(HOOK, "--since", base)
+        cases.ended("a merge", done, 1, f"{leak[:10]}: vars.yml {WHOLE}")
+        told = " ".join(place.run(HOOK, "--help").stdout.split())
+        for part in ("--no-verify", "cherry-pick", "rebase", "fast-forward"):
+            cases.holds(f"the help speaks of {part}", part in told, told)
+
+
+def shallow_clones(cases: Companions) -> None:
+    """As pipelines have them."""
+    with cases.place() as place:
+        under_git(place, ATTRIBUTES)
+        committed(place, "a.vault.yml", sealed("old"))
+        committed(place, "b.vault.yml", TEXT)
+        place.shell("git clone -q --depth 1 file://$PWD ../shallow")
+        done = place.shell(f"cd ../shallow && {HOOK} --all")
+        refused(cases, "a shallow clone", done, "b.vault.yml", hint=unmarking("b.vault.yml"))
+
+
+def installed(cases: Companions) -> None:
+    with cases.place() as place:
+        under_git(place, ATTRIBUTES)
+        for _ in range(2):
+            cases.silent("it is installed", place.run(HOOK, "--install"))
+        hooks = place.tree / ".git/hooks"
+        for name in ("pre-commit", "pre-merge-commit"):
+            cases.check(f"{name} leads to it", os.path.realpath(hooks / name), os.path.realpath(place.tools / HOOK))
+        place.put("a.vault.yml", TEXT)
+        refused(cases, "it works", add_and_commit(place), "a.vault.yml")
+        committed(place, "a.vault.yml", sealed("old"))
+        place.shell("git worktree add -q ../second && echo plain > ../second/b.vault.yml && rm .git/hooks/pre-*commit")
+        cases.silent("from another worktree", place.shell(f"cd ../second && {HOOK} --install"))
+        done = place.shell("cd ../second && git add -A && git commit -qm second")
+        refused(cases, "it works there", done, "b.vault.yml", hint=unmarking("b.vault.yml"))
+        refused(cases, "and in the first", again(place, "a.vault.yml", TEXT), "a.vault.yml")
+
+
+def other_hooks(cases: Companions) -> None:
+    """One that is there stays; the line to add to it is told."""
+    with cases.place() as place:
+        under_git(place, ATTRIBUTES)
+        hook = place.tree / ".git/hooks/pre-commit"
+        hook.parent.mkdir(exist_ok=True)
+        hook.write_text("#!/bin/sh\nexit 0\n")
+        hook.chmod(0o755)
+        done = place.run(HOOK, "--install")
+        cases.ended("a hook that is there", done, 1, f"{hook} is there already; add this line to it: {HOOK} || exit 1\n")
+        cases.check("it stays", hook.read_text(), "#!/bin/sh\nexit 0\n")
+        cases.check("the other is installed", (hook.parent / "pre-merge-commit").is_symlink(), True)
+        hook.write_text(f"#!/bin/sh\n{HOOK} || exit 1\nexit 0\n")
+        place.put("a.vault.yml", TEXT)
+        refused(cases, "the line works", add_and_commit(place), "a.vault.yml")
+    with cases.place() as place:
+        under_git(place, ATTRIBUTES)
+        place.shell("git config core.hooksPath ../my-hooks && mkdir inner")
+        cases.silent("core.hooksPath", place.shell(f"{HOOK} --install"))
+        found = sorted(each.name for each in (place.path / "my-hooks").iterdir())
+        cases.check("is where they are", found, ["pre-commit", "pre-merge-commit"])
+        place.put("inner/a.vault.yml", TEXT)
+        refused(cases, "and they run", add_and_commit(place), "inner/a.vault.yml")
+        place.shell("git rm -qf --cached inner/a.vault.yml")
+        cases.silent("nothing else is refused", commit(place, "--allow-empty"))
+
+
+GROUPS = [*map(all_of_git, [every_file, each_commit, cherry_picks, shallow_clones, installed, other_hooks])]

@@ -1,0 +1,196 @@
+"""ansible-vault-edit where a step behind the editor fails: what was typed is not lost."""
+
+import os
+import re
+import shutil
+import subprocess
+from pathlib import Path
+
+from companion_cases import EDIT, Companions, Place, opened, sealed
+from companion_cases.editing import CHANGE, CHANGED, edit
+
+ENCRYPTED = re.compile(r"; what you saved is encrypted in (.+)\n\Z")
+PLAIN = re.compile(r"; what you saved is left in plaintext in (.+)\n\Z")
+
+
+def check_encrypted(cases: Companions, what: str, place: Place, done, why: str, folder: Path) -> None:
+    """The vault stays, and what was saved is in the file that the message names."""
+    cases.ended(what, done, 1, why)
+    found = ENCRYPTED.search(done.stderr)
+    cases.holds(f"{what}: the message says where", found is not None, done.stderr)
+    if not found:
+        return
+    path = place.tree / found[1]
+    cases.check(f"{what}: it stands in its place", path.parent, folder)
+    cases.check(f"{what}: it is the text, encrypted", opened("old", path.read_bytes()), CHANGED)
+    cases.check(f"{what}: for its owner alone", oct(path.stat().st_mode & 0o777), "0o600")
+    cases.check(f"{what}: no plaintext is left", place.left(), [])
+    path.unlink()
+
+
+def check_plain(cases: Companions, what: str, place: Place, done, why: str, text: bytes) -> None:
+    cases.ended(what, done, 1, why)
+    found = PLAIN.search(done.stderr)
+    cases.holds(f"{what}: the message says where", found is not None, done.stderr)
+    if found:
+        [path] = Path(found[1]).iterdir()
+        cases.check(f"{what}: it is the text", path.read_bytes(), text)
+        modes = [oct(each.stat().st_mode & 0o777) for each in (path.parent, path)]
+        cases.check(f"{what}: for its owner alone", modes, ["0o700", "0o600"])
+        shutil.rmtree(path.parent)
+
+
+def replacing_fails(cases: Companions) -> None:
+    """The new envelope is kept beside the vault."""
+    stops = {
+        "the editor fails": (f"{CHANGE}; exit 3", "the editor failed"),
+        "a hard link": (f"{CHANGE}; ln all.yml ../second", "it has 2 names (hard links)"),
+        "another change": (f"{CHANGE}; echo >> all.yml", "it was changed meanwhile"),
+        "a folder in its place": (f"{CHANGE}; rm all.yml; mkdir all.yml", "Is a directory"),
+        "it is gone": (f"{CHANGE}; rm all.yml", "it was changed meanwhile"),
+    }
+    for what, (editor, why) in stops.items():
+        with cases.place() as place:
+            place.put("all.yml", sealed("old"), 0o600)
+            done = edit(place, editor, *place.by_file("old"), "all.yml")
+            check_encrypted(cases, what, place, done, why, place.tree)
+            if what in ("the editor fails", "a hard link"):
+                cases.check(f"{what}: the vault stays", place.get("all.yml"), sealed("old"))
+
+
+def made_meanwhile(cases: Companions) -> None:
+    """A new vault never takes the place of one that came meanwhile, whenever it came."""
+    with cases.place() as place:
+        done = edit(place, 'echo a > "$1"; echo theirs > new.yml', *place.by_file("old"), "new.yml")
+        cases.ended("made while the editor runs", done, 1, "new.yml: it was changed meanwhile", "is encrypted in")
+        cases.check("it stays", place.get("new.yml"), b"theirs\n")
+    with cases.place() as place:
+        # It comes between the last look at the folder and the end of it.
+        editor = place.script('echo a > "$1"; touch ../started', "editor")
+        late = f"""
+read = files.read
+def late(path):
+    found = read(path)
+    if os.path.exists("../started") and path == {str(place.tree / "new.yml")!r}:
+        open(path, "x").write("theirs")
+    return found
+files.read = late
+"""
+        done = run_changed(place, EDIT, late, [*place.by_file("old"), "new.yml"], EDITOR=editor)
+        cases.ended("made at the last moment", done, 1, "new.yml: it was made meanwhile", "is encrypted in")
+        cases.check("it stays", place.get("new.yml"), b"theirs")
+
+
+def run_changed(place: Place, companion: str, change: str, words: list[str], **variables: str):
+    """Runs a companion whose modules `files` and `replacing` are changed by this text."""
+    text = f"""
+import os, runpy, sys
+sys.argv = sys.argv[1:]
+sys.path[0] = os.path.dirname(os.path.realpath(sys.argv[0]))
+from ansible_vault_companions import files, replacing
+{change}
+runpy.run_path(sys.argv[0], run_name="__main__")
+"""
+    script = place.script(text, "changed", "/usr/bin/env -S python3 -ISB")
+    return place.run(script, str(place.tools / companion), *words, **variables)
+
+
+def full_and_read_only_folders(cases: Companions) -> None:
+    """Where nothing can be written beside the vault, it is kept in $TMPDIR."""
+    with cases.place() as place:
+        temporary = place.path / "temporary"
+        for folder in (place.tree, place.runtime, temporary):
+            folder.mkdir(exist_ok=True)
+            folder.chmod(0o777)
+        place.put("all.yml", sealed("old"), 0o644)
+        if os.geteuid() == 0:
+            os.chown(place.tree / "all.yml", 65_534, 65_534)
+            os.chown(place.tree, 65_534, 65_534)
+        place.environment |= {
+            "EDITOR": place.script(f"{CHANGE}; chmod 555 .", "editor"),
+            "TMPDIR": str(temporary),
+        }
+        done = place.as_nobody(EDIT, *place.by_file("old"), "all.yml")
+        check_encrypted(cases, "a read-only folder", place, done, "Permission denied", temporary)
+        cases.check("the vault stays", place.get("all.yml"), sealed("old"))
+        place.tree.chmod(0o777)
+    full = "def full(*words): raise OSError(28, 'No space left on device')\nreplacing._write_beside, rehearse = full, 0\n"
+    full += "replacing.rehearse = lambda target: None\n"
+    with cases.place() as place:
+        place.put("all.yml", sealed("old"))
+        editor = place.script(CHANGE, "editor")
+        done = run_changed(place, EDIT, full, [*place.by_file("old"), "all.yml"], EDITOR=editor)
+        check_encrypted(cases, "no space", place, done, "No space left on device", place.tree)
+        full += "replacing._write_new = full\n"
+        done = run_changed(place, EDIT, full, [*place.by_file("old"), "all.yml"], EDITOR=editor)
+        check_plain(cases, "no space anywhere", place, done, "No space left on device", CHANGED)
+        cases.check("the vault stays", place.get("all.yml"), sealed("old"))
+
+
+def mounted_vaults(cases: Companions) -> None:
+    """No file can take the place of one that is mounted by itself, as containers have it."""
+    if os.geteuid() != 0 or subprocess.run(["unshare", "-m", "true"], capture_output=True).returncode != 0:
+        cases.left_out("mounted vaults", "the user may mount nothing")
+        return
+    with cases.place() as place:
+        place.put("all.yml", sealed("old"))
+        words = f"{EDIT} {' '.join(place.by_file('old'))} all.yml"
+        place.environment["EDITOR"] = place.script(f"touch ../started; {CHANGE}", "editor")
+        done = place.run("unshare", "-m", "sh", "-c", f"mount --bind all.yml all.yml && {words}")
+        cases.ended("a mounted vault", done, 1, "all.yml: it is mounted by itself")
+        cases.check("it is seen before the editor starts", (place.path / "started").exists(), False)
+        place.environment["EDITOR"] = place.script(f"{CHANGE}; mount --bind all.yml all.yml", "editor")
+        done = place.run("unshare", "-m", "sh", "-c", words)
+        check_encrypted(cases, "mounted meanwhile", place, done, "Device or resource busy", place.tree)
+        cases.check("the vault stays", place.get("all.yml"), sealed("old"))
+
+
+def sealing_fails(cases: Companions) -> None:
+    """The private folder stays, since there is no other copy."""
+    vault = b"$ANSIBLE_VAULT\n"
+    with cases.place() as place:
+        place.put("all.yml", sealed("old"))
+        done = edit(place, 'printf "\\$ANSIBLE_VAULT\\n" > "$1"', *place.by_file("old"), "all.yml")
+        check_plain(cases, "a text like a vault", place, done, "already vault encrypted", vault)
+        place.stand_before_tool('[ "$1" != encrypt ] || { echo "ERROR! out of memory" >&2; exit 4; }')
+        done = edit(place, CHANGE, *place.by_file("old"), "all.yml")
+        check_plain(cases, "the tool fails", place, done, "out of memory", CHANGED)
+        done = edit(place, f"{CHANGE}; exit 3", *place.by_file("old"), "all.yml")
+        check_plain(cases, "the tool and the editor fail", place, done, "out of memory", CHANGED)
+        cases.check("the vault stays", place.get("all.yml"), sealed("old"))
+
+
+def lost_passwords(cases: Companions) -> None:
+    """A password file that goes while the editor runs is needed no more."""
+    with cases.place() as place:
+        place.put("all.yml", sealed("old"))
+        editor = f"{CHANGE}; rm {place.secret('old')}"
+        cases.silent("a password file that goes", edit(place, editor, *place.by_file("old"), "all.yml"))
+        cases.check("the text is changed", opened("old", place.get("all.yml")), CHANGED)
+
+
+def busy_helpers(cases: Companions) -> None:
+    """What the editor leaves running may write while the folder is removed."""
+    helper = '(while [ "$n" != 100 ] && mkdir "${1%/*}/$((n += 1))"; do :; done) > /dev/null 2>&1 &'
+    for _ in range(3):
+        with cases.place() as place:
+            place.put("all.yml", sealed("old"))
+            cases.silent("a busy helper", edit(place, f"{CHANGE}; {helper}", *place.by_file("old"), "all.yml"))
+            cases.check("the text is changed", opened("old", place.get("all.yml")), CHANGED)
+            cases.check("the folder is gone", place.left(), [])
+
+
+def warnings(cases: Companions) -> None:
+    """An editor that returns at once saves too late; editors and memory keep copies."""
+    with cases.place() as place:
+        place.put("all.yml", sealed("old"))
+        late = '(sleep 0.1; echo late > "$1") 2> /dev/null > /dev/null &'
+        done = edit(place, late, *place.by_file("old"), "all.yml")
+        cases.ended("an editor that returns at once", done, 0, "nothing was changed", "an option to wait")
+        told = " ".join(place.run(EDIT, "--help").stdout.split())
+        for part in ("as `code --wait`", "undo and backup files", "memory may be swapped"):
+            cases.holds(f"the help says `{part}`", part in told, told)
+
+
+GROUPS = [replacing_fails, made_meanwhile, full_and_read_only_folders, mounted_vaults, sealing_fails]
+GROUPS += [lost_passwords, busy_helpers, warnings]

@@ -1,0 +1,190 @@
+"""ansible-vault-hook and what git had as a vault: plaintext in its place needs no mark to be refused."""
+
+import re
+
+from companion_cases import AWKWARD, HOOK, TEXT, Companions, Place, block, sealed
+from companion_cases.hook import all_of_git, refused, unmarking
+from companion_cases.repository import add_and_commit, commit, under_git
+
+WHOLE = "was a vault in the parent commit, and is none now"
+IN_PART = "has {} in plaintext, encrypted in the parent commit"
+MEANT = "  if that is meant, commit with --no-verify"
+
+
+def with_hooks(place: Place, attributes: str = "") -> None:
+    under_git(place, attributes)
+    done = place.shell(f"{HOOK} --install")
+    if done.returncode != 0:
+        raise AssertionError(done.stderr)
+
+
+def again(place: Place, name: str, content: bytes):
+    place.put(name, content)
+    return add_and_commit(place)
+
+
+def unmarked_vaults(cases: Companions) -> None:
+    """The first of the usual leaks: a vault that was decrypted to be looked at, and is committed."""
+    with cases.place() as place:
+        with_hooks(place)
+        place.put("plain.yml", TEXT)
+        cases.silent("a vault", again(place, "group_vars/all.yml", sealed("old")))
+        refused(cases, "plaintext", again(place, "group_vars/all.yml", TEXT), "group_vars/all.yml", why=WHOLE, hint=MEANT)
+        for what, content in {
+            "a part of it": sealed("old")[:-100],
+            "merge marks": sealed("old").replace(b"\n", b"\n<<<<<<< ours\n", 1),
+            "plaintext below": sealed("old") + TEXT,
+            "plaintext with a block": TEXT + block("old"),
+        }.items():
+            done = again(place, "group_vars/all.yml", content)
+            refused(cases, what, done, "group_vars/all.yml", why=WHOLE, hint=MEANT)
+        cases.silent("another vault", again(place, "group_vars/all.yml", sealed("new")))
+        cases.silent("plaintext elsewhere", again(place, "plain.yml", TEXT * 2))
+        place.shell("git rm -q group_vars/all.yml")
+        cases.silent("a removal", commit(place))
+        cases.silent("and plaintext behind it", again(place, "group_vars/all.yml", TEXT))
+
+
+def decrypted_blocks(cases: Companions) -> None:
+    before = b"a: 1\n" + block("old", name="b") + b"c:\n  d:\n" + block("old", name="e") + b"f:\n- " + block("old", name="")
+    before = before.replace(b"- : !vault", b"- !vault")
+    stays = {
+        "as it was": before,
+        "another secret": before.replace(block("old", name="b"), block("new", name="b")),
+        "a variable that has gone": before.replace(block("old", name="b"), b""),
+        "another variable": before + b"g: plain\n",
+        "one more": before + block("old", name="b2"),
+    }
+    plain = {
+        "b": before.replace(block("old", name="b"), b"b: plain\n"),
+        "e": before.replace(block("old", name="e"), b"e: |\n  plain\n"),
+        "b, e": before.replace(block("old", name="b"), b'"b": plain\n').replace(block("old", name="e"), b"e: x\n"),
+        "an item of a list": re.sub(rb"- !vault \|\n(?: .*\n)*", b"- plain\n", before),
+    }
+    with cases.place() as place:
+        with_hooks(place)
+        for what, content in stays.items():
+            again(place, "vars.yml", before)
+            place.put("vars.yml", content)
+            place.shell("git add -A")
+            cases.silent(what, place.run(HOOK))
+        again(place, "vars.yml", before)
+        for name, content in plain.items():
+            done = again(place, "vars.yml", content)
+            refused(cases, name, done, "vars.yml", why=IN_PART.format(name), hint=MEANT)
+
+
+def merges(cases: Companions) -> None:
+    """The third: what comes by a merge, clean or with a conflict, from either side."""
+    with cases.place() as place:
+        with_hooks(place)
+        again(place, "vars.yml", sealed("old"))
+        place.shell("git checkout -qb branch")
+        place.put("vars.yml", TEXT)
+        place.shell("git add -A && git commit -qm plain --no-verify && git checkout -q -")
+        again(place, "other.yml", b"a: 1\n")
+        done = place.shell("git merge --no-edit -q branch")
+        cases.holds("a clean merge is refused", done.returncode != 0, done.stderr)
+        cases.holds("with the reason", f"{HOOK}: vars.yml {WHOLE}\n" in done.stderr, done.stderr)
+        place.shell("git merge --abort || git reset -q --hard")
+    with cases.place() as place:
+        with_hooks(place)
+        again(place, "a.yml", b"a: 1\n")
+        place.shell("git checkout -qb branch")
+        again(place, "vars.yml", sealed("old"))
+        place.shell("git checkout -q -")
+        again(place, "other.yml", b"a: 1\n")
+        # Theirs is the vault, and what is committed in its place is plaintext.
+        place.shell("git merge --no-commit branch")
+        done = again(place, "vars.yml", TEXT)
+        refused(cases, "theirs in plaintext", done, "vars.yml", why=WHOLE, hint=MEANT)
+        place.put("vars.yml", sealed("new"))
+        cases.silent("theirs encrypted", add_and_commit(place))
+    with cases.place() as place:
+        with_hooks(place)
+        again(place, "vars.yml", sealed("old"))
+        for branch, password in (("ours", "new"), ("theirs", "dev")):
+            place.shell(f"git checkout -qb {branch} master 2>/dev/null || git checkout -qb {branch} main")
+            again(place, "vars.yml", sealed(password))
+        place.shell("git merge -q ours")
+        done = add_and_commit(place)
+        refused(cases, "merge marks in a vault", done, "vars.yml", why=WHOLE, hint=MEANT)
+
+
+def marked_content(cases: Companions) -> None:
+    """What is marked needs the digits of an envelope, and neither merge marks nor plaintext between them."""
+    digits = sealed("old").partition(b"\n")[2]
+    damaged = {
+        "a bare header": b"$ANSIBLE_VAULT;1.1;AES256\n",
+        "a word behind the header": b"$ANSIBLE_VAULT;1.1;AES256;pw=plain\n",
+        "a word behind the label": b"$ANSIBLE_VAULT;1.2;AES256;prod;pw=plain\n" + digits,
+        "digits of a text": b"$ANSIBLE_VAULT;1.1;AES256\n" + TEXT.hex().encode() + b"\n",
+        "another version": b"$ANSIBLE_VAULT;2.0;AES256\n" + digits,
+        "a part of the digits": sealed("old")[:200],
+    }
+    lines = block("old").splitlines(keepends=True)
+    between = {
+        "plaintext between": b"".join([*lines[:3], b"          password: plain\n", *lines[3:]]),
+        "plaintext behind": block("old") + b"          password: plain\n",
+        "digits that end early": b"".join(lines[:3]) + b"b: 1\n",
+        "a header alone": b"".join(lines[:2]),
+    }
+    with cases.place() as place:
+        with_hooks(place, "*.vault.yml diff=ansible-vault\n")
+        for what, content in damaged.items():
+            refused(cases, what, again(place, "a.vault.yml", content), "a.vault.yml", why="is a damaged vault")
+        for what, content in between.items():
+            why = "has a damaged block in line 3"
+            done = again(place, "a.vault.yml", b"x: 1\n" + content)
+            refused(cases, what, done, "a.vault.yml", why=why)
+        marks = block("old") + b"<<<<<<< HEAD\nb: 1\n=======\nb: 2\n>>>>>>> branch\n"
+        refused(cases, "merge marks", again(place, "a.vault.yml", marks), "a.vault.yml", why="has git's merge marks")
+        cases.silent("blocks", again(place, "a.vault.yml", block("old") + b"x: 1\n\n" + block("old", name="b") + b"\n"))
+
+
+def plain_beside_vaults(cases: Companions) -> None:
+    """The usual layout has both in one folder: it is said what to do."""
+    with cases.place() as place:
+        with_hooks(place, "group_vars/** diff=ansible-vault\n")
+        place.put("group_vars/all/vault.yml", sealed("old"))
+        place.put("group_vars/web/vars.yml", TEXT)
+        done = again(place, "group_vars/all/vars.yml", TEXT)
+        lines = [f"{HOOK}: group_vars/{name}/vars.yml is not encrypted" for name in ("all", "web")]
+        wanted = [lines[0], unmarking("group_vars/all/vars.yml"), lines[1]]
+        cases.check("beside a vault", (done.returncode, done.stderr.splitlines()), (1, wanted))
+        place.put(".gitattributes", b"group_vars/** diff=ansible-vault\n/group_vars/*/vars.yml !diff !ansible-vault\n")
+        cases.silent("what it says helps", add_and_commit(place))
+
+
+def modes_and_renames(cases: Companions) -> None:
+    with cases.place() as place:
+        with_hooks(place, "*.vault.yml diff=ansible-vault\n")
+        place.put("a.vault.yml", TEXT, 0o755)
+        refused(cases, "a program", add_and_commit(place), "a.vault.yml")
+        place.shell("git config diff.renames true && git commit -qm plain --no-verify && git mv a.vault.yml b.vault.yml")
+        refused(cases, "a file with another name", commit(place), "b.vault.yml")
+        cases.silent("a removal", place.shell("git rm -qf b.vault.yml && git commit -qm none"))
+
+
+def outside_of_git(cases: Companions) -> None:
+    with cases.place() as place:
+        for words in (["--all"], ["--since", "HEAD"], ["--install"], []):
+            cases.ended(f"{words}", place.run(HOOK, *words), 1, "ansible-vault-hook: git rev-parse failed")
+        for words in (["--all", "--install"], ["--since"]):
+            cases.ended(f"{words}", place.run(HOOK, *words), 2, "usage: ansible-vault-hook")
+
+
+def awkward_names(cases: Companions) -> None:
+    with cases.place() as place:
+        with_hooks(place)
+        for name in AWKWARD:
+            place.put(f"group_vars/{name}", sealed("old"))
+        cases.silent("vaults", add_and_commit(place))
+        for name in AWKWARD:
+            place.put(f"group_vars/{name}", TEXT)
+        done = add_and_commit(place)
+        cases.check("each is refused", (done.returncode, done.stderr.count(WHOLE)), (1, len(AWKWARD)))
+
+
+GROUPS = [unmarked_vaults, decrypted_blocks, merges, marked_content, plain_beside_vaults, modes_and_renames]
+GROUPS = [*map(all_of_git, [*GROUPS, outside_of_git, awkward_names])]

@@ -1,0 +1,132 @@
+"""ansible-vault-check in a repository: files that are marked, and labels whose secret somebody has not."""
+
+import subprocess
+
+from companion_cases import CHECK, TEXT, TEXTCONV, Companions, block, sealed
+from companion_cases.hook import all_of_git
+from companion_cases.repository import under_git
+
+ATTRIBUTES = "*.vault.yml diff=ansible-vault\nsecrets/** ansible-vault\n*.vault.md diff=ansible-vault\n"
+MERGE = b"<<<<<<< HEAD\na: 1\n=======\na: 2\n>>>>>>> branch\n"
+
+
+def marked_files(cases: Companions) -> None:
+    """One that is marked and is no vault is a failure, also where it holds nothing that is one."""
+    plain = {
+        "a.vault.yml": (TEXT, "is not encrypted"),
+        "deep/b.vault.yml": (b"", "is not encrypted"),
+        "secrets/vars.yml": (block("old"), "is not encrypted"),
+        "notes.vault.md": (TEXT, "is not encrypted"),
+        "c.vault.yml": (block("old") + MERGE, "has git's merge marks"),
+        "d.yml": (MERGE + block("old"), "has git's merge marks"),
+    }
+    with cases.place() as place:
+        under_git(place, ATTRIBUTES)
+        place.put("ok.vault.yml", sealed("old"))
+        place.put("ok.vault.md", block("old"))
+        place.put("secrets/ok", sealed("old"))
+        place.put("plain.yml", TEXT)
+        cases.ended("all is well", place.run(CHECK, *place.by_file("old"), "."), 0, "3 opened, 0 not")
+        for name, (content, why) in plain.items():
+            place.put(name, content)
+            for path in (".", name, str(place.tree / name)):
+                done = place.run(CHECK, *place.by_file("old"), path)
+                cases.ended(f"{name} by {path}", done, 1, f"{name}: {why}\n", "1 not\n")
+            (place.tree / name).unlink()
+        cases.ended("all is well again", place.run(CHECK, *place.by_file("old"), "."), 0, "3 opened, 0 not")
+
+
+def several_repositories(cases: Companions) -> None:
+    """Each file is marked by its own repository, and by none outside of any."""
+    with cases.place() as place:
+        place.put("outside.vault.yml", TEXT)
+        for name in ("one", "two"):
+            place.shell(f"git init -q {name}")
+            place.put(f"{name}/a.vault.yml", TEXT)
+        place.put("one/.gitattributes", ATTRIBUTES.encode())
+        done = place.run(CHECK, *place.by_file("old"), ".")
+        cases.check("one alone marks it", done.stderr, "./one/a.vault.yml: is not encrypted\n")
+        place.put("one/.git/config", b"[no config\n")
+        done = place.run(CHECK, *place.by_file("old"), ".")
+        cases.ended("git fails", done, 1, "which files are marked is not known: git check-attr failed")
+
+
+def some_labels(cases: Companions) -> None:
+    """For those who have some of the secrets: what has another label is counted, and no failure."""
+    with cases.place() as place:
+        place.put("a.yml", sealed("dev", label="dev"))
+        place.put("b.yml", sealed("prod", label="prod"))
+        place.put("c.yml", block("dev", label="dev") + block("old") + block("old", label="prod", name="x"))
+        dev = place.by_id("dev", "dev")
+        told = "2 opened, 0 not, 3 of other labels (default 1, prod 2)\n"
+        cases.ended("one label", place.run(CHECK, *dev, "--label", "dev", "."), 0, told)
+        done = place.run(CHECK, *dev, "--label", "dev", "--label", "prod", ".")
+        cases.ended("two labels", done, 1, "./b.yml: prod: no secret", "2 opened, 2 not, 1 of other labels (default 1)")
+        place.put("d.yml", sealed("old", label="dev"))
+        done = place.run(CHECK, *dev, "--label", "dev", ".")
+        cases.ended("one that does not open", done, 1, "./d.yml: dev: no secret", "2 opened, 1 not, 3 of other labels")
+        place.put("d.yml", b"$ANSIBLE_VAULT;1.1\n")
+        done = place.run(CHECK, *dev, "--label", "dev", ".")
+        cases.ended("one without a header", done, 1, "./d.yml: no label: vault header line is malformed")
+
+
+def names_of_variables(cases: Companions) -> None:
+    lines = {
+        "a": b"a: !vault |\n",
+        "my_key": b"my_key: &x !vault |\n",
+        "b": b"list:\n  - b: !vault |\n",
+        "c d": b'"c d": !vault |-  # why\n',
+        "nested": b"x:\n  nested:    !vault-encrypted |\n",
+    }
+    rows = block("old").partition(b"\n")[2]
+    with cases.place() as place:
+        for name, line in lines.items():
+            place.put("vars.yml", line + rows)
+            done = place.run(CHECK, *place.by_file("old"), "vars.yml")
+            number = line.count(b"\n") + 1
+            wanted = f"vars.yml:{number}: {name}: default: opened by {place.secret('old')}\n1 opened, 0 not\n"
+            cases.check(f"{name}: the line", done.stdout, wanted)
+        place.put("vars.yml", b"- !vault |\n" + rows + b'"\x1b[2J": !vault |\n' + rows)
+        done = place.run(CHECK, *place.by_file("old"), "vars.yml")
+        cases.ended("an item of a list", done, 0, f"vars.yml:2: default: opened by {place.secret('old')}\n")
+        cases.check("nothing that a terminal would obey", "\x1b" in done.stdout, False)
+
+
+def starts_of_the_tool(cases: Companions) -> None:
+    """ansible-vault-textconv starts the tool once for each secret that is tried."""
+    if not cases.needs("starts of the tool", "strace"):
+        return
+    files = {
+        "one.yml": (sealed("old"), ["old"], 1),
+        "second.yml": (sealed("old"), ["dev", "old"], 2),
+        "label first.yml": (sealed("prod", label="prod"), ["dev", "old", "prod"], 1),
+        "none.yml": (sealed("new"), ["dev", "old"], 2),
+        "blocks.yml": (block("old") + block("old", name="b"), ["old"], 2),
+        "missing.yml": (block("old") + block("old", name="b"), ["missing", "old"], 3),
+        "plain.yml": (TEXT, ["old"], 0),
+    }
+    with cases.place() as place:
+        for name, (content, secrets, count) in files.items():
+            place.put(name, content)
+            words = [word for each in secrets for word in place.by_id("prod" if each == "prod" else "default", each)]
+            trace = place.path / "trace"
+            companion = str(place.tools / TEXTCONV)
+            tracer = ["strace", "-f", "-o", str(trace), "-e", "trace=execve", companion]
+            cases.check(f"{name}: status", place.run(*tracer, *words, name).returncode, 0)
+            starts = [line for line in trace.read_text().splitlines() if '/ansible-vault", ' in line]
+            cases.check(f"{name}: starts of the tool", len(starts), count)
+
+
+def files_behind_dashes(cases: Companions) -> None:
+    with cases.place() as place:
+        for name in ("a.yml", "--", "-h.yml", "--version"):
+            place.put(name, sealed("old"))
+            for words in (["--", name], [name]):
+                done = subprocess.run(
+                    [TEXTCONV, *place.by_file("old"), *words], cwd=place.tree, env=place.environment, capture_output=True
+                )
+                cases.check(f"{words}", (done.returncode, done.stdout, done.stderr), (0, TEXT, b""))
+
+
+GROUPS = [*map(all_of_git, [marked_files, several_repositories]), some_labels, names_of_variables]
+GROUPS += [starts_of_the_tool, files_behind_dashes]

@@ -1,0 +1,160 @@
+"""How files are written: the order of what is synced, lists of access, and what a dry run foresees."""
+
+import os
+import re
+import subprocess
+
+from companion_cases import CHECK, EDIT, NOBODY, ROTATE, Companions, Place, block, opened, sealed
+from companion_cases.editing import CHANGE, edit
+from companion_cases.keeping import run_changed
+from companion_cases.rotating import summary, to_new
+
+
+def traced(cases: Companions, place: Place, companion: str, words: list[str]) -> list[str]:
+    """What was done to the new file and its folder, in its order."""
+    trace = place.path / "trace"
+    tracer = ["strace", "-f", "-y", "-o", str(trace), "-e", "trace=write,fsync,rename,link"]
+    cases.check(f"{companion}: status", place.run(*tracer, str(place.tools / companion), *words).returncode, 0)
+    file = rf"\d+<{re.escape(str(place.tree))}/\.ansible-vault-"
+    steps = {
+        "written": rf"\d+ +write\({file}",
+        "synced": rf"\d+ +fsync\({file}",
+        "named": r'\d+ +(?:rename|link)\("[^"]*/\.ansible-vault-',
+        "folder synced": rf"\d+ +fsync\(\d+<{re.escape(str(place.tree))}>",
+    }
+    lines = trace.read_text(errors="replace").splitlines()
+    return [step for line in lines for step, pattern in steps.items() if re.match(pattern, line)]
+
+
+def syncs(cases: Companions) -> None:
+    """The whole new file is on the disk before it has the name, and the folder before all is said to be well."""
+    if not cases.needs("the order of what is synced", "strace"):
+        return
+    wanted = ["written", "synced", "named", "folder synced"]
+    with cases.place() as place:
+        place.put("a.yml", sealed("old"))
+        cases.check("a rotation", traced(cases, place, ROTATE, [*to_new(place), "a.yml"]), wanted)
+        place.put("a.yml", sealed("old"))
+        place.environment["EDITOR"] = place.script(CHANGE, "editor")
+        # The first is the rehearsal's.
+        found = traced(cases, place, EDIT, [*place.by_file("old"), "a.yml"])
+        cases.check("an edit", found, ["synced", *wanted])
+        place.environment["EDITOR"] = place.script('echo a > "$1"', "editor")
+        found = traced(cases, place, EDIT, [*place.by_file("old"), "new.yml"])
+        cases.check("a new vault", found, ["synced", *wanted])
+
+
+def unreadable_folders(cases: Companions) -> None:
+    """A folder that may be written and not be read is no obstacle."""
+    with cases.place() as place:
+        place.put("folder/a.yml", sealed("old"))
+        for path in (place.tree / "folder", place.tree / "folder/a.yml"):
+            if os.geteuid() == 0:
+                os.chown(path, NOBODY, NOBODY)
+        (place.tree / "folder").chmod(0o300)
+        done = place.as_nobody(ROTATE, *to_new(place), "folder/a.yml")
+        cases.ended("a folder that cannot be read", done, 0, summary(1))
+        (place.tree / "folder").chmod(0o755)
+
+
+def lists_of_access(cases: Companions) -> None:
+    """A new file gets no entry of the folder's default list that the old one had not, and keeps its own."""
+    if not cases.needs("lists of access", "setfacl"):
+        return
+    acl = lambda name: subprocess.run(
+        ["getfacl", "-c", name], cwd=place.tree, capture_output=True, text=True
+    ).stdout.split()
+    with cases.place() as place:
+        place.put("none.yml", sealed("old"), 0o640)
+        place.put("own.yml", sealed("old"), 0o640)
+        made = place.shell(f"setfacl -m u:{NOBODY}:r own.yml && setfacl -d -m u:{NOBODY}:rwx .")
+        if made.returncode != 0:
+            cases.left_out("lists of access", "the file system has none")
+            return
+        before = {name: acl(name) for name in ("none.yml", "own.yml")}
+        cases.ended("a rotation", place.run(ROTATE, *to_new(place), "."), 0, summary(2))
+        cases.check("lists stay", {name: acl(name) for name in before}, before)
+        cases.silent("an edit", edit(place, CHANGE, *place.by_file("new"), "none.yml"))
+        cases.check("the list stays", acl("none.yml"), before["none.yml"])
+
+
+def dry_runs(cases: Companions) -> None:
+    """A dry run tells what the run would refuse, and leaves nothing."""
+    with cases.place() as place:
+        place.put("a.yml", sealed("old"))
+        os.link(place.tree / "a.yml", place.path / "second name")
+        place.put("closed/b.yml", sealed("old"))
+        place.put("c.yml", block("old"))
+        if os.geteuid() == 0:
+            os.chown(place.tree / "c.yml", NOBODY, NOBODY)
+        (place.tree / "closed").chmod(0o555)
+        place.tree.chmod(0o777)
+        for words in (["--dry-run"], []):
+            done = place.as_nobody(ROTATE, *words, *to_new(place), ".")
+            parts = ["./a.yml: it has 2 names (hard links)", "./closed/b.yml: Permission denied", "2 failed"]
+            cases.ended(f"{words or 'the run'}", done, 1, *parts)
+            cases.check("no other file is there", place.names(), ["a.yml", "c.yml", "closed", "closed/b.yml"])
+        (place.tree / "closed").chmod(0o755)
+
+
+def no_hard_links(cases: Companions) -> None:
+    """On a file system that has none a new vault is made all the same, and takes the place of nothing."""
+    none = "def none(*words): raise PermissionError(1, 'no links')\nos.link = none\n"
+    with cases.place() as place:
+        editor = place.script('echo a > "$1"', "editor")
+        done = run_changed(place, EDIT, none, [*place.by_file("old"), "new.yml"], EDITOR=editor)
+        cases.silent("a new vault", done)
+        cases.check("it is there", opened("old", place.get("new.yml")), b"a\n")
+        cases.check("for its owner alone, and nothing else", (place.mode("new.yml"), place.names()), ("0o600", ["new.yml"]))
+
+
+def named_paths(cases: Companions) -> None:
+    """What is named and is neither a file nor a folder is a failure, as is a link that cannot be followed."""
+    with cases.place() as place:
+        place.put("a.yml", sealed("old"))
+        os.mkfifo(place.tree / "pipe")
+        runs = [[ROTATE, *to_new(place)], [CHECK, *place.by_file("new")]]
+        for words in runs:
+            for path in ("pipe", "/dev/null"):
+                done = place.run(*words, path, "a.yml")
+                cases.ended(f"{words[0]} {path}", done, 1, f"{path}: it is neither a file nor a folder")
+        done = place.shell(f"{CHECK} {' '.join(place.by_file('new'))} <(cat a.yml)", "bash")
+        cases.ended("a pipe of the shell", done, 1, "it is neither a file nor a folder", "0 opened, 1 not")
+    with cases.place() as place:
+        place.put("tree/a.yml", sealed("old"))
+        place.put("closed/b.yml", sealed("old"))
+        (place.tree / "tree/link.yml").symlink_to("../closed/b.yml")
+        (place.tree / "tree/file.yml").symlink_to("a.yml/below")
+        for path in (place.tree / "tree", place.tree / "tree/a.yml"):
+            if os.geteuid() == 0:
+                os.chown(path, NOBODY, NOBODY)
+        (place.tree / "closed").chmod(0o000)
+        done = place.as_nobody(ROTATE, *to_new(place), "tree")
+        parts = ["tree/link.yml: Permission denied", "tree/file.yml: Not a directory", summary(1, failed=2)]
+        cases.ended("links that cannot be followed", done, 1, *parts)
+        (place.tree / "closed").chmod(0o755)
+
+
+def long_passwords(cases: Companions) -> None:
+    """No vault is opened by the first part of a password."""
+    long = b"p" * 4097
+    with cases.place() as place:
+        (place.path / "long").write_bytes(long)
+        (place.secrets / "dev").write_bytes(long[:4096])
+        place.put("a.yml", b"")
+        cases.silent("4096 bytes", edit(place, 'echo a > "$1"', *place.by_file("dev"), "new.yml"))
+        for words in (["--vault-password-file", "../long"], ["--vault-id", "dev@../long"]):
+            done = place.run(CHECK, *words, "new.yml")
+            cases.ended("4097 bytes", done, 1, "../long: a password file is longer than 4096 bytes")
+
+
+def prose(cases: Companions) -> None:
+    """Prose shows blocks that are not meant, whatever its ending."""
+    with cases.place() as place:
+        for name in ("a.md", "b.rst", "c.adoc", "d.html", "e.ADOC"):
+            place.put(name, block("dev"))
+        place.put("f.yml", block("old"))
+        cases.ended("prose", place.run(ROTATE, *to_new(place), "."), 0, summary(1))
+
+
+GROUPS = [syncs, unreadable_folders, lists_of_access, dry_runs, no_hard_links, named_paths, long_passwords, prose]
