@@ -89,7 +89,9 @@ def test_companions(outcome: Outcome, shell: str, folder: pathlib.Path) -> None:
     for name in COMPANIONS:
         told = subprocess.run([ROOT / "companions" / name, "--help"], capture_output=True, text=True).stdout
         offered = SHELLS[shell](f"{name} -", folder) | SHELLS[shell](f"{name} --", folder)
-        outcome.check(f"{shell} offers the options of {name}", sorted(set(offered) - set(FILES)), sorted(options_in(told)))
+        outcome.check(
+            f"{shell} offers the options of {name}", sorted(set(offered) - set(FILES)), sorted(options_in(told))
+        )
     for line, wanted in COMPANION_PATHS:
         outcome.check(f"{shell} offers files for `{line}`", SHELLS[shell](line, folder), wanted)
     wanted = "@one.pass" if shell == "bash" else "dev@one.pass"

@@ -77,7 +77,8 @@ def conclude(item: pytest.Function, report: pytest.TestReport, outcome: Outcome)
         reason = f"Skipped: {'; '.join(omitted)}"
         report.outcome, report.longrepr = "skipped", (str(item.path), item.location[1] or 0, reason)
     counts = {"passed": outcome.passed, "failed": len(failures), "skipped": len(omitted)}
-    report.user_properties.extend(counts.items())
+    item.user_properties.extend(counts.items())
+    report.user_properties = [*item.user_properties]
 
 
 @pytest.hookimpl(hookwrapper=True)
@@ -98,7 +99,8 @@ def pytest_runtest_makereport(item: pytest.Function, call: pytest.CallInfo) -> I
 def counted(report: pytest.TestReport | pytest.CollectReport, what: str) -> int:
     """How many checks of a test ended so; one that counts none is a check itself, and so is a module that cannot be
     collected."""
-    return dict(getattr(report, "user_properties", [])).get(what, int(report.outcome == what))
+    counts = dict(report.user_properties) if report.when == "call" else {}
+    return counts.get(what, int(report.outcome == what))
 
 
 def pytest_terminal_summary(terminalreporter, config: pytest.Config) -> None:

@@ -52,7 +52,10 @@ def runs(cases: Cases) -> list[Run]:
         Run("none of two fits", ["decrypt", *others(2)], ENVELOPE, 2, refused),
         Run("none may be tried", ["view", "--require-id-match", *others(most)], vault, 0, refused),
         Run("a wrong padding", ["view", *by_id(right), *others(most)], unpadded, 1, Fault.BAD_PADDING.status),
-        Run("a choice of all", ["encrypt", *others(most), *by_id(right, "dev"), *chosen], TEXT, 1, 0, seal(b"right", TEXT, b"dev", SALT_TEXT)),
+        Run(
+            "a choice of all", ["encrypt", *others(most), *by_id(right, "dev"), *chosen], TEXT, 1, 0,
+            seal(b"right", TEXT, b"dev", SALT_TEXT),
+        ),
         Run("another secret", ["rekey", *by_id(right), *others(most), *to_new], vault, 2, 0, rekeyed),
     ]
 
@@ -61,7 +64,9 @@ def collected(program: str, run: Run) -> tuple[subprocess.CompletedProcess, int]
     """The run, and how many instructions it took."""
     with tempfile.NamedTemporaryFile("r") as log:
         tool = ["--tool=callgrind", "--callgrind-out-file=/dev/null", f"--log-file={log.name}"]
-        done = subprocess.run(["valgrind", *tool, program, *run.words], input=run.stdin, capture_output=True, timeout=SECONDS)
+        done = subprocess.run(
+            ["valgrind", *tool, program, *run.words], input=run.stdin, capture_output=True, timeout=SECONDS
+        )
         found = COLLECTED.search(log.read())
     return done, int(found[1]) if found else 0
 
@@ -75,4 +80,7 @@ def check_derivations(cases: Cases) -> None:
     for run, (done, count) in zip(every, counted):
         cases.check(f"{run.name}: answer", (done.returncode, done.stdout), (run.status, run.output))
         found = (count - base) / max(one, 1)
-        cases.holds(f"{run.name}: derivations", abs(found - run.derivations) < TOLERANCE, f"got {found:.3f}, want {run.derivations}")
+        cases.holds(
+            f"{run.name}: derivations", abs(found - run.derivations) < TOLERANCE,
+            f"got {found:.3f}, want {run.derivations}",
+        )

@@ -11,7 +11,7 @@ from pathlib import Path
 
 import pytest
 
-from cases import SECONDS, TEXT, Cases, by_file
+from cases import SECONDS, TEXT, Cases, answer_of, by_file
 from cases.samples import SALT_WORDS, Sample, samples
 from lib import resident
 from lib.mounts import file_system
@@ -73,7 +73,7 @@ def test_address_space(cases: Cases, size: int) -> None:
         answers = []
         for step in range(STEPS + 1):
             done = in_memory(cases.program, sample, least + (ENOUGH - least) * step // STEPS)
-            answer = (done.returncode, done.stdout, done.stderr)
+            answer = answer_of(done)
             cases.holds(f"{name}, step {step} of memory", answer in (whole, refused), answer)
             answers.append("whole" if answer == whole else "refused" if answer == refused else "neither")
         cases.check(f"{name} in the least memory", answers[0], "refused")
@@ -85,7 +85,9 @@ def test_reserved_first(cases: Cases) -> None:
     missing = Sample(["view", "--vault-password-file", cases.path()], b"", b"")
     for amount, fault in ((16 * MIB, Fault.MEMORY), (ENOUGH, Fault.SECRET_NOT_OPENED)):
         done = in_memory(cases.program, missing, amount)
-        cases.check(f"a missing file in {amount // MIB} MiB", (done.returncode, done.stderr), (fault.status, fault.line))
+        cases.check(
+            f"a missing file in {amount // MIB} MiB", (done.returncode, done.stderr), (fault.status, fault.line)
+        )
 
 
 @pytest.mark.parametrize("size", RESIDENT)
@@ -107,12 +109,24 @@ def test_limited_files(cases: Cases) -> None:
             wanted = (0, b"") if amount >= length else (Fault.NOT_WRITTEN.status, Fault.NOT_WRITTEN.line)
             path = Path(cases.path())
             with path.open("wb") as out:
-                done = run_with(cases.program, sample.words, resource.RLIMIT_FSIZE, amount, input=sample.stdin, stdout=out, stderr=subprocess.PIPE)
-            check_written(cases, f"{sample.command}, {amount} bytes of output, SIGXFSZ ignored", done, wanted, path, sample.output[:amount])
+                done = run_with(
+                    cases.program, sample.words, resource.RLIMIT_FSIZE, amount, input=sample.stdin, stdout=out,
+                    stderr=subprocess.PIPE,
+                )
+            check_written(
+                cases, f"{sample.command}, {amount} bytes of output, SIGXFSZ ignored", done, wanted, path,
+                sample.output[:amount],
+            )
             if sample.command != "view":
                 words = [*sample.words, "--output", str(path)]
-                done = run_with(cases.program, words, resource.RLIMIT_FSIZE, amount, input=sample.stdin, stdout=subprocess.DEVNULL, stderr=subprocess.PIPE)
-                check_written(cases, f"{sample.command}, {amount} bytes by name, SIGXFSZ ignored", done, wanted, path, sample.output[:amount])
+                done = run_with(
+                    cases.program, words, resource.RLIMIT_FSIZE, amount, input=sample.stdin, stdout=subprocess.DEVNULL,
+                    stderr=subprocess.PIPE,
+                )
+                check_written(
+                    cases, f"{sample.command}, {amount} bytes by name, SIGXFSZ ignored", done, wanted, path,
+                    sample.output[:amount],
+                )
 
 
 def check_written(cases: Cases, name: str, done, wanted, path: Path, content: bytes) -> None:
@@ -132,11 +146,17 @@ def test_full_file_system(cases: Cases) -> None:
 
 def fill_file_system(cases: Cases, sample: Sample, path: Path) -> None:
     with path.open("wb") as out:
-        cases.run_streams(f"{sample.command} to a full file system", sample.words, 3, Fault.NOT_WRITTEN.line, input=sample.stdin, stdout=out, stderr=subprocess.PIPE)
+        cases.run_streams(
+            f"{sample.command} to a full file system", sample.words, 3, Fault.NOT_WRITTEN.line, input=sample.stdin,
+            stdout=out,
+        )
     cases.check(f"{sample.command} to a full file system: a prefix", sample.output.startswith(path.read_bytes()), True)
     path.unlink()
     if sample.command != "view":
-        cases.refused(f"{sample.command} by name to a full file system", [*sample.words, "--output", str(path)], Fault.NOT_WRITTEN, sample.stdin)
+        cases.refused(
+            f"{sample.command} by name to a full file system", [*sample.words, "--output", str(path)],
+            Fault.NOT_WRITTEN, sample.stdin,
+        )
         cases.check(f"{sample.command} by name: a prefix", sample.output.startswith(path.read_bytes()), True)
         path.unlink()
 
@@ -147,13 +167,20 @@ def test_failing_reads(cases: Cases) -> None:
         words = [*sample.words, *by_file(UNREADABLE)]
         cases.refused(f"{sample.command}, an unreadable password file", words, Fault.SECRET_NOT_READ, sample.stdin)
         with open(UNREADABLE, "rb", buffering=0) as stdin:
-            cases.run_streams(f"{sample.command}, unreadable input", sample.words, 3, Fault.INPUT_NOT_READ.line, stdin=stdin, stdout=subprocess.DEVNULL, stderr=subprocess.PIPE)
+            cases.run_streams(
+                f"{sample.command}, unreadable input", sample.words, 3, Fault.INPUT_NOT_READ.line, stdin=stdin
+            )
         salted = [word for word in sample.words if word not in SALT_WORDS]
         if salted != sample.words:
-            cases.refused(f"{sample.command}, an unreadable salt file", [*salted, "--salt-file", UNREADABLE], Fault.SALT_NOT_READ, sample.stdin)
+            cases.refused(
+                f"{sample.command}, an unreadable salt file", [*salted, "--salt-file", UNREADABLE], Fault.SALT_NOT_READ,
+                sample.stdin,
+            )
         if sample.command != "encrypt_string":
             out = [] if sample.command == "view" else ["--output", "-"]
-            cases.refused(f"{sample.command}, an unreadable FILE", [*sample.words, UNREADABLE, *out], Fault.INPUT_NOT_READ)
+            cases.refused(
+                f"{sample.command}, an unreadable FILE", [*sample.words, UNREADABLE, *out], Fault.INPUT_NOT_READ
+            )
 
 
 def test_long_words(cases: Cases) -> None:

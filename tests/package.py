@@ -194,7 +194,9 @@ def check_replaced(outcome: Outcome, folder: pathlib.Path):
         done = make("install", *words)
         outcome.holds(f"make install refuses to overwrite {path.name}", done.returncode != 0)
         outcome.holds(f"and names {path.name}", done.stderr.startswith(f"{path} is there already"), done.stderr)
-        outcome.check(f"and leaves {path.name}", (files_below(folder), path.read_text()), ({f"bin/{path.name}"}, "theirs"))
+        outcome.check(
+            f"and leaves {path.name}", (files_below(folder), path.read_text()), ({f"bin/{path.name}"}, "theirs")
+        )
         outcome.holds("make uninstall refuses, too", make("uninstall", *words).returncode != 0 and path.exists())
         path.unlink()
     program.write_text("theirs")

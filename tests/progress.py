@@ -1,7 +1,7 @@
 """Shows that tools/progress.py passes on the exit status and the last line of a command, keeps its log,
 prints it where the command fails, and has a line for each crate; that tools/mutants fails unless a goal
-rejects each mutant; that tools/counts adds up the counts of several tests; and that .ci/run ends as `make check` does, with the counts of all tests, and fails where it cannot install
-what they need.
+rejects each mutant; that tools/counts adds up the counts of several tests; and that .ci/run ends as `make check`
+does, with the counts of all tests, and fails where it cannot install what they need.
 """
 
 import os
@@ -18,7 +18,11 @@ from lib.paths import ROOT
 CRATES = re.findall(r"^(\w+):", (ROOT / "crates.txt").read_text(), re.MULTILINE)
 GATE = "".join(f"== {crate}\nits own lines\nrt: {crate} proved\n" for crate in CRATES)
 # What `make check` prints of the gate and of two tests, one of which leaves something out, with their sum.
-TESTS = "left out: zsh: it is not installed\none: 3 passed, {failed} failed, 1 skipped\ntwo: 5 passed, 0 failed, 0 skipped\n"
+TESTS = """\
+left out: zsh: it is not installed
+one: 3 passed, {failed} failed, 1 skipped
+two: 5 passed, 0 failed, 0 skipped
+"""
 CHECK = "12 passed, 0 failed\n" + TESTS + "8 passed, {failed} failed, 1 skipped\n"
 
 
@@ -95,7 +99,9 @@ COUNTED = {
     "a test fails": (TESTS.format(failed=2), 2, "8 passed, 2 failed, 1 skipped", 2),
     "a test fails and nobody says so": (TESTS.format(failed=2), 0, "8 passed, 2 failed, 1 skipped", 1),
     "the command fails and no test does": (TESTS.format(failed=0), 2, "8 passed, 1 failed, 1 skipped", 2),
-    "a count without a name": ("7 passed, 0 failed, 0 skipped\none: 1 passed, 0 failed\n", 0, "1 passed, 0 failed, 0 skipped", 0),
+    "a count without a name": (
+        "7 passed, 0 failed, 0 skipped\none: 1 passed, 0 failed\n", 0, "1 passed, 0 failed, 0 skipped", 0
+    ),
     "nothing is run": ("", 0, "0 passed, 1 failed, 0 skipped", 1),
 }
 
@@ -103,7 +109,16 @@ COUNTED = {
 @pytest.mark.parametrize("what", COUNTED)
 def test_counts(outcome: Outcome, what: str) -> None:
     text, status, last, end = COUNTED[what]
-    command = [str(ROOT / "tools" / "counts"), "[a-z]+: ", "sh", "-c", 'printf %s "$1"; exit "$2"', "sh", text, str(status)]
+    command = [
+        str(ROOT / "tools" / "counts"),
+        "[a-z]+: ",
+        "sh",
+        "-c",
+        'printf %s "$1"; exit "$2"',
+        "sh",
+        text,
+        str(status),
+    ]
     done = subprocess.run(command, capture_output=True, text=True)
     outcome.check(f"{what}: the end", (done.returncode, done.stdout.splitlines()[-1]), (end, last))
     outcome.check(f"{what}: the output", done.stdout, f"{text}{last}\n")
@@ -135,7 +150,10 @@ RUNS = {
     "all pass": (CHECK.format(failed=0), 0, True, (0, "20 passed, 0 failed, 1 skipped")),
     "a test fails": (CHECK.format(failed=2), 2, True, (2, "20 passed, 2 failed, 1 skipped")),
     "make fails": ("12 passed, 0 failed\n", 2, True, (2, "12 passed, 1 failed, 0 skipped")),
-    "the gate fails": ("    11 passed, 1 failed\n  0:01  FAILED\n11 passed, 1 failed\n", 2, True, (2, "11 passed, 1 failed, 0 skipped")),
+    "the gate fails": (
+        "    11 passed, 1 failed\n  0:01  FAILED\n11 passed, 1 failed\n", 2, True,
+        (2, "11 passed, 1 failed, 0 skipped"),
+    ),
     "nothing is installed": (CHECK.format(failed=0), 0, False, (1, "20 passed, 1 failed, 1 skipped")),
     "nothing is installed and a test fails": (CHECK.format(failed=2), 2, False, (2, "20 passed, 3 failed, 1 skipped")),
 }

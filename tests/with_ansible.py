@@ -117,7 +117,9 @@ def test_blocks(both: Both) -> None:
             block = both.theirs("encrypt_string", *both.options, *both.choice, *words, string).rstrip(b"\n") + b"\n"
             vault = b"\n".join(line.strip() for line in block.split(b"\n")[1:])
             salt = salt_of(vault)
-            both.cases.check(f"{name}: the tests' own block", yaml_block(both.sealed(string.encode(), salt), written), block)
+            both.cases.check(
+                f"{name}: the tests' own block", yaml_block(both.sealed(string.encode(), salt), written), block
+            )
             salted = ["encrypt_string", *both.options, "--salt-file", both.cases.file(salt), *words, string]
             both.ours(f"block of {name}", salted, b"", block)
 
@@ -147,7 +149,11 @@ def test_rekeyed(both: Both) -> None:
         given = [both.sealed(text, bytes(32)) for text in TEXTS.values()]
         ours = [both.ours(f"rekey of {name}", words, vault, lambda _: True) for name, vault in zip(TEXTS, given)]
         both.cases.check("Ansible's tool opens them", both.changed_by_them("decrypt", new, ours), list(TEXTS.values()))
-        back = ["--new-vault-id", f"{both.label}@{both.password}"] if both.label else ["--new-vault-password-file", both.password]
+        back = (
+            ["--new-vault-id", f"{both.label}@{both.password}"]
+            if both.label
+            else ["--new-vault-password-file", both.password]
+        )
         theirs = both.changed_by_them("rekey", [*new, *back], ours)
         for (name, text), vault in zip(TEXTS.items(), theirs):
             both.ours(f"view of {name}, rekeyed by them", ["view", *both.options], vault, text)

@@ -36,7 +36,9 @@ def check_loading(cases: Cases, run: Run, watched: Watched, allowed: set[str]) -
     opens = [opened_by(call) for call in watched.traced.loading if call.name == "openat"]
     others = [opened.path for opened in opens if os.path.normpath(opened.path) not in allowed]
     cases.check(f"{run.name}: the loader opens", others, [])
-    cases.check(f"{run.name}: the loader writes", [opened.path for opened in opens if opened.flags - HARMLESS != READING], [])
+    cases.check(
+        f"{run.name}: the loader writes", [opened.path for opened in opens if opened.flags - HARMLESS != READING], []
+    )
     cases.holds(f"{run.name}: the program makes calls of its own", watched.traced.own != [])
 
 
@@ -88,7 +90,9 @@ def check_writes(cases: Cases, run: Run, watched: Watched) -> None:
     modes = [call.words.partition(", ")[2] for call in calls if call.name == "fchmod"]
     cases.check(f"{run.name}: its mode", modes, [OWNER_ALONE] if private else [])
     number = next((call.result for call in calls if call.name == "openat"), None)
-    cases.check(f"{run.name}: nothing else is written", {call.number for call in calls if call.name != "openat"}, {number})
+    cases.check(
+        f"{run.name}: nothing else is written", {call.number for call in calls if call.name != "openat"}, {number}
+    )
     own = watched.traced.own
     read_before = [call.name for call in own[own.index(calls[0]) :] if call.name == "read"] if calls else None
     cases.check(f"{run.name}: what is read once it is there", read_before, [])

@@ -204,7 +204,11 @@ def check_check(outcome: Outcome, repository: Repository, shell: str):
     repository.put("vars/a.yml", seal(PASSWORDS["new.pass"], b"a"))
     repository.put("b.yml", block("secret", "b", "prod.pass", "prod").encode())
     ran = repository.shell(shell)
-    lines = ["./b.yml:2: prod: opened by prod@prod.pass", "./vars/a.yml: default: opened by new.pass", "2 opened, 0 not"]
+    lines = [
+        "./b.yml:2: prod: opened by prod@prod.pass",
+        "./vars/a.yml: default: opened by new.pass",
+        "2 opened, 0 not",
+    ]
     outcome.check("a check", (ran.returncode, ran.stdout.splitlines(), ran.stderr), (0, lines, ""))
     repository.put("b.yml", seal(b"unknown", b"b"))
     outcome.check("a stray vault", repository.shell(shell).returncode, 1)
@@ -231,7 +235,9 @@ def check_encrypt(outcome: Outcome, repository: Repository, shell: str):
     repository.put("group_vars/.keep", b"")
     ran = repository.shell(shell)
     outcome.check("a file is encrypted and decrypted", (ran.returncode, ran.stderr), (0, ""))
-    outcome.holds("one is a vault", repository.get("group_vars/all.yml").startswith(b"$ANSIBLE_VAULT;1.2;AES256;prod\n"))
+    outcome.holds(
+        "one is a vault", repository.get("group_vars/all.yml").startswith(b"$ANSIBLE_VAULT;1.2;AES256;prod\n")
+    )
     outcome.check("the other is its plaintext", repository.get("other.yml"), b"plain: text\n")
 
 

@@ -23,6 +23,18 @@ def by_id(path: str, label: str = "default") -> list[str]:
     return ["--vault-id", f"{label}@{path}"]
 
 
+def run_captured(words, stdin=b"", **options) -> subprocess.CompletedProcess:
+    return subprocess.run(words, input=stdin, capture_output=True, timeout=SECONDS, **options)
+
+
+def answer_of(done: subprocess.CompletedProcess) -> tuple[int, bytes, bytes]:
+    return done.returncode, done.stdout, done.stderr
+
+
+def refusal(fault: Fault) -> tuple[int, bytes, bytes]:
+    return fault.status, b"", fault.line
+
+
 class Cases(Outcome):
     """Runs the program, with files in a folder of its own."""
 
@@ -62,13 +74,13 @@ class Cases(Outcome):
         copy = self.file(Path(self.program).read_bytes(), 0o755)
         self.folder.chmod(0o755)
         try:
-            subprocess.run([copy, "--version"], capture_output=True, timeout=SECONDS, check=True, user=NOBODY, group=NOBODY)
+            run_captured([copy, "--version"], check=True, user=NOBODY, group=NOBODY)
         except PermissionError:
             return None
         return copy
 
-    def done(self, words, stdin=b"") -> subprocess.CompletedProcess:
-        return subprocess.run([self.program, *words], input=stdin, capture_output=True, timeout=SECONDS)
+    def done(self, words, stdin=b"", **options) -> subprocess.CompletedProcess:
+        return run_captured([self.program, *words], stdin, **options)
 
     def run(self, name, words, stdin=b"", status=0, out=b"", err=b"") -> bytes:
         """`out` and `err` are bytes, or a test of bytes."""
@@ -97,8 +109,10 @@ class Cases(Outcome):
         self.run(name, words, status=2, err=lambda text: part in text)
 
     def run_streams(self, name, words, status, err=None, **streams) -> None:
-        """With streams of the case's own; `err` is looked at only where it is captured."""
-        done = subprocess.run([self.program, *words], timeout=SECONDS, **streams)
+        """With streams of the case's own, of which standard output is dropped by default; `err` is looked at only
+        where it is given."""
+        given = {"stdout": subprocess.DEVNULL, "stderr": subprocess.DEVNULL if err is None else subprocess.PIPE}
+        done = subprocess.run([self.program, *words], timeout=SECONDS, **given | streams)
         self.check(f"{name}: status", done.returncode, status)
         if err is not None:
             self.check(f"{name}: message", done.stderr, err)

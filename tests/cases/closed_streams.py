@@ -12,7 +12,7 @@ import tempfile
 from pathlib import Path
 from typing import NamedTuple
 
-from cases import SECONDS, TEXT, Cases, by_file
+from cases import SECONDS, TEXT, Cases, answer_of, by_file
 from cases.samples import Sample, samples
 from lib.mounts import PAGE, file_system
 from model.compared import contents
@@ -142,7 +142,9 @@ def test_refused(cases: Cases) -> None:
             check_refused(cases, sample.command, closed)
         for words, status in texts:
             open_run = cases.done(words)
-            check_text(cases, words, closed, open_run, Fault.NOT_WRITTEN.status if status == 0 and 1 in closed else status)
+            check_text(
+                cases, words, closed, open_run, Fault.NOT_WRITTEN.status if status == 0 and 1 in closed else status
+            )
 
 
 def check_refused(cases: Cases, command: str, closed: set[int]) -> None:
@@ -164,7 +166,7 @@ def check_text(cases: Cases, words: list[str], closed: set[int], whole, status: 
         done = run_closed([cases.program, *words], closed, folder)
     message = Fault.NOT_WRITTEN.line if status == Fault.NOT_WRITTEN.status else whole.stderr
     want = (status, b"" if 1 in closed else whole.stdout, b"" if 2 in closed else message)
-    cases.check(f"{words} without {sorted(closed)}", (done.returncode, done.stdout, done.stderr), want)
+    cases.check(f"{words} without {sorted(closed)}", answer_of(done), want)
 
 
 def limited() -> None:
@@ -212,7 +214,10 @@ def test_full_standard_output(cases: Cases) -> None:
             words = [cases.program, *named(own, "given").words, *to_output(None, own.command)]
             done = run_closed(words, closed, folder, stdout=full)
             left = Left(done.returncode, b"", done.stderr, changed(before, folder))
-        cases.check(f"{own.command} to a full standard output, without {sorted(closed)}", left, failed(Fault.NOT_WRITTEN, closed))
+        cases.check(
+            f"{own.command} to a full standard output, without {sorted(closed)}", left,
+            failed(Fault.NOT_WRITTEN, closed),
+        )
 
 
 def test_full_file_system(cases: Cases) -> None:

@@ -40,7 +40,10 @@ def test_in_words(cases: Cases) -> None:
         check_text(cases, [f"--{word}"])
         check_text(cases, [f"-{control}"])
         for command in COMMANDS:
-            for words in ([f"--{word}"], [f"--{word}=x"], ["x", word], [f"-{control}"], ["--vault-id", "x", f"--vault-id{control}", "y"]):
+            for words in (
+                [f"--{word}"], [f"--{word}=x"], ["x", word], [f"-{control}"],
+                ["--vault-id", "x", f"--vault-id{control}", "y"],
+            ):
                 check_text(cases, [command, *words])
         check_text(cases, ["view", f"--require-id-match={word}"])
 

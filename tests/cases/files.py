@@ -5,7 +5,7 @@ import subprocess
 import threading
 from pathlib import Path
 
-from cases import NOBODY, SECONDS, TEXT, Cases, by_file
+from cases import NOBODY, TEXT, Cases, answer_of, by_file, refusal, run_captured
 from cases.modes import OLD, mode, wanted_mode, with_output
 from cases.samples import SALT_WORDS, Sample, samples
 from model.faults import Fault
@@ -71,7 +71,13 @@ def test_output_needed(cases: Cases) -> None:
         for words in needed:
             options = ["--new-vault-id", *new, *words] if new else words
             cases.refused(f"{sample.command} FILE {words}", [*plain, path, *options], Fault.OUTPUT_NEEDED, NOT_ASKED)
-        missing = [sample.command, "--vault-password-file", cases.path(), path, *(["--new-vault-id", *new] if new else [])]
+        missing = [
+            sample.command,
+            "--vault-password-file",
+            cases.path(),
+            path,
+            *(["--new-vault-id", *new] if new else []),
+        ]
         cases.refused(f"{sample.command} FILE, missing password", missing, Fault.OUTPUT_NEEDED, NOT_ASKED)
 
 
@@ -83,7 +89,10 @@ def test_outputs(cases: Cases) -> None:
         cases.run(f"{name} to -", [*sample.words, "--output", "-"], sample.stdin, 0, sample.output)
         cases.check(f"{name}: no file called -", os.path.exists("-"), False)
         cases.run(f"{name} to a device", [*sample.words, "--output", cases.device("null")], sample.stdin)
-        cases.run(f"{name} to standard output by name", [*sample.words, "--output=/dev/stdout"], sample.stdin, 0, sample.output)
+        cases.run(
+            f"{name} to standard output by name", [*sample.words, "--output=/dev/stdout"], sample.stdin, 0,
+            sample.output,
+        )
 
 
 def written(cases: Cases, name: str, sample: Sample, path: str, wanted: str) -> None:
@@ -112,11 +121,15 @@ def test_unwritable(cases: Cases) -> None:
             ("a full device", cases.device("full")),
         ]
         for name, path in refused:
-            cases.refused(f"{sample.command} to {name}", [*sample.words, "--output", path], Fault.NOT_WRITTEN, sample.stdin)
+            cases.refused(
+                f"{sample.command} to {name}", [*sample.words, "--output", path], Fault.NOT_WRITTEN, sample.stdin
+            )
         cases.check(f"{sample.command}: the file stays", Path(file).read_bytes(), OLD)
     for sample in samples(cases, b""):
         if sample.command == "decrypt":
-            cases.run("nothing to a full device by name", [*sample.words, "--output", cases.device("full")], sample.stdin)
+            cases.run(
+                "nothing to a full device by name", [*sample.words, "--output", cases.device("full")], sample.stdin
+            )
 
 
 def test_onto_the_input(cases: Cases) -> None:
@@ -125,7 +138,10 @@ def test_onto_the_input(cases: Cases) -> None:
         for sample in samples(cases, text):
             if sample.command not in ("view", "encrypt_string"):
                 path = cases.file(sample.stdin, 0o644)
-                written(cases, f"{sample.command} onto its input", Sample([*sample.words, path], NOT_ASKED, sample.output), path, wanted_mode(sample, 0o644))
+                written(
+                    cases, f"{sample.command} onto its input", Sample([*sample.words, path], NOT_ASKED, sample.output),
+                    path, wanted_mode(sample, 0o644),
+                )
 
 
 def test_onto_a_password_file(cases: Cases) -> None:
@@ -147,9 +163,14 @@ def test_refused_leaves_outputs(cases: Cases) -> None:
             new, old = cases.path(), cases.file(OLD, 0o640)
             for path in (new, old):
                 done = cases.done([*words, "--output", path], stdin)
-                cases.check(f"{sample.command}, refusal {place}: refused", (done.returncode != 0, done.stdout), (True, b""))
+                cases.check(
+                    f"{sample.command}, refusal {place}: refused", (done.returncode != 0, done.stdout), (True, b"")
+                )
             cases.check(f"{sample.command}, refusal {place}: no new file", os.path.exists(new), False)
-            cases.check(f"{sample.command}, refusal {place}: the old file", (Path(old).read_bytes(), mode(old)), (OLD, oct(0o640)))
+            cases.check(
+                f"{sample.command}, refusal {place}: the old file", (Path(old).read_bytes(), mode(old)),
+                (OLD, oct(0o640)),
+            )
 
 
 def test_order(cases: Cases) -> None:
@@ -159,15 +180,23 @@ def test_order(cases: Cases) -> None:
         out = [] if sample.command == "view" else ["--output", missing + "/x"]
         bare = [word for word in sample.words if word not in SALT_WORDS]
         runs = [
-            ("a missing password, then a missing input", [*sample.words, *by_file(missing), missing], Fault.SECRET_NOT_OPENED),
-            ("a missing input, then an empty password", [*sample.words, *by_file(empty), missing], Fault.INPUT_NOT_OPENED),
+            (
+                "a missing password, then a missing input", [*sample.words, *by_file(missing), missing],
+                Fault.SECRET_NOT_OPENED,
+            ),
+            (
+                "a missing input, then an empty password", [*sample.words, *by_file(empty), missing],
+                Fault.INPUT_NOT_OPENED,
+            ),
             ("an empty password, then a folder", [*sample.words, *by_file(empty), "/"], Fault.SECRET_EMPTY),
             ("a folder, then an output in no folder", [*sample.words, "/"], Fault.INPUT_NOT_READ),
         ]
         if bare != sample.words:
             salted = [*bare, "--salt-file", missing, missing]
             runs.append(("a missing salt, then a missing input", salted, Fault.SALT_NOT_OPENED))
-            runs.append(("a missing input, then a short salt", [*bare, "--salt-file", empty, missing], Fault.INPUT_NOT_OPENED))
+            runs.append(
+                ("a missing input, then a short salt", [*bare, "--salt-file", empty, missing], Fault.INPUT_NOT_OPENED)
+            )
             runs.append(("a short salt, then a folder", [*bare, "--salt-file", empty, "/"], Fault.SALT_SHORT))
         for name, words, fault in runs:
             cases.refused(f"{sample.command}, {name}", [*words, *out], fault, NOT_ASKED)
@@ -180,20 +209,20 @@ def test_without_rights(cases: Cases) -> None:
     program = cases.program_for_all() if other else cases.program
     if program is None:
         return cases.left_out("files without rights", "nobody else may run the program where it lies")
-    runs = lambda words, stdin: subprocess.run([program, *words], input=stdin, capture_output=True, timeout=SECONDS, **other)
+    runs = lambda words, stdin: run_captured([program, *words], stdin, **other)
     locked, folder = cases.file(OLD, 0), cases.path()
     os.mkdir(folder, 0o555)
     for sample in with_files(cases):
         fault = Fault.INPUT_NOT_OPENED
         done = runs([*sample.words, locked, *to_output(sample)], NOT_ASKED)
-        cases.check(f"{sample.command} of a locked file", (done.returncode, done.stdout, done.stderr), (fault.status, b"", fault.line))
+        cases.check(f"{sample.command} of a locked file", answer_of(done), refusal(fault))
     for sample in with_output(cases):
         fault = Fault.NOT_WRITTEN
         for path in (locked, f"{folder}/new"):
             done = runs([*sample.words, "--output", path], sample.stdin)
-            cases.check(f"{sample.command} to a locked place", (done.returncode, done.stdout, done.stderr), (fault.status, b"", fault.line))
+            cases.check(f"{sample.command} to a locked place", answer_of(done), refusal(fault))
         fault = Fault.SECRET_NOT_OPENED
         done = runs([*sample.words, *by_file(locked)], sample.stdin)
-        cases.check(f"{sample.command}, a locked password file", (done.returncode, done.stdout, done.stderr), (fault.status, b"", fault.line))
+        cases.check(f"{sample.command}, a locked password file", answer_of(done), refusal(fault))
     os.chmod(locked, 0o600)
     cases.check("the locked file stays", Path(locked).read_bytes(), OLD)

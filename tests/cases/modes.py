@@ -6,7 +6,7 @@ import stat
 import subprocess
 from pathlib import Path
 
-from cases import NOBODY, SECONDS, Cases, by_file
+from cases import NOBODY, Cases, answer_of, by_file, run_captured
 from cases.samples import Sample, samples
 from lib.file_events import CLOSED, MODE_CHANGED, MODIFIED, FileEvents
 from model.faults import Fault
@@ -33,13 +33,13 @@ def wanted_mode(sample: Sample, old: int) -> str:
 def under(cases: Cases, umask: str, sample: Sample, path: str) -> subprocess.CompletedProcess:
     script = f'umask {umask}; exec "$0" "$@"'
     words = ["sh", "-c", script, cases.program, *sample.words, "--output", path]
-    return subprocess.run(words, input=sample.stdin, capture_output=True, timeout=SECONDS)
+    return run_captured(words, sample.stdin)
 
 
 def written(cases: Cases, name: str, umask: str, sample: Sample, path: str, wanted: str) -> None:
     done = under(cases, umask, sample, path)
     name = f"{sample.command} {name} under umask {umask}"
-    cases.check(name, (done.returncode, done.stdout, done.stderr), (0, b"", b""))
+    cases.check(name, answer_of(done), (0, b"", b""))
     cases.check(f"{name}: content", Path(path).read_bytes(), sample.output)
     cases.check(f"{name}: mode", mode(path), wanted)
 
@@ -88,7 +88,7 @@ def test_devices(cases: Cases) -> None:
         for umask in UMASKS:
             done = under(cases, umask, sample, path)
             name = f"{sample.command} to a device under umask {umask}"
-            cases.check(name, (done.returncode, done.stdout, done.stderr), (0, b"", b""))
+            cases.check(name, answer_of(done), (0, b"", b""))
             cases.check(f"{name}: mode", mode(path), oct(0o666))
 
 
@@ -113,7 +113,9 @@ def test_sockets(cases: Cases) -> None:
         with socket.socket(socket.AF_UNIX) as listener:
             listener.bind(path)
             os.chmod(path, 0o644)
-            cases.refused(f"{sample.command} to a socket", [*sample.words, "--output", path], Fault.NOT_WRITTEN, sample.stdin)
+            cases.refused(
+                f"{sample.command} to a socket", [*sample.words, "--output", path], Fault.NOT_WRITTEN, sample.stdin
+            )
         cases.check(f"{sample.command} to a socket: mode", mode(path), oct(0o644))
 
 
@@ -135,7 +137,9 @@ def test_refused(cases: Cases) -> None:
         for words, text in (([], stdin), (by_file(other), sample.stdin)):
             done = cases.done([*sample.words, *words, "--output", path], text)
             cases.check(f"{sample.command}, refused: status", (done.returncode, done.stdout), (1, b""))
-            cases.check(f"{sample.command}, refused: the file", (Path(path).read_bytes(), mode(path)), (OLD, oct(0o644)))
+            cases.check(
+                f"{sample.command}, refused: the file", (Path(path).read_bytes(), mode(path)), (OLD, oct(0o644))
+            )
 
 
 def test_of_another_owner(cases: Cases) -> None:
@@ -148,7 +152,7 @@ def test_of_another_owner(cases: Cases) -> None:
     for sample in with_output(cases):
         path = cases.file(OLD, 0o666)
         words = [program, *sample.words, "--output", path]
-        done = subprocess.run(words, input=sample.stdin, capture_output=True, timeout=SECONDS, user=NOBODY, group=NOBODY)
+        done = run_captured(words, sample.stdin, user=NOBODY, group=NOBODY)
         keeps = sample.command != "decrypt"
         wanted = (0, b"", sample.output) if keeps else (Fault.NOT_WRITTEN.status, Fault.NOT_WRITTEN.line, b"")
         found = (done.returncode, done.stderr, Path(path).read_bytes())

@@ -52,18 +52,25 @@ def check_opened(cases: Cases, name: str, path: str) -> None:
     place = Path(path)
     for sample in with_files(cases):
         place.write_bytes(sample.stdin)
-        cases.run(f"{sample.command}, {name} as FILE", [*sample.words, path, *to_output(sample)], NOT_ASKED, 0, sample.output)
+        cases.run(
+            f"{sample.command}, {name} as FILE", [*sample.words, path, *to_output(sample)], NOT_ASKED, 0, sample.output
+        )
         place.write_bytes(b"right\n")
         words = [{sample.words[2]: path}.get(word, word) for word in sample.words]
         if sample.command != "view":
             cases.run(f"{sample.command}, {name} as a password file", words, sample.stdin, 0, sample.output)
         if sample.command == "encrypt":
             place.write_bytes(SALT)
-            cases.run(f"encrypt, {name} as a salt file", salted_by(sample, path).words, TEXT, 0, seal(b"right", TEXT, salt=SALT))
+            cases.run(
+                f"encrypt, {name} as a salt file", salted_by(sample, path).words, TEXT, 0,
+                seal(b"right", TEXT, salt=SALT),
+            )
         place.unlink()
     for sample in with_output(cases):
         cases.run(f"{sample.command} to {name}", [*sample.words, "--output", path], sample.stdin)
-        cases.check(f"{sample.command} to {name}: content", place.read_bytes() if place.exists() else None, sample.output)
+        cases.check(
+            f"{sample.command} to {name}: content", place.read_bytes() if place.exists() else None, sample.output
+        )
         place.unlink(missing_ok=True)
 
 
@@ -79,9 +86,11 @@ def test_sparse_files(cases: Cases) -> None:
         cases.refused(f"{name} as FILE", [*sample.words, path, *to_output(sample)], Fault.TOO_LONG, NOT_ASKED)
         cases.refused(f"{name} as a password file", [*sample.words, *by_file(path)], Fault.SECRET_TOO_LONG, NOT_ASKED)
         with open(path, "rb") as stdin:
-            cases.run_streams(f"{name} as standard input", sample.words, 1, Fault.TOO_LONG.line, stdin=stdin, stdout=subprocess.DEVNULL, stderr=subprocess.PIPE)
+            cases.run_streams(f"{name} as standard input", sample.words, 1, Fault.TOO_LONG.line, stdin=stdin)
         if sample.command == "encrypt":
-            cases.run(f"{name} as a salt file", salted_by(sample, path).words, TEXT, 0, seal(b"right", TEXT, salt=bytes(32)))
+            cases.run(
+                f"{name} as a salt file", salted_by(sample, path).words, TEXT, 0, seal(b"right", TEXT, salt=bytes(32))
+            )
     for sample in with_output(cases):
         os.truncate(path, SPARSE_SIZE)
         cases.run(f"{sample.command} to a sparse file", [*sample.words, "--output", path], sample.stdin)
@@ -106,7 +115,10 @@ def test_running_program(cases: Cases) -> None:
             if opens_to_write(path):
                 return cases.left_out("a program that runs", "this system lets it be written")
             for sample in with_output(cases):
-                cases.refused(f"{sample.command} to a program that runs", [*sample.words, "--output", path], Fault.NOT_WRITTEN, sample.stdin)
+                cases.refused(
+                    f"{sample.command} to a program that runs", [*sample.words, "--output", path], Fault.NOT_WRITTEN,
+                    sample.stdin,
+                )
                 cases.check(f"{sample.command}: the program stays", Path(path).read_bytes(), content)
             words = ["encrypt", *by_file(cases.file(b"right\n")), *SALT_WORDS, "--output", "-", path]
             cases.run("encrypt of a program that runs", words, NOT_ASKED, 0, seal(b"right", content, salt=SALT_TEXT))
@@ -135,8 +147,14 @@ def test_read_only(cases: Cases) -> None:
             return cases.left_out("a file system that is read only", "none can be mounted here")
         for sample in with_output(cases):
             for path in (old, new):
-                cases.refused(f"{sample.command} to a file system that is read only", [*sample.words, "--output", str(path)], Fault.NOT_WRITTEN, sample.stdin)
-            cases.check(f"{sample.command}: it stays", (os.listdir(folder), old.read_bytes(), mode(str(old))), (["old"], OLD, oct(0o644)))
+                cases.refused(
+                    f"{sample.command} to a file system that is read only", [*sample.words, "--output", str(path)],
+                    Fault.NOT_WRITTEN, sample.stdin,
+                )
+            cases.check(
+                f"{sample.command}: it stays", (os.listdir(folder), old.read_bytes(), mode(str(old))),
+                (["old"], OLD, oct(0o644)),
+            )
         words = ["encrypt", *by_file(cases.file(b"right\n")), *SALT_WORDS, "--output", "-", str(old)]
         cases.run("encrypt of a file that cannot be written", words, NOT_ASKED, 0, seal(b"right", OLD, salt=SALT_TEXT))
 

@@ -8,7 +8,7 @@ import subprocess
 import termios
 from pathlib import Path
 
-from cases import SECONDS, Cases, by_file
+from cases import SECONDS, Cases, answer_of, by_file
 from cases.modes import OLD
 from cases.samples import Sample, samples
 from model.faults import Fault
@@ -29,7 +29,7 @@ def check_run(cases: Cases, name: str, words: list[str], wanted: tuple, **stream
     """The status, and what came through each output that is captured."""
     given = {"stdout": subprocess.PIPE, "stderr": subprocess.PIPE, **streams}
     done = subprocess.run([cases.program, *words], timeout=SECONDS, **given)
-    cases.check(name, (done.returncode, done.stdout, done.stderr), wanted)
+    cases.check(name, answer_of(done), wanted)
 
 
 def failed(fault: Fault, output=b"") -> tuple:
@@ -42,7 +42,10 @@ def test_non_blocking_input(cases: Cases) -> None:
         reader, writer = os.pipe()
         os.set_blocking(reader, False)
         os.write(writer, sample.stdin)
-        check_run(cases, f"{sample.command}, input that does not wait", sample.words, failed(Fault.INPUT_NOT_READ), stdin=reader)
+        check_run(
+            cases, f"{sample.command}, input that does not wait", sample.words, failed(Fault.INPUT_NOT_READ),
+            stdin=reader,
+        )
         os.write(writer, sample.stdin)
         os.close(writer)
         check_run(cases, f"{sample.command}, input that has ended", sample.words, (0, sample.output, b""), stdin=reader)
@@ -70,7 +73,9 @@ def test_appending(cases: Cases) -> None:
     for sample in samples(cases):
         path = cases.file(OLD)
         with open(path, "ab") as out:
-            check_run(cases, f"{sample.command} behind a file", sample.words, (0, None, b""), input=sample.stdin, stdout=out)
+            check_run(
+                cases, f"{sample.command} behind a file", sample.words, (0, None, b""), input=sample.stdin, stdout=out
+            )
             cases.check(f"{sample.command} behind a file: content", Path(path).read_bytes(), OLD + sample.output)
             if sample.command != "view":
                 words = [*sample.words, "--output", "/dev/stdout"]
@@ -78,7 +83,10 @@ def test_appending(cases: Cases) -> None:
                 cases.check(f"{sample.command} to its name: content", Path(path).read_bytes(), sample.output)
     refused, path = refused_sample(cases), cases.file(OLD)
     with open(path, "ab") as both:
-        check_run(cases, "a refusal behind a file", refused.words, (REFUSED.status, None, None), input=refused.stdin, stdout=both, stderr=both)
+        check_run(
+            cases, "a refusal behind a file", refused.words, (REFUSED.status, None, None), input=refused.stdin,
+            stdout=both, stderr=both,
+        )
     cases.check("a refusal behind a file: content", Path(path).read_bytes(), OLD + REFUSED.line)
 
 
@@ -88,13 +96,25 @@ def test_one_way(cases: Cases) -> None:
         path = cases.file(sample.stdin)
         with open(path, "ab") as to_write, open(path, "rb") as to_read:
             name = sample.command
-            check_run(cases, f"{name}, input that is to be written", sample.words, failed(Fault.INPUT_NOT_READ), stdin=to_write)
-            check_run(cases, f"{name}, output that is to be read", sample.words, failed(Fault.NOT_WRITTEN, None), input=sample.stdin, stdout=to_read)
-            check_run(cases, f"{name}, standard error that is to be read", sample.words, (0, sample.output, None), input=sample.stdin, stderr=to_read)
+            check_run(
+                cases, f"{name}, input that is to be written", sample.words, failed(Fault.INPUT_NOT_READ),
+                stdin=to_write,
+            )
+            check_run(
+                cases, f"{name}, output that is to be read", sample.words, failed(Fault.NOT_WRITTEN, None),
+                input=sample.stdin, stdout=to_read,
+            )
+            check_run(
+                cases, f"{name}, standard error that is to be read", sample.words, (0, sample.output, None),
+                input=sample.stdin, stderr=to_read,
+            )
         cases.check(f"{name}: the file stays", Path(path).read_bytes(), sample.stdin)
     refused = refused_sample(cases)
     with open(cases.file(b""), "rb") as to_read:
-        check_run(cases, "a refusal nobody hears", refused.words, (REFUSED.status, b"", None), input=refused.stdin, stderr=to_read)
+        check_run(
+            cases, "a refusal nobody hears", refused.words, (REFUSED.status, b"", None), input=refused.stdin,
+            stderr=to_read,
+        )
 
 
 def test_sockets(cases: Cases) -> None:
@@ -103,7 +123,10 @@ def test_sockets(cases: Cases) -> None:
         with ours, theirs:
             ours.sendall(sample.stdin)
             ours.shutdown(socket.SHUT_WR)
-            check_run(cases, f"{sample.command} from and to a socket", sample.words, (0, None, b""), stdin=theirs, stdout=theirs)
+            check_run(
+                cases, f"{sample.command} from and to a socket", sample.words, (0, None, b""), stdin=theirs,
+                stdout=theirs,
+            )
             theirs.close()
             with ours.makefile("rb") as stream:
                 cases.check(f"{sample.command}: what the socket gave", stream.read(), sample.output)
@@ -115,12 +138,18 @@ def test_left_sockets(cases: Cases) -> None:
         ours, theirs = socket.socketpair()
         ours.close()
         with theirs:
-            check_run(cases, f"{sample.command} to a socket that was left", sample.words, failed(Fault.NOT_WRITTEN, None), input=sample.stdin, stdout=theirs)
+            check_run(
+                cases, f"{sample.command} to a socket that was left", sample.words, failed(Fault.NOT_WRITTEN, None),
+                input=sample.stdin, stdout=theirs,
+            )
         ours, theirs = socket.socketpair()
         theirs.sendall(b"nobody reads it")
         ours.close()
         with theirs:
-            check_run(cases, f"{sample.command} from a socket that was left", sample.words, failed(Fault.INPUT_NOT_READ), stdin=theirs)
+            check_run(
+                cases, f"{sample.command} from a socket that was left", sample.words, failed(Fault.INPUT_NOT_READ),
+                stdin=theirs,
+            )
 
 
 def test_terminal(cases: Cases) -> None:
@@ -154,6 +183,12 @@ def all_shown(terminal: int) -> bytes:
 def test_one_pipe(cases: Cases) -> None:
     """Both outputs are one pipe: a run writes its output there or its line, and nothing else."""
     for sample in samples(cases):
-        check_run(cases, f"{sample.command}, both outputs one", sample.words, (0, sample.output, None), input=sample.stdin, stderr=subprocess.STDOUT)
+        check_run(
+            cases, f"{sample.command}, both outputs one", sample.words, (0, sample.output, None), input=sample.stdin,
+            stderr=subprocess.STDOUT,
+        )
     refused = refused_sample(cases)
-    check_run(cases, "a refusal, both outputs one", refused.words, (REFUSED.status, REFUSED.line, None), input=refused.stdin, stderr=subprocess.STDOUT)
+    check_run(
+        cases, "a refusal, both outputs one", refused.words, (REFUSED.status, REFUSED.line, None), input=refused.stdin,
+        stderr=subprocess.STDOUT,
+    )

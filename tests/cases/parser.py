@@ -19,7 +19,9 @@ def test_helps(cases: Cases) -> None:
         named = OPTIONS if name == PROGRAM else COMMON | OPTIONS[name]
         cases.check(f"the help of {name} names all", [each for each in named if each.encode() not in text], [])
     with open("/dev/full", "wb") as full:
-        cases.run_streams("help to a full device", ["--help"], 3, Fault.NOT_WRITTEN.line, stdin=subprocess.DEVNULL, stdout=full, stderr=subprocess.PIPE)
+        cases.run_streams(
+            "help to a full device", ["--help"], 3, Fault.NOT_WRITTEN.line, stdin=subprocess.DEVNULL, stdout=full
+        )
 
 
 def test_versions(cases: Cases) -> None:

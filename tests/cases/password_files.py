@@ -1,7 +1,6 @@
 """Password files: what is stripped, what is refused, and their paths."""
 
 import os
-import subprocess
 
 from cases import TEXT, Cases, by_file, by_id
 from lib.paths import FIXTURES
@@ -50,10 +49,14 @@ def test_refused_passwords(cases: Cases) -> None:
     cases.refuses("an endless password file", by_file("/dev/zero"), vault, Fault.SECRET_TOO_LONG)
     cases.refuses("an empty one, then a long one", by_id(empty) + by_id(long), vault, Fault.SECRET_EMPTY)
     cases.refuses("ids come before password files", by_file(empty) + by_id(long), vault, Fault.SECRET_TOO_LONG)
-    cases.refuses("a password file before too long an input", by_file(empty), b"\n" * (ENVELOPE_LIMIT + 1), Fault.SECRET_EMPTY)
+    cases.refuses(
+        "a password file before too long an input", by_file(empty), b"\n" * (ENVELOPE_LIMIT + 1), Fault.SECRET_EMPTY
+    )
     # Nobody writes to this pipe: who reads it waits.
     reader, writer = os.pipe()
-    cases.run_streams("a password file before the input", ["view", *by_file(empty)], 1, Fault.SECRET_EMPTY.line, stdin=reader, stdout=subprocess.DEVNULL, stderr=subprocess.PIPE)
+    cases.run_streams(
+        "a password file before the input", ["view", *by_file(empty)], 1, Fault.SECRET_EMPTY.line, stdin=reader
+    )
     os.close(reader)
     os.close(writer)
 

@@ -3,7 +3,9 @@
 from cases import TEXT, Cases, by_file, by_id
 from lib.paths import FIXTURES
 from model.faults import Fault
-from model.vaults import CIPHERTEXT_LIMIT, ENVELOPE, ENVELOPE_LIMIT, HEADER, PLAINTEXT_LIMIT, padded, parts, seal, spelled
+from model.vaults import (
+    CIPHERTEXT_LIMIT, ENVELOPE, ENVELOPE_LIMIT, HEADER, PLAINTEXT_LIMIT, padded, parts, seal, spelled
+)
 
 
 def test_format_faults(cases: Cases) -> None:

@@ -2,7 +2,9 @@
 
 from cases import TEXT, Cases, by_file
 from model.faults import Fault
-from model.vaults import CIPHERTEXT_LIMIT, ENVELOPE, ENVELOPE_LIMIT, HEADER, MAGIC, PLAINTEXT_LIMIT, parts, seal, spelled
+from model.vaults import (
+    CIPHERTEXT_LIMIT, ENVELOPE, ENVELOPE_LIMIT, HEADER, MAGIC, PLAINTEXT_LIMIT, parts, seal, spelled
+)
 
 SALT_WORDS = ["--salt", "abc"]
 SALT = b"abc"
@@ -48,18 +50,30 @@ def test_refused_options(cases: Cases) -> None:
     refused = [
         ("no new secret", [], Fault.NEED_NEW_SECRET),
         ("two new secrets", ["--new-vault-id", new, "--new-vault-password-file", new], Fault.NEED_NEW_SECRET),
-        ("two new secrets, one of them bad", ["--new-vault-id", "a;b@x", "--new-vault-password-file", new], Fault.NEED_NEW_SECRET),
+        (
+            "two new secrets, one of them bad", ["--new-vault-id", "a;b@x", "--new-vault-password-file", new],
+            Fault.NEED_NEW_SECRET,
+        ),
         ("a bad new label", ["--new-vault-id", f"a;b@{new}"], Fault.BAD_LABEL),
         ("a bad new label and a prompt", ["--new-vault-id", "a;b@prompt"], Fault.BAD_LABEL),
         ("a new prompt", ["--new-vault-id", "prod@prompt"], Fault.PROMPT_SOURCE),
         ("a new prompt without a label", ["--new-vault-id", "prompt"], Fault.PROMPT_SOURCE),
-        ("a new prompt, then two salts", ["--new-vault-id", "prompt", "--salt", "", "--salt-file", new], Fault.PROMPT_SOURCE),
+        (
+            "a new prompt, then two salts", ["--new-vault-id", "prompt", "--salt", "", "--salt-file", new],
+            Fault.PROMPT_SOURCE,
+        ),
         ("two salts", ["--new-vault-id", new, "--salt", "", "--salt-file", new], Fault.SALT_CHOICE),
         ("an empty salt", ["--new-vault-id", new, "--salt", ""], Fault.BAD_SALT),
         ("a missing new file", ["--new-vault-password-file", missing], Fault.SECRET_NOT_OPENED),
-        ("a missing new file, then a missing salt", ["--new-vault-id", missing, "--salt-file", missing], Fault.SECRET_NOT_OPENED),
+        (
+            "a missing new file, then a missing salt", ["--new-vault-id", missing, "--salt-file", missing],
+            Fault.SECRET_NOT_OPENED,
+        ),
         ("a folder as new file", ["--new-vault-password-file", "/"], Fault.SECRET_NOT_READ),
-        ("a missing salt, then an empty new password", ["--new-vault-id", empty, "--salt-file", missing], Fault.SALT_NOT_OPENED),
+        (
+            "a missing salt, then an empty new password", ["--new-vault-id", empty, "--salt-file", missing],
+            Fault.SALT_NOT_OPENED,
+        ),
         ("an empty new password", ["--new-vault-password-file", empty], Fault.SECRET_EMPTY),
         ("an empty new password, then a short salt", ["--new-vault-id", empty, "--salt-file", new], Fault.SECRET_EMPTY),
         ("a short salt", ["--new-vault-id", new, "--salt-file", new], Fault.SALT_SHORT),
@@ -68,7 +82,10 @@ def test_refused_options(cases: Cases) -> None:
         cases.refused(f"rekey, {name}", ["rekey", *by_file(right), *options], fault, vault)
     too_many = ["rekey", *by_file(right) * 17]
     cases.refused("rekey, 17 secrets and no new one", too_many, Fault.TOO_MANY_SECRETS, vault)
-    cases.run("rekey, 16 secrets and a new one", [*too_many[:-2], "--new-vault-id", new, *SALT_WORDS], vault, 0, seal(b"new", TEXT, b"", SALT))
+    cases.run(
+        "rekey, 16 secrets and a new one", [*too_many[:-2], "--new-vault-id", new, *SALT_WORDS], vault, 0,
+        seal(b"new", TEXT, b"", SALT),
+    )
 
 
 def test_refused_inputs(cases: Cases) -> None:

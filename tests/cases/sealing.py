@@ -1,7 +1,6 @@
 """`encrypt` and `encrypt_string`: sizes, salts, labels, and what both refuse."""
 
 import os
-import subprocess
 
 from cases import TEXT, Cases, by_file, by_id
 from model.faults import Fault
@@ -23,9 +22,11 @@ def test_sizes(cases: Cases) -> None:
         text = (bytes(range(256)) * (size // 256 + 1))[:size]
         vault = cases.run(f"encrypt {size} bytes", ["encrypt", *options], text, 0, seal(RIGHT, text, salt=ZEROS))
         cases.run(f"{size} bytes encrypted and decrypted", ["decrypt", *options[:2]], vault, 0, text)
-    cases.refused("encrypt one byte more than the limit", ["encrypt", *options], Fault.TOO_LONG, bytes(PLAINTEXT_LIMIT + 1))
+    cases.refused(
+        "encrypt one byte more than the limit", ["encrypt", *options], Fault.TOO_LONG, bytes(PLAINTEXT_LIMIT + 1)
+    )
     with open("/dev/zero", "rb") as endless:
-        cases.run_streams("encrypt without end", ["encrypt", *options], 1, Fault.TOO_LONG.line, stdin=endless, stdout=subprocess.DEVNULL, stderr=subprocess.PIPE)
+        cases.run_streams("encrypt without end", ["encrypt", *options], 1, Fault.TOO_LONG.line, stdin=endless)
 
 
 def test_worked(cases: Cases) -> None:
@@ -36,12 +37,18 @@ def test_worked(cases: Cases) -> None:
     cases.check("nothing: lines", [len(line) for line in lines], [25, 80, 80, 80, 80, 4, 0])
     cases.check("nothing: first lines", (lines[0], lines[1], lines[2][:50]), (HEADER, b"30" * 40, b"30" * 24 + b"0a"))
     for size, length in ((15, 355), (16, 419)):
-        cases.check(f"{size} bytes: length", len(b"\n".join(run(f"encrypt {size} bytes", options, b"a" * size))), length)
+        cases.check(
+            f"{size} bytes: length", len(b"\n".join(run(f"encrypt {size} bytes", options, b"a" * size))), length
+        )
     longest = run("encrypt all that is taken", options, b"a" * PLAINTEXT_LIMIT)[1:-1]
     cases.check("the longest: lines and digits", (len(longest), sum(map(len, longest))), (838_865, 67_109_188))
     labelled = run("encrypt for dev", [*by_id(right[1], "dev"), *options[2:]], b"a" * 15)
     cases.check("dev: length and header", (len(b"\n".join(labelled)), labelled[0]), (359, MAGIC + b";1.2;AES256;dev"))
-    texts = [("abc", 48, [25] + [80] * 5 + [0]), ("a", 0, [25, 80, 80, 40, 0]), ("a" * 64, 0, [25] + [80] * 5 + [52, 0])]
+    texts = [
+        ("abc", 48, [25] + [80] * 5 + [0]),
+        ("a", 0, [25, 80, 80, 40, 0]),
+        ("a" * 64, 0, [25] + [80] * 5 + [52, 0]),
+    ]
     for text, size, lengths in texts:
         lines = run(f"salt text of {len(text)}", [*right, "--salt", text], b"a" * size)
         cases.check(f"salt text of {len(text)}: lines", [len(line) for line in lines], lengths)
@@ -54,7 +61,9 @@ def test_salt_texts(cases: Cases) -> None:
     for text in ("abc", "a", "a" * 64, "é" * 32, " ", "\n", "/dev/urandom"):
         salt = text.encode()
         cases.run(f"salt text {text!r}", ["encrypt", *right, "--salt", text], TEXT, 0, seal(RIGHT, TEXT, salt=salt))
-    cases.run("a salt text that begins with -", ["encrypt", *right, "--salt=-x"], TEXT, 0, seal(RIGHT, TEXT, salt=b"-x"))
+    cases.run(
+        "a salt text that begins with -", ["encrypt", *right, "--salt=-x"], TEXT, 0, seal(RIGHT, TEXT, salt=b"-x")
+    )
     salt = cases.file(ZEROS)
     refused = [
         ("an empty salt text", ["--salt", ""], Fault.BAD_SALT),
@@ -70,7 +79,11 @@ def test_salt_texts(cases: Cases) -> None:
 
 def test_salt_files(cases: Cases) -> None:
     right, missing = by_file(cases.file(b"right\n")), cases.path()
-    good = [("32 bytes", cases.file(SALT), SALT), ("40 bytes", cases.file(SALT + SALT[:8]), SALT), ("zeros without end", "/dev/zero", ZEROS)]
+    good = [
+        ("32 bytes", cases.file(SALT), SALT),
+        ("40 bytes", cases.file(SALT + SALT[:8]), SALT),
+        ("zeros without end", "/dev/zero", ZEROS),
+    ]
     refused = [
         ("31 bytes", cases.file(bytes(31)), Fault.SALT_SHORT),
         ("nothing", cases.file(b""), Fault.SALT_SHORT),
@@ -80,7 +93,9 @@ def test_salt_files(cases: Cases) -> None:
         ("a folder", str(cases.folder), Fault.SALT_NOT_READ),
     ]
     for name, path, salt in good:
-        cases.run(f"salt file of {name}", ["encrypt", *right, "--salt-file", path], TEXT, 0, seal(RIGHT, TEXT, salt=salt))
+        cases.run(
+            f"salt file of {name}", ["encrypt", *right, "--salt-file", path], TEXT, 0, seal(RIGHT, TEXT, salt=salt)
+        )
     for command in SEALING:
         for name, path, fault in refused:
             cases.refused(f"{command}, salt file: {name}", [command, *right, "--salt-file", path], fault, TEXT)
@@ -89,7 +104,9 @@ def test_salt_files(cases: Cases) -> None:
 def test_two_runs(cases: Cases) -> None:
     """The salt is really read: each run has its own."""
     right = by_file(cases.file(b"right\n"))
-    vaults = [cases.run("encrypt with a salt of its own", ["encrypt", *right], TEXT, 0, lambda _: True) for _ in range(2)]
+    vaults = [
+        cases.run("encrypt with a salt of its own", ["encrypt", *right], TEXT, 0, lambda _: True) for _ in range(2)
+    ]
     cases.check("two runs differ", vaults[0] == vaults[1], False)
     for vault in vaults:
         cases.opens("a vault with a salt of its own", right, vault, TEXT)
@@ -146,12 +163,21 @@ def test_order(cases: Cases) -> None:
     long = bytes(PLAINTEXT_LIMIT + 1)
     twice = by_file(right) * 2
     refused = [
-        ("17 secrets, then a bad choice", by_file(right) * 17 + ["--encrypt-vault-id", ""], Fault.TOO_MANY_SECRETS, b""),
+        (
+            "17 secrets, then a bad choice", by_file(right) * 17 + ["--encrypt-vault-id", ""], Fault.TOO_MANY_SECRETS,
+            b"",
+        ),
         ("a prompt, then a bad choice", ["--vault-id", "prompt", "--encrypt-vault-id", ""], Fault.PROMPT_SOURCE, b""),
         ("a bad choice, then a bad salt", ["--encrypt-vault-id", "", "--salt", ""], Fault.BAD_LABEL, b""),
         ("a bad salt, then a missing file", [*by_file(missing), "--salt", ""], Fault.BAD_SALT, b""),
-        ("a missing password, then a missing salt", [*by_file(missing), "--salt-file", missing], Fault.SECRET_NOT_OPENED, b""),
-        ("a missing salt, then an empty password", [*by_file(empty), "--salt-file", missing], Fault.SALT_NOT_OPENED, b""),
+        (
+            "a missing password, then a missing salt", [*by_file(missing), "--salt-file", missing],
+            Fault.SECRET_NOT_OPENED, b"",
+        ),
+        (
+            "a missing salt, then an empty password", [*by_file(empty), "--salt-file", missing], Fault.SALT_NOT_OPENED,
+            b"",
+        ),
         ("a folder as salt, then an empty password", [*by_file(empty), "--salt-file", "/"], Fault.SALT_NOT_READ, b""),
         ("an empty password, then no choice", by_file(empty) * 2, Fault.SECRET_EMPTY, b""),
         ("no choice, then a short salt", [*twice, *short], Fault.MANY_ENCRYPT_SECRETS, b""),
@@ -172,6 +198,6 @@ def test_input_not_asked(cases: Cases) -> None:
     runs.append((["encrypt_string", *by_file(right), ""], 1))
     for words, status in runs:
         reader, writer = os.pipe()
-        cases.run_streams(f"{words[0]}, no input asked", words, status, stdin=reader, stdout=subprocess.DEVNULL, stderr=subprocess.DEVNULL)
+        cases.run_streams(f"{words[0]}, no input asked", words, status, stdin=reader)
         os.close(reader)
         os.close(writer)

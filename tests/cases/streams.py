@@ -4,7 +4,7 @@ import os
 import subprocess
 import tempfile
 
-from cases import SECONDS, TEXT, Cases, by_file
+from cases import SECONDS, TEXT, Cases, by_file, run_captured
 from cases.samples import Sample, samples
 from model.faults import Fault
 from model.vaults import ENVELOPE_LIMIT, HEADER, PLAINTEXT_LIMIT, seal
@@ -18,7 +18,7 @@ def test_without_secrets(cases: Cases) -> None:
     with open(FULL, "wb") as full:
         cases.run_streams("full standard error", ["view"], 1, **nothing, stderr=full)
     with open("/dev/zero", "rb") as endless:
-        cases.run_streams("endless input", ["view"], 1, Fault.TOO_LONG.line, stdin=endless, stdout=subprocess.DEVNULL, stderr=subprocess.PIPE)
+        cases.run_streams("endless input", ["view"], 1, Fault.TOO_LONG.line, stdin=endless)
     closed = [("standard input", "<&-", 3), ("standard output", ">&-", 1), ("standard error", "2>&-", 1)]
     for name, descriptor, status in closed:
         done = shell(cases, ["view"], descriptor, b"")
@@ -27,13 +27,15 @@ def test_without_secrets(cases: Cases) -> None:
 
 def shell(cases: Cases, words: list[str], redirections: str, stdin: bytes) -> subprocess.CompletedProcess:
     script = f'exec "$0" "$@" {redirections}'
-    return subprocess.run(["sh", "-c", script, cases.program, *words], input=stdin, capture_output=True, timeout=SECONDS)
+    return run_captured(["sh", "-c", script, cases.program, *words], stdin)
 
 
 def test_folder_as_input(cases: Cases) -> None:
     for sample in samples(cases):
         folder = os.open("/", os.O_RDONLY)
-        cases.run_streams(f"{sample.command}, a folder as standard input", sample.words, 3, Fault.INPUT_NOT_READ.line, stdin=folder, stdout=subprocess.DEVNULL, stderr=subprocess.PIPE)
+        cases.run_streams(
+            f"{sample.command}, a folder as standard input", sample.words, 3, Fault.INPUT_NOT_READ.line, stdin=folder
+        )
         os.close(folder)
 
 
@@ -43,11 +45,17 @@ def test_failing_outputs(cases: Cases) -> None:
     for sample, fault in [*runs, (refused, Fault.NO_SECRET_FITS)]:
         name = f"{sample.command} of {len(sample.stdin)} bytes"
         with open(FULL, "wb") as full:
-            cases.run_streams(f"{name} to a full device", sample.words, fault.status, fault.line, input=sample.stdin, stdout=full, stderr=subprocess.PIPE)
-            cases.run_streams(f"{name} with both full", sample.words, fault.status, input=sample.stdin, stdout=full, stderr=full)
+            cases.run_streams(
+                f"{name} to a full device", sample.words, fault.status, fault.line, input=sample.stdin, stdout=full
+            )
+            cases.run_streams(
+                f"{name} with both full", sample.words, fault.status, input=sample.stdin, stdout=full, stderr=full
+            )
         reader, writer = os.pipe()
         os.close(reader)
-        cases.run_streams(f"{name} to a closed pipe", sample.words, fault.status, fault.line, input=sample.stdin, stdout=writer, stderr=subprocess.PIPE)
+        cases.run_streams(
+            f"{name} to a closed pipe", sample.words, fault.status, fault.line, input=sample.stdin, stdout=writer
+        )
         os.close(writer)
 
 
@@ -55,7 +63,9 @@ def test_nothing_to_write(cases: Cases) -> None:
     for sample in samples(cases, b""):
         if sample.output == b"":
             with open(FULL, "wb") as full:
-                cases.run_streams(f"{sample.command}, nothing to a full device", sample.words, 0, b"", input=sample.stdin, stdout=full, stderr=subprocess.PIPE)
+                cases.run_streams(
+                    f"{sample.command}, nothing to a full device", sample.words, 0, b"", input=sample.stdin, stdout=full
+                )
 
 
 def test_bounded_reading(cases: Cases) -> None:
@@ -66,21 +76,25 @@ def test_bounded_reading(cases: Cases) -> None:
         with tempfile.TemporaryFile() as stdin:
             stdin.write((b"" if plain else HEADER + b"\nzz").ljust(limit + 10_000, b"\n"))
             stdin.seek(0)
-            cases.run_streams(f"{sample.command} of too long a file", sample.words, 1, Fault.TOO_LONG.line, stdin=stdin, stdout=subprocess.DEVNULL, stderr=subprocess.PIPE)
+            cases.run_streams(f"{sample.command} of too long a file", sample.words, 1, Fault.TOO_LONG.line, stdin=stdin)
             cases.check(f"{sample.command}: bytes read", os.lseek(stdin.fileno(), 0, os.SEEK_CUR), limit + 1)
 
 
 def test_full_standard_error(cases: Cases) -> None:
     for sample in samples(cases):
         with open(FULL, "wb") as full:
-            done = subprocess.run([cases.program, *sample.words], input=sample.stdin, stdout=subprocess.PIPE, stderr=full, timeout=SECONDS)
+            done = subprocess.run(
+                [cases.program, *sample.words], input=sample.stdin, stdout=subprocess.PIPE, stderr=full, timeout=SECONDS
+            )
         cases.check(f"{sample.command}, full standard error", (done.returncode, done.stdout), (0, sample.output))
 
 
 def test_single_bytes(cases: Cases) -> None:
     """Input from a pipe into which each byte is written alone."""
     for sample in samples(cases):
-        child = subprocess.Popen([cases.program, *sample.words], stdin=subprocess.PIPE, stdout=subprocess.PIPE, bufsize=0)
+        child = subprocess.Popen(
+            [cases.program, *sample.words], stdin=subprocess.PIPE, stdout=subprocess.PIPE, bufsize=0
+        )
         for byte in sample.stdin:
             child.stdin.write(bytes([byte]))
         child.stdin.close()
@@ -95,9 +109,13 @@ def test_leaving_reader(cases: Cases) -> None:
         with tempfile.TemporaryFile() as stdin:
             stdin.write(sample.stdin)
             stdin.seek(0)
-            child = subprocess.Popen([cases.program, *sample.words], stdin=stdin, stdout=subprocess.PIPE, stderr=subprocess.PIPE, bufsize=0)
+            child = subprocess.Popen(
+                [cases.program, *sample.words], stdin=stdin, stdout=subprocess.PIPE, stderr=subprocess.PIPE, bufsize=0
+            )
             cases.check(f"{sample.command}, a reader that leaves: first byte", child.stdout.read(1), sample.output[:1])
             child.stdout.close()
             message = child.stderr.read()
             child.stderr.close()
-            cases.check(f"{sample.command}, a reader that leaves", (child.wait(SECONDS), message), (3, Fault.NOT_WRITTEN.line))
+            cases.check(
+                f"{sample.command}, a reader that leaves", (child.wait(SECONDS), message), (3, Fault.NOT_WRITTEN.line)
+            )

@@ -9,7 +9,14 @@ from model.vaults import MAGIC, seal, yaml_block
 def test_strings(cases: Cases) -> None:
     right = [*by_file(cases.file(b"right\n")), "--salt", "abc"]
     block = lambda text, name=b"": yaml_block(seal(RIGHT, text, salt=b"abc"), name)
-    named = [("-n", "k"), ("--name", "k"), ("--name", "a key"), ("--name", "schlüssel"), ("--name", ""), ("--name", "x" * 500)]
+    named = [
+        ("-n", "k"),
+        ("--name", "k"),
+        ("--name", "a key"),
+        ("--name", "schlüssel"),
+        ("--name", ""),
+        ("--name", "x" * 500),
+    ]
     for text in ("secret", "a", "two\nlines\n", "ünïcode →", "-", "x" * 5_000):
         string = text.encode()
         for option, name in named if text != "-" else []:
@@ -17,11 +24,15 @@ def test_strings(cases: Cases) -> None:
             cases.run(f"{option} {name:.20} {text[:20]!r}", words, b"not asked", 0, block(string, name.encode()))
     for words in (["secret"], ["--", "secret"], ["-nk", "secret"], ["--name=k", "secret"]):
         name = b"k" if "k" in words[0] else b""
-        cases.run(f"encrypt_string {words}", ["encrypt_string", *right, *words], b"not asked", 0, block(b"secret", name))
+        cases.run(
+            f"encrypt_string {words}", ["encrypt_string", *right, *words], b"not asked", 0, block(b"secret", name)
+        )
     cases.run("a STRING that begins with -", ["encrypt_string", *right, "--", "-x"], b"not asked", 0, block(b"-x"))
     for words in ([], ["-"], ["--", "-"], ["--stdin-name", "k"], ["--stdin-name", "k", "-"], ["--stdin-name", ""]):
         name = b"k" if "k" in words else b""
-        cases.run(f"standard input {words}", ["encrypt_string", *right, *words], b"secret\n", 0, block(b"secret\n", name))
+        cases.run(
+            f"standard input {words}", ["encrypt_string", *right, *words], b"secret\n", 0, block(b"secret\n", name)
+        )
     worked = cases.run("a block", ["encrypt_string", *with_salt(cases), "-n", "k", "secret"], b"", 0, lambda _: True)
     cases.check("a block: length", (len(worked), len(worked.splitlines()), worked[:13]), (427, 7, b"k: !vault |\n "))
 

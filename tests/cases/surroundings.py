@@ -7,7 +7,7 @@ import resource
 import subprocess
 from pathlib import Path
 
-from cases import SECONDS, TEXT, Cases, by_file, by_id
+from cases import SECONDS, TEXT, Cases, answer_of, by_file, by_id, refusal, run_captured
 from cases.files import to_output, with_files
 from cases.modes import with_output
 from cases.samples import Sample, samples
@@ -43,19 +43,21 @@ def test_without_words(cases: Cases) -> None:
     library = ctypes.CDLL(None, use_errno=True)
     nothing = (ctypes.c_char_p * 1)(None)
     start = lambda: library.execve(os.fsencode(cases.program), nothing, nothing)
-    done = subprocess.run([cases.program], preexec_fn=start, stdin=subprocess.DEVNULL, capture_output=True, timeout=SECONDS)
+    done = subprocess.run(
+        [cases.program], preexec_fn=start, stdin=subprocess.DEVNULL, capture_output=True, timeout=SECONDS
+    )
     wanted = cases.done([])
-    cases.check("no words at all", (done.returncode, done.stdout, done.stderr), (2, b"", wanted.stderr))
+    cases.check("no words at all", answer_of(done), (2, b"", wanted.stderr))
 
 
 def test_program_names(cases: Cases) -> None:
     """Another name changes nothing; one that is not UTF-8 is refused as any argument is."""
     for sample in samples(cases):
         for name in ("", "other", "-x", "two words", "a\nb", "view"):
-            done = subprocess.run([name, *sample.words], executable=cases.program, input=sample.stdin, capture_output=True, timeout=SECONDS)
-            cases.check(f"{sample.command} under the name {name!r}", (done.returncode, done.stdout, done.stderr), (0, sample.output, b""))
-        done = subprocess.run([b"\xff", *sample.words], executable=cases.program, input=sample.stdin, capture_output=True, timeout=SECONDS)
-        cases.check(f"{sample.command} under a name that is not UTF-8", (done.returncode, done.stdout, done.stderr), (2, b"", NOT_UTF8))
+            done = run_captured([name, *sample.words], sample.stdin, executable=cases.program)
+            cases.check(f"{sample.command} under the name {name!r}", answer_of(done), (0, sample.output, b""))
+        done = run_captured([b"\xff", *sample.words], sample.stdin, executable=cases.program)
+        cases.check(f"{sample.command} under a name that is not UTF-8", answer_of(done), (2, b"", NOT_UTF8))
 
 
 def test_names_of_files(cases: Cases) -> None:
@@ -63,13 +65,22 @@ def test_names_of_files(cases: Cases) -> None:
     path = os.fsencode(cases.path()) + b"\xff"
     for sample in with_files(cases):
         Path(os.fsdecode(path)).write_bytes(sample.stdin)
-        runs = {"FILE": [path, *to_output(sample)], "a password file": by_file(path), "a label": ["--vault-id", b"\xff@" + path]}
+        runs = {
+            "FILE": [path, *to_output(sample)],
+            "a password file": by_file(path),
+            "a label": ["--vault-id", b"\xff@" + path],
+        }
         for role, words in runs.items():
-            cases.run(f"{sample.command}, {role} that is not UTF-8", [*sample.words, *words], sample.stdin, 2, b"", NOT_UTF8)
+            cases.run(
+                f"{sample.command}, {role} that is not UTF-8", [*sample.words, *words], sample.stdin, 2, b"", NOT_UTF8
+            )
         cases.check(f"{sample.command}: the file stays", Path(os.fsdecode(path)).read_bytes(), sample.stdin)
     os.unlink(path)
     for sample in with_output(cases):
-        cases.run(f"{sample.command}, an output that is not UTF-8", [*sample.words, "--output", path], sample.stdin, 2, b"", NOT_UTF8)
+        cases.run(
+            f"{sample.command}, an output that is not UTF-8", [*sample.words, "--output", path], sample.stdin, 2, b"",
+            NOT_UTF8,
+        )
         cases.check(f"{sample.command}: no file of that name", os.path.exists(path), False)
 
 
@@ -79,19 +90,19 @@ def test_environments(cases: Cases) -> None:
     settings += [dict.fromkeys(LOCALE_NAMES, locale) for locale in LOCALES]
     runs = [(sample.words, sample.stdin, (0, sample.output, b"")) for sample in samples(cases)]
     fault = Fault.NO_SECRET_FITS
-    runs.append((["view", *by_file(cases.file(b"wrong\n"))], seal(b"right", TEXT), (fault.status, b"", fault.line)))
+    runs.append((["view", *by_file(cases.file(b"wrong\n"))], seal(b"right", TEXT), refusal(fault)))
     for words in (["--help"], ["rekey", "--help"], ["view", "--loud"], ["größe"], []):
         usual = cases.done(words)
         runs.append((words, b"", (usual.returncode, usual.stdout, usual.stderr)))
     for given, (words, stdin, wanted) in itertools.product(settings, runs):
-        done = subprocess.run([cases.program, *words], input=stdin, capture_output=True, timeout=SECONDS, env=given)
+        done = cases.done(words, stdin, env=given)
         name = f"{words[:1]} with {' '.join(f'{name}={value}' for name, value in given.items())!r:.100}"
-        cases.check(name, (done.returncode, done.stdout, done.stderr), wanted)
+        cases.check(name, answer_of(done), wanted)
 
 
 def run_under(cases: Cases, limit: int, amount: int, words: list[str], stdin: bytes) -> tuple:
     restrict = lambda: resource.setrlimit(limit, (amount, amount))
-    done = subprocess.run([cases.program, *words], input=stdin, capture_output=True, timeout=SECONDS, preexec_fn=restrict)
+    done = cases.done(words, stdin, preexec_fn=restrict)
     return done.returncode, done.stdout, done.stderr
 
 

@@ -39,7 +39,20 @@ class Mistake(NamedTuple):
 
 
 def of_program() -> list[Mistake]:
-    unknown = ["show", "help", "encryp", "VIEW", "rekey ", "", "-", "--loud", "-x", "--output", "--vault-id=x", *OTHER_COMMANDS]
+    unknown = [
+        "show",
+        "help",
+        "encryp",
+        "VIEW",
+        "rekey ",
+        "",
+        "-",
+        "--loud",
+        "-x",
+        "--output",
+        "--vault-id=x",
+        *OTHER_COMMANDS,
+    ]
     found = [Mistake([], "subcommand"), Mistake(["--"], "subcommand")]
     found += [Mistake([word], word.partition("=")[0]) for word in unknown]
     found += [Mistake([f"{option}=x"], option) for option in ("--help", "--version")]
@@ -72,7 +85,11 @@ def of_several(command: str) -> list[Mistake]:
     ]
     if "--output" in OPTIONS[command]:
         twice = ["--output", "a", "--output", "b"]
-        several += [([*twice, "--loud"], "--loud"), ([*twice, "x", "y"], "--output"), ([*twice, "--vault-id"], "--output")]
+        several += [
+            ([*twice, "--loud"], "--loud"),
+            ([*twice, "x", "y"], "--output"),
+            ([*twice, "--vault-id"], "--output"),
+        ]
         several += [(["--vault-id", *twice], "--vault-id")]
     return [Mistake([command, *words], named) for words, named in several]
 

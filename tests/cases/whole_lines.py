@@ -7,7 +7,7 @@ import fcntl
 import os
 import subprocess
 
-from cases import SECONDS, TEXT, Cases, by_file, by_id
+from cases import SECONDS, TEXT, Cases, answer_of, by_file, by_id, run_captured
 from cases.samples import samples
 from lib.resident import wait_for_sleep
 from model.faults import Fault
@@ -92,5 +92,5 @@ def test_head_of_envelope(cases: Cases) -> None:
     pipeline = 'set -o pipefail; "$@" | head -n 1'
     words = ["encrypt", *by_file(cases.file(b"right\n"))]
     for number in range(ROUNDS):
-        done = subprocess.run(["bash", "-c", pipeline, "bash", cases.program, *words], input=TEXT, capture_output=True, timeout=SECONDS)
-        cases.check(f"the head of an envelope, round {number}", (done.returncode, done.stdout, done.stderr), (0, header, b""))
+        done = run_captured(["bash", "-c", pipeline, "bash", cases.program, *words], TEXT)
+        cases.check(f"the head of an envelope, round {number}", answer_of(done), (0, header, b""))

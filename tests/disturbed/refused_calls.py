@@ -197,4 +197,5 @@ def refused_calls(cases: Cases, scenarios: list[Scenario], seed: int, share: int
             cases.holds(refusal.name, fits, "" if fits else f"{left}, want {' or '.join(map(str, wanted(refusal)))}")
             cases.holds(f"{refusal.name}: it is met", met)
     counts = Counter(refusal.step.call.name for refusal in chosen)
-    print(f"refused calls: {len(chosen)} of {len(every)} runs; {', '.join(f'{count} {name}' for name, count in counts.items())}")
+    by_name = ", ".join(f"{count} {name}" for name, count in counts.items())
+    print(f"refused calls: {len(chosen)} of {len(every)} runs; {by_name}")

@@ -27,5 +27,8 @@ def size_limit(cases: Cases, scenarios: list[Scenario]) -> None:
         answers = list(pool.map(lambda pair: run_limited(cases.program, *pair), runs))
     for (scenario, amount), left in zip(runs, answers):
         expected = wanted(scenario, amount)
-        cases.holds(f"{scenario.name}, a file takes {amount} bytes, SIGXFSZ at its default", left == expected, f"{left}, want {expected}")
+        cases.holds(
+            f"{scenario.name}, a file takes {amount} bytes, SIGXFSZ at its default", left == expected,
+            f"{left}, want {expected}",
+        )
     print(f"limits of file size: {len(runs)} runs")

@@ -124,7 +124,15 @@ def splice_pieces(random: Random, one: bytes, other: bytes) -> bytes:
 
 def other_salt(random: Random, one: bytes, other: bytes) -> bytes:
     pieces = pieces_of(one)
-    salts = [pieces_of(other).salt, b"", bytes(32), pieces.salt[:-1], pieces.salt + b"\x00", pieces.salt * 8, pieces.salt * 8 + b"x"]
+    salts = [
+        pieces_of(other).salt,
+        b"",
+        bytes(32),
+        pieces.salt[:-1],
+        pieces.salt + b"\x00",
+        pieces.salt * 8,
+        pieces.salt * 8 + b"x",
+    ]
     return spelled(*pieces._replace(salt=random.choice(salts)), label_of(one))
 
 
@@ -171,7 +179,10 @@ def make(seed: str, vaults: list[Vault]) -> Case:
     random = Random(seed)
     one, other = random.choice(vaults), random.choice(vaults)
     content = random.choice(CHANGES)(random, one.envelope, other.envelope)
-    passwords = [one.password, other.password if other.password != one.password else random.choice(list(STORED.values()))]
+    passwords = [
+        one.password,
+        other.password if other.password != one.password else random.choice(list(STORED.values())),
+    ]
     random.shuffle(passwords)
     files: dict[str, bytes | None] = {name: (FIXTURES / name).read_bytes() for name in set(STORED.values())}
     words = [random.choice(["view", "decrypt", "rekey"])]

@@ -217,7 +217,14 @@ class Maker:
         """Words that are no command line."""
         other = sorted({option for options in OPTIONS.values() for option in options} - OPTIONS[self.command])
         twice = sorted(option for option in OPTIONS[self.command] - FLAGS if self.has(option))
-        wrong = [["--loud"], ["x", "y"], ["--vault-id"], ["--vault-id", "--salt"], ["-x"], [self.random.choice(other), "x"]]
+        wrong = [
+            ["--loud"],
+            ["x", "y"],
+            ["--vault-id"],
+            ["--vault-id", "--salt"],
+            ["-x"],
+            [self.random.choice(other), "x"],
+        ]
         wrong += [[option, "x", option, "y"] for option in twice]
         return groups + [self.random.choice(wrong)]
 

@@ -58,18 +58,37 @@ def sealing(files: Files) -> list[Run]:
     runs = []
     for name, to in (("a new file", files.to_new), ("an old file", files.to_old)):
         runs += [
-            created(f"encrypt to {name}", ["encrypt", *one, files.plain], to(), read(files.one, RANDOM, files.plain), SEALED),
-            created(f"rekey to {name}", [*rekey, files.vault], to(), read(files.one, files.two, RANDOM, files.vault), rekeyed),
-            created(f"a STRING to {name}", ["encrypt_string", *one, TEXT.decode()], to(), read(files.one, RANDOM), BLOCK),
+            created(
+                f"encrypt to {name}", ["encrypt", *one, files.plain], to(), read(files.one, RANDOM, files.plain), SEALED
+            ),
+            created(
+                f"rekey to {name}", [*rekey, files.vault], to(), read(files.one, files.two, RANDOM, files.vault),
+                rekeyed,
+            ),
+            created(
+                f"a STRING to {name}", ["encrypt_string", *one, TEXT.decode()], to(), read(files.one, RANDOM), BLOCK
+            ),
         ]
     return runs + [
-        created("encrypt with a salt text", ["encrypt", *text, *one, files.plain], files.to_new(), read(files.one, files.plain), with_text),
-        created("encrypt with a salt file", ["encrypt", *file, *one, files.plain], files.to_new(), read(files.one, files.salt, files.plain), SEALED),
-        created("rekey with a salt file", [*rekey, *file, files.vault], files.to_new(), read(files.one, files.two, files.salt, files.vault), rekeyed),
+        created(
+            "encrypt with a salt text", ["encrypt", *text, *one, files.plain], files.to_new(),
+            read(files.one, files.plain), with_text,
+        ),
+        created(
+            "encrypt with a salt file", ["encrypt", *file, *one, files.plain], files.to_new(),
+            read(files.one, files.salt, files.plain), SEALED,
+        ),
+        created(
+            "rekey with a salt file", [*rekey, *file, files.vault], files.to_new(),
+            read(files.one, files.two, files.salt, files.vault), rekeyed,
+        ),
         Run("encrypt from standard input", ["encrypt", *one], read(files.one, RANDOM), None, SEALED, TEXT),
         Run("rekey from standard input", rekey, read(files.one, files.two, RANDOM), None, rekeyed, seal(b"one", TEXT)),
         Run("encrypt_string from standard input", ["encrypt_string", *one], read(files.one, RANDOM), None, BLOCK, TEXT),
-        Run("a STRING with a salt file", ["encrypt_string", *one, *file, TEXT.decode()], read(files.one, files.salt), None, BLOCK),
+        Run(
+            "a STRING with a salt file", ["encrypt_string", *one, *file, TEXT.decode()], read(files.one, files.salt),
+            None, BLOCK,
+        ),
     ]
 
 
@@ -80,9 +99,17 @@ def opening(files: Files) -> list[Run]:
     sizes = dict.fromkeys(many, 3)
     size, empty = len(TEXT), files.cases.file(seal(b"one", b""))
     return [
-        created("decrypt to a new file", ["decrypt", *two, *one, files.vault], files.to_new(), read(files.two, files.one, files.vault), size),
-        created("decrypt to an old file", ["decrypt", *one, files.vault], files.to_old(), read(files.one, files.vault), size),
-        created("decrypt nothing to an old file", ["decrypt", *one, empty], files.to_old(), {**read(files.one), empty: len(seal(b"one", b""))}, 0),
+        created(
+            "decrypt to a new file", ["decrypt", *two, *one, files.vault], files.to_new(),
+            read(files.two, files.one, files.vault), size,
+        ),
+        created(
+            "decrypt to an old file", ["decrypt", *one, files.vault], files.to_old(), read(files.one, files.vault), size
+        ),
+        created(
+            "decrypt nothing to an old file", ["decrypt", *one, empty], files.to_old(),
+            {**read(files.one), empty: len(seal(b"one", b""))}, 0,
+        ),
         Run("decrypt from standard input", ["decrypt", *one], read(files.one), None, size, seal(b"one", TEXT)),
         Run("view", ["view", *one, files.vault], read(files.one, files.vault), None, size),
         Run("view from standard input", ["view", *one], read(files.one), None, size, seal(b"one", TEXT)),
@@ -105,10 +132,19 @@ def missing_files(files: Files) -> list[Run]:
     to = ["--output", missing]
     without = by_file(missing)
     return [
-        Run("a missing password file", ["view", *one, *without, *by_file(files.two), files.vault], read(files.one, missing), fault=Fault.SECRET_NOT_OPENED),
-        Run("a missing salt file", ["encrypt", *one, "--salt-file", missing, *to, files.plain], read(files.one, missing), fault=Fault.SALT_NOT_OPENED),
+        Run(
+            "a missing password file", ["view", *one, *without, *by_file(files.two), files.vault],
+            read(files.one, missing), fault=Fault.SECRET_NOT_OPENED,
+        ),
+        Run(
+            "a missing salt file", ["encrypt", *one, "--salt-file", missing, *to, files.plain],
+            read(files.one, missing), fault=Fault.SALT_NOT_OPENED,
+        ),
         Run("a missing FILE", ["view", *one, missing], read(files.one, missing), fault=Fault.INPUT_NOT_OPENED),
-        Run("a password that does not fit", ["decrypt", *by_file(files.two), *to, files.vault], read(files.two, files.vault), fault=Fault.NO_SECRET_FITS),
+        Run(
+            "a password that does not fit", ["decrypt", *by_file(files.two), *to, files.vault],
+            read(files.two, files.vault), fault=Fault.NO_SECRET_FITS,
+        ),
     ]
 
 
@@ -125,18 +161,42 @@ def unread_files(files: Files) -> list[Run]:
         chosen = [*both, "--encrypt-vault-id", "x"]
         runs += [
             Run(f"no secret and {way}", ["encrypt", *to, *given], read(RANDOM, *opened), fault=Fault.NO_ENCRYPT_SECRET),
-            Run(f"several secrets and {way}", ["encrypt", *both, *to, *given], read(*passwords, RANDOM, *opened), fault=many),
-            Run(f"an unknown label and {way}", ["encrypt", *chosen, *to, *given], read(*passwords, RANDOM, *opened), fault=unknown),
-            Run(f"a short salt and {way}", ["encrypt", *one, *short, *to, *given], read(files.one, files.short, *opened), fault=Fault.SALT_SHORT),
-            Run(f"an empty password and {way}", ["encrypt", *empty, *to, *given], read(files.empty, RANDOM, *opened), fault=Fault.SECRET_EMPTY),
+            Run(
+                f"several secrets and {way}", ["encrypt", *both, *to, *given], read(*passwords, RANDOM, *opened),
+                fault=many,
+            ),
+            Run(
+                f"an unknown label and {way}", ["encrypt", *chosen, *to, *given], read(*passwords, RANDOM, *opened),
+                fault=unknown,
+            ),
+            Run(
+                f"a short salt and {way}", ["encrypt", *one, *short, *to, *given],
+                read(files.one, files.short, *opened), fault=Fault.SALT_SHORT,
+            ),
+            Run(
+                f"an empty password and {way}", ["encrypt", *empty, *to, *given], read(files.empty, RANDOM, *opened),
+                fault=Fault.SECRET_EMPTY,
+            ),
         ]
     for way, given, opened in (("FILE", [files.unread_vault], [files.unread_vault]), ("standard input", [], [])):
         rekey, fault = ["rekey", *one, *to], Fault.SECRET_EMPTY
         runs += [
-            Run(f"rekey, a short salt and {way}", [*rekey, *new, *short, *given], read(*passwords, files.short, *opened), fault=Fault.SALT_SHORT),
-            Run(f"rekey, an empty new password and {way}", [*rekey, "--new-vault-password-file", files.empty, *given], read(files.one, files.empty, RANDOM, *opened), fault=fault),
-            Run(f"view, an empty password and {way}", ["view", *one, *empty, *given], read(files.one, files.empty, *opened), fault=fault),
-            Run(f"decrypt, an empty password and {way}", ["decrypt", *empty, *to, *given], read(files.empty, *opened), fault=fault),
+            Run(
+                f"rekey, a short salt and {way}", [*rekey, *new, *short, *given],
+                read(*passwords, files.short, *opened), fault=Fault.SALT_SHORT,
+            ),
+            Run(
+                f"rekey, an empty new password and {way}", [*rekey, "--new-vault-password-file", files.empty, *given],
+                read(files.one, files.empty, RANDOM, *opened), fault=fault,
+            ),
+            Run(
+                f"view, an empty password and {way}", ["view", *one, *empty, *given],
+                read(files.one, files.empty, *opened), fault=fault,
+            ),
+            Run(
+                f"decrypt, an empty password and {way}", ["decrypt", *empty, *to, *given], read(files.empty, *opened),
+                fault=fault,
+            ),
         ]
     string = ["encrypt_string", *short]
     return runs + [
@@ -158,11 +218,22 @@ def long_files(files: Files) -> list[Run]:
     past_plain, past_vault = {plain: PLAINTEXT_LIMIT + 1}, {vault: ENVELOPE_LIMIT + 1}
     fault = Fault.TOO_LONG
     return [
-        Run("encrypt a FILE that is too long", ["encrypt", *one, "--salt", "s", *to, plain], read(files.one) | past_plain, fault=fault),
-        Run("decrypt a FILE that is too long", ["decrypt", *one, *to, vault], read(files.one) | past_vault, fault=fault),
+        Run(
+            "encrypt a FILE that is too long", ["encrypt", *one, "--salt", "s", *to, plain],
+            read(files.one) | past_plain, fault=fault,
+        ),
+        Run(
+            "decrypt a FILE that is too long", ["decrypt", *one, *to, vault], read(files.one) | past_vault, fault=fault
+        ),
         Run("view a FILE that is too long", ["view", *one, vault], read(files.one) | past_vault, fault=fault),
-        Run("rekey a FILE that is too long", ["rekey", *one, *new, *to, vault], read(files.one, files.two, RANDOM) | past_vault, fault=fault),
-        Run("a password file that is too long", ["view", *by_file(password), files.unread_vault], {password: PASSWORD_LIMIT, files.unread_vault: 0}, fault=Fault.SECRET_TOO_LONG),
+        Run(
+            "rekey a FILE that is too long", ["rekey", *one, *new, *to, vault],
+            read(files.one, files.two, RANDOM) | past_vault, fault=fault,
+        ),
+        Run(
+            "a password file that is too long", ["view", *by_file(password), files.unread_vault],
+            {password: PASSWORD_LIMIT, files.unread_vault: 0}, fault=Fault.SECRET_TOO_LONG,
+        ),
     ]
 
 
@@ -174,7 +245,9 @@ def closed_streams(files: Files) -> list[Run]:
     runs = []
     for closed in ((0,), (1,), (2,), (0, 1), (0, 2), (1, 2), (0, 1, 2)):
         name = f"encrypt to a file with {closed} closed"
-        runs.append(created(name, [*encrypt, files.plain], files.to_new(), read(files.one, files.plain), size, closed=closed))
+        runs.append(
+            created(name, [*encrypt, files.plain], files.to_new(), read(files.one, files.plain), size, closed=closed)
+        )
     return runs + [
         Run("encrypt with 0 closed", encrypt, read(files.one), fault=Fault.INPUT_NOT_READ, closed=(0,)),
         Run("view with 1 closed", view, opened, fault=Fault.NOT_WRITTEN, closed=(1,)),
