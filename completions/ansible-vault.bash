@@ -81,7 +81,7 @@ _ansible_vault_value() {
     --vault-password-file | --new-vault-password-file | --salt-file | --output)
         _ansible_vault_files "$word"
         ;;
-    --encrypt-vault-id | --salt | --name | -n | --stdin-name | --jobs) ;;
+    --encrypt-vault-id | --salt | --name | -n | --stdin-name | --jobs | --label | --since) ;;
     *) return 1 ;;
     esac
     return 0
@@ -108,13 +108,14 @@ _ansible_vault() {
 
 # The options of a companion.
 _ansible_vault_companion_options() {
-    local common="--vault-id --vault-password-file --help -h"
+    local common="--vault-id --vault-password-file --help -h --version -V"
     case $1 in
     ansible-vault-edit) echo "$common --encrypt-vault-id" ;;
     ansible-vault-rotate)
         echo "$common --new-vault-id --new-vault-password-file --dry-run --jobs"
         ;;
-    ansible-vault-hook) echo "--help -h" ;;
+    ansible-vault-check) echo "$common --label" ;;
+    ansible-vault-hook) echo "--all --since --install --help -h --version -V" ;;
     *) echo "$common" ;;
     esac
 }

@@ -53,6 +53,7 @@ complete -c ansible-vault -n "$given encrypt decrypt view rekey" -F
 for name in edit rotate check textconv hook
     complete -c ansible-vault-$name -f
     complete -c ansible-vault-$name -s h -l help -d 'Print help'
+    complete -c ansible-vault-$name -s V -l version -d 'Print version'
 end
 for name in edit rotate check textconv
     complete -c ansible-vault-$name -F
@@ -69,3 +70,7 @@ complete -c ansible-vault-rotate -l new-vault-password-file -r -F \
     -d 'The password file of a new secret for the label default'
 complete -c ansible-vault-rotate -l dry-run -d 'Write nothing, and tell what would be done'
 complete -c ansible-vault-rotate -l jobs -x -d 'How many files at once'
+complete -c ansible-vault-check -l label -x -d 'A label that is to open; others are counted'
+complete -c ansible-vault-hook -l all -d 'Look at every file of the commit that is checked out'
+complete -c ansible-vault-hook -l since -x -d 'Look at each commit from this one on'
+complete -c ansible-vault-hook -l install -d 'Install the hooks of this clone'

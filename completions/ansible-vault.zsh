@@ -21,6 +21,14 @@ _ansible_vault_commands() {
 # The options and the positional of a command, or of a companion.
 _ansible_vault_arguments() {
     local -a help=('(- *)'{-h,--help}'[print help]')
+    # Of a companion.
+    local -a about=($help '(- *)'{-V,--version}'[print version]')
+    local -a labels=('*--label=[a label that is to open; others are counted]:label: ')
+    local -a commits=(
+        '(--since --install)--all[look at every file of the commit that is checked out]'
+        '(--all --install)--since=[look at each commit from this one on]:commit: '
+        '(--all --since)--install[install the hooks of this clone]'
+    )
     local -a secrets=(
         '*--vault-id=[a password file, with its label]:[label@]file:_ansible_vault_id'
         '*--vault-password-file=[a password file for the label default]:file:_files'
@@ -56,11 +64,11 @@ _ansible_vault_arguments() {
         view) _arguments -s -S $help $secrets $binding $file ;;
         rekey) _arguments -s -S $help $secrets $renewal $binding $salt $output $file ;;
         encrypt_string) _arguments -s -S $help $secrets $choice $salt $names $output '1:text: ' ;;
-        edit) _arguments -s -S $help $secrets $choice $file ;;
-        rotate) _arguments -s -S $help $secrets $new_secrets $rotation '*:path:_files' ;;
-        check) _arguments -s -S $help $secrets '*:path:_files' ;;
-        textconv) _arguments -s -S $help $secrets $file ;;
-        hook) _arguments -s -S $help ;;
+        edit) _arguments -s -S $about $secrets $choice $file ;;
+        rotate) _arguments -s -S $about $secrets $new_secrets $rotation '*:path:_files' ;;
+        check) _arguments -s -S $about $secrets $labels '*:path:_files' ;;
+        textconv) _arguments -s -S $about $secrets $file ;;
+        hook) _arguments -s -S $about $commits ;;
     esac
 }
 

@@ -24,6 +24,10 @@ class Secret(NamedTuple):
         """The word by which the tool is told of it, under a label of its own or another."""
         return f"{name}={self.label if label is None else label}@{self.path}"
 
+    def password(self) -> bytes | None:
+        """The password, as the tool takes it from the file."""
+        return None if self.descriptor is None else os.pread(self.descriptor, READ_AT_MOST, 0).strip()
+
 
 def add_options(parser: argparse.ArgumentParser, prefix: str = "", which: str = "") -> None:
     """The options that name secrets; they may be repeated."""

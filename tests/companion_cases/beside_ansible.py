@@ -43,8 +43,28 @@ def theirs(place: Place, ansible: str, *words: str) -> subprocess.CompletedProce
     return done
 
 
+def encrypted_strings(place: Place, ansible: str, label: str, texts: dict[str, str]) -> list[str]:
+    """The block of each variable, as Ansible's tool makes it."""
+    choice = [*place.by_id(label, LABELS[label][0]), "--encrypt-vault-id", label]
+    names = [word for name in texts for word in ("-n", name)]
+    made = theirs(place, ansible, "encrypt_string", *choice, *names, *texts.values()).stdout.decode()
+    return [f"{each.strip()}\n" for each in re.split(r"(?m)^(?=\w+:)", made)[1:]]
+
+
+def nested_vault(place: Place, ansible: str, label: str) -> str:
+    """A vault whose plaintext has a block of another label."""
+    labels = list(LABELS)
+    other = labels[labels.index(label) - 1]
+    name = f"vars/{label}_nested.yml"
+    [block] = encrypted_strings(place, ansible, other, {f"{label}_inner": f"in a vault of {label}"})
+    place.put(name, f"{label}_outer: around it\n{block}".encode())
+    theirs(place, ansible, "encrypt", *place.by_id(label, LABELS[label][0]), "--encrypt-vault-id", label, name)
+    return name
+
+
 def make_repository(place: Place, ansible: str) -> tuple[list[str], list[str]]:
-    """Eight vaults of each label, six files of blocks; their names, and those of the variables."""
+    """Eight vaults of each label, one with a block within, six files of blocks; their names, and those of
+    the variables."""
     files, names = [], []
     for label, (old, _) in LABELS.items():
         vaults = [f"vars/{label}{number}.yml" for number in range(FILES_OF_A_LABEL)]
@@ -56,14 +76,12 @@ def make_repository(place: Place, ansible: str) -> tuple[list[str], list[str]]:
         choice = [*place.by_id(label, old), "--encrypt-vault-id", label]
         theirs(place, ansible, "encrypt", *choice, *vaults)
         names += [f"{label}{number}" for number in range(FILES_OF_A_LABEL)]
-        strings = [word for number in range(3) for word in ("-n", f"{label}_block{number}")]
-        texts = [f"block {number} of {label}" for number in range(3)]
-        blocks = theirs(place, ansible, "encrypt_string", *choice, *strings, *texts).stdout
-        first, second, third = (f"{each.strip()}\n" for each in re.split(r"(?m)^(?=\w+:)", blocks.decode())[1:])
+        texts = {f"{label}_block{number}": f"block {number} of {label}" for number in range(3)}
+        first, second, third = encrypted_strings(place, ansible, label, texts)
         place.put(f"vars/{label}_blocks.yml", f"# blocks\n{first}{second}".encode())
         place.put(f"vars/{label}_more.yml", third.rstrip("\n").replace("\n", "\r\n").encode())
-        names += [f"{label}_block{number}" for number in range(3)]
-        files += vaults + [f"vars/{label}_{name}.yml" for name in ("blocks", "more")]
+        names += [*texts, f"{label}_outer", f"{label}_inner"]
+        files += [*vaults, *(f"vars/{label}_{name}.yml" for name in ("blocks", "more")), nested_vault(place, ansible, label)]
     return files, names
 
 
@@ -83,15 +101,18 @@ def a_repository(cases: Companions) -> None:
         files, names = make_repository(place, ansible)
         listed = ", ".join(name for name in files if name.startswith("vars/"))
         place.put("play.yml", PLAYBOOK.format(files=listed, names=", ".join(names)).encode())
-        cases.check("the repository has so many files", len(files), 31)
+        cases.check("the repository has so many files", len(files), 34)
         before = played(place, str(playbook), 0)
         cases.check("the playbook reads each", len(before), len(names) + 1)
-        total = 3 * FILES_OF_A_LABEL + 1 + 3 * 3
+        # Vaults, the whole file, blocks, and the vaults with a block within.
+        total = 3 * FILES_OF_A_LABEL + 1 + 3 * 3 + 3 * 2
         done = place.run(ROTATE, *secrets(place, 0), *secrets(place, 1, "new-"), ".")
         cases.ended("the rotation", done, 0, summary(total))
         cases.check("the playbook says the same", played(place, str(playbook), 1), before)
         cases.ended("the check", place.run(CHECK, *secrets(place, 1), "."), 0, f"{total} opened, 0 not")
-        cases.ended("the old ones open none", place.run(CHECK, *secrets(place, 0), "."), 1, f"0 opened, {total} not")
+        # What is within a vault is not seen where it does not open.
+        told = f"0 opened, {total - len(LABELS)} not"
+        cases.ended("the old ones open none", place.run(CHECK, *secrets(place, 0), "."), 1, told)
         for label, (_, new) in LABELS.items():
             vaults = [name for name in files if re.match(rf"vars/{label}\d", name)]
             header = b"$ANSIBLE_VAULT;1.1;AES256\n" if label == "default" else f"$ANSIBLE_VAULT;1.2;AES256;{label}\n".encode()
