@@ -2,6 +2,7 @@
 ghost use Rattle.std.specs.Prelude.{◌≤◌};
 
 use std::process::Abort;
+use std::test::Fail;
 use vault_kdf::{Hmac, Keys, Meter, derive, hmac, pbkdf2};
 
 // The message has this tag, taken whole and one byte at a time.
@@ -259,4 +260,19 @@ fn keys_of_a_vault(rt: HostRuntime) {
     );
     derive(b"", b"", &mut meter);
     assert_eq!(rt; meter.count(), 2);
+}
+
+// The three keys are one output of PBKDF2, of 80 bytes, cut after 32 and after 64 of them.
+#[test]
+fn keys_are_cut_from_one_output(rt: HostRuntime) -> Result<(), Fail> {
+    for (password, salt) in [(b"secret".as_slice(), b"salt".as_slice()), (b"", &[0; 32])] {
+        let mut out = [0; 80];
+        pbkdf2(password, salt, 10_000, &mut out);
+        let Keys { cipher, mac, iv } = derive(password, salt, &mut Meter::new());
+        let mut joined = Vec::from_slice(rt.alloc(), &cipher)?;
+        joined.extend_from_slice(&mac)?;
+        joined.extend_from_slice(&iv)?;
+        assert_eq!(rt; out.as_slice(), joined.as_slice());
+    }
+    Ok(())
 }

@@ -8,6 +8,8 @@ mod failing_source;
 #[cfg(test)]
 mod labels;
 #[cfg(test)]
+mod parts;
+#[cfg(test)]
 mod reading;
 #[cfg(test)]
 mod text_memory;

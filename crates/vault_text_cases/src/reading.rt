@@ -7,7 +7,9 @@ use crate::whole_list::{OwnedPayload, read_envelope};
 use std::alloc::{AllocError, Global};
 use std::process::Abort;
 use std::test::Fail;
-use vault_text::{EnvelopeReader, PADDING_LIMIT, Payload, TextFault, TextMemory};
+use vault_text::{
+    EnvelopeReader, MemSource, PADDING_LIMIT, Payload, Source, SourceFailed, TextFault, TextMemory,
+};
 
 /// The memory that most tests lend: room for 100 bytes of plaintext.
 pub const WORK_LENGTH: usize = 100 + PADDING_LIMIT;
@@ -15,7 +17,7 @@ pub const WORK_LENGTH: usize = 100 + PADDING_LIMIT;
 /// The longest input that such memory reads: 6 times 100 and 8,192 bytes.
 pub const INPUT_LIMIT: usize = 8_792;
 
-const HEADER: &str = "$ANSIBLE_VAULT;1.1;AES256";
+pub const HEADER: &str = "$ANSIBLE_VAULT;1.1;AES256";
 
 /// The body with an empty salt, a tag of zeros and an empty ciphertext.
 const EMPTY: [&str; 2] = [
@@ -24,7 +26,7 @@ const EMPTY: [&str; 2] = [
 ];
 
 /// A body that Python's `binascii.hexlify` made.
-const FILLED: [&str; 4] = [
+pub const FILLED: [&str; 4] = [
     "3730363537303730363537323230363136653634323037333631366337340a303030313032303330",
     "34303530363037303830393061306230633064306530663130313131323133313431353136313731",
     "3831393161316231633164316531660a663066316632663366346635663666376638663966616662",
@@ -32,7 +34,12 @@ const FILLED: [&str; 4] = [
 ];
 
 /// The header line and the lines, each ended by `end`.
-fn text_of(alloc: Global, header: &str, lines: &[&str], end: &str) -> Result<Vec<u8>, AllocError> {
+pub fn text_of(
+    alloc: Global,
+    header: &str,
+    lines: &[&str],
+    end: &str,
+) -> Result<Vec<u8>, AllocError> {
     let mut text = Vec::new(alloc);
     text.extend_from_slice(header.as_bytes())?;
     text.extend_from_slice(end.as_bytes())?;
@@ -64,18 +71,32 @@ fn assert_same(
     }
 }
 
-/// Reads the input cut in two at every place, with an empty piece between, and in single bytes;
-/// the answer is that of the whole-list reader.
-fn read_in_pieces(
+/// Feeds the bytes of a source to its end.
+fn feed_from(reader: &mut EnvelopeReader<'_>, src: &mut MemSource<'_>) -> Result<(), SourceFailed> {
+    let mut buf = [0; 4_096];
+    for _ in 0..=INPUT_LIMIT {
+        let count = src.fill(&mut buf)?;
+        if count == 0 {
+            break;
+        }
+        reader.feed(&buf[..count]);
+    }
+    Ok(())
+}
+
+/// Reads the input cut in two at every place, with an empty piece between, in single bytes with
+/// empty pieces between, and from sources of three steps; the answer is that of the whole-list
+/// reader.
+pub fn read_in_pieces(
     rt: &impl Abort,
     alloc: Global,
     work: &mut [u8],
     input: &[u8],
-) -> Result<Result<OwnedPayload, TextFault>, AllocError>
+) -> Result<Result<OwnedPayload, TextFault>, Fail>
     requires { length work.old ≡ WORK_LENGTH }
 {
     let whole = read_envelope(alloc, input)?;
-    for cut in 0..input.len() {
+    for cut in 0..=input.len() {
         let mut reader = EnvelopeReader::new(work);
         reader.feed(&input[..cut]);
         reader.feed(&[]);
@@ -85,13 +106,19 @@ fn read_in_pieces(
     let mut reader = EnvelopeReader::new(work);
     for byte in input {
         reader.feed([*byte].as_slice());
+        reader.feed(&[]);
     }
     assert_same(rt, reader.finish(), &whole);
+    for step in [1, 7, 4_096] {
+        let mut reader = EnvelopeReader::new(work);
+        feed_from(&mut reader, &mut MemSource::new(input, step))?;
+        assert_same(rt, reader.finish(), &whole);
+    }
     Ok(whole)
 }
 
 /// Memory for a ciphertext.
-fn work_memory(alloc: Global) -> Result<Vec<u8>, AllocError>
+pub fn work_memory(alloc: Global) -> Result<Vec<u8>, AllocError>
     ensures { IfOk result (λ work. vec_len work ≡ WORK_LENGTH) }
 {
     vec![in alloc; 0u8; WORK_LENGTH]
@@ -191,28 +218,6 @@ fn first_lines_that_name_a_label(rt: HostRuntime) -> Result<(), Fail> {
     let spaced = text_of(alloc, HEADER, &[first, " ", second], "\n")?;
     let whole = read_in_pieces(&rt, alloc, work, spaced.as_slice())?;
     assert_eq!(rt; whole.err(), Some(TextFault::BadHex));
-    Ok(())
-}
-
-#[test]
-fn all_parts_of_an_envelope(rt: HostRuntime) -> Result<(), Fail> {
-    let alloc = rt.alloc();
-    let mut memory = work_memory(alloc)?;
-    let work = memory.as_mut_slice();
-    assert_eq!(rt; work.len(), WORK_LENGTH);
-    let input = text_of(alloc, "$ANSIBLE_VAULT;1.2;AES256;dev", &FILLED, "\n")?;
-    let whole = read_in_pieces(&rt, alloc, work, input.as_slice())?;
-    let payload = whole.map_err(|_| "refused")?;
-    let mut tag = [0; 32];
-    for i in 0..32 {
-        tag[i as usize] = i;
-    }
-    assert_eq!(rt; payload.label.as_str(), "dev");
-    assert_eq!(rt; payload.salt.as_slice(), b"pepper and salt".as_slice());
-    assert_eq!(rt; payload.tag.as_slice(), tag.as_slice());
-    assert_eq!(rt; payload.cipher.len(), 32);
-    assert_eq!(rt; &payload.cipher[..3], [0xf0, 0xf1, 0xf2].as_slice());
-    assert_eq!(rt; &payload.cipher[16..], b"0123456789abcdef".as_slice());
     Ok(())
 }
 
