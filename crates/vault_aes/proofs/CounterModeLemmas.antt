@@ -1,4 +1,4 @@
--- A list to whose first bytes a keystream has been added.
+-- A list to whose first bytes a stream has been added.
 use Rattle.std.proofs.Common.{◌≡◌, ℕ, ◌+◌, ◌-◌, ◌*◌, ◌/◌, ◌%◌, ◌^◌, ◌<◌, ◌≤◌, List, ◌++◌, refl, sym}
 use Rattle.std.proofs.Common.{ap, ◌∙◌, arith, inl, inr, bit_xor, drop, get_or-drop, get_or-take}
 use Rattle.std.proofs.Common.{length, length-append, length-drop, length-take, length-take-le}
@@ -14,26 +14,26 @@ use lib.Bits.{xor_assoc, xor_self, xor_zero_r}
 use Rattle.vault_aes.specs.Cipher.{cipher}
 use Rattle.vault_aes.specs.CounterMode.{counter_block, counter_mode, keystream_byte, xor_keystream}
 
--- the keystream has been added to the first n bytes, and the others are as they were
-pub record IsAddedTo (keystream : ℕ → ℕ) (old new : List ℕ) (n : ℕ) : Type 0 where
+-- the stream has been added to the first n bytes, and the others are as they were
+pub record IsAddedTo (stream : ℕ → ℕ) (old new : List ℕ) (n : ℕ) : Type 0 where
   pub same_length : length new ≡ length old
-  pub done : (k : ℕ) → k < n → slice_index new k ≡ bit_xor (slice_index old k) (keystream k)
+  pub done : (k : ℕ) → k < n → slice_index new k ≡ bit_xor (slice_index old k) (stream k)
   pub rest : (k : ℕ) → n ≤ k → slice_index new k ≡ slice_index old k
 
-pub IsAddedTo-none : (keystream : ℕ → ℕ) (old : List ℕ) → IsAddedTo keystream old old 0
-IsAddedTo-none keystream old =
+pub IsAddedTo-none : (stream : ℕ → ℕ) (old : List ℕ) → IsAddedTo stream old old 0
+IsAddedTo-none stream old =
     record { same_length = refl; done = λ k lt. absurd (omega arith); rest = λ k le. refl }
 
-pub IsAddedTo-at : (keystream : ℕ → ℕ) (old new : List ℕ) (n k : ℕ) → n ≡ k
-    → IsAddedTo keystream old new n → IsAddedTo keystream old new k
-IsAddedTo-at keystream old new n k e held = rw (← e) held
+pub IsAddedTo-at : (stream : ℕ → ℕ) (old new : List ℕ) (n k : ℕ) → n ≡ k
+    → IsAddedTo stream old new n → IsAddedTo stream old new k
+IsAddedTo-at stream old new n k e held = rw (← e) held
 
 -- one more byte
-pub IsAddedTo-more : (keystream : ℕ → ℕ) (old new : List ℕ) (n : ℕ) → n < length new
-    → IsAddedTo keystream old new n
-    → IsAddedTo keystream old (slice_set new n (bit_xor (slice_index new n) (keystream n))) (n + 1)
-IsAddedTo-more keystream old new n fits held =
-    let value : ℕ = bit_xor (slice_index new n) (keystream n) in
+pub IsAddedTo-more : (stream : ℕ → ℕ) (old new : List ℕ) (n : ℕ) → n < length new
+    → IsAddedTo stream old new n
+    → IsAddedTo stream old (slice_set new n (bit_xor (slice_index new n) (stream n))) (n + 1)
+IsAddedTo-more stream old new n fits held =
+    let value : ℕ = bit_xor (slice_index new n) (stream n) in
     record {
       same_length = length-set new n value ∙ held.same_length;
       done = λ k lt. elim (cases_lt k n) [
@@ -41,27 +41,28 @@ IsAddedTo-more keystream old new n fits held =
         | inr top ↦
             let e : k ≡ n = omega arith in
             rw e (get_or-set_same new n value 0 fits
-            ∙ ap (λ (x : ℕ). bit_xor x (keystream n)) (held.rest n (omega arith)))
+            ∙ ap (λ (x : ℕ). bit_xor x (stream n)) (held.rest n (omega arith)))
       ];
       rest =
           λ k le. get_or-set_other new n k value 0 (λ e. omega arith) ∙ held.rest k (omega arith);
     }
 
 -- all bytes
-pub IsAddedTo-all : (keystream : ℕ → ℕ) (old new : List ℕ) (n : ℕ) → length old ≤ n
-    → IsAddedTo keystream old new n → new ≡ xor_keystream keystream old
-IsAddedTo-all keystream old new n all held =
-    fill_by_all (λ i. bit_xor (slice_index old i) (keystream i)) new (length old) 0 held.same_length
+pub IsAddedTo-all : (stream : ℕ → ℕ) (old new : List ℕ) (n : ℕ) → length old ≤ n
+    → IsAddedTo stream old new n → new ≡ xor_keystream stream old
+IsAddedTo-all stream old new n all held =
+    fill_by_all (λ i. bit_xor (slice_index old i) (stream i)) new (length old) 0 held.same_length
     (λ k lt. held.done k (omega arith))
 
-length-xor_keystream : (keystream : ℕ → ℕ) (old : List ℕ) → length (xor_keystream keystream old) ≡ length old
-length-xor_keystream keystream old =
-    length-map-range_with_len (λ i. bit_xor (slice_index old i) (keystream i)) 0 (length old)
+length-xor_keystream : (stream : ℕ → ℕ) (old : List ℕ)
+    → length (xor_keystream stream old) ≡ length old
+length-xor_keystream stream old =
+    length-map-range_with_len (λ i. bit_xor (slice_index old i) (stream i)) 0 (length old)
 
-slice_index-xor_keystream : (keystream : ℕ → ℕ) (old : List ℕ) (k : ℕ) → k < length old
-    → slice_index (xor_keystream keystream old) k ≡ bit_xor (slice_index old k) (keystream k)
-slice_index-xor_keystream keystream old k lt =
-    get_or-map-range_with_len (λ i. bit_xor (slice_index old i) (keystream i)) 0 (length old) k k 0 lt
+slice_index-xor_keystream : (stream : ℕ → ℕ) (old : List ℕ) (k : ℕ) → k < length old
+    → slice_index (xor_keystream stream old) k ≡ bit_xor (slice_index old k) (stream k)
+slice_index-xor_keystream stream old k lt =
+    get_or-map-range_with_len (λ i. bit_xor (slice_index old i) (stream i)) 0 (length old) k k 0 lt
     (omega arith)
 
 -- ---- a part of the list
@@ -95,13 +96,13 @@ length-put_mid : (a size : ℕ) (xs ys : List ℕ) → a + size ≤ length xs �
 length-put_mid a size xs ys within len =
     simp (length-append, length-drop, length-take) (omega (arith, len))
 
--- one more part, with a block of the keystream
-pub IsAddedTo-part : (keystream : ℕ → ℕ) (block old new part : List ℕ) (start size n : ℕ)
+-- one more part, with a block of the stream
+pub IsAddedTo-part : (stream : ℕ → ℕ) (block old new part : List ℕ) (start size n : ℕ)
     → start + size ≤ length new → n ≡ start + size
     → part ≡ xor_keystream (slice_index block) (take size (drop start new))
-    → ((k : ℕ) → k < size → slice_index block k ≡ keystream (start + k))
-    → IsAddedTo keystream old new start → IsAddedTo keystream old (put_mid start size new part) n
-IsAddedTo-part keystream block old new part start size n within end part_is block_is held =
+    → ((k : ℕ) → k < size → slice_index block k ≡ stream (start + k))
+    → IsAddedTo stream old new start → IsAddedTo stream old (put_mid start size new part) n
+IsAddedTo-part stream block old new part start size n within end part_is block_is held =
     let source : List ℕ = take size (drop start new) in
     let source_length : length source ≡ size = simp (length-take, length-drop) (omega arith) in
     let len : length part ≡ size =
@@ -119,9 +120,10 @@ IsAddedTo-part keystream block old new part start size n within end part_is bloc
             ∙ ap (slice_index new) place ∙ held.rest k above in
             let added : slice_index part i ≡ bit_xor (slice_index source i) (slice_index block i) =
             ap (λ (xs : List ℕ). slice_index xs i) part_is
-            ∙ slice_index-xor_keystream (slice_index block) source i (omega (arith, source_length)) in
+            ∙ slice_index-xor_keystream (slice_index block) source i
+            (omega (arith, source_length)) in
             put_mid-inside start size new part k (omega arith) above (omega (arith, len)) ∙ added
-            ∙ (λ j. bit_xor (from j) ((block_is i inside ∙ ap keystream place) j))
+            ∙ (λ j. bit_xor (from j) ((block_is i inside ∙ ap stream place) j))
       ];
       rest = λ k le. put_mid-after start size new part k (omega arith) len (omega arith)
           ∙ held.rest k (omega arith);
@@ -174,11 +176,11 @@ pub counter_mode-counter_mode : (words iv input : List ℕ)
     → counter_mode words iv (counter_mode words iv input) ≡ input
 unfolding counter_mode
 counter_mode-counter_mode words iv input =
-    let keystream = keystream_byte words iv in
-    let once : List ℕ = xor_keystream keystream input in
-    let len : length once ≡ length input = length-xor_keystream keystream input in
-    sym (fill_by_all (λ i. bit_xor (slice_index once i) (keystream i)) input (length once) 0 (sym len)
+    let stream = keystream_byte words iv in
+    let once : List ℕ = xor_keystream stream input in
+    let len : length once ≡ length input = length-xor_keystream stream input in
+    sym (fill_by_all (λ i. bit_xor (slice_index once i) (stream i)) input (length once) 0 (sym len)
     (λ k lt. sym
-    (ap (λ (x : ℕ). bit_xor x (keystream k))
-    (slice_index-xor_keystream keystream input k (omega (arith, len)))
-    ∙ xor-xor (slice_index input k) (keystream k))))
+    (ap (λ (x : ℕ). bit_xor x (stream k))
+    (slice_index-xor_keystream stream input k (omega (arith, len)))
+    ∙ xor-xor (slice_index input k) (stream k))))

@@ -1,6 +1,7 @@
 use Rattle.std.proofs.Common.{ℕ, List, [], ◌++◌, ap, ◌∙◌, arith, rules}
 use Rattle.vault_kdf.specs.Hmac.{hmac, StandsFor}
-use Rattle.vault_kdf.proofs.Pbkdf2Lemmas.{IsAfterRounds_one, IsAfterRounds_more, IsAfterRounds-block}
+use Rattle.vault_kdf.proofs.Pbkdf2Lemmas.{IsAfterRounds_one, IsAfterRounds_more}
+use Rattle.vault_kdf.proofs.Pbkdf2Lemmas.{IsAfterRounds-block}
 use Rattle.vault_kdf.proofs.pbkdf2_hmac.block.Goals as goal
 
 pub loop-init : goal.loop-init
