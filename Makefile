@@ -71,7 +71,8 @@ check: bin/processor
 
 # No part of the gate: the mutants of each crate beside its must-fail edits, before a release.
 mutants: all
-	tools/mutants
+	@echo "Trying the mutants; what became of each is printed once all are tried"
+	@tools/mutants
 
 # Six at a time, since some wait more than they work: that first for which a program is built, then those that take
 # longest. Each prints what it has to say when it is through.
