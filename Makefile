@@ -75,7 +75,8 @@ check: bin/processor
 
 # No part of the gate: the mutants of each crate beside its must-fail edits, before a release.
 mutants: all
-	tools/mutants
+	@echo "Trying the mutants; what became of each is printed once all are tried"
+	@tools/mutants
 
 # All of them, whichever fails; each prints what it has to say when it is through. The last line counts all checks.
 test: all bin/vault_growths
