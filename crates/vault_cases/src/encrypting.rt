@@ -1,8 +1,9 @@
 //! Runs of `encrypt` and `encrypt_string`.
+use std::alloc::{AllocError, Global};
 use std::process::Abort;
 use std::test::Fail;
 use vault_cli::Status;
-use vault_made::EMPTY_ENVELOPE;
+use vault_made::{EMPTY_ENVELOPE, block, envelope};
 use vault_runs::{Ran, Trial};
 use vault_text::FailingSource;
 
@@ -22,12 +23,21 @@ fn assert_refused(rt: &impl Abort, ran: &Ran, text: &[u8]) {
     assert!(rt; ran.message.as_bytes().ends_with(text), "{text:?}");
 }
 
+/// The length of each line, and of what stands behind the last line feed.
+fn line_lengths(alloc: Global, text: &[u8]) -> Result<Vec<usize>, AllocError> {
+    text.split(|byte| *byte == b'\n')
+        .map(|line| line.len())
+        .collect(alloc)
+}
+
 #[test]
 fn encrypts_nothing(rt: HostRuntime) -> Result<(), Fail> {
     let alloc = rt.alloc();
     let sealed = Trial::new(ENCRYPT, FIRST, ZEROS).run_on(alloc, b"")?;
     assert_eq!(rt; sealed.status, Status::Success);
     assert_eq!(rt; sealed.output.len(), 355);
+    let lengths = line_lengths(alloc, sealed.output.as_slice())?;
+    assert_eq!(rt; lengths.as_slice(), [25, 80, 80, 80, 80, 4, 0].as_slice());
     let mut lines = sealed.output.split(|byte| *byte == b'\n');
     assert_eq!(rt; lines.next(), Some(b"$ANSIBLE_VAULT;1.1;AES256".as_slice()));
     assert_eq!(rt;
@@ -129,15 +139,29 @@ fn takes_a_salt_text(rt: HostRuntime) -> Result<(), Fail> {
     let plain = [b'a'; 48].as_slice();
     let sealed = Trial::new(&words, FIRST, b"").run_on(alloc, plain)?;
     assert_eq!(rt; sealed.output.len(), 431);
+    let lengths = line_lengths(alloc, sealed.output.as_slice())?;
+    assert_eq!(rt; lengths.as_slice(), [25, 80, 80, 80, 80, 80, 0].as_slice());
     let body = b"$ANSIBLE_VAULT;1.1;AES256\n3631363236330a".as_slice();
     assert!(rt; sealed.output.as_slice().starts_with(body));
     let opened = Trial::new(DECRYPT, FIRST, b"").run_on(alloc, sealed.output.as_slice())?;
     assert_eq!(rt; opened.output.as_slice(), plain);
+    Ok(())
+}
+
+#[test]
+fn takes_salt_texts_of_any_length(rt: HostRuntime) -> Result<(), Fail> {
+    let alloc = rt.alloc();
     let longest = "aaaaaaaaaaaaaaaaaaaaaaaaaaaaaaaaaaaaaaaaaaaaaaaaaaaaaaaaaaaaaaaa";
-    for (text, written) in [("a", 229), (longest, 484)] {
+    let cases: [(&str, usize, &[usize]); 2] = [
+        ("a", 229, &[25, 80, 80, 40, 0]),
+        (longest, 484, &[25, 80, 80, 80, 80, 80, 52, 0]),
+    ];
+    for (text, written, lengths) in cases {
         let words = ["encrypt", "--vault-password-file", "f1", "--salt", text];
         let sealed = Trial::new(&words, FIRST, b"").run_on(alloc, b"")?;
         assert_eq!(rt; sealed.output.len(), written, "{text}");
+        let found = line_lengths(alloc, sealed.output.as_slice())?;
+        assert_eq!(rt; found.as_slice(), lengths, "{text}");
     }
     Ok(())
 }
@@ -146,7 +170,8 @@ fn takes_a_salt_text(rt: HostRuntime) -> Result<(), Fail> {
 #[test]
 fn writes_a_block(rt: HostRuntime) -> Result<(), Fail> {
     let alloc = rt.alloc();
-    let cases: [(&[&str], usize, &[u8]); 2] = [
+    let vault = envelope(alloc, "default", b"one", ZEROS, b"secret")?;
+    let cases: [(&[&str], &str, usize, &[u8]); 2] = [
         (
             &[
                 "encrypt_string",
@@ -156,24 +181,36 @@ fn writes_a_block(rt: HostRuntime) -> Result<(), Fail> {
                 "k",
                 "secret",
             ],
+            "k",
             427,
-            b"k: !vault |\n          $",
+            b"k: !vault |",
         ),
         (
             &["encrypt_string", "--vault-id", "f1", "secret"],
+            "",
             424,
-            b"!vault |\n          $",
+            b"!vault |",
         ),
     ];
-    for (words, length, front) in cases {
+    for (words, name, length, first) in cases {
         let mut unread = FailingSource::new(b"", 1, 0);
         let sealed = Trial::new(words, FIRST, ZEROS).run_from(alloc, &mut unread)?;
         assert_eq!(rt; sealed.status, Status::Success, "{words:?}");
         assert_eq!(rt; sealed.output.len(), length, "{words:?}");
-        assert!(rt; sealed.output.as_slice().starts_with(front), "{words:?}");
+        let whole = block(alloc, name, vault.as_slice())?;
+        assert_eq!(rt; sealed.output.as_slice(), whole.as_slice(), "{words:?}");
+        let mut lines = sealed.output.split(|byte| *byte == b'\n');
+        assert_eq!(rt; lines.next(), Some(first), "{words:?}");
+        let indented = lines.filter(|line| line.starts_with(b"          ")).count();
+        assert_eq!(rt; indented, 6, "{words:?}");
     }
+    Ok(())
+}
+
+#[test]
+fn refuses_an_empty_string(rt: HostRuntime) -> Result<(), Fail> {
     let words = ["encrypt_string", "--vault-id", "f1", ""];
-    let refused = Trial::new(&words, FIRST, ZEROS).run_on(alloc, b"text")?;
+    let refused = Trial::new(&words, FIRST, ZEROS).run_on(rt.alloc(), b"text")?;
     assert_refused(&rt, &refused, b" the string to encrypt is empty\n");
     Ok(())
 }

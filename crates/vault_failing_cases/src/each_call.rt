@@ -4,7 +4,7 @@ use std::alloc::Global;
 use std::process::Abort;
 use std::test::Fail;
 use vault_cli::{MemFile, MemFiles, Status, drive};
-use vault_made::{envelope, line_of, spelled};
+use vault_made::{block, envelope, line_of, spelled};
 use vault_runs::Trial;
 use vault_text::{
     FailingSink, FailingSource, Label, MemSink, MemSource, Salt, Sink, write_envelope,
@@ -147,25 +147,12 @@ fn assert_writes_told(
     Ok(())
 }
 
-/// An envelope as the block of `encrypt_string` without a name.
-fn block_of(alloc: Global, vault: &[u8]) -> Result<Vec<u8>, Fail> {
-    let mut block = Vec::from_slice(alloc, b"!vault |\n")?;
-    for line in vault.split(|byte| *byte == b'\n') {
-        if !line.is_empty() {
-            block.extend_from_slice(b"          ")?;
-            block.extend_from_slice(line)?;
-            block.push(b'\n')?;
-        }
-    }
-    Ok(block)
-}
-
 #[test]
 fn tells_each_write_that_fails(rt: HostRuntime) -> Result<(), Fail> {
     let alloc = rt.alloc();
     let plain = b"aaaaaaaaaaaaaaa".as_slice();
     let vault = envelope(alloc, "default", b"one", ZEROS, plain)?;
-    let block = block_of(alloc, vault.as_slice())?;
+    let block = block(alloc, "", vault.as_slice())?;
     let (vault, block) = (vault.as_slice(), block.as_slice());
     assert_writes_told(&rt, alloc, &Trial::new(DECRYPT, ONE, ZEROS), vault, plain)?;
     assert_writes_told(&rt, alloc, &Trial::new(ENCRYPT, ONE, ZEROS), plain, vault)?;

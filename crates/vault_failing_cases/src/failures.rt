@@ -1,4 +1,5 @@
 //! Runs whose devices fail.
+use crate::watched::Watched;
 use std::test::Fail;
 use vault_cli::{MemFile, MemFiles, Status, drive};
 use vault_made::{CountingReader, EMPTY_ENVELOPE, NarrowWriter, envelope, line_of};
@@ -101,7 +102,8 @@ fn reports_help_that_cannot_be_written(rt: HostRuntime) -> Result<(), Fail> {
     Ok(())
 }
 
-// The error sink fails at `begin`, at a byte and at `finish`, or, with many calls, not at all.
+// The error sink fails at `begin`, at a byte and at `finish`, or, with many calls, not at all. Where
+// it failed it is not asked again.
 #[test]
 fn keeps_the_status_where_the_message_fails(rt: HostRuntime) -> Result<(), Fail> {
     let alloc = rt.alloc();
@@ -109,13 +111,14 @@ fn keeps_the_status_where_the_message_fails(rt: HostRuntime) -> Result<(), Fail>
     for (calls, length) in [(0, 0), (1, 0), (8, 7), (20, 19), (42, 41), (100, 41)] {
         let mut src = MemSource::new(b"", 1);
         let mut out = MemSink::new(alloc, 100);
-        let mut err = FailingSink::new(alloc, 1, calls);
+        let mut err = Watched::new(FailingSink::new(alloc, 1, calls));
         let status = Trial::new(&["view"], &[], &[]).run_between(
             alloc, &mut src, &mut out, &mut err,
         )?;
         assert_eq!(rt; status, Status::Refused, "{calls}");
-        assert_eq!(rt; err.bytes().len(), length, "{calls}");
-        assert!(rt; message.starts_with(err.bytes()), "{calls}");
+        assert_eq!(rt; err.device.bytes().len(), length, "{calls}");
+        assert!(rt; message.starts_with(err.device.bytes()), "{calls}");
+        assert_eq!(rt; err.asked_after, 0, "{calls}");
         assert!(rt; !out.begun(), "{calls}");
     }
     Ok(())
@@ -128,14 +131,15 @@ fn a_failing_error_sink_changes_nothing_else(rt: HostRuntime) -> Result<(), Fail
     for (calls, length, status) in [(100, 99, Status::DeviceFailed), (202, 200, Status::Success)] {
         let mut src = MemSource::new(vault.as_slice(), 1_000);
         let mut out = FailingSink::new(alloc, 1, calls);
-        let mut err = FailingSink::new(alloc, 1, 0);
+        let mut err = Watched::new(FailingSink::new(alloc, 1, 0));
         let ended = Trial::new(DECRYPT, &[b"first\n"], &[]).run_between(
             alloc, &mut src, &mut out, &mut err,
         )?;
         assert_eq!(rt; ended, status, "{calls}");
         assert_eq!(rt; out.bytes().len(), length, "{calls}");
         assert!(rt; PLAINTEXT.starts_with(out.bytes()), "{calls}");
-        assert!(rt; !err.begun(), "{calls}");
+        assert!(rt; !err.device.begun(), "{calls}");
+        assert_eq!(rt; err.asked_after, 0, "{calls}");
     }
     Ok(())
 }

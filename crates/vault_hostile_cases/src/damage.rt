@@ -1,4 +1,6 @@
-//! Envelopes that are damaged, and inputs that are too long.
+//! Envelopes that are damaged.
+ghost use Rattle.std.specs.Prelude.{◌≤◌};
+
 use std::alloc::Global;
 use std::process::Abort;
 use std::test::Fail;
@@ -15,16 +17,33 @@ const DECRYPT: &[&str] = &["decrypt", "--vault-password-file", "one"];
 
 const FIRST: &[&[u8]] = &[b"first\n"];
 
-/// Decrypting these bytes is refused with this text, and the output is not begun.
-fn assert_refused(rt: &impl Abort, alloc: Global, input: &[u8], text: &str) -> Result<(), Fail> {
-    let mut src = MemSource::new(input, 65_536);
+/// Decrypting these bytes, which come in steps, is refused with this text, and the output is not
+/// begun.
+fn assert_refused_in_steps(
+    rt: &impl Abort,
+    alloc: Global,
+    input: &[u8],
+    step: usize,
+    text: &str,
+) -> Result<(), Fail>
+    requires { 1 ≤ step }
+{
+    let mut src = MemSource::new(input, step);
     let ran = Trial::new(DECRYPT, FIRST, &[])
         .at_the_limit()
         .run_from(alloc, &mut src)?;
     let line = format!(in alloc; "ERROR! {text}\n")?;
-    assert_eq!(rt; ran.status, Status::Refused, "{text}");
-    assert_eq!(rt; ran.message.as_str(), line.as_str(), "{text}");
-    assert!(rt; !ran.begun, "{text}");
+    assert_eq!(rt; ran.status, Status::Refused, "{text} {step}");
+    assert_eq!(rt; ran.message.as_str(), line.as_str(), "{text} {step}");
+    assert!(rt; !ran.begun, "{text} {step}");
+    Ok(())
+}
+
+/// The same at three steps.
+fn assert_refused(rt: &impl Abort, alloc: Global, input: &[u8], text: &str) -> Result<(), Fail> {
+    for step in [1, 7, 4_096] {
+        assert_refused_in_steps(rt, alloc, input, step, text)?;
+    }
     Ok(())
 }
 
@@ -54,13 +73,59 @@ fn refuses_digits_that_are_none(rt: HostRuntime) -> Result<(), Fail> {
 #[test]
 fn refuses_another_tag(rt: HostRuntime) -> Result<(), Fail> {
     let alloc = rt.alloc();
-    let vault = spelled(alloc, "default", SALT, &[0; 32], &[0; 16])?;
-    assert_refused(
-        &rt,
-        alloc,
-        vault.as_slice(),
-        "no secret decrypts this vault",
-    )
+    let text = "no secret decrypts this vault";
+    let zeros = spelled(alloc, "default", SALT, &[0; 32], &[0; 16])?;
+    assert_refused(&rt, alloc, zeros.as_slice(), text)?;
+    // The last digit of the tag, which was an `f`.
+    let mut damaged = envelope(alloc, "default", b"first", SALT, b"text")?;
+    assert!(rt; 286 < damaged.len());
+    assert_eq!(rt; damaged[286], b'6');
+    damaged[286] = b'5';
+    assert_refused(&rt, alloc, damaged.as_slice(), text)
+}
+
+#[test]
+fn refuses_a_header_line(rt: HostRuntime) -> Result<(), Fail> {
+    let alloc = rt.alloc();
+    let mut long = Vec::from_slice(alloc, b"$ANSIBLE_VAULT;1.1;AES256;")?;
+    long.extend_from_slice(&[b'x'; 231])?;
+    assert_eq!(rt; long.len(), 257);
+    let cases: [(&[u8], &str); 5] = [
+        (b"$ANSIBLE_VAULT;1.1;AES256", "vault payload is malformed"),
+        (
+            b"$ANSIBLE_VAULT;1.0;AES\n",
+            "vault format version is not supported",
+        ),
+        (b"$ANSIBLE_VAULT;1.1;AES\n", "vault cipher is not supported"),
+        (b"$ANSIBLE_VAULT;1.1\n", "vault header line is malformed"),
+        (
+            long.as_slice(),
+            "vault header line is longer than 256 bytes",
+        ),
+    ];
+    for (input, text) in cases {
+        assert_refused(&rt, alloc, input, text)?;
+    }
+    Ok(())
+}
+
+#[test]
+fn refuses_a_short_body(rt: HostRuntime) -> Result<(), Fail> {
+    let alloc = rt.alloc();
+    let cases: [(&[u8], &str); 2] = [
+        (
+            b"$ANSIBLE_VAULT;1.1;AES256\n0a0a",
+            "vault payload is malformed",
+        ),
+        (
+            b"$ANSIBLE_VAULT;1.1;AES256\nabc",
+            "vault body is not hexadecimal",
+        ),
+    ];
+    for (input, text) in cases {
+        assert_refused(&rt, alloc, input, text)?;
+    }
+    Ok(())
 }
 
 // The tag is right over ciphertext that is no whole block, and over wrong last bytes.
@@ -73,27 +138,6 @@ fn refuses_wrong_padding(rt: HostRuntime) -> Result<(), Fail> {
     let cipher = enciphered(alloc, b"fourteen bytes\x03\x02")?;
     let unpadded = tagged(alloc, "default", b"first", SALT, cipher.as_slice())?;
     assert_refused(&rt, alloc, unpadded.as_slice(), text)
-}
-
-// A fault of the digits, or of the inner text, comes before that of the length.
-#[test]
-fn refuses_ciphertext_over_the_limit(rt: HostRuntime) -> Result<(), Fail> {
-    let alloc = rt.alloc();
-    let cipher = vec![in alloc; 0u8; CIPHERTEXT_LIMIT + 1]?;
-    let vault = spelled(alloc, "default", SALT, &[0; 32], cipher.as_slice())?;
-    assert!(rt; vault.as_slice().ends_with(b"30\n"));
-    let ends: [(&[u8], &str); 3] = [
-        (b"3g\n", "vault body is not hexadecimal"),
-        (b"67\n", "vault payload is malformed"),
-        (b"30\n", "vault ciphertext is longer than the limit"),
-    ];
-    for (end, text) in ends {
-        let mut damaged = vault.clone()?;
-        damaged.truncate(vault.len() - 3);
-        damaged.extend_from_slice(end)?;
-        assert_refused(&rt, alloc, damaged.as_slice(), text)?;
-    }
-    Ok(())
 }
 
 // The longest ciphertext is taken: a byte less than its length is plaintext.

@@ -1,4 +1,5 @@
-//! Tests of runs over damaged envelopes, long inputs and password files that are none.
+//! Tests of runs over envelopes that are damaged or spelled otherwise than they are written, long
+//! inputs and password files that are none.
 #![tactic(auto)]
 
 #[cfg(test)]
@@ -6,4 +7,8 @@ mod damage;
 #[cfg(test)]
 mod limits;
 #[cfg(test)]
+mod long_ciphertext;
+#[cfg(test)]
 mod password_files;
+#[cfg(test)]
+mod spellings;

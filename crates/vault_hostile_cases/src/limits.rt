@@ -12,9 +12,16 @@ const ENCRYPT: &[&str] = &["encrypt", "--vault-password-file", "one"];
 
 const DECRYPT: &[&str] = &["decrypt", "--vault-password-file", "one"];
 
+const REKEY: &[&str] = &["rekey", "--vault-id=one", "--new-vault-id=prod@two"];
+
 const ONE: &[&[u8]] = &[b"one\n"];
 
+const TWO: &[&[u8]] = &[b"one\n", b"two\n"];
+
 const HEADER_LINE: &[u8] = b"$ANSIBLE_VAULT;1.1;AES256\n";
+
+/// The front of an envelope whose body is no hexadecimal text.
+const DAMAGED: &[u8] = b"$ANSIBLE_VAULT;1.1;AES256\nzz";
 
 /// The line of an input that is too long.
 const TOO_LONG: &[u8] = b"ERROR! input is longer than the limit\n";
@@ -26,6 +33,11 @@ fn have_their_sizes(rt: HostRuntime) {
     assert_eq!(rt; ENVELOPE_LIMIT, 100_671_488);
 }
 
+fn count_lines(text: &[u8]) -> usize {
+    text.iter().filter(|byte| **byte == b'\n').count()
+}
+
+// Behind the header line there are 67,109,188 digits.
 #[test]
 fn take_the_longest_plaintext(rt: HostRuntime) -> Result<(), Fail> {
     let alloc = rt.alloc();
@@ -38,6 +50,7 @@ fn take_the_longest_plaintext(rt: HostRuntime) -> Result<(), Fail> {
         .run_between(alloc, &mut src, &mut out, &mut err)?;
     assert_eq!(rt; status, Status::Success);
     assert_eq!(rt; out.bytes().len(), 67_948_079);
+    assert_eq!(rt; count_lines(out.bytes()), 1 + 838_865);
     assert!(rt; !err.begun());
     Ok(())
 }
@@ -61,6 +74,40 @@ fn take_the_longest_envelope(rt: HostRuntime) -> Result<(), Fail> {
         assert!(rt; out.bytes() == plaintext.as_slice(), "{step}");
         assert!(rt; !err.begun(), "{step}");
     }
+    Ok(())
+}
+
+// The same vault under another password, label and salt: more than `encrypt` takes is sealed anew.
+#[test]
+fn rekey_the_longest_envelope(rt: HostRuntime) -> Result<(), Fail> {
+    let alloc = rt.alloc();
+    let plaintext = vec![in alloc; b'p'; 16_777_231]?;
+    let vault = envelope(alloc, "default", b"one", &[7; 32], plaintext.as_slice())?;
+    let rekeyed = envelope(alloc, "prod", b"two", &[1; 32], plaintext.as_slice())?;
+    let mut src = MemSource::new(vault.as_slice(), 65_536);
+    let mut out = MemSink::new(alloc, 65_536);
+    let mut err = MemSink::new(alloc, 100);
+    let status = Trial::new(REKEY, TWO, &[1; 32])
+        .at_the_limit()
+        .run_between(alloc, &mut src, &mut out, &mut err)?;
+    assert_eq!(rt; status, Status::Success);
+    assert!(rt; out.bytes() == rekeyed.as_slice());
+    assert!(rt; !err.begun());
+    Ok(())
+}
+
+// A limit of one MiB would end before it.
+#[test]
+fn take_more_than_a_mib(rt: HostRuntime) -> Result<(), Fail> {
+    let alloc = rt.alloc();
+    let plaintext = vec![in alloc; b'a'; 1_048_592]?;
+    let vault = envelope(alloc, "default", b"one", &[7; 32], plaintext.as_slice())?;
+    let ran = Trial::new(DECRYPT, ONE, &[])
+        .at_the_limit()
+        .run_on(alloc, vault.as_slice())?;
+    assert_eq!(rt; ran.status, Status::Success);
+    assert!(rt; ran.output.as_slice() == plaintext.as_slice());
+    assert!(rt; ran.message.is_empty());
     Ok(())
 }
 
@@ -103,13 +150,13 @@ const LONG: [Long<'static>; 6] = [
     },
     Long {
         words: DECRYPT,
-        front: b"$ANSIBLE_VAULT;1.1;AES256\nzz",
+        front: DAMAGED,
         length: 100_671_489,
         read: 100_671_489,
     },
     Long {
         words: DECRYPT,
-        front: b"$ANSIBLE_VAULT;1.1;AES256\nzz",
+        front: DAMAGED,
         length: usize::MAX,
         read: 100_671_489,
     },
@@ -141,11 +188,33 @@ fn refuse_one_byte_more(rt: HostRuntime) -> Result<(), Fail> {
     Ok(())
 }
 
+// Up to the limit the input is read, and what it holds is reported. The shorter one is longer than
+// what a limit of one MiB would allow.
+#[test]
+fn report_the_damage_of_long_inputs(rt: HostRuntime) -> Result<(), Fail> {
+    let alloc = rt.alloc();
+    for length in [6_299_649, 100_671_488] {
+        let mut reader = CountingReader::with_line_feeds(DAMAGED, length, 65_536);
+        let mut src = ReadSource::new(&mut reader);
+        let refused = Trial::new(&["decrypt"], &[], &[])
+            .at_the_limit()
+            .run_from(alloc, &mut src)?;
+        assert_eq!(rt; refused.status, Status::Refused, "{length}");
+        assert_eq!(rt;
+            refused.message.as_str(),
+            "ERROR! vault body is not hexadecimal\n",
+            "{length}"
+        );
+        assert!(rt; !refused.begun, "{length}");
+        assert_eq!(rt; reader.given, length);
+    }
+    Ok(())
+}
+
 // At the limit itself the input is read, and what it holds is told.
 #[test]
 fn tell_the_damage_of_the_longest_input(rt: HostRuntime) -> Result<(), Fail> {
-    let damaged = b"$ANSIBLE_VAULT;1.1;AES256\nzz";
-    let mut stdin = CountingReader::with_line_feeds(damaged, 100_671_488, 65_536);
+    let mut stdin = CountingReader::with_line_feeds(DAMAGED, 100_671_488, 65_536);
     let alloc = rt.alloc();
     let mut files = MemFiles::new(alloc, &[]);
     let mut src = ReadSource::new(&mut stdin);

@@ -62,6 +62,24 @@ pub fn spelled(
     Ok(text)
 }
 
+/// The lines of an envelope as the value of a variable in YAML, of no variable where the name is
+/// empty.
+pub fn block(alloc: Global, name: &str, envelope: &[u8]) -> Result<Vec<u8>, AllocError> {
+    let mut text = Vec::from_slice(alloc, name.as_bytes())?;
+    if !name.is_empty() {
+        text.extend_from_slice(b": ")?;
+    }
+    text.extend_from_slice(b"!vault |\n")?;
+    for line in envelope.split(|byte| *byte == b'\n') {
+        if !line.is_empty() {
+            text.extend_from_slice(b"          ")?;
+            text.extend_from_slice(line)?;
+            text.push(b'\n')?;
+        }
+    }
+    Ok(text)
+}
+
 fn header(alloc: Global, label: &str) -> Result<Vec<u8>, AllocError> {
     let mut line = Vec::new(alloc);
     if label == "default" {

@@ -6,5 +6,5 @@ mod envelopes;
 mod words;
 
 pub use devices::{CountingReader, NarrowWriter};
-pub use envelopes::{EMPTY_ENVELOPE, envelope, spelled, tagged};
+pub use envelopes::{EMPTY_ENVELOPE, block, envelope, spelled, tagged};
 pub use words::line_of;
