@@ -86,7 +86,7 @@ test-outcomes: all
 	$(PYTEST) --quiet --numprocesses=$(PYTEST_PROCESSES)
 
 test-fuzz: all
-	tests/fuzz bin/ansible-vault --seed 1 --runs 6000 --seconds 120 --least 1000
+	tests/fuzz bin/ansible-vault --seed 1 --runs 6000 --seconds 120 --least 200
 
 test-with_valgrind test-faults test-growths: test-%: all
 	tests/$* bin/ansible-vault
