@@ -36,7 +36,7 @@ SUMS := $(LIBRARY)/installed.sha256
 # What compares outcomes is run by pytest, in so many processes; the others are commands in tests/.
 PYTEST ?= /usr/bin/python3 -B -X utf8 -m pytest
 PYTEST_PROCESSES ?= 4
-TESTS := outcomes fuzz with_valgrind faults growths_in_memory growths dead_names
+TESTS := growths_in_memory outcomes fuzz with_valgrind faults growths dead_names
 
 .DELETE_ON_ERROR:
 .PHONY: all check mutants test fuzz faults bench install replaceable uninstall package lint clean FORCE $(TESTS:%=test-%)
@@ -77,8 +77,9 @@ check: bin/processor
 mutants: all
 	tools/mutants
 
-# All of them, whichever fails; each prints what it has to say when it is through. The last line counts all checks.
-test: all bin/vault_growths
+# All of them, whichever fails, that first for which a program is built; each prints what it has to say when it is
+# through. The last line counts all checks.
+test: all
 	@tools/counts '[a-z_]+: ' $(MAKE) --no-print-directory --keep-going --jobs=4 --output-sync=target \
 		$(TESTS:%=test-%)
 
