@@ -36,7 +36,7 @@ SUMS := $(LIBRARY)/installed.sha256
 # What compares outcomes is run by pytest, in so many processes; the others are commands in tests/.
 PYTEST ?= /usr/bin/python3 -B -X utf8 -m pytest
 PYTEST_PROCESSES ?= 4
-TESTS := outcomes fuzz with_valgrind faults growths_in_memory growths dead_names
+TESTS := growths_in_memory outcomes fuzz with_valgrind faults growths dead_names
 
 .DELETE_ON_ERROR:
 .PHONY: all check mutants test fuzz faults bench install replaceable uninstall package lint clean FORCE $(TESTS:%=test-%)
@@ -78,8 +78,9 @@ mutants: all
 	@echo "Trying the mutants; what became of each is printed once all are tried"
 	@tools/mutants
 
-# All of them, whichever fails; each prints what it has to say when it is through. The last line counts all checks.
-test: all bin/vault_growths
+# All of them, whichever fails, that first for which a program is built; each prints what it has to say when it is
+# through. The last line counts all checks.
+test: all
 	@tools/counts '[a-z_]+: ' $(MAKE) --no-print-directory --keep-going --jobs=4 --output-sync=target \
 		$(TESTS:%=test-%)
 
@@ -87,7 +88,7 @@ test-outcomes: all
 	$(PYTEST) --quiet --numprocesses=$(PYTEST_PROCESSES)
 
 test-fuzz: all
-	tests/fuzz bin/ansible-vault --seed 1 --runs 6000 --seconds 120 --least 1000
+	tests/fuzz bin/ansible-vault --seed 1 --runs 6000 --seconds 120 --least 200
 
 test-with_valgrind test-faults test-growths: test-%: all
 	tests/$* bin/ansible-vault

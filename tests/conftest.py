@@ -20,6 +20,7 @@ from cases import Cases
 from companion_cases import Companions
 from lib.outcome import Outcome
 from lib.paths import ROOT
+from lib.signals import heed_signals
 
 PROGRAM = ROOT / "bin" / "ansible-vault"
 COMPANION_CASES = ROOT / "tests" / "companion_cases"
@@ -34,6 +35,7 @@ def pytest_addoption(parser: pytest.Parser) -> None:
 
 
 def pytest_sessionstart(session: pytest.Session) -> None:
+    heed_signals()
     # The files of a test are read by everybody, whatever the caller's own are.
     os.umask(0o022)
     program = session.config.getoption("--program")
