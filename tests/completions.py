@@ -72,6 +72,8 @@ COMPANION_PATHS = [
     ("ansible-vault-edit --encrypt-vault-id on", set()),
     ("ansible-vault-rotate --jobs on", set()),
     ("ansible-vault-hook on", set()),
+    ("ansible-vault-hook --since on", set()),
+    ("ansible-vault-check --label on", set()),
     ("ansible-vault-check one.yml -- -", {"-dash.yml"}),
     ("ansible-vault-edit -- on", {"one.pass", "one.yml"}),
 ]

@@ -23,7 +23,9 @@ from lib.paths import PAGE, ROOT
 from model.vaults import seal, yaml_block
 from shells import all_shown
 
-PASSWORDS = {"old.pass": b"the old one", "new.pass": b"the new one", "prod.pass": b"in production"}
+PASSWORDS = {"old.pass": b"the old one", "new.pass": b"the new one", "prod.pass": b"in production", "ci.pass": b"of CI"}
+# As the document marks files.
+MARKS = "*.vault.yml diff=ansible-vault\nvault.yml diff=ansible-vault\n"
 # What a piece needs of the machine besides git.
 TOOLS = {
     "Vaults and blocks for playbooks": ["ansible-playbook"],
@@ -64,7 +66,8 @@ def shown(text: str) -> str:
 
 
 class Repository:
-    """A folder under git with the password files, where `ansible-vault` is the program."""
+    """A folder under git, where `ansible-vault` is the program. The password files are in it, for the examples of the
+    manual page, and below the home folder."""
 
     def __init__(self, path: pathlib.Path, program: str):
         self.folder = path / "repository"
@@ -82,8 +85,10 @@ class Repository:
         }
         self.folder.mkdir()
         self.shell("git init -q && echo '*.pass' > .gitignore")
+        (path / ".vault").mkdir(mode=0o700)
         for name, password in PASSWORDS.items():
             self.put(name, password + b"\n")
+            (path / ".vault" / name).write_bytes(password + b"\n")
 
     def put(self, name: str, content: bytes):
         path = self.folder / name
@@ -112,18 +117,22 @@ class Repository:
 
 def check_differences(outcome: Outcome, repository: Repository, shell: str):
     """A file that is at first not encrypted, then under the old password, then under the new one."""
-    name = "vars/db.vault.yml"
-    texts = [f"password: {each}\n".encode() for each in ("first", "second", "third")]
+    name = "group_vars/all/vault.yml"
+    repository.put(".gitattributes", MARKS.encode())
+    texts = [f"db_password: {each}\n".encode() for each in ("first", "second", "third")]
     contents = [texts[0], seal(PASSWORDS["old.pass"], texts[1]), seal(PASSWORDS["new.pass"], texts[2])]
     for content in contents:
         repository.put(name, content)
         repository.shell("git add . && git commit -qm change")
     ran = repository.shell(shell)
     outcome.check("the setting is made", (ran.returncode, ran.stderr), (0, ""))
-    wanted = ["-password: second", "+password: third", "-password: first", "+password: second", "+password: first"]
-    for folder in (".", "vars"):
+    shown = ["db_password: third", f"{name}:db_password: third"]
+    outcome.check("git shows and finds the plaintext", ran.stdout.splitlines(), shown)
+    changes = [("-", "second"), ("+", "third"), ("-", "first"), ("+", "second"), ("+", "first")]
+    wanted = [f"{sign}db_password: {text}" for sign, text in changes]
+    for folder in (".", "group_vars"):
         shown = repository.shell("git log -p --format=", folder)
-        found = [line for line in shown.stdout.splitlines() if re.match(r"[-+]password", line)]
+        found = [line for line in shown.stdout.splitlines() if re.match(r"[-+]db_password", line)]
         outcome.check(f"git shows the plaintext of each commit in `{folder}`", (shown.returncode, found), (0, wanted))
 
 
@@ -204,9 +213,10 @@ def check_check(outcome: Outcome, repository: Repository, shell: str):
     repository.put("vars/a.yml", seal(PASSWORDS["new.pass"], b"a"))
     repository.put("b.yml", block("secret", "b", "prod.pass", "prod").encode())
     ran = repository.shell(shell)
+    home = repository.environment["HOME"]
     lines = [
-        "./b.yml:2: prod: opened by prod@prod.pass",
-        "./vars/a.yml: default: opened by new.pass",
+        f"./b.yml:2: secret: prod: opened by prod@{home}/.vault/prod.pass",
+        f"./vars/a.yml: default: opened by {home}/.vault/new.pass",
         "2 opened, 0 not",
     ]
     outcome.check("a check", (ran.returncode, ran.stdout.splitlines(), ran.stderr), (0, lines, ""))
@@ -219,7 +229,7 @@ def block(name: str, text: str, password: str, label: str) -> str:
 
 
 def check_hook(outcome: Outcome, repository: Repository, shell: str):
-    repository.shell("mkdir -p .git/hooks && echo '*.vault.yml diff=ansible-vault' > .gitattributes")
+    repository.put(".gitattributes", MARKS.encode())
     ran = repository.shell(shell)
     outcome.check("the hook is put in its place", (ran.returncode, ran.stderr), (0, ""))
     repository.put("a b.vault.yml", seal(PASSWORDS["old.pass"], b"secret"))
@@ -227,7 +237,56 @@ def check_hook(outcome: Outcome, repository: Repository, shell: str):
     repository.put("c.vault.yml", b"password: plain\n")
     ran = repository.shell("git add . && git commit -qm two")
     told = "ansible-vault-hook: c.vault.yml is not encrypted\n"
-    outcome.check("it refuses plaintext", (ran.returncode, ran.stderr), (1, told))
+    outcome.check("it refuses plaintext", (ran.returncode, ran.stderr.splitlines(True)[0]), (1, told))
+
+
+def check_first_day(outcome: Outcome, repository: Repository, shell: str):
+    repository.put(".gitattributes", MARKS.encode())
+    repository.put("vault.yml", seal(PASSWORDS["prod.pass"], b"password: shown\n", b"prod"))
+    repository.put("other.yml", seal(PASSWORDS["new.pass"], b"a: 1\n"))
+    repository.shell("rm -r ~/.vault; git add -A")
+    ran = repository.shell(shell)
+    outcome.check("the first day", (ran.returncode, ran.stderr), (0, ""))
+    outcome.check("counts", ran.stdout.splitlines()[-1:], ["1 opened, 0 not, 1 of other labels (default 1)"])
+    modes = repository.shell("stat -c %a ~/.vault ~/.vault/prod.pass; ls prod.pass").stdout
+    outcome.check("the password file is outside, for its owner alone", modes, "700\n600\n")
+    shown = repository.shell("git commit -qm one && git show").stdout
+    outcome.holds("git shows plaintext", "+password: shown" in shown, shown)
+    repository.put("vault.yml", b"password: plain\n")
+    ran = repository.shell("git commit -qam two")
+    outcome.check("and refuses it", ran.returncode, 1)
+
+
+def check_marks(outcome: Outcome, repository: Repository, shell: str):
+    ran = repository.shell(shell)
+    lines = [
+        "group_vars/all/vault.yml: diff: ansible-vault",
+        "host_vars/web1/secrets.yml: diff: ansible-vault",
+        "group_vars/all/vars.yml: diff: unspecified",
+    ]
+    outcome.check("the marks", (ran.returncode, ran.stdout.splitlines(), ran.stderr), (0, lines, ""))
+    names = ["vault.yml", "roles/web/vars/vault.yml", "roles/web/vars/vault/db.yml", "group_vars/db.vault.yml"]
+    told = repository.shell(f"git check-attr diff {' '.join(names)}").stdout
+    outcome.check("of other names", told.count("diff: ansible-vault\n"), len(names))
+
+
+def check_pipeline(outcome: Outcome, repository: Repository, shell: str):
+    repository.put(".gitattributes", MARKS.encode())
+    repository.put("vault.yml", seal(PASSWORDS["ci.pass"], b"a: 1\n", b"ci"))
+    repository.put("prod.vault.yml", seal(PASSWORDS["prod.pass"], b"a: 1\n", b"prod"))
+    repository.shell("git add -A && git commit -qm one && git update-ref refs/remotes/origin/main HEAD")
+    ran = repository.shell(f"set -e\n{shell}")
+    outcome.check("all is well", (ran.returncode, ran.stderr), (0, ""))
+    told = "1 opened, 0 not, 1 of other labels (prod 1)"
+    outcome.check("and counted", ran.stdout.splitlines()[-1:], [told])
+    repository.put("vault.yml", b"a: 1\n")
+    repository.shell("git commit -qam two --no-verify")
+    for line in shell.splitlines():
+        outcome.check(f"plaintext: {line[:28]}", repository.shell(line).returncode, 1)
+    repository.put("vault.yml", seal(PASSWORDS["ci.pass"], b"a: 2\n", b"ci"))
+    repository.shell("git commit -qam three --no-verify")
+    statuses = [repository.shell(line).returncode for line in shell.splitlines()]
+    outcome.check("plaintext in between", statuses, [0, 1, 0])
 
 
 def check_encrypt(outcome: Outcome, repository: Repository, shell: str):
@@ -281,13 +340,16 @@ def check_cut_log(outcome: Outcome, repository: Repository, shell: str):
 
 
 RECIPES = {
+    "The first day in a clone": check_first_day,
     "Vaults and blocks for playbooks": check_playbook,
     "A password that is typed": check_typed,
     "Editing a vault": check_edit,
     "A repository under new secrets": check_rotation,
     "Which secret opens what": check_check,
+    "Which files are to be encrypted": check_marks,
     "Differences in git": check_differences,
     "A hook against plaintext": check_hook,
+    "A pipeline": check_pipeline,
 }
 DISPLAYS = {
     "Encrypt a file": check_encrypt,

@@ -1,6 +1,7 @@
 """ansible-vault-check, the help of all, and what they say of themselves."""
 
 from companion_cases import CHECK, COMPANIONS, TEXT, Companions, block, sealed
+from lib.paths import version
 
 
 def labels_and_secrets(cases: Companions) -> None:
@@ -80,6 +81,10 @@ def help_of_each(cases: Companions) -> None:
                 cases.ended(f"{name} {word}", done, 0, *parts)
                 wide = [line for line in done.stdout.splitlines() if len(line) > 80]
                 cases.check(f"{name}: the help is no wider than a terminal", (wide, done.stderr), ([], ""))
+            for word in ("--version", "-V"):
+                done = place.run(name, word)
+                told = (done.returncode, done.stdout, done.stderr)
+                cases.check(f"{name} {word}", told, (0, f"{name} {version()}\n", ""))
 
 
 GROUPS = [labels_and_secrets, the_label_comes_first, what_does_not_open, nothing, no_plaintext, help_of_each]
