@@ -21,8 +21,8 @@ pub fn pad(work: &mut [u8], n: usize) -> usize
 }
 
 /// The length of the plaintext without its padding (RFC 5652, section 6.3). It is `None` where the
-/// length of `padded` is not a positive multiple of 16, the last byte n is not 1 to 16, or the last n
-/// bytes do not all equal n. It does not take constant time.
+/// length of `padded` is not a positive multiple of 16, the last byte n is not 1 to 16, or the last
+/// n bytes do not all equal n. It does not take constant time.
 pub fn unpad(padded: &[u8]) -> Option<usize>
     ensures plaintext { option_map (λ n. take n padded.now) result ≡ without_padding padded.now }
     ensures len { IfSome result (λ n. padded_length n ≡ length padded.now) }

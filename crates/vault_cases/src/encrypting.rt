@@ -7,6 +7,10 @@ use vault_made::{EMPTY_ENVELOPE, block, envelope};
 use vault_runs::{Ran, Trial};
 use vault_text::FailingSource;
 
+/// The first line of a body whose salt has 20 zero bytes and more.
+const SALT_OF_ZEROS: &str =
+    "30303030303030303030303030303030303030303030303030303030303030303030303030303030";
+
 const FIRST: &[&[u8]] = &[b"one\n"];
 
 const ZEROS: &[u8] = &[0; 32];
@@ -40,12 +44,7 @@ fn encrypts_nothing(rt: HostRuntime) -> Result<(), Fail> {
     assert_eq!(rt; lengths.as_slice(), [25, 80, 80, 80, 80, 4, 0].as_slice());
     let mut lines = sealed.output.split(|byte| *byte == b'\n');
     assert_eq!(rt; lines.next(), Some(b"$ANSIBLE_VAULT;1.1;AES256".as_slice()));
-    assert_eq!(rt;
-        lines.next(),
-        Some(
-            b"30303030303030303030303030303030303030303030303030303030303030303030303030303030".as_slice()
-        )
-    );
+    assert_eq!(rt; lines.next(), Some(SALT_OF_ZEROS.as_bytes()));
     let second = lines.next().unwrap_or(b"");
     assert!(rt; second.starts_with(b"3030303030303030303030303030303030303030303030300a"));
     let opened = Trial::new(DECRYPT, FIRST, b"").run_on(alloc, sealed.output.as_slice())?;

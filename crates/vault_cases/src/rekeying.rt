@@ -6,6 +6,10 @@ use vault_cli::Status;
 use vault_made::envelope;
 use vault_runs::Trial;
 
+/// The first line of a body whose salt has 20 bytes 01 and more.
+const SALT_OF_ONES: &str =
+    "30313031303130313031303130313031303130313031303130313031303130313031303130313031";
+
 const NO_SECRET_FITS: &[u8] = b"ERROR! no secret decrypts this vault\n";
 
 const REKEY: &[&str] = &[
@@ -85,12 +89,7 @@ fn rekeys(rt: HostRuntime) -> Result<(), Fail> {
             lines.next(),
             Some(b"$ANSIBLE_VAULT;1.2;AES256;prod".as_slice())
         );
-        assert_eq!(rt;
-            lines.next(),
-            Some(
-                b"30313031303130313031303130313031303130313031303130313031303130313031303130313031".as_slice()
-            )
-        );
+        assert_eq!(rt; lines.next(), Some(SALT_OF_ONES.as_bytes()));
         assert_rekeyed(&rt, alloc, rekeyed.output.as_slice())?;
     }
     Ok(())
