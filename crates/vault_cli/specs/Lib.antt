@@ -1,6 +1,7 @@
 pub mod runs
 pub mod Call
 pub mod Explained
+pub mod Shown
 pub mod Program
 pub mod Opened
 pub mod Drive
