@@ -5,6 +5,7 @@ pub mod Shown
 pub mod Program
 pub mod Opened
 pub mod Drive
+pub mod System
 pub mod Embedding
 pub mod Laws
 pub mod ProgramLaws
