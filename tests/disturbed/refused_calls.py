@@ -119,16 +119,14 @@ def undisturbed(cases: Cases, scenario: Scenario) -> list[Step]:
     return [step for step in steps(scenario, loading, own) if step.call.name in ERRORS]
 
 
-def fault_of(scenario: Scenario, step: Step, error: str) -> Fault:
+def fault_of(scenario: Scenario, step: Step) -> Fault:
     """What a run tells that cannot go on from here."""
     if step.call.name not in ("openat", "read") or "O_CREAT" in step.call.words:
         return Fault.NOT_WRITTEN
     values = [value.rpartition("@")[2] for value in scenario.words]
     options = [option for option, value in zip(scenario.words, values[1:]) if value == step.about]
     not_opened, not_read = ROLES.get(next(iter(options), ""), INPUT)
-    if step.call.name == "read":
-        return not_read
-    return Fault.MEMORY if error == "ENOMEM" else not_opened
+    return not_read if step.call.name == "read" else not_opened
 
 
 def wanted(refusal: Refusal) -> list[Left]:
@@ -143,7 +141,7 @@ def wanted(refusal: Refusal) -> list[Left]:
     if step.about == STDERR:
         return [whole._replace(message=scenario.message[: step.told])]
     again = [whole] if error == "EINTR" and step.call.name in TRIED_AGAIN else []
-    fault = fault_of(scenario, step, error)
+    fault = fault_of(scenario, step)
     if step.written is None:
         return [scenario.untouched(fault.status, fault.line), *again]
     return [scenario.written(fault.status, fault.line, step.written, step.mode), *again]

@@ -20,17 +20,13 @@ struct Opened {
     paths: String,
 }
 
-/// A run over these files, with memory for `limit` opens.
-fn run_over<'a>(
-    alloc: Global,
-    entries: &'a [MemFile<'a>],
-    words: &[&str],
-    limit: usize,
-) -> Result<Opened, Fail> {
-    let mut files = MemFiles::with_limit(alloc, entries, limit);
+/// A run over these files.
+fn run_over<'a>(alloc: Global, entries: &'a [MemFile<'a>], words: &[&str]) -> Result<Opened, Fail> {
+    let mut files = MemFiles::new(alloc, entries);
     let ran = run_program(alloc, &mut files, words, &mut MemSource::new(b"", 1))?;
+    let log = files.log().ok_or("an open was not logged")?;
     let mut paths = String::new(alloc);
-    for path in files.log() {
+    for path in log {
         paths.push_str(path.as_str())?;
         paths.push_str(" ")?;
     }
@@ -77,7 +73,7 @@ fn opens_in_order(rt: HostRuntime) -> Result<(), Fail> {
         (&["rekey", "--vault-id=f"], "", Status::Refused),
     ];
     for (words, paths, status) in cases {
-        let opened = run_over(rt.alloc(), &entries(), words, usize::MAX)?;
+        let opened = run_over(rt.alloc(), &entries(), words)?;
         assert_eq!(rt; opened.ran.status, status, "{words:?}");
         assert_eq!(rt; opened.paths.as_str(), paths, "{words:?}");
     }
@@ -100,33 +96,9 @@ fn opens_nothing_after_a_missing_file(rt: HostRuntime) -> Result<(), Fail> {
         (&["view", "--vault-id=f", "none"], "f none "),
     ];
     for (words, paths) in cases {
-        let opened = run_over(rt.alloc(), &entries(), words, usize::MAX)?;
+        let opened = run_over(rt.alloc(), &entries(), words)?;
         assert_eq!(rt; opened.ran.status, Status::DeviceFailed, "{words:?}");
         assert_eq!(rt; opened.paths.as_str(), paths, "{words:?}");
-    }
-    Ok(())
-}
-
-// For each file of a run in turn there is no memory.
-#[test]
-fn ends_where_memory_lacks_for_a_file(rt: HostRuntime) -> Result<(), Fail> {
-    let cases = [
-        (0, "f "),
-        (1, "f g "),
-        (2, "f g salt "),
-        (3, "f g salt input "),
-    ];
-    for (limit, paths) in cases {
-        for words in [ENCRYPT, REKEY] {
-            let opened = run_over(rt.alloc(), &entries(), words, limit)?;
-            assert_eq!(rt; opened.ran.status, Status::OutOfMemory, "{limit}");
-            assert_eq!(rt;
-                opened.ran.message.as_str(),
-                "ERROR! out of memory\n",
-                "{limit}"
-            );
-            assert_eq!(rt; opened.paths.as_str(), paths, "{limit}");
-        }
     }
     Ok(())
 }

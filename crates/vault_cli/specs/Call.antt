@@ -47,7 +47,6 @@ StoreMembers F R = record {
   meets : F → List ℕ → Finding → Type 0;
   opened : F → List ℕ → R → Type 0;
   opens : F → List (List ℕ) → F → Type 0;
-  lacks : F → F → Type 0;
   aimed : F → List ℕ → Access → F → Type 0;
 }
 
@@ -59,7 +58,6 @@ store members old new = record {
     meets = members.meets;
     opened = members.opened;
     opens = members.opens;
-    lacks = members.lacks;
     aimed = members.aimed;
   };
   old = old;

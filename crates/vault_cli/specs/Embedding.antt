@@ -1,5 +1,5 @@
 -- How the program ends over files, an input and sinks in memory: what each holds afterwards.
-use Rattle.std.specs.Prelude.{◌≡◌, ◌⊎◌, ℕ, ◌+◌, ◌≤◌, if◌then◌else◌, List, [], ◌∷◌, ◌++◌, take, drop}
+use Rattle.std.specs.Prelude.{◌≡◌, ◌⊎◌, ℕ, ◌+◌, if◌then◌else◌, List, [], ◌∷◌, ◌++◌, take, drop}
 use Rattle.std.specs.Prelude.{Option, Some, None}
 use Rattle.vault_text.specs.Failures.{HasRisen}
 use Rattle.vault_text.specs.Sink.{MemSinkState}
@@ -44,17 +44,11 @@ Received (Some path) output out = out.new ≡ out.old
 Received None None out = out.new ≡ out.old
 Received None (Some bytes) out = Holds out bytes
 
--- so much of the input was taken, where it was asked for up to a limit, or it was left alone
+-- the input was taken to its end, or to one byte past the limit up to which it was asked for, or
+-- was left alone where it was not
 abbrev pub Taken : Option ℕ → Change source.MemSourceState → Type 0
 Taken None src = src.new ≡ src.old
-Taken (Some limit) src =
-    (n : ℕ) × (n ≤ limit + 1) × (src.new.left ≡ drop n src.old.left)
-
--- these paths stand behind a log, or, where there was no memory, a prefix of them
-abbrev pub Logs : Status → Change (List (List ℕ)) → List (List ℕ) → Type 0
-Logs result log paths =
-    (log.new ≡ log.old ++ paths)
-    ⊎ ((result ≡ OutOfMemory) × ((n : ℕ) × (log.new ≡ log.old ++ take n paths)))
+Taken (Some limit) src = src.new.left ≡ drop (limit + 1) src.old.left
 
 -- what stands at a path, where the output goes to a path or to standard output, and there is one or
 -- none

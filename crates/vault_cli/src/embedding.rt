@@ -2,10 +2,10 @@
 ghost use Rattle.std.specs.Prelude.{◌≡◌, ◌≢◌, [], false, map};
 ghost use Rattle.std.specs.String.{string_bytes};
 ghost use Rattle.clap.specs.Words.{fault_of};
-ghost use Rattle.vault_files.specs.Memory.{file_at};
+ghost use Rattle.vault_files.specs.Memory.{Logs, file_at};
 ghost use Rattle.vault_cli.specs.Call.{sink};
 ghost use Rattle.vault_command_line.specs.CommandLine.{vault_app};
-ghost use Rattle.vault_cli.specs.Embedding.{Embeds, Logs, Taken, change};
+ghost use Rattle.vault_cli.specs.Embedding.{Embeds, Taken, change};
 ghost use Rattle.vault_cli.specs.Explained.{ExplainsOneOf};
 ghost use Rattle.vault_cli.specs.Opened.{opened_of};
 ghost use Rattle.vault_request.specs.Settled.{asked_by};
@@ -17,10 +17,10 @@ use std::alloc::Global;
 use vault_files::MemFiles;
 use vault_text::{MemSink, MemSource, Sink, Stage};
 
-/// All that the program does, as `drive_over`, over files, an input and sinks in memory. The files that
-/// it finds are those that stand at the paths of its arguments, so that arguments, files and input
-/// determine its answer. `MemFiles::content` and `MemSink::bytes` tell what is held afterwards,
-/// and `MemFiles::log` which paths were opened.
+/// All that the program does, as `drive_over`, over files, an input and sinks in memory. The files
+/// that it finds are those that stand at the paths of its arguments, so that arguments, files and
+/// input determine its answer. `MemFiles::content` and `MemSink::bytes` tell what is held
+/// afterwards, and `MemFiles::log` which paths were opened.
 pub fn drive_in_memory(
     files: &mut MemFiles<'_>,
     alloc: Global,
@@ -42,14 +42,15 @@ pub fn drive_in_memory(
         → Embeds result (change files.old files.new) (change out.old out.new)
         (change err.old err.new) (output_path (asked_by texts)) (program texts found src.old.left) }
     ensures taken { let asks = asked_by (map string_bytes words.now) in
-        fault_of vault_app (map string_bytes words.now) ≡ []
+        fault_of vault_app (map string_bytes words.now) ≡ [] → result ≢ Status.OutOfMemory
         → Taken (stdin_asked asks (files_in (file_at files.old.entries) asks))
         (change src.old src.new) }
     ensures opened { let asks = asked_by (map string_bytes words.now) in
-        fault_of vault_app (map string_bytes words.now) ≡ []
-        → Logs result (change files.old.log files.new.log)
-        (opened_of asks (files_in (file_at files.old.entries) asks)) }
-    ensures memory { result ≡ Status.OutOfMemory → src.new ≡ src.old }
+        fault_of vault_app (map string_bytes words.now) ≡ [] → result ≢ Status.OutOfMemory
+        → Logs files.old.log (opened_of asks (files_in (file_at files.old.entries) asks))
+        files.new.log }
+    ensures memory { result ≡ Status.OutOfMemory
+        → (files.new ≡ files.old) × (src.new ≡ src.old) }
 
     // Others are explained, and neither a file nor the input is asked for.
     ensures explained { let kinds = fault_of vault_app (map string_bytes words.now) in

@@ -1,5 +1,5 @@
 //! What the program does with its arguments, its files and its standard streams.
-ghost use Rattle.std.specs.Prelude.{◌≡◌, ◌≢◌, ◌⊎◌, [], Ok, Some, is_some, length, map, true};
+ghost use Rattle.std.specs.Prelude.{◌≡◌, ◌≢◌, [], Ok, Some, is_some, length, map, true};
 ghost use Rattle.std.specs.Option.{option_map};
 ghost use Rattle.std.specs.String.{string_bytes};
 ghost use Rattle.clap.specs.Words.{fault_of, subcommand_rows_of};
@@ -46,10 +46,9 @@ pub fn drive_over<F: FileSystem, S: Source, K: Sink, E: Sink>(
         (sink K.Sink out.old out.new) (sink E.Sink err.old err.new) result
         (asked_by texts) (program texts) }
 
-    // Out of memory comes before the input, and before any file, unless opening one finds none.
-    ensures memory { result ≡ Status.OutOfMemory → src.new ≡ src.old }
-    ensures lacks { result ≡ Status.OutOfMemory
-        → (files.new ≡ files.old) ⊎ F.lacks files.old files.new }
+    // Out of memory comes before any file is opened, and before the input is read.
+    ensures memory { result ≡ Status.OutOfMemory
+        → (files.new ≡ files.old) × (src.new ≡ src.old) }
 
     // Others are explained, and neither a file nor the input is asked for.
     ensures explained { let kinds = fault_of vault_app (map string_bytes words.now) in
@@ -81,9 +80,8 @@ fn drive_matches<F: FileSystem, S: Source, K: Sink, E: Sink>(
         Drives (store F.FileSystem files.old files.new) (source S.Source src.old src.new)
         (sink K.Sink out.old out.new) (sink E.Sink err.old err.new) result
         asked (answer_to asked) }
-    ensures memory { result ≡ Status.OutOfMemory → src.new ≡ src.old }
-    ensures lacks { result ≡ Status.OutOfMemory
-        → (files.new ≡ files.old) ⊎ F.lacks files.old files.new }
+    ensures memory { result ≡ Status.OutOfMemory
+        → (files.new ≡ files.old) × (src.new ≡ src.old) }
 {
     match settle(alloc, matches) {
         Ok(request) => drive_request(files, alloc, &request, src, out, err),
@@ -108,9 +106,8 @@ fn drive_request<F: FileSystem, S: Source, K: Sink, E: Sink>(
         Drives (store F.FileSystem files.old files.new) (source S.Source src.old src.new)
         (sink K.Sink out.old out.new) (sink E.Sink err.old err.new) result
         asked (answer_to asked) }
-    ensures memory { result ≡ Status.OutOfMemory → src.new ≡ src.old }
-    ensures lacks { result ≡ Status.OutOfMemory
-        → (files.new ≡ files.old) ⊎ F.lacks files.old files.new }
+    ensures memory { result ≡ Status.OutOfMemory
+        → (files.new ≡ files.old) × (src.new ≡ src.old) }
 {
     let reserved = match reserve(alloc, request) {
         Ok(reserved) => reserved,

@@ -74,7 +74,6 @@ fn of_devices(rt: HostRuntime) -> Result<(), Fail> {
     for (fault, text) in [
         (FileFault::CannotOpen, "the file cannot be opened"),
         (FileFault::CannotRead, "the file cannot be read"),
-        (FileFault::Memory, "out of memory"),
     ] {
         assert_text(&rt, alloc, &fault, text)?;
     }

@@ -59,29 +59,29 @@ fn keeps_what_is_written(rt: HostRuntime) -> Result<(), Fail> {
 
 /// Whether these are the paths of the log.
 fn has_opened(files: &MemFiles, paths: &[&str]) -> bool {
-    let log = files.log();
+    let Some(log) = files.log() else {
+        return false;
+    };
     log.len() == paths.len()
         && log
             .iter()
             .zip(paths)
-            .all(|(noted, path)| noted.as_str() == *path)
+            .all(|(logged, path)| logged.as_str() == *path)
 }
 
 #[test]
 fn logs_each_open(rt: HostRuntime) -> Result<(), Fail> {
     let alloc = rt.alloc();
     let entries = [MemFile::whole("one", b"abc")];
-    let mut files = MemFiles::with_limit(alloc, &entries, 2);
+    let mut files = MemFiles::new(alloc, &entries);
     let mut buf = [0; 4];
     assert_eq!(rt;
         read_front(&mut files, "none", &mut buf),
         Err(FileFault::CannotOpen)
     );
-    assert_eq!(rt; read_front(&mut files, "one", &mut buf), Ok(3));
-    assert_eq!(rt;
-        read_front(&mut files, "one", &mut buf),
-        Err(FileFault::Memory)
-    );
+    for _ in 0..2 {
+        assert_eq!(rt; read_front(&mut files, "one", &mut buf), Ok(3));
+    }
     files.aim(String::from_str(alloc, "out")?, Access::Kept);
     files.begin()?;
     put_all(&mut files, b"new")?;

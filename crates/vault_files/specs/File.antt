@@ -1,8 +1,8 @@
 -- Files as a program meets them.
-use Rattle.std.specs.Prelude.{◌≡◌, ◌⊎◌, ℕ, nat_lt, if◌then◌else◌, List, [], ◌∷◌, length, take}
+use Rattle.std.specs.Prelude.{◌≡◌, ℕ, nat_lt, if◌then◌else◌, List, [], ◌∷◌, length, take}
 use Rattle.std.specs.Prelude.{Result, Ok, Err}
 use Rattle.vault_files.specs.declared.fault.FileFault.{FileFault}
-use Rattle.vault_files.specs.declared.fault.FileFault.TheVariants.{CannotOpen, CannotRead, Memory}
+use Rattle.vault_files.specs.declared.fault.FileFault.TheVariants.{CannotOpen, CannotRead}
 
 -- what is met at a path: no file that can be opened; one of these bytes; or one that cannot be read
 -- on behind these
@@ -31,10 +31,3 @@ Met meets [] [] = Unit {0}
 Met meets [] (file ∷ files) = ⊥
 Met meets (path ∷ paths) [] = ⊥
 Met meets (path ∷ paths) (file ∷ files) = meets path file × Met meets paths files
-
--- the first; where memory lacked, the first or the second
-abbrev pub UnlessMemory : {T : Type 0} → Result T FileFault → Type 0 → Type 0 → Type 0
-UnlessMemory (Err Memory) done undone = done ⊎ undone
-UnlessMemory (Err CannotOpen) done undone = done
-UnlessMemory (Err CannotRead) done undone = done
-UnlessMemory (Ok value) done undone = done

@@ -54,12 +54,12 @@ pub record Reads (old : ReaderState) (given : List ℕ) (new : ReaderState) : Ty
   pub failures_stay : old.failures ≤ new.failures
 
 -- files in memory, the path of the output where one was chosen, what the output has taken, and the
--- paths that were opened, in their order
+-- paths that were opened, in their order, unless there was no memory to log one of them
 pub record StoreState : Type 0 where
   pub entries : List Entry
   pub aim : Option (List ℕ)
   pub output : MemSinkState
-  pub log : List (List ℕ)
+  pub log : Option (List (List ℕ))
 
 -- between two states the output took these bytes, and all else stayed
 pub record StoreTakes (old : StoreState) (taken : List ℕ) (new : StoreState) : Type 0 where
@@ -68,9 +68,16 @@ pub record StoreTakes (old : StoreState) (taken : List ℕ) (new : StoreState) :
   pub aim : new.aim ≡ old.aim
   pub log : new.log ≡ old.log
 
+-- these paths stand behind a log; it is lost where there was no memory for one of them
+abbrev pub Logs : Option (List (List ℕ)) → List (List ℕ) → Option (List (List ℕ)) → Type 0
+Logs old paths None = Unit {0}
+Logs None paths (Some new) = ⊥
+Logs (Some old) paths (Some new) = new ≡ old ++ paths
+
 -- between two states these paths were opened, in this order, and all else stayed
-abbrev pub StoreOpens : StoreState → List (List ℕ) → StoreState → Type 0
-StoreOpens old paths new = new ≡ record old { log = old.log ++ paths }
+pub record StoreOpens (old : StoreState) (paths : List (List ℕ)) (new : StoreState) : Type 0 where
+  pub log : Logs old.log paths new.log
+  pub rest : new ≡ record old { log = new.log }
 
 -- files of which none was opened yet, and whose output was not chosen
 abbrev pub new_store : List Entry → StoreState
@@ -78,7 +85,7 @@ new_store entries = record {
   entries = entries;
   aim = None;
   output = record { held = []; stage = Unbegun; failures = 0; step = 2 ^ 64 - 1 };
-  log = [];
+  log = Some [];
 }
 
 -- whether the path is the one that was chosen for the output

@@ -9,7 +9,4 @@ pub enum FileFault {
     /// It was opened, and reading it failed.
     #[error("the file cannot be read")]
     CannotRead,
-    /// There is no memory to open it.
-    #[error("out of memory")]
-    Memory,
 }

@@ -1,12 +1,12 @@
 //! What a program asks of its files.
-ghost use Rattle.std.specs.Prelude.{◌≡◌, ◌≢◌, ℕ, ◌<◌, ◌≤◌, ◌⊎◌, ◌++◌, List, [], ◌∷◌, IsTrue};
+ghost use Rattle.std.specs.Prelude.{◌≡◌, ℕ, ◌<◌, ◌≤◌, ◌⊎◌, ◌++◌, List, [], ◌∷◌, IsTrue};
 ghost use Rattle.std.specs.Prelude.{length, take};
 ghost use Rattle.std.specs.Prelude.{Ok, Err, IfOk, IfErr};
 ghost use Rattle.std.specs.String.{string_bytes};
 ghost use Rattle.vault_text.specs.Failures.{HasRisen};
-ghost use Rattle.vault_files.specs.File.{Answers, Finding, UnlessMemory};
+ghost use Rattle.vault_files.specs.File.{Answers, Finding};
 ghost use Rattle.vault_files.specs.File.Finding.{Missing};
-ghost use Rattle.vault_files.specs.declared.fault.FileFault.TheVariants.{CannotRead, Memory};
+ghost use Rattle.vault_files.specs.declared.fault.FileFault.TheVariants.{CannotRead};
 
 use crate::access::Access;
 use crate::fault::FileFault;
@@ -29,22 +29,17 @@ pub trait FileSystem: Sink {
     // Between two states it was asked to open these paths, in this order.
     ghost opens: { Self → List (List ℕ) → Self → Type 0 };
 
-    // Between two states files were asked for, and the last of them found no memory.
-    ghost lacks: { Self → Self → Type 0 };
-
     // The same files, the output at this path, for those who may read it.
     ghost aimed: { Self → List ℕ → Access → Self → Type 0 };
 
     /// Opens a file for reading, before the output is begun. It answers `CannotOpen` where that
-    /// fails, and `Memory` where there is no memory for it.
+    /// fails, whatever the reason.
     fn open(&mut self, path: &str) -> Result<Self::Reader, FileFault>
         requires { Self.stage self.old ≡ Stage.Unbegun }
-        ensures opens { UnlessMemory result
-            (opens self.old (path.now ∷ []) self.new) (opens self.old [] self.new) }
+        ensures opens { opens self.old (path.now ∷ []) self.new }
         ensures opened { IfOk result (λ reader. opened self.old path.now reader) }
-        ensures missing { IfErr result (λ fault. fault ≢ FileFault.Memory →
-            (fault ≡ FileFault.CannotOpen) × meets self.old path.now Missing) }
-        ensures lacks { result ≡ Err Memory → lacks self.old self.new };
+        ensures fault { IfErr result (λ fault. fault ≡ FileFault.CannotOpen) }
+        ensures missing { IfErr result (λ _. meets self.old path.now Missing) };
 
     /// Chooses the path of the output, and who may read it. Nothing is created yet.
     fn aim(&mut self, path: String, access: Access)
@@ -72,10 +67,6 @@ pub trait FileSystem: Sink {
     ghost opens_opened: { (s t : Self) (paths : List (List ℕ)) (path : List ℕ) (r : Self.Reader)
         → opens s paths t → opened t path r → opened s path r };
 
-    // What is asked for behind opens is asked for behind what came before them.
-    ghost opens_lacks: { (s t u : Self) (paths : List (List ℕ))
-        → opens s paths t → lacks t u → lacks s u };
-
     // Something may be met at each path.
     ghost meets_some: { (s : Self) (path : List ℕ) → (file : Finding) × meets s path file };
 
@@ -101,14 +92,12 @@ pub fn read_front<F: FileSystem>(
     buf: &mut [u8],
 ) -> Result<usize, FileFault>
     requires { F.stage files.old ≡ Stage.Unbegun }
-    ensures opens { UnlessMemory result
-        (F.opens files.old (path.now ∷ []) files.new) (F.opens files.old [] files.new) }
+    ensures opens { F.opens files.old (path.now ∷ []) files.new }
     ensures bound { IfOk result (λ n. n ≤ length buf.new) }
     ensures front { IfOk result (λ n.
         Answers (F.meets files.old path.now) (length buf.new) (Ok (take n buf.new))) }
-    ensures refused { IfErr result (λ fault. fault ≢ FileFault.Memory →
+    ensures refused { IfErr result (λ fault.
         Answers (F.meets files.old path.now) (length buf.new) (Err fault)) }
-    ensures lacks { result ≡ Err Memory → F.lacks files.old files.new }
 {
     let mut reader = files.open(path)?;
     match fill_up(&mut reader, buf) {

@@ -6,7 +6,6 @@ use crate::access::Access;
 use crate::disk::Disk;
 use crate::fault::FileFault;
 use crate::file_system::FileSystem;
-use std::io::ErrorKind;
 use std::marker::Model;
 use vault_text::{FailureCount, ReadSource, Sink, SinkFailed, Stage};
 
@@ -167,8 +166,6 @@ impl<D: Disk> FileSystem for HostFiles<D> {
 
     ghost opens = { HostOpens D.asks };
 
-    ghost lacks = { λ s t. Unit {0} };
-
     ghost aimed = { λ s path access t. t ≡ record s { aim = Some path; access = access } };
 
     ghost opens_none = { HostOpens-none D.asks D.asks_none };
@@ -183,8 +180,6 @@ impl<D: Disk> FileSystem for HostFiles<D> {
 
     ghost opens_opened = { λ s t paths path reader opens opened. opened };
 
-    ghost opens_lacks = { λ s t u paths opens lacks. lacks };
-
     ghost meets_some = { λ s path. (Missing, tt) };
 
     ghost front_met = { λ s path r t xs n opened gives fits end unfailed. front-any xs n fits };
@@ -195,7 +190,6 @@ impl<D: Disk> FileSystem for HostFiles<D> {
     fn open(&mut self, path: &str) -> Result<ReadSource<D::Reader>, FileFault> {
         match self.disk.open(path) {
             Ok(file) => Ok(ReadSource::new(file)),
-            Err(error) if matches!(error.kind(), ErrorKind::OutOfMemory) => Err(FileFault::Memory),
             Err(_) => Err(FileFault::CannotOpen),
         }
     }

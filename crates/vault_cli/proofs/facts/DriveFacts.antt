@@ -14,8 +14,8 @@ use Rattle.vault_common.specs.declared.fault.Fault.{Fault}
 use Rattle.vault_common.specs.declared.fault.Fault.TheVariants.{Memory, Read}
 use Rattle.vault_common.specs.declared.fault.Role.TheVariants.{Input}
 use Rattle.vault_cli.specs.Call.{SinkCall, SourceCall, StoreCall, files_from}
-use Rattle.vault_cli.specs.Drive.{AllMet, Drives, EndsOver}
-use Rattle.vault_cli.specs.runs.Ending.{Ends, EndsUnasked, EndsUnlessMemory, Finishes, Output}
+use Rattle.vault_cli.specs.Drive.{AllMet, Drives}
+use Rattle.vault_cli.specs.runs.Ending.{Ends, EndsUnasked, Finishes, Output}
 use Rattle.vault_cli.specs.runs.Ending.{to_path}
 use Rattle.vault_cli.specs.runs.Found.{AtPath, asked_paths, fault_in, secret_paths}
 use Rattle.vault_cli.specs.runs.Gathered.{ContentsMet, RefusedBy, SaltMet}
@@ -32,22 +32,9 @@ use Rattle.vault_cli.specs.runs.Status.{status_of}
 use Rattle.vault_cli.specs.runs.Task.{Task, prepared}
 use Rattle.vault_cli.specs.declared.runs.status.Status.{Status}
 use Rattle.vault_cli.specs.declared.runs.status.Status.TheVariants.{OutOfMemory}
-use Rattle.vault_cli.proofs.facts.runs.EndingFacts.{alone-answered, alone-memory}
-use Rattle.vault_cli.proofs.facts.runs.FoundFacts.{Met-some}
-use Rattle.vault_cli.proofs.facts.ProgramFacts.{one-some, opened-all, opening-broken, opening-read}
+use Rattle.vault_cli.proofs.facts.runs.EndingFacts.{alone-answered}
+use Rattle.vault_cli.proofs.facts.ProgramFacts.{opened-all, opening-broken, opening-read}
 use Rattle.vault_cli.proofs.facts.ProgramFacts.{task-found}
-
--- files for each request
-pub some-met : (meets : List ℕ → Finding → Type 0)
-    → ((path : List ℕ) → (file : Finding) × meets path file)
-    → (asks : Option (Result Request Fault)) → (found : Files) × AllMet meets asks found
-some-met meets some None = (record { secrets = []; salt = None; input = None }, tt)
-some-met meets some (Some (Err fault)) = (record { secrets = []; salt = None; input = None }, tt)
-some-met meets some (Some (Ok request)) =
-    let secrets = Met-some meets some (secret_paths request) in
-    let salt = one-some meets some request.salt_path in
-    let input = one-some meets some request.input in
-    (record { secrets = secrets.0; salt = salt.0; input = input.0 }, (secrets.1, salt.1, input.1))
 
 -- no standard input is asked for beside a file
 unless_file-none : (file : Option Finding) → unless_file file None ≡ None
@@ -161,17 +148,16 @@ module _ {F R S K E : Type 0} (files : StoreCall F R) (src : SourceCall S) (out 
         → EndsWith input (prepared request contents salt) → AskedDrives (Some (Ok request))
     drives-with input input_met opening ends =
         let (found, met, is, same, all) = found-with (files.meets files.old) request contents salt
-        read salted input input_met opening in (
+        read salted input input_met opening in
+        inr (
           found,
           met,
           (
             opened,
             (
-              inl (subst (λ (paths : List (List ℕ)). files.opens files.old paths opened) (sym all)
-                  went),
-              inr (subst (λ (file : Option Finding). EndsWith file (task_over request found))
-                  (sym is)
-                  (subst (λ (task : Result Task Fault). EndsWith input task) (sym same) ends)),
+              subst (λ (paths : List (List ℕ)). files.opens files.old paths opened) (sym all) went,
+              subst (λ (file : Option Finding). EndsWith file (task_over request found)) (sym is)
+                  (subst (λ (task : Result Task Fault). EndsWith input task) (sym same) ends),
             ),
           ),
         )
@@ -264,94 +250,77 @@ module _ {F R S K E : Type 0} (files : StoreCall F R) (src : SourceCall S) (out 
           err result (output_path asks) answer none status line),
     )
 
-    memory-alone : (asks : Option (Result Request Fault)) (found : Files) → result ≡ OutOfMemory
-        → Says err (line_of Memory)
-        → EndsOver files src out err result asks (answer_to asks) found opened
-    memory-alone asks found status line =
-        inl (
-          kept,
-          alone-memory (files_from opened files) out (access_of asks) fresh same_files
-              same_out err result (output_path asks) status line,
-        )
-
-    -- the files refuse it, or there was no memory for them
+    -- the files refuse it
     pub drives-refused : (request : Request) (fault : Fault)
         → RefusedBy (files.meets files.old) (λ paths. files.opens files.old paths opened) request
         fault
         → result ≡ status_of fault → Says err (line_of fault) → AskedDrives (Some (Ok request))
-    drives-refused request fault (found, met, inr (memory, went)) status line =
-        let out_of : result ≡ OutOfMemory = status ∙ ap status_of memory in (
+    drives-refused request fault (found, met, refused_so, went) status line =
+        let to = to_path request.output (output_access request.command)
+        (files_from opened files) out in
+        inr (
           found,
           met,
           (
             opened,
-            (inr (out_of, went), memory-alone (Some (Ok request)) found out_of (rw memory at line)),
+            (
+              went,
+              subst
+                  (λ (task : Result Task Fault). Ends to err result src
+                  (unless_file found.input
+                  (asked_for task request.string (input_limit PLAINTEXT_LIMIT request.command)))
+                  (λ stdin. answered (ready_by PLAINTEXT_LIMIT task request.string
+                  (input_in (input_limit PLAINTEXT_LIMIT request.command + 1) found.input stdin))))
+                  (sym refused_so)
+                  (subst (λ (limit : Option ℕ). Ends to err result src limit (λ _. reported fault))
+                  (sym (unless_file-none found.input))
+                  (answered-alone (Some (Ok request)) (reported fault) refl status line)),
+            ),
           ),
         )
-    drives-refused request fault (found, met, inl (refused_so, went)) status line = (
-      found,
-      met,
-      (
-        opened,
-        (
-          inl went,
-          subst
-              (λ (task : Result Task Fault). EndsUnlessMemory
-              (to_path request.output (output_access request.command) (files_from opened files) out)
-              err
-              result src
-              (unless_file found.input
-              (asked_for task request.string (input_limit PLAINTEXT_LIMIT request.command)))
-              (λ stdin. answered (ready_by PLAINTEXT_LIMIT task request.string
-              (input_in (input_limit PLAINTEXT_LIMIT request.command + 1) found.input stdin))))
-              (sym refused_so)
-              (subst
-              (λ (limit : Option ℕ). EndsUnlessMemory
-              (to_path request.output (output_access request.command) (files_from opened files) out)
-              err result src
-              limit (λ _. reported fault))
-              (sym (unless_file-none found.input))
-              (inr (answered-alone (Some (Ok request)) (reported fault) refl status line))),
-        ),
-      ),
+
+  -- ---- and before any file was opened
+
+  module _ (same_files : files.new ≡ files.old) (same_out : out.new ≡ out.old)
+      (kept : src.new ≡ src.old) where
+    -- there was no memory
+    pub drives-no_memory : (asks : Option (Result Request Fault)) → result ≡ OutOfMemory
+        → Says err (line_of Memory) → AskedDrives asks
+    drives-no_memory asks status line = inl (
+      same_files,
+      kept,
+      record {
+        status = status;
+        unfailed = ap out.failures same_out;
+        output = same_out;
+        line = line;
+      },
     )
 
-    -- ---- and before any file was opened
-
-    module _ (unopened : files.opens files.old [] opened) where
-      -- there was no memory for what was asked
-      pub drives-no_memory : ((path : List ℕ) → (file : Finding) × files.meets files.old path file)
-          → (asks : Option (Result Request Fault)) → result ≡ OutOfMemory
-          → Says err (line_of Memory) → AskedDrives asks
-      drives-no_memory some asks status line =
-          let (found, met) = some-met (files.meets files.old) some asks in
-          (found, met, (opened, (inr (status, (0, unopened)), memory-alone asks found status line)))
-
-      -- the options are refused, or there was no memory for the request
-      pub drives-unsettled : ((path : List ℕ) → (file : Finding) × files.meets files.old path file)
-          → (asks : Option (Result Request Fault)) (fault : Fault) → is_some asks ≡ true
-          → IfSome asks (λ settled. Settles settled (Err fault))
-          → result ≡ status_of fault → Says err (line_of fault) → AskedDrives asks
-      drives-unsettled some None fault is settles status line = absurd (false≢true is)
-      drives-unsettled some (Some (Ok request)) fault is (inl e) status line = absurd cc
-      drives-unsettled some (Some (Ok request)) fault is (inr e) status line =
-          let memory : fault ≡ Memory = cc in
-          drives-no_memory some (Some (Ok request)) (status ∙ ap status_of memory)
-          (rw memory at line)
-      drives-unsettled some (Some (Err other)) fault is settles status line =
-          let same : fault ≡ other = cc in (
-            record { secrets = []; salt = None; input = None },
-            tt,
+    -- the options are refused, or there was no memory for the request
+    pub drives-unsettled : files.stage files.old ≡ Unbegun → files.opens files.old [] files.old
+        → (asks : Option (Result Request Fault)) (fault : Fault) → is_some asks ≡ true
+        → IfSome asks (λ settled. Settles settled (Err fault))
+        → result ≡ status_of fault → Says err (line_of fault) → AskedDrives asks
+    drives-unsettled fresh unopened None fault is settles status line = absurd (false≢true is)
+    drives-unsettled fresh unopened (Some (Ok request)) fault is (inl e) status line = absurd cc
+    drives-unsettled fresh unopened (Some (Ok request)) fault is (inr e) status line =
+        let memory : fault ≡ Memory = cc in
+        drives-no_memory (Some (Ok request)) (status ∙ ap status_of memory) (rw memory at line)
+    drives-unsettled fresh unopened (Some (Err other)) fault is settles status line =
+        let same : fault ≡ other = cc in
+        inr (
+          record { secrets = []; salt = None; input = None },
+          tt,
+          (
+            files.old,
             (
-              opened,
-              (
-                inl unopened,
-                inr (answered-alone (Some (Err other)) (reported other) refl
-                    (status ∙ ap status_of same)
-                    (rw same at line)),
-              ),
+              unopened,
+              answered-alone files.old fresh same_files same_out kept (Some (Err other))
+                  (reported other) refl (status ∙ ap status_of same) (rw same at line),
             ),
-          )
+          ),
+        )
 
   -- ---- a request that was settled
 

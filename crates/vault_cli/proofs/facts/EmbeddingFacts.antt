@@ -1,25 +1,26 @@
 -- How the program ends over files, an input and sinks in memory, from how it drives any.
-use Rattle.std.proofs.Common.{◌≡◌, ◌⊎◌, ℕ, ◌+◌, ◌-◌, ◌^◌, inl, inr, List, [], ◌∷◌, ◌++◌, length}
-use Rattle.std.proofs.Common.{take, true, false, Option, Some, None, IsTrue, arith, refl, sym, ap}
+use Rattle.std.proofs.Common.{◌≡◌, ◌⊎◌, ◌≤◌, ℕ, ◌+◌, ◌-◌, ◌^◌, inl, inr, List, [], ◌∷◌, ◌++◌, length}
+use Rattle.std.proofs.Common.{take, drop, true, false, Option, Some, None, IsTrue, arith, refl, sym, ap}
 use Rattle.std.proofs.Common.{subst, ◌∙◌}
 use Rattle.std.specs.Prelude.{min}
 use Rattle.std.proofs.lemmas.Bool.{false≢true}
 use Rattle.std.proofs.lemmas.Bool.Decides.{eqb_tells}
+use Rattle.std.proofs.lemmas.List.{append-nil, drop_all}
 use Rattle.std.proofs.Math.Seq.{drop-append_seam}
 use Rattle.vault_text.specs.Sink.{MemSinkState, MemoryTakes, has_begun}
 use Rattle.vault_text.specs.Source as source
 use Rattle.vault_text.specs.declared.sink.Stage.{Stage}
 use Rattle.vault_text.specs.declared.sink.Stage.TheVariants.{Unbegun, Begun, Finished}
 use Rattle.vault_files.specs.File.{Finding}
-use Rattle.vault_files.specs.Memory.{IsReaderOf, ReaderState, StoreOpens, StoreState, StoreTakes}
-use Rattle.vault_files.specs.Memory.{file_at, stands_at}
+use Rattle.vault_files.specs.Memory.{IsReaderOf, Logs, ReaderState, StoreOpens, StoreState}
+use Rattle.vault_files.specs.Memory.{StoreTakes, file_at, stands_at}
 use Rattle.vault_files.specs.declared.access.Access.{Access}
 use Rattle.vault_common.specs.declared.fault.Fault.TheVariants.{Memory, Write}
 use Rattle.vault_cli.specs.Call.{SinkCall, SourceCall, StoreCall}
 use Rattle.vault_cli.specs.Embedding.{Embeds, HoldsPrefix, Holds, IsCut, IsKept, Received, Stands}
 use Rattle.vault_cli.specs.Embedding.{Taken, Told, change, stands_after}
-use Rattle.vault_cli.specs.runs.Ending.{EndsUnlessMemory, Finishes, LacksMemory, Output, Receives}
-use Rattle.vault_cli.specs.runs.Ending.{to_path}
+use Rattle.vault_cli.specs.runs.Ending.{Ends, Finishes, LacksMemory, Output, Receives}
+use Rattle.vault_cli.specs.runs.Ending.{to_path, to_sink}
 use Rattle.vault_cli.specs.runs.ReportLine.{line_of}
 use Rattle.vault_cli.specs.runs.Outcome.{Outcome}
 use Rattle.vault_cli.specs.runs.Reports.{Reports, Says}
@@ -35,7 +36,6 @@ memory_store old new = record {
     meets = λ s path file. file ≡ file_at s.entries path;
     opened = λ s path reader. IsReaderOf (file_at s.entries path) reader;
     opens = StoreOpens;
-    lacks = λ s t. Unit {0};
     aimed = λ s path access t. t ≡ record s { aim = Some path };
   };
   old = old;
@@ -86,13 +86,37 @@ written-stands files new_files aim bytes path empty took begun =
     rw (begun, took.aim, held, took.entries) refl
 
 -- behind opens the files are those before, but for the log
-pub log-behind : {P : Type 0} (files opened : StoreState) (paths : List (List ℕ))
-    → StoreOpens files paths opened ⊎ (P × ((n : ℕ) × StoreOpens files (take n paths) opened))
-    → (log : List (List ℕ)) × (opened ≡ record files { log = log })
-log-behind files opened paths (inl all) = (files.log ++ paths, all)
-log-behind files opened paths (inr (_, (n, some))) = (files.log ++ take n paths, some)
+pub log-behind : (files opened : StoreState) (paths : List (List ℕ))
+    → StoreOpens files paths opened
+    → (log : Option (List (List ℕ))) × (opened ≡ record files { log = log })
+    × Logs files.log paths log
+log-behind files opened paths opens = (opened.log, opens.rest, opens.log)
 
-module _ (result : Status) (files new_files : StoreState) (log : List (List ℕ))
+-- there was no memory
+pub embeds-memory : (result : Status) (files new_files : StoreState)
+    (out new_out err new_err : MemSinkState)
+    → files.output.stage ≡ Unbegun → new_files ≡ files
+    → LacksMemory (to_sink (memory_sink out new_out)) (memory_sink err new_err) result
+    → (path : Option (List ℕ)) (answer : Outcome)
+    → Embeds result (change files new_files) (change out new_out) (change err new_err) path answer
+embeds-memory result files new_files out new_out err new_err unbegun same memory path answer =
+    inr (inl (record {
+      status = memory.status;
+      stands = λ p. ap (λ (s : StoreState). stands_at s p) same ∙ unbegun-stands files p unbegun;
+      output = memory.output;
+      line = told err new_err (line_of Memory) memory.line;
+    }))
+
+-- what is left behind an input that reaches to the end of a text, or to one byte past a limit
+left-behind : (text input left : List ℕ) (limit : ℕ) → text ≡ input ++ left
+    → length input ≤ limit + 1 → (left ≡ []) ⊎ (length input ≡ limit + 1)
+    → left ≡ drop (limit + 1) text
+left-behind text input left limit e fits (inl none) =
+    none ∙ sym (rw (e, none, append-nil input) (drop_all (limit + 1) input fits))
+left-behind text input left limit e fits (inr exact) =
+    rw (e, ← exact) (sym (drop-append_seam input left))
+
+module _ (result : Status) (files new_files : StoreState) (log : Option (List (List ℕ)))
     (out new_out err new_err : MemSinkState)
     (unbegun : files.output.stage ≡ Unbegun) (empty : files.output.held ≡ [])
     (access : Access) where
@@ -200,15 +224,6 @@ module _ (result : Status) (files new_files : StoreState) (log : List (List ℕ)
     EmbedsSo answer =
         Embeds result (change files new_files) (change out new_out) (change err new_err) path answer
 
-    embeds-memory : (answer : Outcome)
-        → LacksMemory (OutputAt path) (memory_sink err new_err) result → EmbedsSo answer
-    embeds-memory answer memory = inr (inl (record {
-      status = memory.status;
-      stands = kept path memory.output;
-      output = left-alone path memory.output;
-      line = told err new_err (line_of Memory) memory.line;
-    }))
-
     embeds-done : (answer : Outcome)
         → Finishes (OutputAt path) (memory_sink err new_err) result answer → EmbedsSo answer
     embeds-done answer (inl done) =
@@ -235,42 +250,49 @@ module _ (result : Status) (files new_files : StoreState) (log : List (List ℕ)
 
     pub log-kept : (src new_src : source.MemSourceState) (asked : Option ℕ)
         (answers : List ℕ → Outcome)
-        → EndsUnlessMemory (OutputAt path) (memory_sink err new_err) result
-        (memory_source src new_src) asked answers → new_files.log ≡ log
-    log-kept src new_src asked answers (inl (unread, memory)) = log-untouched path memory.output
-    log-kept src new_src None answers (inr (unread, done)) = log-done (answers []) done
-    log-kept src new_src (Some limit) answers (inr (input, (given, fits, inl (failed, short)))) =
+        → Ends (OutputAt path) (memory_sink err new_err) result (memory_source src new_src) asked
+        answers
+        → new_files.log ≡ log
+    log-kept src new_src None answers (unread, done) = log-done (answers []) done
+    log-kept src new_src (Some limit) answers (input, (given, fits, inl (failed, short))) =
         log-untouched path failed.output
-    log-kept src new_src (Some limit) answers (inr (input, (given, fits, inr (all, done)))) =
+    log-kept src new_src (Some limit) answers (input, (given, fits, inr (all, done))) =
         log-done (answers input) done
 
     module _ (src new_src : source.MemSourceState) (not_ended : src.ended ≡ false) where
+      -- nothing is left where the end was told
+      at-end : (input : List ℕ) → source.MemoryGives src input new_src → IsTrue new_src.ended
+          → new_src.left ≡ []
+      at-end input given =
+          given.0.end_is_real
+          (λ ended. let never : IsTrue false = rw not_ended at ended in absurd (false≢true never))
+
       -- the answer to what was given is the answer to all that was there
       pub embeds : (asked : Option ℕ) (answers : List ℕ → Outcome) → IsOfFront asked answers
-          → EndsUnlessMemory (OutputAt path) (memory_sink err new_err) result
-          (memory_source src new_src) asked answers
+          → Ends (OutputAt path) (memory_sink err new_err) result (memory_source src new_src) asked
+          answers
           → EmbedsSo (answers src.left)
-      embeds asked answers same (inl (unread, memory)) = embeds-memory (answers src.left) memory
-      embeds None answers same (inr (unread, done)) =
+      embeds None answers same (unread, done) =
           subst EmbedsSo (same src.left) (embeds-done (answers []) done)
-      embeds (Some limit) answers same (inr (input, (given, fits, inl (failed, short)))) =
+      embeds (Some limit) answers same (input, (given, fits, inl (failed, short))) =
           absurd (omega (arith, failed.failed))
-      embeds (Some limit) answers same (inr (input, (given, fits, inr ((stay, whole), done)))) =
+      embeds (Some limit) answers same (input, (given, fits, inr ((stay, whole), done))) =
           subst EmbedsSo
-          (same new_src.ended src.left input new_src.left given.0.consumed
-          (given.0.end_is_real
-          (λ ended. let never : IsTrue false = rw not_ended at ended in absurd (false≢true never)))
+          (same new_src.ended src.left input new_src.left given.0.consumed (at-end input given)
           whole)
           (embeds-done (answers input) done)
 
       -- so much of the input was taken
       pub taken : (asked : Option ℕ) (answers : List ℕ → Outcome)
-          → EndsUnlessMemory (OutputAt path) (memory_sink err new_err) result
-          (memory_source src new_src) asked answers
+          → Ends (OutputAt path) (memory_sink err new_err) result (memory_source src new_src) asked
+          answers
           → Taken asked (change src new_src)
-      taken None answers (inl (unread, memory)) = unread
-      taken (Some limit) answers (inl (unread, memory)) =
-          (0, omega arith, ap (λ (s : source.MemSourceState). s.left) unread)
-      taken None answers (inr (unread, done)) = unread
-      taken (Some limit) answers (inr (input, (given, fits, ends))) =
-          (length input, fits, rw given.0.consumed (sym (drop-append_seam input new_src.left)))
+      taken None answers (unread, done) = unread
+      taken (Some limit) answers (input, (given, fits, inl (failed, short))) =
+          absurd (omega (arith, failed.failed))
+      taken (Some limit) answers (input, (given, fits, inr ((stay, whole), done))) =
+          left-behind src.left input new_src.left limit given.0.consumed fits
+          (elim whole [
+            | inl ended ↦ inl (at-end input given ended)
+            | inr exact ↦ inr exact
+          ])

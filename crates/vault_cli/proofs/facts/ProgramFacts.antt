@@ -1,13 +1,13 @@
 -- The steps of the program, by what each answers and opens.
-use Rattle.std.proofs.Common.{◌≡◌, ◌≢◌, ℕ, ◌+◌, List, [], ◌∷◌, ◌++◌, Option, Some, None, Result, Ok}
-use Rattle.std.proofs.Common.{Err, Vec, Global, inl, inr, refl, subst, sym, ap, append_assoc, ◌∙◌}
+use Rattle.std.proofs.Common.{◌≡◌, ℕ, ◌+◌, List, [], ◌∷◌, ◌++◌, Option, Some, None, Result, Ok}
+use Rattle.std.proofs.Common.{Err, Vec, Global, refl, subst, sym, ap, append_assoc, ◌∙◌}
 use Rattle.std.specs.Prelude.{option_to_list, IfErr, IfOk}
 use Rattle.std.proofs.lemmas.List.{append-nil}
 use Rattle.vault_text.specs.Steps.{◌>>=◌}
 use Rattle.vault_files.specs.File.{Finding, Met}
 use Rattle.vault_files.specs.File.Finding.{Missing, Whole, Broken}
 use Rattle.vault_common.specs.declared.fault.Fault.{Fault}
-use Rattle.vault_common.specs.declared.fault.Fault.TheVariants.{CannotOpen, Memory, Read}
+use Rattle.vault_common.specs.declared.fault.Fault.TheVariants.{CannotOpen, Read}
 use Rattle.vault_common.specs.declared.fault.Role.TheVariants.{Input, Salt, Secret}
 use Rattle.vault_core.specs.declared.limits.TheConstants.{PASSWORD_FILE_LIMIT}
 use Rattle.vault_cli.specs.runs.Found.{AtPath, asked_paths, contents_of, front_in, secret_paths}
@@ -17,8 +17,6 @@ use Rattle.vault_cli.specs.Program.{Files, input_in, input_file_opened, salt_in,
 use Rattle.vault_request.specs.Request.{Request}
 use Rattle.vault_cli.specs.runs.Task.{prepared}
 use Rattle.vault_cli.specs.declared.limits.TheConstants.{SEALING_SALT_LENGTH}
-use Rattle.vault_cli.proofs.facts.runs.FoundFacts.{memory-or}
-use Rattle.vault_cli.proofs.facts.runs.Pieces.{TakesPrefix, prefix_behind, prefix_longer}
 
 -- a file that gave bytes can be opened
 pub opening-read : (file : Finding) (n : ℕ) (stdin given : List ℕ)
@@ -94,12 +92,12 @@ module _ (meets : List ℕ → Finding → Type 0) where
 
   pub salt-unread : (path : List ℕ) (at : Option (List ℕ)) (room : ℕ)
       (read : Result (Vec ℕ Global) Fault) → Some path ≡ at → room ≡ SEALING_SALT_LENGTH
-      → IfErr read (λ fault. fault ≢ Memory → FrontMet (meets path) Salt room (Err fault))
-      → IfErr read (λ fault. fault ≢ Memory → SaltMet meets at (Err fault))
+      → IfErr read (λ fault. FrontMet (meets path) Salt room (Err fault))
+      → IfErr read (λ fault. SaltMet meets at (Err fault))
   salt-unread path at room (Ok bytes) is e met = tt
   salt-unread path at room (Err fault) is e met =
-      λ other. subst (λ (p : Option (List ℕ)). SaltMet meets p (Err fault)) is
-      (salt-front path room (Err fault) e (met other))
+      subst (λ (p : Option (List ℕ)). SaltMet meets p (Err fault)) is
+      (salt-front path room (Err fault) e met)
 
   missing-found : (path : Option (List ℕ)) → AtPath meets path (Some Missing)
       → (file : Option Finding) × AtPath meets path file
@@ -175,123 +173,66 @@ module _ {F : Type 0} (meets : F → List ℕ → Finding → Type 0)
 
   pub refused-secrets : SecretsRefuse (meets old) (λ paths. opens old paths new)
       (secret_paths request) fault → RefusedSo
-  refused-secrets (files, met, cases) =
+  refused-secrets (files, met, same, went) =
       let salt = one-some (meets old) some request.salt_path in
       let input = one-some (meets old) some request.input in
-      let found : Files = record { secrets = files; salt = salt.0; input = input.0 } in (
+      let found : Files = record { secrets = files; salt = salt.0; input = input.0 } in
+      let none : opened_of (Some (Ok request)) found ≡ secrets_opened (secret_paths request) files =
+      rw same (append-nil (secrets_opened (secret_paths request) files)) in (
         found,
         (met, salt.1, input.1),
-        elim cases [
-          | inl (same, went) ↦
-              let none : opened_of (Some (Ok request)) found ≡ secrets_opened (secret_paths request)
-              files = rw same (append-nil (secrets_opened (secret_paths request) files)) in
-              inl (task-no_contents request found fault same, subst Went (sym none) went)
-          | inr (memory, went) ↦
-              inr (
-                memory,
-                prefix_longer opens old new (secrets_opened (secret_paths request) files)
-                    _ went,
-              )
-        ],
+        task-no_contents request found fault same,
+        subst Went (sym none) went,
       )
 
   pub refused-salt : (contents : List (List ℕ)) (middle : F)
       → ContentsMet (meets old) (secret_paths request) (Ok contents)
       → opens old (secret_paths request) middle
-      → (fault ≢ Memory → opens middle (option_to_list request.salt_path) new)
-      → TakesPrefix opens middle (option_to_list request.salt_path) new
-      → (fault ≢ Memory → SaltMet (meets middle) request.salt_path (Err fault)) → RefusedSo
-  refused-salt contents middle (files, met, same) first went front unsalted =
+      → opens middle (option_to_list request.salt_path) new
+      → SaltMet (meets middle) request.salt_path (Err fault) → RefusedSo
+  refused-salt contents middle (files, met, same) first went unsalted =
       let input = one-some (meets old) some request.input in
-      elim (memory-or fault) [
-        | inl memory ↦
-            let salt = one-some (meets old) some request.salt_path in
-            let found : Files = record { secrets = files; salt = salt.0; input = input.0 } in (
-              found,
-              (met, salt.1, input.1),
-              inr (
-                memory,
-                subst (λ (ps : List (List ℕ)). TakesPrefix opens old ps new)
-                    (sym (opened-behind (meets old) request found contents met same))
-                    (prefix_longer opens old new
-                    (secret_paths request ++ option_to_list request.salt_path) _
-                    (prefix_behind opens more old middle new (secret_paths request)
-                    (option_to_list request.salt_path) first front)),
-              ),
-            )
-        | inr other ↦
-            let (salt, salt_met, no_salt) =
-            salt-back (meets old) (meets middle)
-            (λ path file. back old middle (secret_paths request) path file first) request.salt_path
-            (Err fault) (unsalted other) in
-            let found : Files = record { secrets = files; salt = salt; input = input.0 } in
-            let all : opened_of (Some (Ok request)) found
-            ≡ secret_paths request ++ option_to_list request.salt_path =
-            opened-behind (meets old) request found contents met same
-            ∙ rw no_salt
-            (append-nil (secret_paths request ++ option_to_list request.salt_path)) in (
-              found,
-              (met, salt_met, input.1),
-              inl (
-                task-no_salt request found contents fault same no_salt,
-                subst Went (sym all)
-                    (more old middle new (secret_paths request) (option_to_list request.salt_path)
-                    first
-                    (went other)),
-              ),
-            )
-      ]
+      let (salt, salt_met, no_salt) =
+      salt-back (meets old) (meets middle)
+      (λ path file. back old middle (secret_paths request) path file first) request.salt_path
+      (Err fault) unsalted in
+      let found : Files = record { secrets = files; salt = salt; input = input.0 } in
+      let all : opened_of (Some (Ok request)) found
+      ≡ secret_paths request ++ option_to_list request.salt_path =
+      opened-behind (meets old) request found contents met same
+      ∙ rw no_salt (append-nil (secret_paths request ++ option_to_list request.salt_path)) in (
+        found,
+        (met, salt_met, input.1),
+        task-no_salt request found contents fault same no_salt,
+        subst Went (sym all)
+            (more old middle new (secret_paths request) (option_to_list request.salt_path) first
+            went),
+      )
 
   pub refused-input : (contents : List (List ℕ)) (salt : List ℕ) (middle last : F)
       → ContentsMet (meets old) (secret_paths request) (Ok contents)
       → opens old (secret_paths request) middle → SaltMet (meets middle) request.salt_path (Ok salt)
       → opens middle (option_to_list request.salt_path) last
-      → (fault ≢ Memory → opens last (option_to_list request.input) new)
-      → TakesPrefix opens last (option_to_list request.input) new
-      → (fault ≢ Memory → (fault ≡ CannotOpen Input)
-      × AtPath (meets last) request.input (Some Missing)) → RefusedSo
-  refused-input contents salt middle last (files, met, same) first salted second went front
-      missing =
+      → opens last (option_to_list request.input) new → fault ≡ CannotOpen Input
+      → AtPath (meets last) request.input (Some Missing) → RefusedSo
+  refused-input contents salt middle last (files, met, same) first salted second went is gone =
       let both = more old middle last (secret_paths request) (option_to_list request.salt_path)
       first second in
       let (salt_file, salt_met, has_salt) =
       salt-back (meets old) (meets middle)
       (λ path file. back old middle (secret_paths request) path file first) request.salt_path
       (Ok salt) salted in
-      elim (memory-or fault) [
-        | inl memory ↦
-            let input = one-some (meets old) some request.input in
-            let found : Files = record { secrets = files; salt = salt_file; input = input.0 } in
-            let all = opened-behind (meets old) request found contents met same in (
-              found,
-              (met, salt_met, input.1),
-              inr (
-                memory,
-                subst (λ (ps : List (List ℕ)). TakesPrefix opens old ps new)
-                    (sym (all ∙ rw has_salt refl))
-                    (prefix_behind opens more old last new
-                    (secret_paths request ++ option_to_list request.salt_path)
-                    (option_to_list request.input) both front),
-              ),
-            )
-        | inr other ↦
-            let (is, gone) = missing other in
-            let (input, input_met, no_input) = missing-found (meets old) request.input
-            (at_path-back (meets old) (meets last)
-            (λ path file. back old last (secret_paths request ++ option_to_list request.salt_path)
-            path file both)
-            request.input (Some Missing) gone) in
-            let found : Files = record { secrets = files; salt = salt_file; input = input } in
-            let all = opened-behind (meets old) request found contents met same in (
-              found,
-              (met, salt_met, input_met),
-              inl (
-                rw is
-                    (task-no_input request found contents salt same has_salt (CannotOpen Input)
-                    no_input),
-                subst Went (sym (all ∙ rw has_salt refl))
-                    (more old last new (secret_paths request ++ option_to_list request.salt_path)
-                    (option_to_list request.input) both (went other)),
-              ),
-            )
-      ]
+      let (input, input_met, no_input) = missing-found (meets old) request.input
+      (at_path-back (meets old) (meets last)
+      (λ path file. back old last (secret_paths request ++ option_to_list request.salt_path)
+      path file both)
+      request.input (Some Missing) gone) in
+      let found : Files = record { secrets = files; salt = salt_file; input = input } in
+      let all = opened-behind (meets old) request found contents met same in (
+        found,
+        (met, salt_met, input_met),
+        rw is (task-no_input request found contents salt same has_salt (CannotOpen Input) no_input),
+        subst Went (sym (all ∙ rw has_salt refl))
+            (more old last new (secret_paths request ++ option_to_list request.salt_path)
+            (option_to_list request.input) both went),
+      )

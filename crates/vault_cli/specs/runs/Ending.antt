@@ -116,7 +116,3 @@ module _ {E : Type 0} (out : Output) (err : SinkCall E) (result : Status) where
     abbrev pub Ends : Option ℕ → (List ℕ → Outcome) → Type 0
     Ends None answers = EndsUnasked (answers [])
     Ends (Some limit) answers = (input : List ℕ) × EndsAsked limit input (answers input)
-
-    -- there was no memory, and the source was left alone, or it ended so
-    abbrev pub EndsUnlessMemory : Option ℕ → (List ℕ → Outcome) → Type 0
-    EndsUnlessMemory asked answers = ((src.new ≡ src.old) × LacksMemory) ⊎ Ends asked answers

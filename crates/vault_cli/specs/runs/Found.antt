@@ -3,7 +3,7 @@ use Rattle.std.specs.Prelude.{ℕ, ◌+◌, List, [], ◌∷◌, ◌++◌, map, 
 use Rattle.std.specs.Prelude.{Result, Ok}
 use Rattle.std.specs.Result.{result_map_both}
 use Rattle.vault_common.specs.declared.fault.Fault.{Fault}
-use Rattle.vault_common.specs.declared.fault.Fault.TheVariants.{CannotOpen, Memory, Read}
+use Rattle.vault_common.specs.declared.fault.Fault.TheVariants.{CannotOpen, Read}
 use Rattle.vault_common.specs.declared.fault.Role.{Role}
 use Rattle.vault_common.specs.declared.fault.Role.TheVariants.{Secret}
 use Rattle.vault_core.specs.declared.limits.TheConstants.{PASSWORD_FILE_LIMIT}
@@ -24,7 +24,6 @@ AtPath finds (Some path) (Some found) = finds path found
 abbrev pub fault_in : Role → FileFault → Fault
 fault_in role file.CannotOpen = CannotOpen role
 fault_in role file.CannotRead = Read role
-fault_in role file.Memory = Memory
 
 -- the first bytes of a file in its role
 abbrev pub front_in : Role → ℕ → Finding → Result (List ℕ) Fault

@@ -1,7 +1,6 @@
 -- What gathering the files of a request answers, of files that may be met at its paths.
-use Rattle.std.specs.Prelude.{◌≡◌, ◌⊎◌, ℕ, List, take, Option, Some, Result, Ok, Err}
+use Rattle.std.specs.Prelude.{◌≡◌, ℕ, List, Option, Some, Result, Ok, Err}
 use Rattle.vault_common.specs.declared.fault.Fault.{Fault}
-use Rattle.vault_common.specs.declared.fault.Fault.TheVariants.{Memory}
 use Rattle.vault_common.specs.declared.fault.Role.{Role}
 use Rattle.vault_files.specs.File.{Finding, Met}
 use Rattle.vault_cli.specs.Drive.{AllMet}
@@ -26,21 +25,15 @@ abbrev pub SaltMet : (List ℕ → Finding → Type 0) → Option (List ℕ) →
 SaltMet meets path answer =
     (file : Option Finding) × AtPath meets path file × (salt_in file ≡ answer)
 
--- no memory: the first of these paths were opened
-abbrev pub StopsForMemory : (List (List ℕ) → Type 0) → Fault → List (List ℕ) → Type 0
-StopsForMemory opens fault paths = (fault ≡ Memory) × ((n : ℕ) × opens (take n paths))
-
 -- password files that may be met at the paths refuse, and the paths up to the first that does were
--- opened, or there was no memory
+-- opened
 abbrev pub SecretsRefuse : (List ℕ → Finding → Type 0) → (List (List ℕ) → Type 0)
     → List (List ℕ) → Fault → Type 0
 SecretsRefuse meets opens paths fault = (files : List Finding) × Met meets paths files
-    × (((contents_of files ≡ Err fault) × opens (secrets_opened paths files))
-    ⊎ StopsForMemory opens fault (secrets_opened paths files))
+    × (contents_of files ≡ Err fault) × opens (secrets_opened paths files)
 
 -- so do files that may be met at the paths of a request
 abbrev pub RefusedBy : (List ℕ → Finding → Type 0) → (List (List ℕ) → Type 0)
     → Request → Fault → Type 0
 RefusedBy meets opens request fault = (files : Files) × AllMet meets (Some (Ok request)) files
-    × (((task_over request files ≡ Err fault) × opens (opened_of (Some (Ok request)) files))
-    ⊎ StopsForMemory opens fault (opened_of (Some (Ok request)) files))
+    × (task_over request files ≡ Err fault) × opens (opened_of (Some (Ok request)) files)

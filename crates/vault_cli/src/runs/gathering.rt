@@ -1,6 +1,6 @@
 //! What a request needs of its files before its input is read.
-ghost use Rattle.std.specs.Prelude.{◌≡◌, ◌≢◌, ℕ, ◌+◌, ◌≤◌, [], ◌∷◌, All, length, map};
-ghost use Rattle.std.specs.Prelude.{option_to_list, take, Ok, Err, IfOk, IfErr, OnOk};
+ghost use Rattle.std.specs.Prelude.{◌≡◌, ◌≢◌, ◌+◌, ◌≤◌, [], ◌∷◌, All, length, map};
+ghost use Rattle.std.specs.Prelude.{option_to_list, Ok, Err, IfOk, IfErr, OnOk};
 ghost use Rattle.std.specs.Prelude.{vec_capacity, vec_len};
 ghost use Rattle.vault_files.specs.File.Finding.{Missing};
 ghost use Rattle.vault_common.specs.declared.fault.Fault.TheVariants.{CannotOpen, Memory};
@@ -50,7 +50,7 @@ pub(crate) fn gather<F: FileSystem>(
     ensures refused { IfErr result (λ fault.
         RefusedBy (F.meets files.old) (λ paths. F.opens files.old paths files.new)
         request.now fault) }
-    ensures lacks { IfErr result (λ fault. fault ≡ Memory → F.lacks files.old files.new) }
+    ensures memory_suffices { IfErr result (λ fault. fault ≢ Memory) }
     ensures unbegun { F.stage files.new ≡ Stage.Unbegun }
 {
     let Buffers {
@@ -75,7 +75,6 @@ fn fault_in(role: Role, fault: FileFault) -> Fault
     match fault {
         FileFault::CannotOpen => Fault::CannotOpen(role),
         FileFault::CannotRead => Fault::Read(role),
-        FileFault::Memory => Fault::Memory,
     }
 }
 
@@ -87,13 +86,12 @@ fn front_of<F: FileSystem>(
     mut buf: Vec<u8>,
 ) -> Result<Vec<u8>, Fault>
     requires { F.stage files.old ≡ Stage.Unbegun }
-    ensures opens { result ≢ Err Memory → F.opens files.old (path.now ∷ []) files.new }
-    ensures no_other { (n : ℕ) × F.opens files.old (take n (path.now ∷ [])) files.new }
+    ensures opens { F.opens files.old (path.now ∷ []) files.new }
     ensures read { IfOk result (λ bytes.
         FrontMet (F.meets files.old path.now) role (vec_len buf) (Ok bytes.items)) }
-    ensures refused { IfErr result (λ fault. fault ≢ Memory →
+    ensures refused { IfErr result (λ fault.
         FrontMet (F.meets files.old path.now) role (vec_len buf) (Err fault)) }
-    ensures lacks { IfErr result (λ fault. fault ≡ Memory → F.lacks files.old files.new) }
+    ensures memory_suffices { IfErr result (λ fault. fault ≢ Memory) }
 {
     match read_front(files, path, buf.as_mut_slice()) {
         Ok(n) => {
@@ -124,7 +122,7 @@ fn read_secret_files<F: FileSystem>(
     ensures refused { IfErr result (λ fault.
         SecretsRefuse (F.meets files.old) (λ paths. F.opens files.old paths files.new)
         (secret_paths request.now) fault) }
-    ensures lacks { IfErr result (λ fault. fault ≡ Memory → F.lacks files.old files.new) }
+    ensures memory_suffices { IfErr result (λ fault. fault ≢ Memory) }
     ensures unbegun { F.stage files.new ≡ Stage.Unbegun }
 {
     for i in 0..request.files() {
@@ -143,15 +141,12 @@ fn read_salt<F: FileSystem>(
 ) -> Result<Vec<u8>, Fault>
     requires unbegun { F.stage files.old ≡ Stage.Unbegun }
     requires length { vec_len buf ≡ SEALING_SALT_LENGTH }
-    ensures opens { result ≢ Err Memory
-        → F.opens files.old (option_to_list request.now.salt_path) files.new }
-    ensures no_other { (n : ℕ)
-        × F.opens files.old (take n (option_to_list request.now.salt_path)) files.new }
+    ensures opens { F.opens files.old (option_to_list request.now.salt_path) files.new }
     ensures read { IfOk result (λ salt.
         SaltMet (F.meets files.old) request.now.salt_path (Ok salt.items)) }
-    ensures refused { IfErr result (λ fault. fault ≢ Memory →
+    ensures refused { IfErr result (λ fault.
         SaltMet (F.meets files.old) request.now.salt_path (Err fault)) }
-    ensures lacks { IfErr result (λ fault. fault ≡ Memory → F.lacks files.old files.new) }
+    ensures memory_suffices { IfErr result (λ fault. fault ≢ Memory) }
 {
     match request.salt_path() {
         Some(path) => front_of(files, Role::Salt, path, buf),
@@ -165,14 +160,11 @@ fn read_salt<F: FileSystem>(
 /// The input file of a request, opened, where it names one.
 fn open_input<F: FileSystem>(files: &mut F, request: &Request) -> Result<Option<F::Reader>, Fault>
     requires { F.stage files.old ≡ Stage.Unbegun }
-    ensures opens { result ≢ Err Memory
-        → F.opens files.old (option_to_list request.now.input) files.new }
-    ensures no_other { (n : ℕ)
-        × F.opens files.old (take n (option_to_list request.now.input)) files.new }
+    ensures opens { F.opens files.old (option_to_list request.now.input) files.new }
     ensures opened { IfOk result (λ input. AtPath (F.opened files.old) request.now.input input) }
-    ensures refused { IfErr result (λ fault. fault ≢ Memory →
-        (fault ≡ CannotOpen Input) × AtPath (F.meets files.old) request.now.input (Some Missing)) }
-    ensures lacks { IfErr result (λ fault. fault ≡ Memory → F.lacks files.old files.new) }
+    ensures fault { IfErr result (λ fault. fault ≡ CannotOpen Input) }
+    ensures missing { IfErr result (λ _.
+        AtPath (F.meets files.old) request.now.input (Some Missing)) }
 {
     let Some(path) = request.input() else {
         return Ok(None);

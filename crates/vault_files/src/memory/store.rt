@@ -1,8 +1,8 @@
-ghost use Rattle.std.specs.Prelude.{◌≡◌, [], ◌∷◌, ◌++◌, None, MatchOption, OnOk, OnErr, map};
+ghost use Rattle.std.specs.Prelude.{◌≡◌, [], ◌∷◌, ◌++◌, MatchOption, OnOk, map};
 ghost use Rattle.std.specs.Option.{option_map};
 ghost use Rattle.std.specs.String.{string_bytes};
 ghost use Rattle.vault_files.specs.File.Finding.{Missing};
-ghost use Rattle.vault_files.specs.Memory.{bytes_of, file_at, new_store, stands_at};
+ghost use Rattle.vault_files.specs.Memory.{StoreOpens, bytes_of, file_at, new_store, stands_at};
 
 use super::entry::MemFile;
 use super::reader::MemFileReader;
@@ -16,14 +16,14 @@ use vault_text::{MemSink, Sink, SinkFailed};
 /// Files in memory. Of two files under one path the first counts. What is written stands at the
 /// path that was chosen, from `begin` on, in the place of what stood there; where none was chosen
 /// it stands at no path. A growth that is refused counts as a failure of the output. A log keeps
-/// the paths that were opened, also those where no file was found.
+/// the paths that were opened, also those where no file was found, until there is no memory for one
+/// of them.
 #[derive(Drop)]
 pub struct MemFiles<'a> {
     entries: &'a [MemFile<'a>],
     aim: Option<String>,
     output: MemSink,
-    log: Vec<String>,
-    limit: usize,
+    log: Option<Vec<String>>,
 }
 
 impl<'a> Model for MemFiles<'a> {
@@ -38,7 +38,7 @@ impl<'a> Model for MemFiles<'a> {
       entries = s.entries.now;
       aim = option_map string_bytes s.aim;
       output = s.output;
-      log = map string_bytes s.log.items;
+      log = option_map (λ log. map string_bytes log.items) s.log;
     } };
 }
 
@@ -47,20 +47,11 @@ impl<'a> MemFiles<'a> {
     pub fn new(alloc: Global, entries: &'a [MemFile<'a>]) -> Self
         ensures { result ≡ new_store entries.now }
     {
-        MemFiles::with_limit(alloc, entries, usize::MAX)
-    }
-
-    /// As `new`, but after `limit` opens there is no memory for one more: it answers `Memory`, and
-    /// stands in the log.
-    pub fn with_limit(alloc: Global, entries: &'a [MemFile<'a>], limit: usize) -> Self
-        ensures { result ≡ new_store entries.now }
-    {
         MemFiles {
             entries,
             aim: None,
             output: MemSink::new(alloc, usize::MAX),
-            log: Vec::new(alloc),
-            limit,
+            log: Some(Vec::new(alloc)),
         }
     }
 
@@ -75,22 +66,31 @@ impl<'a> MemFiles<'a> {
         }
     }
 
-    /// The paths that were opened, in their order.
-    pub fn log(&self) -> &[String]
-        ensures { map string_bytes result.now ≡ self.now.log }
+    /// The paths that were opened, in their order; None where there was no memory for one of them.
+    pub fn log(&self) -> Option<&[String]>
+        ensures { option_map (λ log. map string_bytes log.now) result ≡ self.now.log }
     {
-        self.log.as_slice()
+        self.log.as_ref().map(|log| log.as_slice())
     }
 
-    fn note(&mut self, path: &str) -> Result<(), AllocError>
-        ensures noted { OnOk result
-            (self.new ≡ record self.old { log = self.old.log ++ path.now ∷ [] }) }
-        ensures refused { OnErr result (self.new ≡ self.old) }
+    /// Logs an open.
+    fn note(&mut self, path: &str)
+        ensures { StoreOpens self.old (path.now ∷ []) self.new }
     {
-        let path = String::from_str(*self.log.allocator(), path)?;
-        self.log.push(path)?;
-        Ok(())
+        if let Some(mut log) = self.log.take()
+            && push_path(&mut log, path).is_ok()
+        {
+            self.log = Some(log);
+        }
     }
+}
+
+fn push_path(log: &mut Vec<String>, path: &str) -> Result<(), AllocError>
+    ensures { OnOk result
+        (map string_bytes log.new.items ≡ map string_bytes log.old.items ++ path.now ∷ []) }
+{
+    log.push(String::from_str(*log.allocator(), path)?)?;
+    Ok(())
 }
 
 /// The first file under a path.
@@ -149,23 +149,19 @@ impl<'a> FileSystem for MemFiles<'a> {
 
     ghost opens = { StoreOpens };
 
-    ghost lacks = { λ s t. Unit {0} };
-
     ghost aimed = { λ s path access t. t ≡ record s { aim = Some path } };
 
     ghost opens_none = { StoreOpens-none };
 
     ghost opens_more = { StoreOpens-more };
 
-    ghost opens_stage = { λ s t paths opens. rw opens refl };
+    ghost opens_stage = { λ s t paths opens. rw opens.rest refl };
 
-    ghost opens_failures = { λ s t paths opens. rw opens refl };
+    ghost opens_failures = { λ s t paths opens. rw opens.rest refl };
 
-    ghost opens_meets = { λ s t paths path file opens met. rw opens at met };
+    ghost opens_meets = { λ s t paths path file opens met. rw opens.rest at met };
 
-    ghost opens_opened = { λ s t paths path reader opens opened. rw opens at opened };
-
-    ghost opens_lacks = { λ s t u paths opens lacks. lacks };
+    ghost opens_opened = { λ s t paths path reader opens opened. rw opens.rest at opened };
 
     ghost meets_some = { λ s path. (file_at s.entries path, refl) };
 
@@ -175,9 +171,7 @@ impl<'a> FileSystem for MemFiles<'a> {
     ghost break_met = { λ s path. break-met (file_at s.entries path) };
 
     fn open(&mut self, path: &str) -> Result<MemFileReader<'a>, FileFault> {
-        if self.note(path).is_err() || self.log.len() > self.limit {
-            return Err(FileFault::Memory);
-        }
+        self.note(path);
         match find(self.entries, path) {
             Some(entry) => Ok(entry.reader()),
             None => Err(FileFault::CannotOpen),

@@ -5,15 +5,12 @@ use Rattle.vault_text.specs.declared.sink.Sink.{Ghosts as SinkTerms}
 use Rattle.vault_text.specs.declared.sink.Stage.TheVariants.{Unbegun}
 use Rattle.vault_files.specs.declared.access.Access.{Access}
 use Rattle.vault_files.specs.declared.file_system.FileSystem.{Ghosts as StoreTerms}
-use Rattle.vault_common.specs.declared.fault.Fault.TheVariants.{Memory}
 use Rattle.vault_cli.specs.Call.{SinkCall, SourceCall, StoreCall, sink}
-use Rattle.vault_cli.specs.runs.Ending.{Ends, Finishes, IsAnswered, LacksMemory}
+use Rattle.vault_cli.specs.runs.Ending.{Ends, Finishes, IsAnswered}
 use Rattle.vault_cli.specs.runs.Ending.{Output, Receives, to_path, to_sink}
-use Rattle.vault_cli.specs.runs.ReportLine.{line_of}
 use Rattle.vault_cli.specs.runs.Outcome.{Outcome}
 use Rattle.vault_cli.specs.runs.Reports.{Says}
 use Rattle.vault_cli.specs.declared.runs.status.Status.{Status}
-use Rattle.vault_cli.specs.declared.runs.status.Status.TheVariants.{OutOfMemory}
 
 -- what became of the one output tells what became of the other
 pub record Tells (there here : Output) : Type 0 where
@@ -94,17 +91,6 @@ module _ {F R K : Type 0} (files : StoreCall F R) (out : SinkCall K)
       output = rw none (path-untouched path);
       line = line;
     }
-
-    -- there was no memory
-    pub alone-memory : result ≡ OutOfMemory → Says err (line_of Memory)
-        → LacksMemory (to_path path access files out) err result
-    alone-memory status line =
-        record {
-          status = status;
-          unfailed = path-unfailed path;
-          output = path-untouched path;
-          line = line;
-        }
 
 module _ {F R K E S : Type 0} (access : Access) (files : StoreCall F R) (out : SinkCall K)
     (err : SinkCall E) (result : Status) (src : SourceCall S)

@@ -9,7 +9,6 @@ use Rattle.std.specs.Option.{option_map}
 use Rattle.std.specs.Prelude.{slice_get}
 use Rattle.vault_text.specs.Steps.{◌>>=◌}
 use Rattle.vault_common.specs.declared.fault.Fault.{Fault}
-use Rattle.vault_common.specs.declared.fault.Fault.TheVariants.{Memory}
 use Rattle.vault_common.specs.declared.fault.Role.{Role}
 use Rattle.vault_common.specs.declared.fault.Role.TheVariants.{Secret}
 use Rattle.vault_core.specs.declared.limits.TheConstants.{PASSWORD_FILE_LIMIT}
@@ -18,7 +17,6 @@ use Rattle.vault_cli.specs.runs.Found.{contents_of, front_in}
 use Rattle.vault_cli.specs.runs.Gathered.{ContentsMet, FrontMet, SecretsRefuse}
 use Rattle.vault_cli.specs.Opened.{behind, secrets_opened}
 use Rattle.vault_request.specs.Request.{SecretFile}
-use Rattle.vault_cli.proofs.facts.runs.Pieces.{TakesPrefix, prefix_longer}
 
 -- contents in front of those that are still found
 abbrev pub with_contents : List (List ℕ) → Result (List (List ℕ)) Fault
@@ -168,38 +166,13 @@ module _ (meets : List ℕ → Finding → Type 0) where
           ∙ ap (λ r. path ∷ behind r (secrets_opened (drop (i + 1) paths) others.0)) same in (
             files,
             met,
-            inl (
-              gave ∙ ap (with_contents contents)
-                  (contents_of-first file others.0
-                  ∙ ap
-                  (λ r. r >>= λ bytes. contents_of others.0 >>= λ contents. Ok (bytes ∷ contents))
-                  same),
-              subst (λ (ps : List (List ℕ)). opens old ps new)
-                  (sym (opened ∙ ap (λ (ps : List (List ℕ)). take i paths ++ ps) first)) went,
-            ),
-          )
-
-      -- there was no memory
-      pub secrets-no_memory : (fault : Fault) → fault ≡ Memory
-          → TakesPrefix opens old (take i paths ++ path ∷ []) new
-          → SecretsRefuse meets (λ opened. opens old opened new) paths fault
-      secrets-no_memory fault memory went =
-          let others = Met-some some (drop (i + 1) paths) in
-          let (file, found) = some path in
-          let (files, met, gave, opened) = with-file file found in
-          let rest = behind (front_in Secret (PASSWORD_FILE_LIMIT + 1) file)
-          (secrets_opened (drop (i + 1) paths) others.0) in
-          let all : secrets_opened paths files ≡ (take i paths ++ path ∷ []) ++ rest =
-          opened ∙ ap (λ (ps : List (List ℕ)). take i paths ++ ps)
-          (secrets_opened-first path (drop (i + 1) paths) file others.0)
-          ∙ sym (append_assoc (take i paths) (path ∷ []) rest) in (
-            files,
-            met,
-            inr (
-              memory,
-              subst (λ (ps : List (List ℕ)). TakesPrefix opens old ps new) (sym all)
-                  (prefix_longer opens old new (take i paths ++ path ∷ []) rest went),
-            ),
+            gave ∙ ap (with_contents contents)
+                (contents_of-first file others.0
+                ∙ ap
+                (λ r. r >>= λ bytes. contents_of others.0 >>= λ contents. Ok (bytes ∷ contents))
+                same),
+            subst (λ (ps : List (List ℕ)). opens old ps new)
+                (sym (opened ∙ ap (λ (ps : List (List ℕ)). take i paths ++ ps) first)) went,
           )
 
 -- what is read past the end
@@ -246,7 +219,3 @@ pub FrontMet-back : (meets later : Finding → Type 0) → ((file : Finding) →
     → (role : Role) (limit : ℕ) (answer : Result (List ℕ) Fault) → FrontMet later role limit answer
     → FrontMet meets role limit answer
 FrontMet-back meets later back role limit answer (file, found, same) = (file, back file found, same)
-
-pub memory-or : (fault : Fault) → (fault ≡ Memory) ⊎ (fault ≡ Memory → ⊥)
-memory-or Memory = inl refl
-memory-or fault = inr (λ e. absurd cc)

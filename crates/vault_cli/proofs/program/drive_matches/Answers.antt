@@ -21,10 +21,8 @@ pub returns-in-Err-clause-drives : goal.returns-in-Err-clause-drives
 returns-in-Err-clause-drives g c =
     drives-unsettled (store_between g.F.Sink g.F.FileSystem c.args.files.now c.args.files.now)
     (source g.S.Source c.args.src.now c.args.src.now) (sink g.K.Sink c.args.out.now c.args.out.now)
-    (sink g.E.Sink c.args.err.now c.report.new.err) c.report.result c.args.files.now
-    c.requires.files_unbegun refl refl refl
-    (g.met.F.FileSystem.opens_none c.args.files.now)
-    (g.met.F.FileSystem.meets_some c.args.files.now)
+    (sink g.E.Sink c.args.err.now c.report.new.err) c.report.result refl refl refl
+    c.requires.files_unbegun (g.met.F.FileSystem.opens_none c.args.files.now)
     (asked (subcommand_rows_of c.args.matches.now)) c.in-Err.fault
     c.requires.asks
     c.in-Err.ensures c.report.ensures.status c.report.ensures.line

@@ -19,11 +19,8 @@ returns-in-Err-clause-answered g c = λ parses.
     (explains-one out err c.explain.result (fault_of vault_app texts) (kind_of c.in-Err.error)
     c.in-Err.ensures.kinds c.explain.ensures.explains) in
     drives-no_memory (store_between g.F.Sink g.F.FileSystem c.args.files.now c.args.files.now)
-    (source g.S.Source c.args.src.now c.args.src.now) out err c.explain.result c.args.files.now
-    c.requires.files_unbegun refl memory.output refl
-    (g.met.F.FileSystem.opens_none c.args.files.now)
-    (g.met.F.FileSystem.meets_some c.args.files.now)
-    (asked_by texts) memory.status memory.line
+    (source g.S.Source c.args.src.now c.args.src.now) out err c.explain.result refl memory.output
+    refl (asked_by texts) memory.status memory.line
 
 pub returns-in-Ok-clause-answered : goal.returns-in-Ok-clause-answered
 returns-in-Ok-clause-answered g c =

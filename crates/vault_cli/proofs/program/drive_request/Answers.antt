@@ -10,10 +10,7 @@ pub returns-in-Err-clause-drives : goal.returns-in-Err-clause-drives
 returns-in-Err-clause-drives g c =
     drives-no_memory (store_between g.F.Sink g.F.FileSystem c.args.files.now c.args.files.now)
     (source g.S.Source c.args.src.now c.args.src.now) (sink g.K.Sink c.args.out.now c.args.out.now)
-    (sink g.E.Sink c.args.err.now c.report.new.err) c.report.result c.args.files.now
-    c.requires.files_unbegun refl refl refl
-    (g.met.F.FileSystem.opens_none c.args.files.now)
-    (g.met.F.FileSystem.meets_some c.args.files.now)
+    (sink g.E.Sink c.args.err.now c.report.new.err) c.report.result refl refl refl
     (Some (Ok c.args.request.now)) (c.report.ensures.status ∙ ap status_of c.from.ensures)
     (rw c.from.ensures at c.report.ensures.line)
 

@@ -22,9 +22,7 @@ returns-in_err-salt-clause-refused g c =
     c.args.files.now (g.met.F.FileSystem.meets_some c.args.files.now) c.args.request.now
     c.in_err-salt.field-0.0 c.read_salt.new.files
     _ c.read_secret_files.new.files c.in_ok-secret_files.ensures.read
-    c.in_ok-secret_files.ensures.opens
-    (λ other. c.in_err-salt.ensures.opens (λ is. other cc)) c.in_err-salt.ensures.no_other
-    c.in_err-salt.ensures.refused)
+    c.in_ok-secret_files.ensures.opens c.in_err-salt.ensures.opens c.in_err-salt.ensures.refused)
 
 pub returns-in_err-input-clause-refused : goal.returns-in_err-input-clause-refused
 returns-in_err-input-clause-refused g c =
@@ -37,6 +35,5 @@ returns-in_err-input-clause-refused g c =
     c.in_err-input.field-0.0 c.open_input.new.files
     _ _ c.read_secret_files.new.files c.read_salt.new.files c.in_ok-secret_files.ensures.read
     c.in_ok-secret_files.ensures.opens
-    c.in_ok-salt.ensures.read (c.in_ok-salt.ensures.opens (λ is. cc))
-    (λ other. c.in_err-input.ensures.opens (λ is. other cc)) c.in_err-input.ensures.no_other
-    c.in_err-input.ensures.refused)
+    c.in_ok-salt.ensures.read c.in_ok-salt.ensures.opens c.in_err-input.ensures.opens
+    c.in_err-input.ensures.fault c.in_err-input.ensures.missing)

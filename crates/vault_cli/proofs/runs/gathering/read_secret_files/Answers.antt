@@ -1,4 +1,4 @@
-use Rattle.std.proofs.Common.{rules, arith, inl, ◌≡◌, ◌++◌, inr, ◌+◌, ◌<◌, ◌∷◌, ◌∙◌, [], length, take, sym}
+use Rattle.std.proofs.Common.{rules, arith, ◌≡◌, ◌++◌, ◌+◌, ◌<◌, ◌∷◌, ◌∙◌, [], length, take, sym}
 use Rattle.std.proofs.Common.{ap, subst, List, ℕ, vec_len}
 use Rattle.std.proofs.lemmas.List.{map-append, take_all}
 use Rattle.std.proofs.lemmas.Result.{err_from_is_err_and}
@@ -9,9 +9,8 @@ use Rattle.vault_request.specs.Request.{files_of}
 use Rattle.vault_cli.proofs.facts.runs.BufferFacts.{left-long, popped-long, popped-one}
 use Rattle.vault_cli.proofs.facts.runs.FoundFacts.{at_limit, ContentsMet-all, FrontMet-back}
 use Rattle.vault_cli.proofs.facts.runs.FoundFacts.{GivesFront-more, GivesFront-none, length-paths}
-use Rattle.vault_cli.proofs.facts.runs.FoundFacts.{memory-or, path_at, secrets-no_memory}
-use Rattle.vault_cli.proofs.facts.runs.FoundFacts.{secrets-refuse, split_at, take_one_more}
-use Rattle.vault_cli.proofs.facts.runs.Pieces.{prefix_behind}
+use Rattle.vault_cli.proofs.facts.runs.FoundFacts.{path_at, secrets-refuse, split_at}
+use Rattle.vault_cli.proofs.facts.runs.FoundFacts.{take_one_more}
 use Rattle.vault_cli.proofs.runs.gathering.read_secret_files.Goals as goal
 
 pub loop-i-init : goal.loop-i-init
@@ -42,35 +41,23 @@ returns-in_err-bytes-clause-refused g c =
     c.unwrap-buf.ensures c.loop-i.invariant.5 (search rules) (omega (arith, one))
     (c.pop.ensures.value c.unwrap-buf.result (omega (arith, one))) in
     let p = err_from_is_err_and c.from_residual.result c.from_residual.ensures.1 in
-    rw (p.1, p.2) (elim (memory-or c.in_err-bytes.field-0.0) [
-      | inl memory ↦
-          secrets-no_memory (g.F.FileSystem.meets c.args.files.now) g.F.FileSystem.opens
-          c.args.files.now c.front_of.new.files
-          (g.met.F.FileSystem.meets_some c.args.files.now) paths c.loop-i.i _ c.path.result.now
-          (split_at paths c.loop-i.i c.path.result.now within at)
-          c.loop-i.invariant.1 c.in_err-bytes.field-0.0 memory
-          (prefix_behind g.F.FileSystem.opens g.met.F.FileSystem.opens_more c.args.files.now
-          c.loop-i.files c.front_of.new.files
-          (take c.loop-i.i paths) (c.path.result.now ∷ []) c.loop-i.invariant.2
-          c.in_err-bytes.ensures.no_other)
-      | inr other ↦
-          secrets-refuse (g.F.FileSystem.meets c.args.files.now) g.F.FileSystem.opens
-          c.args.files.now c.front_of.new.files
-          (g.met.F.FileSystem.meets_some c.args.files.now) paths c.loop-i.i _ c.path.result.now
-          (split_at paths c.loop-i.i c.path.result.now within at)
-          c.loop-i.invariant.1 c.in_err-bytes.field-0.0
-          (at_limit (g.F.FileSystem.meets c.args.files.now c.path.result.now) Secret
-          (vec_len c.unwrap-buf.result) (PASSWORD_FILE_LIMIT + 1) _
-          long
-          (FrontMet-back (g.F.FileSystem.meets c.args.files.now c.path.result.now)
-          (g.F.FileSystem.meets c.loop-i.files c.path.result.now)
-          (λ file. g.met.F.FileSystem.opens_meets c.args.files.now c.loop-i.files _
-          c.path.result.now file c.loop-i.invariant.2) Secret _ _
-          (c.in_err-bytes.ensures.refused other)))
-          (g.met.F.FileSystem.opens_more c.args.files.now c.loop-i.files c.front_of.new.files
-          (take c.loop-i.i paths) (c.path.result.now ∷ [])
-          c.loop-i.invariant.2 (c.in_err-bytes.ensures.opens (λ is. other cc)))
-    ])
+    rw (p.1, p.2)
+    (secrets-refuse (g.F.FileSystem.meets c.args.files.now) g.F.FileSystem.opens
+    c.args.files.now c.front_of.new.files
+    (g.met.F.FileSystem.meets_some c.args.files.now) paths c.loop-i.i _ c.path.result.now
+    (split_at paths c.loop-i.i c.path.result.now within at)
+    c.loop-i.invariant.1 c.in_err-bytes.field-0.0
+    (at_limit (g.F.FileSystem.meets c.args.files.now c.path.result.now) Secret
+    (vec_len c.unwrap-buf.result) (PASSWORD_FILE_LIMIT + 1) _
+    long
+    (FrontMet-back (g.F.FileSystem.meets c.args.files.now c.path.result.now)
+    (g.F.FileSystem.meets c.loop-i.files c.path.result.now)
+    (λ file. g.met.F.FileSystem.opens_meets c.args.files.now c.loop-i.files _
+    c.path.result.now file c.loop-i.invariant.2) Secret _ _
+    c.in_err-bytes.ensures.refused))
+    (g.met.F.FileSystem.opens_more c.args.files.now c.loop-i.files c.front_of.new.files
+    (take c.loop-i.i paths) (c.path.result.now ∷ [])
+    c.loop-i.invariant.2 c.in_err-bytes.ensures.opens))
 
 pub loop-i-preserved : goal.loop-i-preserved
 loop-i-preserved g c =
@@ -99,7 +86,7 @@ loop-i-preserved g c =
     c.in_ok-bytes.ensures.read)) in
     let went = g.met.F.FileSystem.opens_more c.args.files.now c.loop-i.files c.front_of.new.files
     (take c.loop-i.i paths) (c.path.result.now ∷ [])
-    c.loop-i.invariant.2 (c.in_ok-bytes.ensures.opens (λ is. cc)) in
+    c.loop-i.invariant.2 c.in_ok-bytes.ensures.opens in
     let pushed : c.push.new.self.items ≡ c.loop-i.contents.items ++ c.in_ok-bytes.bytes ∷ [] =
     rw c.unwrap.ensures at c.push.ensures.items in
     let longer : vec_len c.push.new.self ≡ vec_len c.loop-i.contents + 1 =
@@ -120,7 +107,7 @@ loop-i-preserved g c =
 pub returns-in_err-bytes-clause-unbegun : goal.returns-in_err-bytes-clause-unbegun
 returns-in_err-bytes-clause-unbegun g c =
     g.met.F.FileSystem.opens_stage c.loop-i.files c.front_of.new.files _
-    c.in_err-bytes.ensures.no_other.1 ∙ c.loop-i.invariant.3
+    c.in_err-bytes.ensures.opens ∙ c.loop-i.invariant.3
 
 pub returns-clause-read : goal.returns-clause-read
 returns-clause-read g c =
