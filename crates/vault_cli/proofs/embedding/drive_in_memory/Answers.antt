@@ -17,15 +17,18 @@ returns-clause-answered c = λ parses.
     elim (c.drive_over.ensures.answered parses) [
       | inl (same, unread, memory) ↦
           embeds-memory c.drive_over.result c.args.files.now c.drive_over.new.files c.args.out.now
-          c.drive_over.new.out c.args.err.now c.drive_over.new.err c.requires.files_unbegun same memory
+          c.drive_over.new.out c.args.err.now c.drive_over.new.err c.requires.files_unbegun same
+          memory
           (output_path asks) (answer_to asks found c.args.src.now.left)
       | inr (met, all_met, (opened, driven)) ↦
           let (went, ends) = drives-in (memory_store c.args.files.now c.drive_over.new.files)
           (memory_source c.args.src.now c.drive_over.new.src)
-          (memory_sink c.args.out.now c.drive_over.new.out) (memory_sink c.args.err.now c.drive_over.new.err)
+          (memory_sink c.args.out.now c.drive_over.new.out)
+          (memory_sink c.args.err.now c.drive_over.new.err)
           c.drive_over.result
           (file_at c.args.files.now.entries) opened asks met all_met driven in
-          let (log, same, logged) = log-behind c.args.files.now opened (opened_of asks found) went in
+          let (log, same, logged) = log-behind c.args.files.now opened (opened_of asks found)
+          went in
           embeds c.drive_over.result c.args.files.now c.drive_over.new.files log c.args.out.now
           c.drive_over.new.out c.args.err.now c.drive_over.new.err c.requires.files_unbegun
           c.requires.files_empty (access_of asks)
@@ -43,10 +46,12 @@ returns-clause-taken c = λ parses fits.
       | inr (met, all_met, (opened, driven)) ↦
           let (went, ends) = drives-in (memory_store c.args.files.now c.drive_over.new.files)
           (memory_source c.args.src.now c.drive_over.new.src)
-          (memory_sink c.args.out.now c.drive_over.new.out) (memory_sink c.args.err.now c.drive_over.new.err)
+          (memory_sink c.args.out.now c.drive_over.new.out)
+          (memory_sink c.args.err.now c.drive_over.new.err)
           c.drive_over.result
           (file_at c.args.files.now.entries) opened asks met all_met driven in
-          let (log, same, logged) = log-behind c.args.files.now opened (opened_of asks found) went in
+          let (log, same, logged) = log-behind c.args.files.now opened (opened_of asks found)
+          went in
           taken c.drive_over.result c.args.files.now c.drive_over.new.files log c.args.out.now
           c.drive_over.new.out c.args.err.now c.drive_over.new.err c.requires.files_unbegun
           c.requires.files_empty (access_of asks)
@@ -63,13 +68,17 @@ returns-clause-opened c = λ parses fits.
       | inr (met, all_met, (opened, driven)) ↦
           let (went, ends) = drives-in (memory_store c.args.files.now c.drive_over.new.files)
           (memory_source c.args.src.now c.drive_over.new.src)
-          (memory_sink c.args.out.now c.drive_over.new.out) (memory_sink c.args.err.now c.drive_over.new.err)
+          (memory_sink c.args.out.now c.drive_over.new.out)
+          (memory_sink c.args.err.now c.drive_over.new.err)
           c.drive_over.result
           (file_at c.args.files.now.entries) opened asks met all_met driven in
-          let (log, same, logged) = log-behind c.args.files.now opened (opened_of asks found) went in
-          let stays = log-kept c.drive_over.result c.args.files.now c.drive_over.new.files log c.args.out.now
+          let (log, same, logged) = log-behind c.args.files.now opened (opened_of asks found)
+          went in
+          let stays = log-kept c.drive_over.result c.args.files.now c.drive_over.new.files log
+          c.args.out.now
           c.drive_over.new.out c.args.err.now c.drive_over.new.err c.requires.files_unbegun
-          c.requires.files_empty (access_of asks) (output_path asks) c.args.src.now c.drive_over.new.src
+          c.requires.files_empty (access_of asks) (output_path asks) c.args.src.now
+          c.drive_over.new.src
           (stdin_asked asks found) (answer_to asks found) (rw same at ends) in
           rw stays logged
     ]

@@ -1,22 +1,13 @@
 -- What a sink has taken after pieces that were put one after the other, or a store has opened.
-use Rattle.std.proofs.Common.{◌≡◌, ℕ, ◌+◌, ◌≤◌, List, [], ◌++◌, length, take, min, arith}
+use Rattle.std.proofs.Common.{◌≡◌, ℕ, ◌+◌, List, [], ◌++◌, length, take, arith}
 use Rattle.std.proofs.Math.Seq.{take-append-add}
-use Rattle.std.proofs.lemmas.List.{append-nil, take-append-le, take_all, take_min}
+use Rattle.std.proofs.lemmas.List.{append-nil, take_all}
 use Rattle.std.specs.Prelude.{OnOk, Result, Ok, Err}
 
 module _ {S A : Type 0} (takes : S → List A → S → Type 0) where
   -- a prefix, that is
   abbrev pub TakesPrefix : S → List A → S → Type 0
   TakesPrefix s xs u = (n : ℕ) × takes s (take n xs) u
-
-  -- a prefix is a prefix of more
-  pub prefix_longer : (s u : S) (xs ys : List A) → TakesPrefix s xs u → TakesPrefix s (xs ++ ys) u
-  prefix_longer s u xs ys p =
-      let short : min p.0 (length xs) ≤ length xs = omega arith in (
-        min p.0 (length xs),
-        rw (take-append-le (min p.0 (length xs)) xs ys short, take_min p.0 xs)
-            p.1,
-      )
 
   -- all of the first piece and a prefix of the second
   pub prefix_behind : ((s t u : S) (xs ys : List A) → takes s xs t → takes t ys u

@@ -145,7 +145,8 @@ asked-no_string (Ok task) None limit asked = refl
 -- and steps 1 to 3 do not refuse
 pub asked-prepared : (prepares : Result Task Fault) (string : Option (List ℕ)) (limit : ℕ)
     (fault : Fault) → prepares ≡ Err fault → is_some (asked_for prepares string limit) ≡ true → ⊥
-asked-prepared prepares string limit fault refused asked = let asks = rw refused at asked in absurd cc
+asked-prepared prepares string limit fault refused asked =
+    let asks = rw refused at asked in absurd cc
 
 -- a fault is no success
 pub fault-fails : (fault : Fault) → status_of fault ≢ Success
