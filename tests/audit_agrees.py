@@ -1,7 +1,7 @@
 """Holds the lists of docs/audit.md against what the headline contracts name, directly or through what
 they import: nothing is missing there and nothing is too much, each file is named by one before it, what
-`drive` needs stands in the first list, the lengths are right, and the code that it shows is that of the
-files. `python3 tests/audit_agrees.py` puts the lengths into the document.
+`drive_over` needs stands in the first list, the lengths are right, and the code that it shows is that of
+the files. `python3 tests/audit_agrees.py` puts the lengths into the document.
 """
 
 import re
@@ -13,21 +13,24 @@ from lib.paths import ROOT
 
 DOCUMENT = ROOT / "docs" / "audit.md"
 ROW = re.compile(r"^ +(\d+) (crates/\S+)$", re.MULTILINE)
-SUM = re.compile(r"^ +(\d+) (all (?:that drive needs|of these))$", re.MULTILINE)
+SUM = re.compile(r"^ +(\d+) (all (?:that drive_over needs|of these))$", re.MULTILINE)
 BLOCK = re.compile(r"^```rust\n(.*?)^```$", re.MULTILINE | re.DOTALL)
-# What stands in the document as a whole, and the file that it is from.
+# What stands in the document, and the file that it is from: the groups of the pattern, or all of it.
 SHOWN = {
-    "the contract of drive": ("crates/vault_cli/src/program.rt", r"^pub fn drive\b.*?(?=^\{)"),
+    "the contract of drive_over": ("crates/vault_cli/src/program.rt", r"^pub fn drive_over\b.*?(?=^\{)"),
+    "main": ("crates/ansible_vault/src/main.rt", r"^fn main\b.*?^\}"),
+    "the body of drive": ("crates/vault_cli/src/system.rt", r"(^pub fn drive\b.*?\) -> Status\n).*?(^\{.*?^\})"),
     "the disk of the runtime": ("crates/vault_files/src/disk/runtime.rt", r"^const OWNER_ONLY.*"),
 }
 
 # The calls whose contracts are the headline, by the file that each stands in: those that the program
 # makes, and the others.
 PROGRAM = {
-    "crates/vault_cli/src/program.rt": "drive",
+    "crates/vault_cli/src/program.rt": "drive_over",
     "crates/vault_cli/src/explaining.rt": "reject_words",
 }
 HEADLINE = PROGRAM | {
+    "crates/vault_cli/src/system.rt": "drive",
     "crates/vault_cli/src/embedding.rt": "drive_in_memory",
     "crates/vault_cli/src/laws.rt": r"\w+",
     "crates/vault_request/src/laws.rt": r"\w+",
@@ -121,7 +124,7 @@ def test_lists(outcome: Outcome) -> None:
     listed, needed = of_program + others, reached(HEADLINE)
     for file in sorted(needed - set(listed)):
         outcome.holds(f"docs/audit.md lists {file.relative_to(ROOT)}", False)
-    outcome.check("the first list is what drive needs", set(of_program), reached(PROGRAM))
+    outcome.check("the first list is what drive_over needs", set(of_program), reached(PROGRAM))
     known = {ROOT / path for path in HEADLINE} | set(named_by_calls(HEADLINE))
     for file in listed:
         name = file.relative_to(ROOT)
@@ -147,7 +150,8 @@ def without_comments(code: str) -> list[str]:
 def test_code_that_is_shown(outcome: Outcome) -> None:
     blocks = [without_comments(block) for block in BLOCK.findall(DOCUMENT.read_text())]
     for what, (path, pattern) in SHOWN.items():
-        code = re.search(pattern, (ROOT / path).read_text(), re.MULTILINE | re.DOTALL)[0]
+        found = re.search(pattern, (ROOT / path).read_text(), re.MULTILINE | re.DOTALL)
+        code = "".join(found.groups()) or found[0]
         outcome.holds(f"docs/audit.md shows {what}", without_comments(code) in blocks)
 
 

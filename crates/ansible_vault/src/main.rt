@@ -4,7 +4,7 @@
 use std::env::Env;
 use std::process::ExitCode;
 use std::{env, fs, io};
-use vault_cli::{HostFiles, ReadSource, WriteSink, drive, reject_words};
+use vault_cli::{WriteSink, drive, reject_words};
 
 /// The arguments. They are pushed one by one, since `collect` goes on where the room for all of
 /// them is refused.
@@ -20,17 +20,12 @@ fn main(rt: HostRuntime) -> ExitCode {
     // A file that is opened gets the lowest free number: 0 to 2 are taken first, so that none is
     // read or written in the place of a stream that is closed. A folder gives and takes no byte.
     let _folders = [fs::open(&rt, "/"), fs::open(&rt, "/"), fs::open(&rt, "/")];
-    let mut err = WriteSink::new(rt.stderr());
     let status = match words(&rt) {
-        Ok(words) => drive(
-            &mut HostFiles::new(&rt),
-            rt.alloc(),
-            words.as_slice(),
-            &mut ReadSource::new(rt.stdin()),
-            &mut WriteSink::new(rt.stdout()),
-            &mut err,
-        ),
-        Err(error) => reject_words(&error, &mut err),
+        Ok(words) => {
+            let words = words.as_slice();
+            drive(&rt, rt.alloc(), words, rt.stdin(), rt.stdout(), rt.stderr())
+        }
+        Err(error) => reject_words(&error, &mut WriteSink::new(rt.stderr())),
     };
     ExitCode::from(status.code())
 }

@@ -1,4 +1,5 @@
 pub mod runs
+pub mod ShownFacts
 pub mod ExplainedFacts
 pub mod ProgramFacts
 pub mod DriveFacts

@@ -1,9 +1,11 @@
 pub mod runs
 pub mod Call
 pub mod Explained
+pub mod Shown
 pub mod Program
 pub mod Opened
 pub mod Drive
+pub mod System
 pub mod Embedding
 pub mod Laws
 pub mod ProgramLaws

@@ -11,16 +11,16 @@ ghost use Rattle.vault_cli.specs.Opened.{opened_of};
 ghost use Rattle.vault_request.specs.Settled.{asked_by};
 ghost use Rattle.vault_cli.specs.Program.{files_in, output_path, program, stdin_asked};
 
-use crate::program::drive;
+use crate::program::drive_over;
 use crate::runs::Status;
 use std::alloc::Global;
 use vault_files::MemFiles;
 use vault_text::{MemSink, MemSource, Sink, Stage};
 
-/// All that the program does, as `drive`, over files, an input and sinks in memory. The files that
-/// it finds are those that stand at the paths of its arguments, so that arguments, files and input
-/// determine its answer. `MemFiles::content` and `MemSink::bytes` tell what is held afterwards,
-/// and `MemFiles::log` which paths were opened.
+/// All that the program does, as `drive_over`, over files, an input and sinks in memory. The files
+/// that it finds are those that stand at the paths of its arguments, so that arguments, files and
+/// input determine its answer. `MemFiles::content` and `MemSink::bytes` tell what is held
+/// afterwards, and `MemFiles::log` which paths were opened.
 pub fn drive_in_memory(
     files: &mut MemFiles<'_>,
     alloc: Global,
@@ -59,5 +59,5 @@ pub fn drive_in_memory(
     ensures unasked { fault_of vault_app (map string_bytes words.now) ≢ []
         → (files.new ≡ files.old) × (src.new ≡ src.old) }
 {
-    drive(files, alloc, words, src, out, err)
+    drive_over(files, alloc, words, src, out, err)
 }

@@ -1,34 +1,32 @@
 //! What is shown of a text that may hold control characters.
-ghost use Rattle.std.specs.Prelude.{◌≡◌, ◌<◌, ℕ, List, [], ◌∷◌, ◌++◌, All, IfOk, OnOk, false};
-ghost use Rattle.std.specs.Prelude.{length, slice_index_or};
-ghost use Rattle.vault_cli.specs.Explained.{IsShown};
+ghost use Rattle.std.specs.Prelude.{◌≡◌, ◌<◌, ◌++◌, IfOk, OnOk};
+ghost use Rattle.vault_cli.specs.Shown.{digit_of, ends_control, is_escaped};
+ghost use Rattle.vault_cli.specs.Shown.{shown_between, shown_text};
 
 use std::alloc::{AllocError, Global};
 
 /// The text with each control byte but line ends as `\x` and its two digits, so that no terminal
 /// obeys an argument. So are both bytes of a control character past ASCII.
 pub(crate) fn escaped(alloc: Global, text: &[u8]) -> Result<Vec<u8>, AllocError>
-    ensures shown { IfOk result (λ shown. All IsShown shown.items) }
-    ensures kept { All (λ byte. IsShown byte × (byte < 128)) text.now
-        → IfOk result (λ shown. shown.items ≡ text.now) }
+    ensures { IfOk result (λ shown. shown.items ≡ shown_text text.now) }
 {
     let mut shown = Vec::new(alloc);
+    let mut before = 0;
     for i in 0..text.len() {
-        append_shown(&mut shown, text, i)?;
+        let byte = text[i];
+        let after = text.get(i + 1).copied().unwrap_or(0);
+        append_shown(&mut shown, before, byte, after)?;
+        before = byte;
     }
     Ok(shown)
 }
 
-/// Appends what is shown of the byte at an index of a text.
-fn append_shown(shown: &mut Vec<u8>, text: &[u8], i: usize) -> Result<(), AllocError>
-    requires { i < length text.now }
-    ensures shown { OnOk result ((added : List ℕ)
-        × (shown.new.items ≡ shown.old.items ++ added) × All IsShown added) }
-    ensures kept { let byte = slice_index_or text.now i 0 in IsShown byte → byte < 128
-        → OnOk result (shown.new.items ≡ shown.old.items ++ byte ∷ []) }
+/// Appends what is shown of a byte between two others.
+fn append_shown(shown: &mut Vec<u8>, before: u8, byte: u8, after: u8) -> Result<(), AllocError>
+    ensures { OnOk result
+        (shown.new.items ≡ shown.old.items ++ shown_between before byte after) }
 {
-    let byte = text[i];
-    if is_control_at(text, i) {
+    if is_escaped(before, byte, after) {
         shown.extend_from_slice(&[b'\\', b'x', digit(byte >> 4), digit(byte & 15)])?;
     } else {
         shown.push(byte)?;
@@ -36,29 +34,30 @@ fn append_shown(shown: &mut Vec<u8>, text: &[u8], i: usize) -> Result<(), AllocE
     Ok(())
 }
 
-/// Whether a control character stands at an index of a UTF-8 text, line ends aside.
-fn is_control_at(text: &[u8], i: usize) -> bool
-    requires { i < length text.now }
-    ensures shown { result ≡ false → IsShown (slice_index_or text.now i 0) }
-    ensures ascii { let byte = slice_index_or text.now i 0 in
-        IsShown byte → byte < 128 → result ≡ false }
+/// Whether a byte between two others is part of a control character of UTF-8, line ends aside.
+fn is_escaped(before: u8, byte: u8, after: u8) -> bool
+    ensures { result ≡ is_escaped before byte after }
 {
-    match text[i] {
+    match byte {
         b'\n' => false,
         0..=31 | 127 => true,
-        0xc2 => matches!(text.get(i + 1), Some(0x80..=0x9f)),
-        0x80..=0x9f => i > 0 && text[i - 1] == 0xc2,
+        0xc2 => ends_control(after),
+        0x80..=0x9f => before == 0xc2,
         _ => false,
     }
+}
+
+/// Whether a byte, behind `0xc2`, ends a control character.
+fn ends_control(byte: u8) -> bool
+    ensures { result ≡ ends_control byte }
+{
+    matches!(byte, 0x80..=0x9f)
 }
 
 /// The hexadecimal digit of a number.
 fn digit(value: u8) -> u8
     requires { value < 16 }
-    ensures { IsShown result }
+    ensures { result ≡ digit_of value }
 {
-    match value {
-        0..=9 => b'0' + value,
-        _ => b'a' + (value - 10),
-    }
+    b"0123456789abcdef"[usize::from(value)]
 }

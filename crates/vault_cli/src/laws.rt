@@ -8,7 +8,7 @@ ghost use Rattle.vault_cli.specs.ProgramLaws.{ProgramKeepsThePlaintext, WrittenI
 use vault_request::laws::settled_requests;
 
 /// The outcome of a run is a success or a refusal: what else `run` answers tells of its source or
-/// its output, and what else `drive` answers of these, of its files, or of its memory.
+/// its output, and what else `drive_over` answers of these, of its files, or of its memory.
 pub fn outcomes_are_decided()
     ensures { OutcomesAreDecided }
 {}

@@ -27,12 +27,14 @@ pub mod laws;
 mod limits;
 mod program;
 mod runs;
+mod system;
 
 pub use embedding::drive_in_memory;
 pub use explaining::reject_words;
 pub use limits::SEALING_SALT_LENGTH;
-pub use program::drive;
+pub use program::drive_over;
 pub use runs::{Status, report, run};
+pub use system::drive;
 pub use vault_core::{Fault, LabelRule, Role, SECRET_COUNT_LIMIT};
 pub use vault_files::{FileSystem, HostFiles, MemFile, MemFiles};
 pub use vault_request::{CommandName, Request, SALT_TEXT_LIMIT, command, parse, settle};

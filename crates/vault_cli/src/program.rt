@@ -27,7 +27,7 @@ use vault_text::{CIPHERTEXT_LIMIT, Sink, Source, Stage, TextMemory};
 /// the request, reads its password files and its salt file, opens its input file, and runs it. The
 /// input is a file or `src`, the output a file or `out`. Help and the version go to `out`, and
 /// every message to `err`.
-pub fn drive<F: FileSystem, S: Source, K: Sink, E: Sink>(
+pub fn drive_over<F: FileSystem, S: Source, K: Sink, E: Sink>(
     files: &mut F,
     alloc: Global,
     words: &[String],

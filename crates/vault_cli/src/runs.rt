@@ -1,10 +1,11 @@
 //! The whole run of a request.
-ghost use Rattle.std.specs.Prelude.{◌≡◌, ◌≢◌, ◌+◌, ◌≤◌, ◌⊎◌, ℕ, List, [], false, is_some, length};
-ghost use Rattle.std.specs.Prelude.{map, take, IsTrue};
-ghost use Rattle.vault_text.specs.Failures.{HasRisen};
+ghost use Rattle.std.specs.Prelude.{◌≡◌, ◌≢◌, ◌+◌, ◌≤◌, ◌⊎◌, ℕ, List, [], true, false, Err};
+ghost use Rattle.std.specs.Prelude.{is_some, length, map, take, IsTrue};
+ghost use Rattle.vault_text.specs.Failures.{HasRisen, IsLast};
 ghost use Rattle.vault_core.specs.Input.{IsReadToEndOrPastLimit, UnlessUnreadable};
 ghost use Rattle.vault_text.specs.Limits.{IsWorkLength, limit_of};
-ghost use Rattle.vault_common.specs.declared.fault.Fault.TheVariants.{Write};
+ghost use Rattle.vault_common.specs.declared.fault.Fault.TheVariants.{Read, Write};
+ghost use Rattle.vault_common.specs.declared.fault.Role.TheVariants.{Input};
 ghost use Rattle.vault_cli.specs.Call.{sink, source};
 ghost use Rattle.vault_cli.specs.runs.Ending.{Ends, to_sink};
 ghost use Rattle.vault_cli.specs.runs.ReportLine.{line_of};
@@ -61,6 +62,8 @@ fn perform<'a, S: Source>(
         × (result
         ≡ performed limit (task_in task.now) (text_of_request request.now input))) }
     ensures unread { IsTrue (is_some request.now.string) → src.new ≡ src.old }
+    ensures full { is_some request.now.string ≡ false → IsLast (S.failures src.old)
+        → result ≡ Err (Read Input) }
 {
     match request.string() {
         Some(string) => task.perform(&mut MemSource::new(string.as_bytes(), usize::MAX), memory),
@@ -81,6 +84,7 @@ fn deliver<K: Sink, E: Sink>(ready: Ready<'_>, out: &mut K, err: &mut E) -> Stat
         → HasRisen (K.failures out.old) (K.failures out.new)
         × Reports (sink E.Sink err.old err.new) (line_of Write) }
     ensures prefix { (n : ℕ) × K.takes out.old (take n ready.entry.output) out.new }
+    ensures full { IsLast (K.failures out.old) → result ≡ Status.DeviceFailed }
 {
     match ready.write_to(out) {
         Ok(()) => Status::Success,
@@ -120,6 +124,13 @@ pub fn run<'r, S: Source, K: Sink, E: Sink>(
     ensures none_failed { result ≢ Status.DeviceFailed
         → (S.failures src.new ≡ S.failures src.old) × (K.failures out.new ≡ K.failures out.old) }
     ensures memory_suffices { result ≢ Status.OutOfMemory }
+
+    // At the last count each call of a device fails, which a run tells that needs it.
+    ensures full_source { let contents = map (λ file. file.items) secret_files.now in
+        let limit = limit_of (length work.old) in
+        is_some (input_asked limit request.now contents salt.now) ≡ true
+        → IsLast (S.failures src.old) → result ≡ Status.DeviceFailed }
+    ensures full_output { IsLast (K.failures out.old) → result ≢ Status.Success }
 {
     let memory = TextMemory::lent(work);
     let job = Job {
@@ -156,6 +167,12 @@ pub(crate) fn run_job<S: Source, K: Sink, E: Sink>(
     ensures none_failed { result ≢ Status.DeviceFailed
         → (S.failures src.new ≡ S.failures src.old) × (K.failures out.new ≡ K.failures out.old) }
     ensures memory_suffices { result ≢ Status.OutOfMemory }
+    ensures full_source { let request = job.entry.request.now in
+        let contents = map (λ file. file.items) job.entry.secret_files.now in
+        let limit = limit_of job.entry.memory.limit in
+        is_some (input_asked limit request contents job.entry.salt.now) ≡ true
+        → IsLast (S.failures src.old) → result ≡ Status.DeviceFailed }
+    ensures full_output { IsLast (K.failures out.old) → result ≢ Status.Success }
 {
     let Job {
         request,

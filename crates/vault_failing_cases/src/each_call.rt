@@ -3,7 +3,7 @@ use crate::watched::Watched;
 use std::alloc::Global;
 use std::process::Abort;
 use std::test::Fail;
-use vault_cli::{MemFile, MemFiles, Status, drive};
+use vault_cli::{MemFile, MemFiles, Status, drive_over};
 use vault_made::{block, envelope, line_of, spelled};
 use vault_runs::Trial;
 use vault_text::{
@@ -93,7 +93,7 @@ fn assert_program_tells_reads(
         let mut err = MemSink::new(alloc, usize::MAX);
         let mut files = MemFiles::new(alloc, &files);
         let line = line.as_slice();
-        let status = drive(&mut files, alloc, line, &mut src, &mut out, &mut err);
+        let status = drive_over(&mut files, alloc, line, &mut src, &mut out, &mut err);
         assert_eq!(rt; status == Status::Success, is_whole, "{words:?} {calls}");
         assert_eq!(rt;
             status == Status::DeviceFailed,

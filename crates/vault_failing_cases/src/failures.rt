@@ -1,10 +1,10 @@
 //! Runs whose devices fail.
 use crate::watched::Watched;
 use std::test::Fail;
-use vault_cli::{MemFile, MemFiles, Status, drive};
+use vault_cli::{Status, drive};
 use vault_made::{CountingReader, EMPTY_ENVELOPE, NarrowWriter, envelope, line_of};
-use vault_runs::Trial;
-use vault_text::{FailingSink, FailingSource, MemSink, MemSource, ReadSource, WriteSink};
+use vault_runs::{LINUX_FILE, Trial};
+use vault_text::{FailingSink, FailingSource, MemSink, MemSource};
 
 const DECRYPT: &[&str] = &["decrypt", "--vault-password-file", "one"];
 
@@ -58,24 +58,15 @@ fn leaves_a_prefix_where_the_sink_fails(rt: HostRuntime) -> Result<(), Fail> {
 #[test]
 fn reports_a_writer_that_fails(rt: HostRuntime) -> Result<(), Fail> {
     let alloc = rt.alloc();
-    let vault = envelope(alloc, "default", b"first", &[7; 32], PLAINTEXT)?;
-    let words = line_of(alloc, &["view", "--vault-id", "one"])?;
-    let files = [MemFile::whole("one", b"first\n")];
+    let vault = envelope(alloc, "default", b"Linux", &[7; 32], PLAINTEXT)?;
+    let words = line_of(alloc, &["view", "--vault-id", LINUX_FILE])?;
     for room in [0, 100, 200] {
         let stdin = CountingReader::new(vault.as_slice(), 1_000);
-        let mut out = WriteSink::new(NarrowWriter::new(alloc, room));
-        let mut err = MemSink::new(alloc, 100);
-        let status = drive(
-            &mut MemFiles::new(alloc, &files),
-            alloc,
-            words.as_slice(),
-            &mut ReadSource::new(stdin),
-            &mut out,
-            &mut err,
-        );
-        let out = out.into_inner();
+        let mut out = NarrowWriter::new(alloc, room);
+        let mut err = Vec::new(alloc);
+        let status = drive(&rt, alloc, words.as_slice(), stdin, &mut out, &mut err);
         assert_eq!(rt; status, Status::DeviceFailed, "{room}");
-        assert_eq!(rt; err.bytes(), WRITE_FAILED, "{room}");
+        assert_eq!(rt; err.as_slice(), WRITE_FAILED, "{room}");
         assert_eq!(rt; out.taken.len(), room, "{room}");
         assert!(rt; PLAINTEXT.starts_with(out.taken.as_slice()), "{room}");
     }
@@ -87,17 +78,32 @@ fn reports_help_that_cannot_be_written(rt: HostRuntime) -> Result<(), Fail> {
     let alloc = rt.alloc();
     for words in [&["--help"], &["--version"]] {
         let line = line_of(alloc, words)?;
-        let mut err = MemSink::new(alloc, 100);
-        let status = drive(
-            &mut MemFiles::new(alloc, &[]),
-            alloc,
-            line.as_slice(),
-            &mut MemSource::new(b"", 1),
-            &mut WriteSink::new(NarrowWriter::new(alloc, 10)),
-            &mut err,
-        );
+        let stdin = CountingReader::new(b"", 1);
+        let mut out = NarrowWriter::new(alloc, 10);
+        let mut err = Vec::new(alloc);
+        let status = drive(&rt, alloc, line.as_slice(), stdin, &mut out, &mut err);
         assert_eq!(rt; status, Status::DeviceFailed, "{words:?}");
-        assert_eq!(rt; err.bytes(), WRITE_FAILED, "{words:?}");
+        assert_eq!(rt; err.as_slice(), WRITE_FAILED, "{words:?}");
+        assert_eq!(rt; out.taken.len(), 10, "{words:?}");
+    }
+    Ok(())
+}
+
+// A message is lost where its writer is full, and the status stays.
+#[test]
+fn keeps_the_status_where_the_writer_of_the_message_fails(rt: HostRuntime) -> Result<(), Fail> {
+    let alloc = rt.alloc();
+    let words = line_of(alloc, &["view"])?;
+    for room in [0, 20] {
+        let stdin = CountingReader::new(b"", 1);
+        let mut out = NarrowWriter::new(alloc, 100);
+        let mut err = NarrowWriter::new(alloc, room);
+        let status = drive(&rt, alloc, words.as_slice(), stdin, &mut out, &mut err);
+        assert_eq!(rt; status, Status::Refused, "{room}");
+        assert_eq!(rt; out.taken.len(), 0, "{room}");
+        let message = b"ERROR! input is not vault encrypted data\n".as_slice();
+        assert_eq!(rt; err.taken.len(), room, "{room}");
+        assert!(rt; message.starts_with(err.taken.as_slice()), "{room}");
     }
     Ok(())
 }

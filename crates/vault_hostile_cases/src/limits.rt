@@ -1,9 +1,9 @@
 //! Inputs at the limits of length: what is answered, and how many bytes are read.
 use std::alloc::Global;
 use std::test::Fail;
-use vault_cli::{MemFiles, Status};
+use vault_cli::Status;
 use vault_made::{CountingReader, envelope};
-use vault_runs::{Trial, run_program};
+use vault_runs::{Trial, run_on_system};
 use vault_text::{
     CIPHERTEXT_LIMIT, ENVELOPE_LIMIT, MemSink, MemSource, PLAINTEXT_LIMIT, ReadSource,
 };
@@ -216,9 +216,7 @@ fn report_the_damage_of_long_inputs(rt: HostRuntime) -> Result<(), Fail> {
 fn tell_the_damage_of_the_longest_input(rt: HostRuntime) -> Result<(), Fail> {
     let mut stdin = CountingReader::with_line_feeds(DAMAGED, 100_671_488, 65_536);
     let alloc = rt.alloc();
-    let mut files = MemFiles::new(alloc, &[]);
-    let mut src = ReadSource::new(&mut stdin);
-    let refused = run_program(alloc, &mut files, &["decrypt"], &mut src)?;
+    let refused = run_on_system(&rt, alloc, &["decrypt"], &mut stdin)?;
     assert_eq!(rt; refused.status, Status::Refused);
     assert_eq!(rt;
         refused.message.as_str(),

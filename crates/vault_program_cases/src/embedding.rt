@@ -5,6 +5,7 @@ use std::alloc::Global;
 use std::test::Fail;
 use vault_cli::{MemFile, MemFiles, MemSink, MemSource, Status, drive_in_memory};
 use vault_made::{envelope, line_of};
+use vault_runs::Ended;
 use vault_text::Stage;
 
 const PLAINTEXT: &[u8] = b"key: value\n";
@@ -14,14 +15,6 @@ const SALT: &[u8] = &[7; 32];
 /// Whether a file of these bytes stands at the path.
 fn has(files: &MemFiles, path: &str, bytes: &[u8]) -> bool {
     files.content(path) == Some(bytes)
-}
-
-/// What a run left.
-#[derive(Drop)]
-struct Ended {
-    status: Status,
-    output: Vec<u8>,
-    message: Vec<u8>,
 }
 
 /// Runs the program on these words behind its name, over these files and this input.
@@ -42,7 +35,7 @@ fn run_in_memory(
     Ok(Ended {
         status,
         output: Vec::from_slice(alloc, out.bytes())?,
-        message: Vec::from_slice(alloc, err.bytes())?,
+        message: String::from_utf8(Vec::from_slice(alloc, err.bytes())?)?,
     })
 }
 
@@ -120,8 +113,8 @@ fn creates_no_file_on_a_refusal(rt: HostRuntime) -> Result<(), Fail> {
     let refused = run_in_memory(alloc, &mut files, &words, vault.as_slice())?;
     assert_eq!(rt; refused.status, Status::Refused);
     assert_eq!(rt;
-        refused.message.as_slice(),
-        b"ERROR! no secret decrypts this vault\n".as_slice()
+        refused.message.as_str(),
+        "ERROR! no secret decrypts this vault\n"
     );
     assert!(rt; refused.output.is_empty());
     assert!(rt; files.content("plain").is_none());

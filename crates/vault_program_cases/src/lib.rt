@@ -7,3 +7,5 @@ mod embedding;
 mod examples;
 #[cfg(test)]
 mod program;
+#[cfg(test)]
+mod system;

@@ -5,6 +5,6 @@ mod program;
 mod ran;
 mod trial;
 
-pub use program::run_program;
-pub use ran::Ran;
+pub use program::{LINUX_FILE, run_on_system, run_program};
+pub use ran::{Ended, Ran};
 pub use trial::{LITTLE_WORK, Trial};

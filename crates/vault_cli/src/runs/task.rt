@@ -1,9 +1,12 @@
 //! What is to be done with the input of a request: how that is prepared, and how it is performed.
 ghost use Rattle.std.specs.Prelude.{◌≡◌, ℕ, ◌+◌, ◌≤◌, List, [], length, map, slice_index_or, true};
-ghost use Rattle.std.specs.Prelude.{IfErr, IfOk};
+ghost use Rattle.std.specs.Prelude.{Err, IfErr, IfOk};
 ghost use Rattle.vault_core.specs.Form.{form_of};
 ghost use Rattle.vault_core.specs.Input.{IsReadToEndOrPastLimit, UnlessUnreadable};
+ghost use Rattle.vault_text.specs.Failures.{IsLast};
 ghost use Rattle.vault_text.specs.Limits.{IsWorkLength, limit_of};
+ghost use Rattle.vault_common.specs.declared.fault.Fault.TheVariants.{Read};
+ghost use Rattle.vault_common.specs.declared.fault.Role.TheVariants.{Input};
 ghost use Rattle.vault_cli.specs.runs.Outcome.{performed, task_limit};
 ghost use Rattle.vault_request.specs.CommandName.{rekeys};
 ghost use Rattle.vault_request.specs.Request.{files_of};
@@ -141,6 +144,7 @@ impl<'p> Task<'p> {
             (length input ≤ bound)
             (IsReadToEndOrPastLimit bound (S.ended src.new) input
             × (result ≡ performed limit (task_in self.now) input)) }
+        ensures full { IsLast (S.failures src.old) → result ≡ Err (Read Input) }
     {
         let mut meter = Meter::new();
         match self {

@@ -14,22 +14,25 @@ pub returns-clause-answered : goal.returns-clause-answered
 returns-clause-answered c = λ parses.
     let asks = asked_by (map string_bytes c.args.words.now) in
     let found = files_in (file_at c.args.files.now.entries) asks in
-    elim (c.drive.ensures.answered parses) [
+    elim (c.drive_over.ensures.answered parses) [
       | inl (same, unread, memory) ↦
-          embeds-memory c.drive.result c.args.files.now c.drive.new.files c.args.out.now
-          c.drive.new.out c.args.err.now c.drive.new.err c.requires.files_unbegun same memory
+          embeds-memory c.drive_over.result c.args.files.now c.drive_over.new.files c.args.out.now
+          c.drive_over.new.out c.args.err.now c.drive_over.new.err c.requires.files_unbegun same
+          memory
           (output_path asks) (answer_to asks found c.args.src.now.left)
       | inr (met, all_met, (opened, driven)) ↦
-          let (went, ends) = drives-in (memory_store c.args.files.now c.drive.new.files)
-          (memory_source c.args.src.now c.drive.new.src)
-          (memory_sink c.args.out.now c.drive.new.out) (memory_sink c.args.err.now c.drive.new.err)
-          c.drive.result
+          let (went, ends) = drives-in (memory_store c.args.files.now c.drive_over.new.files)
+          (memory_source c.args.src.now c.drive_over.new.src)
+          (memory_sink c.args.out.now c.drive_over.new.out)
+          (memory_sink c.args.err.now c.drive_over.new.err)
+          c.drive_over.result
           (file_at c.args.files.now.entries) opened asks met all_met driven in
-          let (log, same, logged) = log-behind c.args.files.now opened (opened_of asks found) went in
-          embeds c.drive.result c.args.files.now c.drive.new.files log c.args.out.now
-          c.drive.new.out c.args.err.now c.drive.new.err c.requires.files_unbegun
+          let (log, same, logged) = log-behind c.args.files.now opened (opened_of asks found)
+          went in
+          embeds c.drive_over.result c.args.files.now c.drive_over.new.files log c.args.out.now
+          c.drive_over.new.out c.args.err.now c.drive_over.new.err c.requires.files_unbegun
           c.requires.files_empty (access_of asks)
-          (output_path asks) c.args.src.now c.drive.new.src c.requires.src_not_ended
+          (output_path asks) c.args.src.now c.drive_over.new.src c.requires.src_not_ended
           (stdin_asked asks found) (answer_to asks found) (answer-front asks found)
           (rw same at ends)
     ]
@@ -38,19 +41,21 @@ pub returns-clause-taken : goal.returns-clause-taken
 returns-clause-taken c = λ parses fits.
     let asks = asked_by (map string_bytes c.args.words.now) in
     let found = files_in (file_at c.args.files.now.entries) asks in
-    elim (c.drive.ensures.answered parses) [
+    elim (c.drive_over.ensures.answered parses) [
       | inl (same, unread, memory) ↦ absurd (fits memory.status)
       | inr (met, all_met, (opened, driven)) ↦
-          let (went, ends) = drives-in (memory_store c.args.files.now c.drive.new.files)
-          (memory_source c.args.src.now c.drive.new.src)
-          (memory_sink c.args.out.now c.drive.new.out) (memory_sink c.args.err.now c.drive.new.err)
-          c.drive.result
+          let (went, ends) = drives-in (memory_store c.args.files.now c.drive_over.new.files)
+          (memory_source c.args.src.now c.drive_over.new.src)
+          (memory_sink c.args.out.now c.drive_over.new.out)
+          (memory_sink c.args.err.now c.drive_over.new.err)
+          c.drive_over.result
           (file_at c.args.files.now.entries) opened asks met all_met driven in
-          let (log, same, logged) = log-behind c.args.files.now opened (opened_of asks found) went in
-          taken c.drive.result c.args.files.now c.drive.new.files log c.args.out.now
-          c.drive.new.out c.args.err.now c.drive.new.err c.requires.files_unbegun
+          let (log, same, logged) = log-behind c.args.files.now opened (opened_of asks found)
+          went in
+          taken c.drive_over.result c.args.files.now c.drive_over.new.files log c.args.out.now
+          c.drive_over.new.out c.args.err.now c.drive_over.new.err c.requires.files_unbegun
           c.requires.files_empty (access_of asks)
-          (output_path asks) c.args.src.now c.drive.new.src c.requires.src_not_ended
+          (output_path asks) c.args.src.now c.drive_over.new.src c.requires.src_not_ended
           (stdin_asked asks found) (answer_to asks found) (rw same at ends)
     ]
 
@@ -58,18 +63,22 @@ pub returns-clause-opened : goal.returns-clause-opened
 returns-clause-opened c = λ parses fits.
     let asks = asked_by (map string_bytes c.args.words.now) in
     let found = files_in (file_at c.args.files.now.entries) asks in
-    elim (c.drive.ensures.answered parses) [
+    elim (c.drive_over.ensures.answered parses) [
       | inl (same, unread, memory) ↦ absurd (fits memory.status)
       | inr (met, all_met, (opened, driven)) ↦
-          let (went, ends) = drives-in (memory_store c.args.files.now c.drive.new.files)
-          (memory_source c.args.src.now c.drive.new.src)
-          (memory_sink c.args.out.now c.drive.new.out) (memory_sink c.args.err.now c.drive.new.err)
-          c.drive.result
+          let (went, ends) = drives-in (memory_store c.args.files.now c.drive_over.new.files)
+          (memory_source c.args.src.now c.drive_over.new.src)
+          (memory_sink c.args.out.now c.drive_over.new.out)
+          (memory_sink c.args.err.now c.drive_over.new.err)
+          c.drive_over.result
           (file_at c.args.files.now.entries) opened asks met all_met driven in
-          let (log, same, logged) = log-behind c.args.files.now opened (opened_of asks found) went in
-          let stays = log-kept c.drive.result c.args.files.now c.drive.new.files log c.args.out.now
-          c.drive.new.out c.args.err.now c.drive.new.err c.requires.files_unbegun
-          c.requires.files_empty (access_of asks) (output_path asks) c.args.src.now c.drive.new.src
+          let (log, same, logged) = log-behind c.args.files.now opened (opened_of asks found)
+          went in
+          let stays = log-kept c.drive_over.result c.args.files.now c.drive_over.new.files log
+          c.args.out.now
+          c.drive_over.new.out c.args.err.now c.drive_over.new.err c.requires.files_unbegun
+          c.requires.files_empty (access_of asks) (output_path asks) c.args.src.now
+          c.drive_over.new.src
           (stdin_asked asks found) (answer_to asks found) (rw same at ends) in
           rw stays logged
     ]

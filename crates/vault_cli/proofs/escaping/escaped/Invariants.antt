@@ -1,8 +1,7 @@
-use Rattle.std.proofs.Common.{◌≡◌, ◌<◌, All, take}
-use Rattle.vault_cli.specs.Explained.{IsShown}
+use Rattle.std.proofs.Common.{◌≡◌, ◌++◌, drop}
+use Rattle.vault_cli.specs.Shown.{shown_behind, shown_text}
 use Rattle.vault_cli.proofs.escaping.escaped.Given as goal
 
 abbrev pub invariant-loop-i : goal.invariant-loop-i
 invariant-loop-i l =
-    All IsShown l.shown.items
-    × (All (λ byte. IsShown byte × (byte < 128)) l.text → l.shown.items ≡ take l.i l.text)
+    l.shown.items ++ shown_behind l.before (drop l.i l.text) ≡ shown_text l.text

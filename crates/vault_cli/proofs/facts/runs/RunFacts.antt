@@ -1,13 +1,13 @@
 -- How a run ends, by what its task answered.
-use Rattle.std.proofs.Common.{◌≡◌, ◌≢◌, ◌⊎◌, ℕ, ◌+◌, ◌≤◌, false, List, length, take, Option, Some}
-use Rattle.std.proofs.Common.{None, Result, Ok, Err, inl, inr, refl, sym, ap, subst, ◌∙◌}
+use Rattle.std.proofs.Common.{◌≡◌, ◌≢◌, ◌⊎◌, ℕ, ◌+◌, ◌≤◌, true, false, List, length, take, Option}
+use Rattle.std.proofs.Common.{Some, None, Result, Ok, Err, inl, inr, refl, sym, ap, subst, ◌∙◌}
 use Rattle.std.specs.Prelude.{IsTrue, is_some, unwrap_or}
 use Rattle.vault_text.specs.Failures.{HasRisen}
 use Rattle.vault_text.specs.declared.sink.Stage.TheVariants.{Finished}
 use Rattle.vault_core.specs.Input.{IsUnreadable, IsReadToEndOrPastLimit}
 use Rattle.vault_core.specs.Ready.{Ready}
 use Rattle.vault_common.specs.declared.fault.Fault.{Fault}
-use Rattle.vault_common.specs.declared.fault.Fault.TheVariants.{Write}
+use Rattle.vault_common.specs.declared.fault.Fault.TheVariants.{CannotOpen, Memory, Read, Write}
 use Rattle.vault_cli.specs.Call.{SinkCall, SourceCall}
 use Rattle.vault_cli.specs.runs.Ending.{Ends, Finishes, SourceFails, to_sink}
 use Rattle.vault_cli.specs.runs.ReportLine.{line_of}
@@ -134,3 +134,24 @@ module _ {S K E : Type 0} (src : SourceCall S) (out : SinkCall K) (err : SinkCal
     ends-unprepared fault refusal status unread unwritten line =
         ends-after (Err fault) refusal
         (unread, finishes-refused fault status unwritten line (Err fault) refl)
+
+-- where a source is asked there is no STRING
+pub asked-no_string : (prepares : Result Task Fault) (string : Option (List ℕ)) (limit : ℕ)
+    → is_some (asked_for prepares string limit) ≡ true → is_some string ≡ false
+asked-no_string (Err fault) string limit asked = absurd cc
+asked-no_string (Ok task) (Some string) limit asked = absurd cc
+asked-no_string (Ok task) None limit asked = refl
+
+-- and steps 1 to 3 do not refuse
+pub asked-prepared : (prepares : Result Task Fault) (string : Option (List ℕ)) (limit : ℕ)
+    (fault : Fault) → prepares ≡ Err fault → is_some (asked_for prepares string limit) ≡ true → ⊥
+asked-prepared prepares string limit fault refused asked =
+    let asks = rw refused at asked in absurd cc
+
+-- a fault is no success
+pub fault-fails : (fault : Fault) → status_of fault ≢ Success
+fault-fails (Read role) = λ succeeds. absurd cc
+fault-fails Write = λ succeeds. absurd cc
+fault-fails (CannotOpen role) = λ succeeds. absurd cc
+fault-fails Memory = λ succeeds. absurd cc
+fault-fails fault = λ succeeds. absurd cc

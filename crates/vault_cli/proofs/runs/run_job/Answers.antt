@@ -1,13 +1,17 @@
 use Rattle.std.proofs.Common.{◌≡◌, map, inl, inr, refl, sym, ap, ◌∙◌}
 use Rattle.vault_text.specs.Limits.{limit_of}
 use Rattle.vault_cli.specs.Call.{sink, source}
-use Rattle.vault_cli.specs.runs.Outcome.{text_of_request}
+use Rattle.vault_common.specs.declared.fault.Fault.TheVariants.{Read}
+use Rattle.vault_common.specs.declared.fault.Role.TheVariants.{Input}
+use Rattle.vault_cli.specs.runs.Outcome.{input_limit, text_of_request}
 use Rattle.vault_cli.specs.runs.Status.{status_of}
 use Rattle.vault_cli.specs.runs.StoredTask.{task_in}
 use Rattle.vault_cli.specs.declared.runs.status.Status.TheVariants.{DeviceFailed, OutOfMemory}
-use Rattle.vault_cli.specs.declared.runs.status.Status.TheVariants.{Refused}
+use Rattle.vault_cli.specs.declared.runs.status.Status.TheVariants.{Refused, Success}
+use Rattle.vault_cli.specs.runs.Task.{prepared}
 use Rattle.vault_cli.proofs.facts.runs.RefusedAlone.{alone-performed, alone-prepared}
 use Rattle.vault_cli.proofs.facts.runs.RunFacts.{ends-performed, ends-unprepared, finishes-ready}
+use Rattle.vault_cli.proofs.facts.runs.RunFacts.{asked-no_string, asked-prepared, fault-fails}
 use Rattle.vault_cli.proofs.facts.runs.RunFacts.{finishes-refused, source-failed}
 use Rattle.vault_cli.proofs.runs.run_job.Goals as goal
 
@@ -112,3 +116,43 @@ returns-in-Err-perform-clause-device_failed g c = λ device.
           sym alone ∙ sym c.report-in-Err-perform.ensures.status ∙ device in
           absurd cc
     ]
+
+pub returns-in-Err-clause-full_source : goal.returns-in-Err-clause-full_source
+returns-in-Err-clause-full_source g c = λ asked full.
+    let request = c.args.job.request.now in
+    let contents = map (λ file. file.items) c.args.job.secret_files.now in
+    let limit = input_limit (limit_of c.args.job.memory.limit) request.command in
+    absurd (asked-prepared (prepared request contents c.args.job.salt.now) request.string limit
+    c.in-Err.fault c.in-Err.ensures.refused asked)
+
+pub returns-in-Err-clause-full_output : goal.returns-in-Err-clause-full_output
+returns-in-Err-clause-full_output g c = λ full succeeds.
+    fault-fails c.in-Err.fault (sym c.report.ensures.status ∙ succeeds)
+
+pub returns-in-Ok-perform-clause-full_source : goal.returns-in-Ok-perform-clause-full_source
+returns-in-Ok-perform-clause-full_source g c = λ asked full.
+    let request = c.args.job.request.now in
+    let contents = map (λ file. file.items) c.args.job.secret_files.now in
+    let limit = input_limit (limit_of c.args.job.memory.limit) request.command in
+    let unstrung = asked-no_string (prepared request contents c.args.job.salt.now) request.string
+    limit asked in
+    let wrong = c.in-Ok-perform.ensures.full unstrung full in absurd cc
+
+pub returns-in-Ok-perform-clause-full_output : goal.returns-in-Ok-perform-clause-full_output
+returns-in-Ok-perform-clause-full_output g c = λ full succeeds.
+    let wrong : DeviceFailed ≡ Success = sym (c.deliver.ensures.full full) ∙ succeeds in absurd cc
+
+pub returns-in-Err-perform-clause-full_source : goal.returns-in-Err-perform-clause-full_source
+returns-in-Err-perform-clause-full_source g c = λ asked full.
+    let request = c.args.job.request.now in
+    let contents = map (λ file. file.items) c.args.job.secret_files.now in
+    let limit = input_limit (limit_of c.args.job.memory.limit) request.command in
+    let unstrung = asked-no_string (prepared request contents c.args.job.salt.now) request.string
+    limit asked in
+    let unread : c.in-Err-perform.fault ≡ Read Input =
+    let same = c.in-Err-perform.ensures.full unstrung full in cc in
+    c.report-in-Err-perform.ensures.status ∙ ap status_of unread
+
+pub returns-in-Err-perform-clause-full_output : goal.returns-in-Err-perform-clause-full_output
+returns-in-Err-perform-clause-full_output g c = λ full succeeds.
+    fault-fails c.in-Err-perform.fault (sym c.report-in-Err-perform.ensures.status ∙ succeeds)

@@ -8,7 +8,7 @@ use Rattle.vault_request.specs.Settled.{asked_by}
 use Rattle.vault_cli.proofs.facts.DriveFacts.{drives-no_memory}
 use Rattle.vault_cli.proofs.facts.runs.EndingFacts.{store_between}
 use Rattle.vault_cli.proofs.facts.ExplainedFacts.{explains-memory, explains-one}
-use Rattle.vault_cli.proofs.program.drive.Goals as goal
+use Rattle.vault_cli.proofs.program.drive_over.Goals as goal
 
 pub returns-in-Err-clause-answered : goal.returns-in-Err-clause-answered
 returns-in-Err-clause-answered g c = λ parses.
