@@ -53,6 +53,7 @@ def decrypted_blocks(cases: Companions) -> None:
         "as it was": before,
         "another secret": before.replace(block("old", name="b"), block("new", name="b")),
         "a variable that has gone": before.replace(block("old", name="b"), b""),
+        "an item that has gone": before.removesuffix(item),
         "another variable": before + b"g: plain\n",
         "one more": before + block("old", name="b2"),
     }
