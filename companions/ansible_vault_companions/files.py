@@ -68,12 +68,10 @@ def work_on(
 ) -> None:
     """Works on so many files at once, and takes what comes of each in their order. Where that ends early,
     the files that are worked on are finished, and no other is begun."""
-    pool = ThreadPoolExecutor(jobs)
-    try:
+    with ThreadPoolExecutor(jobs) as pool:
+        # It cancels the others when it is left.
         for result in pool.map(work, files):
             take(result)
-    finally:
-        pool.shutdown(cancel_futures=True)
 
 
 def processors() -> int:

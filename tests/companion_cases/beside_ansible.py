@@ -81,7 +81,8 @@ def make_repository(place: Place, ansible: str) -> tuple[list[str], list[str]]:
         place.put(f"vars/{label}_blocks.yml", f"# blocks\n{first}{second}".encode())
         place.put(f"vars/{label}_more.yml", third.rstrip("\n").replace("\n", "\r\n").encode())
         names += [*texts, f"{label}_outer", f"{label}_inner"]
-        files += [*vaults, *(f"vars/{label}_{name}.yml" for name in ("blocks", "more")), nested_vault(place, ansible, label)]
+        files += [*vaults, *(f"vars/{label}_{name}.yml" for name in ("blocks", "more"))]
+        files.append(nested_vault(place, ansible, label))
     return files, names
 
 

@@ -89,7 +89,7 @@ PIECES = [
     b"61",
     b"<<<<<<< ",
 ]
-SMALL = 1 << 16
+SMALL = 1 << 15
 TIMES = 8
 # The larger is eight times as long; with quadratic steps it would take 64 times as long.
 MOST = 24

@@ -114,8 +114,11 @@ def full_and_read_only_folders(cases: Companions) -> None:
         check_encrypted(cases, "a read-only folder", place, done, "Permission denied", temporary)
         cases.check("the vault stays", place.get("all.yml"), sealed("old"))
         place.tree.chmod(0o777)
-    full = "def full(*words): raise OSError(28, 'No space left on device')\nreplacing._write_beside, rehearse = full, 0\n"
-    full += "replacing.rehearse = lambda target: None\n"
+    full = """
+def full(*words):
+    raise OSError(28, "No space left on device")
+replacing._write_beside, replacing.rehearse = full, lambda target: None
+"""
     with cases.place() as place:
         place.put("all.yml", sealed("old"))
         editor = place.script(CHANGE, "editor")

@@ -29,7 +29,8 @@ def unmarked_vaults(cases: Companions) -> None:
         with_hooks(place)
         place.put("plain.yml", TEXT)
         cases.silent("a vault", again(place, "group_vars/all.yml", sealed("old")))
-        refused(cases, "plaintext", again(place, "group_vars/all.yml", TEXT), "group_vars/all.yml", why=WHOLE, hint=MEANT)
+        done = again(place, "group_vars/all.yml", TEXT)
+        refused(cases, "plaintext", done, "group_vars/all.yml", why=WHOLE, hint=MEANT)
         for what, content in {
             "a part of it": sealed("old")[:-100],
             "merge marks": sealed("old").replace(b"\n", b"\n<<<<<<< ours\n", 1),
@@ -46,12 +47,13 @@ def unmarked_vaults(cases: Companions) -> None:
 
 
 def decrypted_blocks(cases: Companions) -> None:
-    before = b"a: 1\n" + block("old", name="b") + b"c:\n  d:\n" + block("old", name="e") + b"f:\n- " + block("old", name="")
-    before = before.replace(b"- : !vault", b"- !vault")
+    item = b"- " + block("old", name="")
+    before = b"a: 1\n" + block("old", name="b") + b"c:\n  d:\n" + block("old", name="e") + b"f:\n" + item
     stays = {
         "as it was": before,
         "another secret": before.replace(block("old", name="b"), block("new", name="b")),
         "a variable that has gone": before.replace(block("old", name="b"), b""),
+        "an item that has gone": before.removesuffix(item),
         "another variable": before + b"g: plain\n",
         "one more": before + block("old", name="b2"),
     }
@@ -161,7 +163,8 @@ def modes_and_renames(cases: Companions) -> None:
         with_hooks(place, "*.vault.yml diff=ansible-vault\n")
         place.put("a.vault.yml", TEXT, 0o755)
         refused(cases, "a program", add_and_commit(place), "a.vault.yml")
-        place.shell("git config diff.renames true && git commit -qm plain --no-verify && git mv a.vault.yml b.vault.yml")
+        place.shell("git config diff.renames true && git commit -qm plain --no-verify")
+        place.shell("git mv a.vault.yml b.vault.yml")
         refused(cases, "a file with another name", commit(place), "b.vault.yml")
         cases.silent("a removal", place.shell("git rm -qf b.vault.yml && git commit -qm none"))
 

@@ -122,9 +122,8 @@ def files_behind_dashes(cases: Companions) -> None:
         for name in ("a.yml", "--", "-h.yml", "--version"):
             place.put(name, sealed("old"))
             for words in (["--", name], [name]):
-                done = subprocess.run(
-                    [TEXTCONV, *place.by_file("old"), *words], cwd=place.tree, env=place.environment, capture_output=True
-                )
+                command = [TEXTCONV, *place.by_file("old"), *words]
+                done = subprocess.run(command, cwd=place.tree, env=place.environment, capture_output=True)
                 cases.check(f"{words}", (done.returncode, done.stdout, done.stderr), (0, TEXT, b""))
 
 

@@ -63,7 +63,8 @@ def dry_run(cases: Companions) -> None:
         place.put("all.yml", sealed("new", INNER))
         before = place.files()
         done = place.run(ROTATE, "--dry-run", *to_new(place), ".")
-        cases.ended("a dry run", done, 1, "./all.yml: 1 block within a plaintext would be rotated\n", "1 to be rotated, 1 under")
+        parts = ["./all.yml: 1 block within a plaintext would be rotated\n", "1 to be rotated, 1 under"]
+        cases.ended("a dry run", done, 1, *parts)
         cases.check("nothing is written", place.files(), before)
 
 
@@ -84,7 +85,8 @@ def checked(cases: Companions) -> None:
         cases.ended("one does not", done, 1, why, "2 opened, 1 not")
         place.put("all.yml", sealed("old", b"<<<<<<< HEAD\na: 1\n=======\na: 2\n>>>>>>> branch\n"))
         done = place.run(CHECK, *old, ".")
-        cases.ended("merge marks", done, 1, "./all.yml: default: its plaintext has git's merge marks", "1 opened, 1 not")
+        why = "./all.yml: default: its plaintext has git's merge marks"
+        cases.ended("merge marks", done, 1, why, "1 opened, 1 not")
 
 
 GROUPS = [inside_and_outside, inside_alone, faults_within, dry_run, checked]

@@ -159,6 +159,30 @@ def stubborn_programs(cases: Companions) -> None:
         check_whole(cases, "the second signal", place)
 
 
+def signals_at_the_start(cases: Companions) -> None:
+    """One that comes when a program is started, and is not yet known to run, reaches it all the same."""
+    text = """
+import os, runpy, signal, subprocess, sys
+class Late(subprocess.Popen):
+    def __init__(self, words, **options):
+        super().__init__(words, **options)
+        if words[0] == "sh":
+            os.kill(os.getpid(), signal.SIGTERM)
+subprocess.Popen = Late
+sys.argv = sys.argv[1:]
+sys.path[0] = os.path.dirname(os.path.realpath(sys.argv[0]))
+runpy.run_path(sys.argv[0], run_name="__main__")
+"""
+    with cases.place() as place:
+        tree(place)
+        place.environment["EDITOR"] = place.script("sleep 5; touch ../survived", "editor")
+        script = place.script(text, "signalling", "/usr/bin/env -S python3 -ISB")
+        done = place.run(script, str(place.tools / EDIT), *place.by_file("old"), "a.yml")
+        cases.check("the status", done.returncode, -signal.SIGTERM)
+        cases.check("the editor is ended", (place.path / "survived").exists(), False)
+        check_whole(cases, "at the start", place)
+
+
 def ignored_signals(cases: Companions) -> None:
     """What is ignored from the beginning, as by nohup, stays ignored."""
     with cases.place() as place:
@@ -168,4 +192,5 @@ def ignored_signals(cases: Companions) -> None:
         cases.ended("an ignored signal", done, 0, summary(3))
 
 
-GROUPS = [at_each_run, at_each_call, interrupted_then_finished, while_the_editor_runs, stubborn_programs, ignored_signals]
+GROUPS = [at_each_run, at_each_call, interrupted_then_finished, while_the_editor_runs, stubborn_programs]
+GROUPS += [signals_at_the_start, ignored_signals]

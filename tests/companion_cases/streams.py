@@ -4,7 +4,7 @@ import os
 import signal
 import subprocess
 
-from companion_cases import CHECK, EDIT, HOOK, ROTATE, SECONDS, TEXT, TEXTCONV, Companions, Place, opened, sealed
+from companion_cases import CHECK, EDIT, HOOK, ROTATE, TEXT, TEXTCONV, Companions, Place, opened, sealed
 from companion_cases.editing import CHANGE, CHANGED
 from companion_cases.repository import under_git
 from companion_cases.rotating import summary, to_new
@@ -75,18 +75,18 @@ def ignored_children(cases: Companions) -> None:
     """Whoever starts a companion may ignore SIGCHLD; a status is not taken for 0 then."""
     with cases.place() as place:
         tree(place)
-        ignoring = lambda line: place.run("env", "--ignore-signal=CHLD", "sh", "-c", f"exec {line}")
-        wrong = " ".join(place.by_file("dev"))
-        done = ignoring(f"{CHECK} {wrong} a.yml")
+        ignoring = lambda *words: place.run("env", "--ignore-signal=CHLD", *words)
+        wrong = place.by_file("dev")
+        done = ignoring(CHECK, *wrong, "a.yml")
         cases.ended("a wrong password", done, 1, "no secret decrypts this vault", "0 opened, 1 not")
-        done = ignoring(f"{ROTATE} {' '.join(to_new(place))} .")
+        done = ignoring(ROTATE, *to_new(place), ".")
         cases.ended("a rotation", done, 0, summary(1))
         cases.check("has done its work", opened("new", place.get("a.yml")), TEXT)
         place.put("a.yml", sealed("old"))
-        done = ignoring(f"{EDIT} {wrong} a.yml")
+        done = ignoring(EDIT, *wrong, "a.yml")
         cases.ended("an edit", done, 1, "no secret decrypts this vault")
         cases.check("the vault stays", place.get("a.yml"), sealed("old"))
-        cases.ended("a text", ignoring(f"{TEXTCONV} {wrong} a.yml"), 0, "shown as it is")
+        cases.ended("a text", ignoring(TEXTCONV, *wrong, "a.yml"), 0, "shown as it is")
         under_git(place, "*.yml diff=ansible-vault\n")
         place.put("a.yml", TEXT)
         place.shell("git add -A")
@@ -117,7 +117,7 @@ def all_ending_signals(cases: Companions) -> None:
         noted = {number for number in signal.valid_signals() if mask >> (number - 1) & 1}
         cases.check("all are noted", sorted(wanted - noted), [])
         for number in (signal.SIGABRT, signal.SIGPWR, signal.SIGRTMIN, signal.SIGRTMAX):
-            editor = place.script(f"{CHANGE}; kill -{int(number)} {companion}; exec sleep {SECONDS}", "editor")
+            editor = place.script(f"{CHANGE}; kill -{int(number)} {companion}; exec sleep 5", "editor")
             done = place.run(EDIT, *place.by_file("old"), "a.yml", EDITOR=editor)
             cases.check(f"signal {int(number)}: the status", done.returncode, -number)
             cases.check(f"signal {int(number)}: nothing is left", (place.names(), place.left()), (["a.yml"], []))
@@ -129,7 +129,8 @@ def waiting_pipes(cases: Companions) -> None:
         os.mkfifo(place.tree / "pipe")
         for words in ([EDIT, *place.by_file("old"), "pipe"], [TEXTCONV, *place.by_file("old"), "pipe"]):
             try:
-                done = subprocess.run(words, cwd=place.tree, env=place.environment, capture_output=True, text=True, timeout=20)
+                streams = {"capture_output": True, "text": True, "timeout": 20}
+                done = subprocess.run(words, cwd=place.tree, env=place.environment, **streams)
             except subprocess.TimeoutExpired:
                 cases.holds(f"{words[0]} does not wait", False)
                 continue

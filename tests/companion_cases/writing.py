@@ -105,7 +105,8 @@ def no_hard_links(cases: Companions) -> None:
         done = run_changed(place, EDIT, none, [*place.by_file("old"), "new.yml"], EDITOR=editor)
         cases.silent("a new vault", done)
         cases.check("it is there", opened("old", place.get("new.yml")), b"a\n")
-        cases.check("for its owner alone, and nothing else", (place.mode("new.yml"), place.names()), ("0o600", ["new.yml"]))
+        found = (place.mode("new.yml"), place.names())
+        cases.check("for its owner alone, and nothing else", found, ("0o600", ["new.yml"]))
 
 
 def named_paths(cases: Companions) -> None:
