@@ -1,4 +1,5 @@
-ghost use Rattle.std.specs.Prelude.{◌≡◌};
+ghost use Rattle.std.specs.Prelude.{◌≡◌, [], IsErr, OnOk, OnErr};
+ghost use Rattle.vault_text.specs.Failures.{CountsFailure, IsLast};
 
 use super::{Sink, SinkFailed, Stage};
 use crate::failure_count::FailureCount;
@@ -64,7 +65,15 @@ impl<W: Write> Sink for WriteSink<W> {
 
     ghost failures_stay = { λ s t xs g. g.failures_stay };
 
-    fn begin(&mut self) -> Result<(), SinkFailed> {
+    fn begin(&mut self) -> Result<(), SinkFailed>
+        requires { self.old.stage ≡ Stage.Unbegun }
+        ensures takes { Takes self.old [] self.new }
+        ensures begun { OnOk result (self.new.stage ≡ Stage.Begun) }
+        ensures unbegun { OnErr result (self.new.stage ≡ Stage.Unbegun) }
+        ensures failed { CountsFailure self.old.failures self.new.failures result }
+        ensures full { IsLast self.old.failures → IsErr result }
+        ensures only_full { OnErr result (IsLast self.old.failures) }
+    {
         if self.failures.is_last() {
             return Err(SinkFailed);
         }

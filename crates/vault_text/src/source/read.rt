@@ -1,4 +1,6 @@
-ghost use Rattle.std.specs.Prelude.{◌≡◌, false};
+ghost use Rattle.std.specs.Prelude.{◌≡◌, ◌<◌, ◌≤◌, ◌↔◌, IsTrue, IsErr, IfOk, OnErr, false, length};
+ghost use Rattle.vault_text.specs.Failures.{CountsFailure, IsLast};
+ghost use Rattle.vault_text.specs.Source.{given};
 
 use super::{Source, SourceFailed};
 use crate::failure_count::FailureCount;
@@ -57,7 +59,15 @@ impl<R: Read> Source for ReadSource<R> {
 
     ghost failures_stay = { λ s t xs g. g.failures_stay };
 
-    fn fill(&mut self, buf: &mut [u8]) -> Result<usize, SourceFailed> {
+    fn fill(&mut self, buf: &mut [u8]) -> Result<usize, SourceFailed>
+        requires { 0 < length buf.old }
+        ensures gives { Gives self.old (given result buf.new) self.new }
+        ensures bound { IfOk result (λ n. n ≤ length buf.new) }
+        ensures end { IfOk result (λ n. (n ≡ 0) ↔ IsTrue self.new.ended) }
+        ensures failed { CountsFailure self.old.failures self.new.failures result }
+        ensures full { IsLast self.old.failures → IsErr result }
+        ensures after_end { IsTrue self.old.ended → OnErr result (IsLast self.old.failures) }
+    {
         if self.failures.is_last() {
             return Err(SourceFailed);
         }
