@@ -214,7 +214,7 @@ inner_text-split salt tag cipher gathered inner front rest start spells both =
 
 -- the text of a body whose first lines spell the inner text as far as the rest of the ciphertext
 pub body_text-split : (indentation salt tag cipher inner rest : List ℕ)
-    → inner ++ encode_lower rest ≡ inner_text salt tag cipher → (length inner ≡ 2560) ⊎ (rest ≡ [])
+    → inner ++ encode_lower rest ≡ inner_text salt tag cipher → (length inner ≡ 600) ⊎ (rest ≡ [])
     → hexadecimal_lines indentation inner ++ hexadecimal_lines indentation (encode_lower rest)
     ≡ hexadecimal_lines indentation (inner_text salt tag cipher)
 body_text-split indentation salt tag cipher inner rest all full =
@@ -271,3 +271,46 @@ cipher_text-rest indentation cipher end inside whole =
     cipher_text-append indentation (take end cipher) (drop end cipher) (omega arith)
     ∙ ap (λ (bytes : List ℕ). hexadecimal_lines indentation (encode_lower bytes))
     (take-append-drop end cipher)
+
+-- the same of two texts, where the first fills whole lines unless the second is empty
+pub cipher_text-parts : (indentation xs ys : List ℕ) → (length xs % 20 ≡ 0) ⊎ (ys ≡ [])
+    → hexadecimal_lines indentation (encode_lower xs)
+    ++ hexadecimal_lines indentation (encode_lower ys)
+    ≡ hexadecimal_lines indentation (encode_lower (xs ++ ys))
+cipher_text-parts indentation xs ys (inl whole) = cipher_text-append indentation xs ys whole
+cipher_text-parts indentation xs ys (inr none) =
+    rw (none, cipher_text-nil indentation, append-nil xs)
+    (append-nil (hexadecimal_lines indentation (encode_lower xs)))
+
+-- the digits of at most one line
+cipher_text-one : (indentation piece : List ℕ) → 0 < length piece → length piece ≤ 20
+    → hexadecimal_lines indentation (encode_lower piece)
+    ≡ indentation ++ encode_lower (encode_lower piece) ++ 10 ∷ []
+cipher_text-one indentation piece some few =
+    let digits = length-encode_lower piece in
+    let twice = length-encode_lower (encode_lower piece) in
+    rw (body_lines-one (encode_lower (encode_lower piece)) (omega arith) (omega arith))
+    (text_of_lines-one indentation (encode_lower (encode_lower piece)))
+
+-- one more line
+pub cipher_text-line : (indentation cipher : List ℕ) (line start end : ℕ) → start ≡ line * 20
+    → start < length cipher → end ≡ min (length cipher) (start + 20)
+    → hexadecimal_lines indentation (encode_lower (take start cipher))
+    ++ (indentation
+    ++ encode_lower (encode_lower (take (end - start) (drop start cipher)))
+    ++ 10 ∷ [])
+    ≡ hexadecimal_lines indentation (encode_lower (take ((line + 1) * 20) cipher))
+cipher_text-line indentation cipher line start end at inside until =
+    let piece = take (end - start) (drop start cipher) in
+    let left = length-drop start cipher in
+    let size = length-take (end - start) (drop start cipher) in
+    let one = cipher_text-one indentation piece (omega arith) (omega arith) in
+    let next = cipher_text-next indentation cipher start end (omega arith) (omega arith)
+    (omega arith) in
+    let to : end ≡ min ((line + 1) * 20) (length cipher) = omega arith in
+    let taken : take end cipher ≡ take ((line + 1) * 20) cipher =
+    ap (λ (n : ℕ). take n cipher) to ∙ take_min ((line + 1) * 20) cipher in
+    ap (λ (text : List ℕ). hexadecimal_lines indentation (encode_lower (take start cipher)) ++ text)
+    (sym one)
+    ∙ next
+    ∙ ap (λ (bytes : List ℕ). hexadecimal_lines indentation (encode_lower bytes)) taken

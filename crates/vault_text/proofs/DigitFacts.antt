@@ -33,7 +33,7 @@ pub digit-answered : (digit : ℕ) (out : List ℕ) (r : Result (Unit {0}) FromH
 unfolding decode_pairs
 digit-answered digit out r answered = found_value digit (hex_digit_value digit) out r answered
 
-hex_digit_value-small : (digit : ℕ) → IfSome (hex_digit_value digit) (λ value. value < 16)
+pub hex_digit_value-small : (digit : ℕ) → IfSome (hex_digit_value digit) (λ value. value < 16)
 hex_digit_value-small digit =
     chosen (nat_le 65 digit && nat_le digit 70) (nat_le 97 digit && nat_le digit 102)
     (nat_le 48 digit && nat_le digit 57) _ _ _

@@ -8,6 +8,7 @@ pub mod LineFacts
 pub mod Progress
 pub mod BlockFacts
 pub mod BodyFacts
+pub mod DigitBlockFacts
 pub mod DigitFacts
 pub mod CleanText
 pub mod PayloadFacts

@@ -1,14 +1,18 @@
 -- Hexadecimal text: two digits a byte, the high four bits first.
 use Rattle.std.specs.Prelude.{◌≡◌, ℕ, ◌/◌, Bool, false, ◌++◌, if◌then◌else◌, List, length}
-use Rattle.std.specs.Prelude.{Option, None}
+use Rattle.std.specs.Prelude.{Option, None, unwrap_or}
 use Rattle.std.specs.Option.{option_map, option_to_list}
 use Rattle.std.specs.Result.{result_ok}
-use Rattle.hex.specs.Hex.{decode_of}
+use Rattle.hex.specs.Hex.{decode_of, hex_digit_value}
 
 -- the bytes that an even number of digits of either case spells; none where the text is anything
 -- else
 abbrev pub unhex : List ℕ → Option (List ℕ)
 unhex text = result_ok (decode_of text)
+
+-- the value of a digit of either case; 255 for any other byte
+abbrev pub value_or_invalid : ℕ → ℕ
+value_or_invalid digit = unwrap_or (hex_digit_value digit) 255
 
 -- a decoder of text in pieces: the first digit of a byte whose second has not come yet, and whether
 -- there was a byte that is no digit

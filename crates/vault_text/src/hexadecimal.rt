@@ -1,10 +1,23 @@
 //! Hexadecimal text that comes in pieces.
-ghost use Rattle.std.specs.Prelude.{◌≡◌, ◌*◌, ◌/◌, ◌≤◌, [], None, Some, if◌then◌else◌};
-ghost use Rattle.std.specs.Prelude.{true, length, take};
-ghost use Rattle.hex.specs.Hex.{hex_digit_value};
+ghost use Rattle.std.specs.List.{list_all};
+ghost use Rattle.std.specs.Prelude.{◌≡◌, ℕ, ◌*◌, ◌/◌, ◌≤◌, List, [], None, Some, if◌then◌else◌};
+ghost use Rattle.std.specs.Prelude.{true, length, map, take};
+ghost use Rattle.hex.specs.Hex.{hex_digit_value, is_hex_digit};
 ghost use Rattle.vault_text.specs.Hexadecimal.{Decodes, byte_count, new_decoder, unhex, unhex_on};
+ghost use Rattle.vault_text.specs.Hexadecimal.{value_or_invalid};
 
 use std::marker::Model;
+
+/// How many digits are decoded at once. A line of an envelope has twice as many, and spells as many.
+const BLOCK_DIGITS: usize = 40;
+
+const BLOCK_BYTES: usize = BLOCK_DIGITS / 2;
+
+/// The largest value of a digit.
+const LARGEST: u8 = 15;
+
+/// In the place of the value of a byte that is no digit; it has bits that no digit has.
+const INVALID: u8 = 255;
 
 /// The value of a digit of either case.
 fn digit_value(digit: u8) -> Option<u8>
@@ -18,6 +31,59 @@ fn digit_value(digit: u8) -> Option<u8>
 /// Decodes pairs of digits, each to a byte, and answers whether all were digits. Where one was not,
 /// the bytes mean nothing. Nothing branches on a digit, which no processor could foretell.
 fn decode_pairs(pairs: &[u8], bytes: &mut [u8]) -> bool
+    requires { length pairs.now ≡ 2 * length bytes.old }
+    ensures { unhex pairs.now ≡ (if result then Some bytes.new else None) }
+{
+    let mut is_good = true;
+    let mut done = 0;
+    while bytes.len() - done >= BLOCK_BYTES {
+        let end = done + BLOCK_BYTES;
+        is_good &= decode_block(&pairs[2 * done..2 * end], &mut bytes[done..end]);
+        done = end;
+    }
+    is_good & decode_one_by_one(&pairs[2 * done..], &mut bytes[done..])
+}
+
+/// Decodes a block of digits. It has the same length each time, so the compiler makes vectors of it.
+fn decode_block(digits: &[u8], bytes: &mut [u8]) -> bool
+    requires digits { length digits.now ≡ BLOCK_DIGITS }
+    requires bytes { length bytes.old ≡ BLOCK_BYTES }
+    ensures { unhex digits.now ≡ (if result then Some bytes.new else None) }
+{
+    let mut values = [0; BLOCK_DIGITS];
+    let is_good = digit_values(digits, &mut values);
+    join_halves(&values, bytes);
+    is_good
+}
+
+/// The values of a block of digits, and whether all were digits.
+fn digit_values(digits: &[u8], values: &mut [u8; BLOCK_DIGITS]) -> bool
+    requires { length digits.now ≡ BLOCK_DIGITS }
+    ensures values { values.new ≡ map value_or_invalid digits.now }
+    ensures good { result ≡ list_all is_hex_digit digits.now }
+{
+    let mut seen = 0;
+    for place in 0..BLOCK_DIGITS {
+        let value = digit_value(digits[place]).unwrap_or(INVALID);
+        seen |= value;
+        values[place] = value;
+    }
+    seen <= LARGEST
+}
+
+/// Joins the values of a block, each two to a byte.
+fn join_halves(values: &[u8; BLOCK_DIGITS], bytes: &mut [u8])
+    requires { length bytes.old ≡ BLOCK_BYTES }
+    ensures { (digits : List ℕ) → values.now ≡ map value_or_invalid digits
+        → list_all is_hex_digit digits ≡ true → unhex digits ≡ Some bytes.new }
+{
+    for place in 0..BLOCK_BYTES {
+        bytes[place] = values[2 * place] << 4 | values[2 * place + 1];
+    }
+}
+
+/// Decodes pairs of digits, of which there are too few for a block.
+fn decode_one_by_one(pairs: &[u8], bytes: &mut [u8]) -> bool
     requires { length pairs.now ≡ 2 * length bytes.old }
     ensures { unhex pairs.now ≡ (if result then Some bytes.new else None) }
 {

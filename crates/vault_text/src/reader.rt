@@ -16,12 +16,16 @@ use crate::fault::TextFault;
 use crate::limits::{PADDING_LIMIT, envelope_limit};
 use crate::payload::Payload;
 use crate::text_memory::TextMemory;
+use crate::writing::LINE_BYTES;
 use body::BodyReader;
 use header_line::HeaderLine;
 use std::marker::Model;
 
-/// How many bytes are decoded at once.
-const RUN_LIMIT: usize = 256;
+/// How many bytes of the inner text are decoded at once, as many as a written line spells.
+const RUN_LIMIT: usize = LINE_BYTES;
+
+/// How many bytes of a part of the inner text that many digits can complete.
+const PART_LIMIT: usize = RUN_LIMIT / 2;
 
 /// Reads an envelope that comes in pieces of any length. Faults are told at the end alone, since
 /// one that comes earlier in the order may still follow. The ciphertext lies in the memory that

@@ -13,9 +13,9 @@ use crate::label::Label;
 use crate::limits::TAG_LENGTH;
 use crate::salt::Salt;
 use crate::sink::{Sink, SinkFailed, Stage, put_all};
-use body::{first_batch, put_ciphertext};
-use header::{START_LIMIT, header_line_of};
-use lines::{INDENTATION_LIMIT, append_lines};
+use body::{first_lines, put_ciphertext, split_batch};
+use header::{START_LIMIT, append_head};
+use lines::{INDENTATION_LIMIT, Text, append_ciphertext, append_lines};
 pub(crate) use lines::{LINE_BYTES, LINE_DIGITS};
 
 /// What stands before each line of an envelope in a block.
@@ -93,6 +93,7 @@ fn block_start(name: &str) -> &[u8]
 
 /// Writes what begins a text, and the lines of an envelope behind an indentation. The header line
 /// goes out with the first lines of the body, so that a reader that leaves after it breaks nothing.
+/// One text serves all batches, to bound the stack.
 fn put_lines<K: Sink>(
     sink: &mut K,
     start: &[u8],
@@ -114,9 +115,12 @@ fn put_lines<K: Sink>(
     ensures failed { CountsFailure (K.failures sink.old) (K.failures sink.new) result }
     ensures full { IsLast (K.failures sink.old) → IsErr result }
 {
-    let mut text = header_line_of(start, indentation, label);
-    let (first, rest) = first_batch(salt, tag, cipher);
+    let mut text = Text::new();
+    append_head(&mut text, start, indentation, label);
+    let (first, rest) = first_lines(salt, tag, cipher);
     append_lines(&mut text, indentation, first.as_slice());
+    let (batch, rest) = split_batch(rest);
+    append_ciphertext(&mut text, indentation, batch);
     put_all(sink, text.as_slice())?;
-    put_ciphertext(sink, indentation, rest)
+    put_ciphertext(sink, &mut text, indentation, rest)
 }

@@ -6,7 +6,7 @@ ghost use Rattle.vault_text.specs.InnerReader.{PartHas};
 ghost use Rattle.vault_text.specs.Pieces.{TakesPiece};
 ghost use Rattle.vault_text.specs.declared.fault.TextFault.TheVariants.{BadPayload, CipherTooLong};
 
-use super::RUN_LIMIT;
+use super::{PART_LIMIT, RUN_LIMIT};
 use crate::fault::TextFault;
 use crate::hexadecimal::HexDecoder;
 use crate::text_memory::TextMemory;
@@ -51,7 +51,7 @@ impl<'a> CipherPart<'a> {
         requires { length digits.now ≤ RUN_LIMIT }
         ensures { (limit : ℕ) → TakesPiece (PartHas limit) self.old digits.now self.new }
     {
-        let mut bytes = [0; RUN_LIMIT];
+        let mut bytes = [0; PART_LIMIT];
         let count = self.decoder.decode(digits, &mut bytes);
         if count <= self.memory.room() {
             self.memory.put(&bytes[..count]);

@@ -5,7 +5,7 @@ ghost use Rattle.vault_text.specs.InnerReader.{PartHas};
 ghost use Rattle.vault_text.specs.Pieces.{TakesPiece};
 ghost use Rattle.vault_text.specs.declared.fault.TextFault.TheVariants.{BadPayload};
 
-use super::RUN_LIMIT;
+use super::{PART_LIMIT, RUN_LIMIT};
 use crate::fault::TextFault;
 use crate::hexadecimal::HexDecoder;
 use arrayvec::ArrayVec;
@@ -49,7 +49,7 @@ impl<const LIMIT: usize> ShortPart<LIMIT> {
         requires { length digits.now ≤ RUN_LIMIT }
         ensures { TakesPiece (PartHas LIMIT) self.old digits.now self.new }
     {
-        let mut bytes = [0; RUN_LIMIT];
+        let mut bytes = [0; PART_LIMIT];
         let count = self.decoder.decode(digits, &mut bytes);
         if self.bytes.try_extend_from_slice(&bytes[..count]).is_err() {
             self.is_long = true;

@@ -1,45 +1,44 @@
 //! The body of an envelope: the inner text in lines of hexadecimal digits.
-ghost use Rattle.std.specs.Prelude.{◌≡◌, ◌+◌, ◌*◌, ◌≤◌, ◌⊎◌, ◌++◌, [], ℕ, OnOk, length, take};
+ghost use Rattle.std.specs.Prelude.{◌≡◌, ◌+◌, ◌*◌, ◌%◌, ◌≤◌, ◌⊎◌, ◌++◌, [], ℕ, OnOk};
+ghost use Rattle.std.specs.Prelude.{length, take};
 ghost use Rattle.arrayvec.specs.ArrayVec.{array_vec_len};
 ghost use Rattle.hex.specs.Hex.{encode_lower};
 ghost use Rattle.vault_text.specs.Failures.{CountsFailure};
 ghost use Rattle.vault_text.specs.Written.{hexadecimal_lines, inner_text};
 
 use super::lines::{
-    BATCH_BYTES, INDENTATION_LIMIT, Text, append, append_hexadecimal, append_lines,
+    BATCH_CIPHERTEXT, FIRST_BYTES, First, INDENTATION_LIMIT, LINE_CIPHERTEXT, Text, append,
+    append_ciphertext, append_hexadecimal,
 };
 use crate::limits::TAG_LENGTH;
 use crate::salt::Salt;
 use crate::sink::{Sink, SinkFailed, Stage, put_all};
 
-/// Bytes of ciphertext whose digits fill a batch.
-const BATCH_CIPHERTEXT: usize = BATCH_BYTES / 2;
-
-/// The inner text as far as it fits into a batch, and the ciphertext that is left.
-pub(super) fn first_batch<'a>(
+/// The inner text as far as it fits into the first lines, and the ciphertext that is left.
+pub(super) fn first_lines<'a>(
     salt: &Salt,
     tag: &[u8; TAG_LENGTH],
     cipher: &'a [u8],
-) -> (Text, &'a [u8])
+) -> (First, &'a [u8])
     ensures text { result.0.items ++ encode_lower result.1.now
         ≡ inner_text salt.now tag.now cipher.now }
-    ensures batch { array_vec_len result.0 ≤ BATCH_BYTES }
-    ensures full { (array_vec_len result.0 ≡ BATCH_BYTES) ⊎ (result.1.now ≡ []) }
+    ensures few { array_vec_len result.0 ≤ FIRST_BYTES }
+    ensures full { (array_vec_len result.0 ≡ FIRST_BYTES) ⊎ (result.1.now ≡ []) }
 {
     let mut inner = salt_and_tag(salt, tag);
-    let room = (BATCH_BYTES - inner.len()) / 2;
+    let room = (FIRST_BYTES - inner.len()) / 2;
     let (front, rest) = cipher.split_at(cipher.len().min(room));
     append_hexadecimal(&mut inner, front);
     (inner, rest)
 }
 
 /// The inner text up to the digits of the ciphertext.
-fn salt_and_tag(salt: &Salt, tag: &[u8; TAG_LENGTH]) -> Text
+fn salt_and_tag(salt: &Salt, tag: &[u8; TAG_LENGTH]) -> First
     ensures text { result.items ≡ inner_text salt.now tag.now [] }
     ensures length { array_vec_len result ≡ 2 * length salt.now + 66 }
-    ensures short { array_vec_len result ≤ BATCH_BYTES }
+    ensures short { array_vec_len result ≤ FIRST_BYTES }
 {
-    let mut inner = Text::new();
+    let mut inner = First::new();
     append_hexadecimal(&mut inner, salt.as_bytes());
     append(&mut inner, b"\n");
     append_hexadecimal(&mut inner, tag);
@@ -47,9 +46,20 @@ fn salt_and_tag(salt: &Salt, tag: &[u8; TAG_LENGTH]) -> Text
     inner
 }
 
-/// Writes lines that spell the digits of the ciphertext, from the start of a line on.
+/// As much ciphertext as a batch of lines spells, and what is left.
+pub(super) fn split_batch(cipher: &[u8]) -> (&[u8], &[u8])
+    ensures parts { result.0.now ++ result.1.now ≡ cipher.now }
+    ensures batch { length result.0.now ≤ BATCH_CIPHERTEXT }
+    ensures whole { (length result.0.now % LINE_CIPHERTEXT ≡ 0) ⊎ (result.1.now ≡ []) }
+{
+    cipher.split_at(cipher.len().min(BATCH_CIPHERTEXT))
+}
+
+/// Writes lines that spell the digits of the ciphertext, from the start of a line on. What the text
+/// held is dropped.
 pub(super) fn put_ciphertext<K: Sink>(
     sink: &mut K,
+    text: &mut Text,
     indentation: &[u8],
     cipher: &[u8],
 ) -> Result<(), SinkFailed>
@@ -64,14 +74,20 @@ pub(super) fn put_ciphertext<K: Sink>(
 {
     let mut done = 0;
     while cipher.len() - done > BATCH_CIPHERTEXT {
-        put_batch(sink, indentation, &cipher[done..done + BATCH_CIPHERTEXT])?;
+        let batch = &cipher[done..done + BATCH_CIPHERTEXT];
+        put_batch(sink, text, indentation, batch)?;
         done += BATCH_CIPHERTEXT;
     }
-    put_batch(sink, indentation, &cipher[done..])
+    put_batch(sink, text, indentation, &cipher[done..])
 }
 
-/// Writes the lines of one batch of ciphertext.
-fn put_batch<K: Sink>(sink: &mut K, indentation: &[u8], cipher: &[u8]) -> Result<(), SinkFailed>
+/// Writes the lines of one batch of ciphertext, in the place of what the text held.
+fn put_batch<K: Sink>(
+    sink: &mut K,
+    text: &mut Text,
+    indentation: &[u8],
+    cipher: &[u8],
+) -> Result<(), SinkFailed>
     requires begun { K.stage sink.old ≡ Stage.Begun }
     requires narrow { length indentation.now ≤ INDENTATION_LIMIT }
     requires batch { length cipher.now ≤ BATCH_CIPHERTEXT }
@@ -82,9 +98,7 @@ fn put_batch<K: Sink>(sink: &mut K, indentation: &[u8], cipher: &[u8]) -> Result
     ensures stage { K.stage sink.new ≡ Stage.Begun }
     ensures failed { CountsFailure (K.failures sink.old) (K.failures sink.new) result }
 {
-    let mut digits = Text::new();
-    append_hexadecimal(&mut digits, cipher);
-    let mut text = Text::new();
-    append_lines(&mut text, indentation, digits.as_slice());
+    text.clear();
+    append_ciphertext(text, indentation, cipher);
     put_all(sink, text.as_slice())
 }

@@ -9,22 +9,21 @@ use crate::label::Label;
 /// What may stand before the header line.
 pub(super) const START_LIMIT: usize = 11;
 
-/// What begins a text, and the header line behind an indentation, with its end.
+/// Begins a text with its start, and the header line behind an indentation, with its end.
 #[tactic(auto, unfolding(crate::specs::Written::text_of_lines))]
-pub(super) fn header_line_of(start: &[u8], indentation: &[u8], label: &Label) -> Text
+pub(super) fn append_head(text: &mut Text, start: &[u8], indentation: &[u8], label: &Label)
+    requires empty { text.old.items ≡ [] }
     requires short { length start.now ≤ START_LIMIT }
     requires narrow { length indentation.now ≤ INDENTATION_LIMIT }
-    ensures text { result.items
+    ensures text { text.new.items
         ≡ start.now ++ text_of_lines indentation.now (written_header label.now ∷ []) }
-    ensures length { array_vec_len result ≤ HEAD_LIMIT }
-    ensures some { 0 < array_vec_len result }
+    ensures length { array_vec_len text.new ≤ HEAD_LIMIT }
+    ensures some { 0 < array_vec_len text.new }
 {
-    let mut line = Text::new();
-    append(&mut line, start);
-    append(&mut line, indentation);
-    append_header(&mut line, label.as_str());
-    append(&mut line, b"\n");
-    line
+    append(text, start);
+    append(text, indentation);
+    append_header(text, label.as_str());
+    append(text, b"\n");
 }
 
 /// Appends the header line of a label, without its end.

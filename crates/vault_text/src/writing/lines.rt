@@ -12,27 +12,44 @@ pub(crate) const LINE_DIGITS: usize = 80;
 /// Bytes that the digits of a line spell.
 pub(crate) const LINE_BYTES: usize = LINE_DIGITS / 2;
 
+/// Bytes of ciphertext whose digits a line spells.
+pub(super) const LINE_CIPHERTEXT: usize = LINE_BYTES / 2;
+
 pub(super) const INDENTATION_LIMIT: usize = 10;
 
-/// Lines that are handed to a sink at once, some 5 KiB of text.
-const BATCH_LINES: usize = 64;
+/// A line with what stands before it and its end.
+const LINE_LIMIT: usize = INDENTATION_LIMIT + LINE_DIGITS + 1;
 
-/// Bytes that a batch of lines spells.
-pub(super) const BATCH_BYTES: usize = BATCH_LINES * LINE_BYTES;
+/// Lines that have room for the longest salt, and the tag.
+const FIRST_LINES: usize = 15;
+
+/// Bytes that the first lines spell.
+pub(super) const FIRST_BYTES: usize = FIRST_LINES * LINE_BYTES;
+
+/// Lines of ciphertext that are handed to a sink at once, some 16 KiB of text.
+const BATCH_LINES: usize = 203;
+
+/// Bytes of ciphertext on the lines of a batch.
+pub(super) const BATCH_CIPHERTEXT: usize = BATCH_LINES * LINE_CIPHERTEXT;
 
 /// The longest text before the lines of a body: what begins a block, and the header line.
 pub(super) const HEAD_LIMIT: usize = 256;
 
-/// The longest text of a batch, and of what stands before the first.
-pub(super) const TEXT_LIMIT: usize = HEAD_LIMIT
-    + BATCH_LINES * (INDENTATION_LIMIT + LINE_DIGITS + 1);
+/// The longest text before the lines of a batch: the head, and the first lines of the body.
+pub(super) const OPENING_LIMIT: usize = HEAD_LIMIT + FIRST_LINES * LINE_LIMIT;
+
+/// The longest text that is handed to a sink at once.
+pub(super) const TEXT_LIMIT: usize = OPENING_LIMIT + BATCH_LINES * LINE_LIMIT;
 
 /// Text that is gathered before it is handed to a sink.
 pub(super) type Text = ArrayVec<u8, TEXT_LIMIT>;
 
+/// The inner text as far as the first lines of a body spell it.
+pub(super) type First = ArrayVec<u8, FIRST_BYTES>;
+
 /// Appends bytes for which there is room.
-pub(super) fn append(text: &mut Text, bytes: &[u8])
-    requires { array_vec_len text.old + length bytes.now ≤ TEXT_LIMIT }
+pub(super) fn append<const LIMIT: usize>(text: &mut ArrayVec<u8, LIMIT>, bytes: &[u8])
+    requires { array_vec_len text.old + length bytes.now ≤ LIMIT }
     ensures text { text.new.items ≡ text.old.items ++ bytes.now }
     ensures length { array_vec_len text.new ≡ array_vec_len text.old + length bytes.now }
 {
@@ -40,9 +57,9 @@ pub(super) fn append(text: &mut Text, bytes: &[u8])
 }
 
 /// Appends the digits of at most a line of bytes.
-fn append_digits(text: &mut Text, bytes: &[u8])
+fn append_digits<const LIMIT: usize>(text: &mut ArrayVec<u8, LIMIT>, bytes: &[u8])
     requires few { length bytes.now ≤ LINE_BYTES }
-    requires room { array_vec_len text.old + 2 * length bytes.now ≤ TEXT_LIMIT }
+    requires room { array_vec_len text.old + 2 * length bytes.now ≤ LIMIT }
     ensures text { text.new.items ≡ text.old.items ++ encode_lower bytes.now }
     ensures length { array_vec_len text.new ≡ array_vec_len text.old + 2 * length bytes.now }
 {
@@ -53,8 +70,8 @@ fn append_digits(text: &mut Text, bytes: &[u8])
 }
 
 /// Appends the digits of bytes, however many they are.
-pub(super) fn append_hexadecimal(text: &mut Text, bytes: &[u8])
-    requires { array_vec_len text.old + 2 * length bytes.now ≤ TEXT_LIMIT }
+pub(super) fn append_hexadecimal(text: &mut First, bytes: &[u8])
+    requires { array_vec_len text.old + 2 * length bytes.now ≤ FIRST_BYTES }
     ensures text { text.new.items ≡ text.old.items ++ encode_lower bytes.now }
     ensures length { array_vec_len text.new ≡ array_vec_len text.old + 2 * length bytes.now }
 {
@@ -81,18 +98,52 @@ fn append_line(text: &mut Text, indentation: &[u8], bytes: &[u8])
     append(text, b"\n");
 }
 
-/// Appends the lines that spell at most a batch of bytes, behind an indentation.
+/// Appends the first lines of a body, which spell these bytes, behind an indentation.
 pub(super) fn append_lines(text: &mut Text, indentation: &[u8], bytes: &[u8])
     requires head { array_vec_len text.old ≤ HEAD_LIMIT }
     requires narrow { length indentation.now ≤ INDENTATION_LIMIT }
-    requires batch { length bytes.now ≤ BATCH_BYTES }
-    ensures { text.new.items ≡ text.old.items ++ hexadecimal_lines indentation.now bytes.now }
+    requires few { length bytes.now ≤ FIRST_BYTES }
+    ensures text { text.new.items
+        ≡ text.old.items ++ hexadecimal_lines indentation.now bytes.now }
+    ensures length { array_vec_len text.new ≤ OPENING_LIMIT }
 {
     let mut line = 0;
     while line * LINE_BYTES < bytes.len() {
         let start = line * LINE_BYTES;
         let end = bytes.len().min(start + LINE_BYTES);
         append_line(text, indentation, &bytes[start..end]);
+        line += 1;
+    }
+}
+
+/// Appends a line that spells the digits of ciphertext.
+fn append_ciphertext_line(text: &mut Text, indentation: &[u8], cipher: &[u8])
+    requires few { length cipher.now ≤ LINE_CIPHERTEXT }
+    requires narrow { length indentation.now ≤ INDENTATION_LIMIT }
+    requires room { array_vec_len text.old + LINE_LIMIT ≤ TEXT_LIMIT }
+    ensures text { text.new.items ≡ text.old.items
+        ++ (indentation.now ++ encode_lower (encode_lower cipher.now) ++ 10 ∷ []) }
+    ensures length { array_vec_len text.new ≤ array_vec_len text.old + LINE_LIMIT }
+{
+    let mut digits = [0; LINE_BYTES];
+    let digits = &mut digits[..2 * cipher.len()];
+    let _ = hex::encode_to_slice(cipher, digits);
+    append_line(text, indentation, digits);
+}
+
+/// Appends the lines of at most a batch of ciphertext.
+pub(super) fn append_ciphertext(text: &mut Text, indentation: &[u8], cipher: &[u8])
+    requires opening { array_vec_len text.old ≤ OPENING_LIMIT }
+    requires narrow { length indentation.now ≤ INDENTATION_LIMIT }
+    requires batch { length cipher.now ≤ BATCH_CIPHERTEXT }
+    ensures { text.new.items
+        ≡ text.old.items ++ hexadecimal_lines indentation.now (encode_lower cipher.now) }
+{
+    let mut line = 0;
+    while line * LINE_CIPHERTEXT < cipher.len() {
+        let start = line * LINE_CIPHERTEXT;
+        let end = cipher.len().min(start + LINE_CIPHERTEXT);
+        append_ciphertext_line(text, indentation, &cipher[start..end]);
         line += 1;
     }
 }

@@ -19,7 +19,7 @@ loop-done-init g c = (
 pub loop-done-preserved : goal.loop-done-preserved
 loop-done-preserved g c =
     let l = c.loop-done in
-    let more = l.done + 1280 in
+    let more = l.done + 4060 in
     let cipher = c.args.cipher.now in
     let next = cipher_text-next c.args.indentation.now cipher l.done more l.invariant.0
     (omega arith) (omega arith) in (
@@ -35,7 +35,7 @@ loop-done-preserved g c =
 pub returns-in_err-put_batch-clause-prefix : goal.returns-in_err-put_batch-clause-prefix
 returns-in_err-put_batch-clause-prefix g c =
     let l = c.loop-done in
-    let more = l.done + 1280 in
+    let more = l.done + 4060 in
     let cipher = c.args.cipher.now in
     let next = cipher_text-next c.args.indentation.now cipher l.done more l.invariant.0
     (omega arith) (omega arith) in

@@ -7,7 +7,7 @@ use Rattle.vault_text.proofs.writing.body.put_ciphertext.Given as goal
 abbrev pub invariant-loop-done : goal.invariant-loop-done
 invariant-loop-done g l =
     (l.done ≤ length l.cipher)
-    × (l.done % 1280 ≡ 0)
+    × (l.done % 4060 ≡ 0)
     × g.K.Sink.takes l.fn.sink
     (hexadecimal_lines l.indentation (encode_lower (take l.done l.cipher))) l.sink
     × (g.K.Sink.stage l.sink ≡ Begun)

@@ -13,7 +13,7 @@ append_digits-requires c =
     let l = c.loop-done in
     let piece = length-take (c.min-end.result - l.done) (drop l.done c.args.bytes.now) in
     let rest = length-drop l.done c.args.bytes.now in
-    record { few = omega arith; room = omega arith }
+    (omega arith, (omega arith, omega arith))
 
 pub loop-done-preserved : goal.loop-done-preserved
 loop-done-preserved c =

@@ -1,6 +1,6 @@
-use Rattle.std.proofs.Common.{◌++◌, ◌*◌, ◌∷◌, [], take, drop, length, ◌-◌, arith, ◌∙◌, ap}
+use Rattle.std.proofs.Common.{◌++◌, ◌*◌, ◌∷◌, [], take, drop, ◌-◌, arith, ◌∙◌, ap}
 use Rattle.std.proofs.Common.{append_assoc, length-drop, length-take, List, ℕ, refl}
-use Rattle.std.proofs.lemmas.List.{append-nil, take_all}
+use Rattle.std.proofs.lemmas.List.{append-nil}
 use Rattle.hex.specs.Hex.{encode_lower}
 use Rattle.vault_text.specs.Written.{hexadecimal_lines}
 use Rattle.vault_text.proofs.BodyFacts.{encode_lower-nil, body_text-nil, body_text-next}

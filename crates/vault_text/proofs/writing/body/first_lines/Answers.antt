@@ -2,7 +2,7 @@ use Rattle.std.proofs.Common.{◌≡◌, ◌++◌, length, arith, ◌∙◌, inl
 use Rattle.std.proofs.lemmas.Bool.{cases_lt}
 use Rattle.std.proofs.lemmas.List.{drop_all, take-append-drop}
 use Rattle.vault_text.proofs.BodyFacts.{inner_text-split}
-use Rattle.vault_text.proofs.writing.body.first_batch.Goals as goal
+use Rattle.vault_text.proofs.writing.body.first_lines.Goals as goal
 
 pub returns-clause-text : goal.returns-clause-text
 returns-clause-text c =

@@ -1,0 +1,18 @@
+use Rattle.std.proofs.Common.{length, arith, inl, inr, length-take, ◌∙◌}
+use Rattle.std.proofs.lemmas.Bool.{cases_lt}
+use Rattle.std.proofs.lemmas.List.{drop_all, take-append-drop}
+use Rattle.vault_text.proofs.writing.body.split_batch.Goals as goal
+
+pub returns-clause-parts : goal.returns-clause-parts
+returns-clause-parts c =
+    rw (c.split_at.ensures.front, c.split_at.ensures.back)
+    (take-append-drop c.min.result c.args.cipher.now)
+
+pub returns-clause-whole : goal.returns-clause-whole
+returns-clause-whole c =
+    let cipher = c.args.cipher.now in
+    let front = length-take c.min.result cipher in
+    elim (cases_lt c.min.result (length cipher)) [
+      | inl some ↦ inl (rw c.split_at.ensures.front (omega arith))
+      | inr none ↦ inr (c.split_at.ensures.back ∙ drop_all c.min.result cipher none)
+    ]
