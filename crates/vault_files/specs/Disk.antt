@@ -1,5 +1,5 @@
 -- The calls of the system that files ask for.
-use Rattle.std.specs.Prelude.{ℕ, ◌+◌, List, [], ◌∷◌, Result, Ok, Err}
+use Rattle.std.specs.Prelude.{ℕ, List, [], ◌∷◌, Result, Ok, Err}
 
 pub data SystemCall : Type 0 where
   -- the file at this path is opened for reading
@@ -20,12 +20,10 @@ abbrev pub if_failed : {T E : Type 0} → Result T E → List SystemCall
 if_failed (Ok value) = []
 if_failed (Err error) = Failed ∷ []
 
--- how many calls failed
-abbrev pub failed_calls : List SystemCall → ℕ
-failed_calls [] = 0
-failed_calls (Failed ∷ calls) = failed_calls calls + 1
-failed_calls (Open path ∷ calls) = failed_calls calls
-failed_calls (Create path ∷ calls) = failed_calls calls
-failed_calls (Restrict ∷ calls) = failed_calls calls
-failed_calls (Write bytes ∷ calls) = failed_calls calls
-failed_calls (Sync ∷ calls) = failed_calls calls
+-- the calls that open these paths, in this order, each of which may fail
+pub data OpenCalls : List (List ℕ) → List SystemCall → Type 0 where
+  no_opens : OpenCalls [] []
+  opens : (path : List ℕ) (paths : List (List ℕ)) (calls : List SystemCall)
+      → OpenCalls paths calls → OpenCalls (path ∷ paths) (Open path ∷ calls)
+  fails_to_open : (path : List ℕ) (paths : List (List ℕ)) (calls : List SystemCall)
+      → OpenCalls paths calls → OpenCalls (path ∷ paths) (Open path ∷ Failed ∷ calls)

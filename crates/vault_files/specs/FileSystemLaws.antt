@@ -12,18 +12,8 @@ use Rattle.vault_files.specs.Memory.{IsAtEnd, IsReaderOf, Logs, ReaderState, Rea
 use Rattle.vault_files.specs.Memory.{StoreState, new_reader}
 use Rattle.vault_files.specs.declared.fault.FileFault.TheVariants.{CannotRead}
 
--- where any file may be met, what was read to its end is the front of one
-pub front-any : (xs : List ℕ) (n : ℕ) → length xs ≤ n → Answers (λ file. Unit {0}) n (Ok xs)
-front-any xs n fits = record { file = Whole xs; met = tt; same = ap Ok (take_all n xs fits) }
-
--- and a failure that of one that breaks
-pub break-any : (n : ℕ) → 0 < n → Answers (λ file. Unit {0}) n (Err CannotRead)
-break-any n some =
-    let test : nat_lt 0 n ≡ true = search (rules, tests) in
-    record { file = Broken []; met = tt; same = rw test refl }
-
 -- the first bytes of a file that begins with those that were given
-take-given : (bytes xs rest : List ℕ) (n : ℕ) → bytes ≡ xs ++ rest → length xs ≤ n
+pub take-given : (bytes xs rest : List ℕ) (n : ℕ) → bytes ≡ xs ++ rest → length xs ≤ n
     → (rest ≡ []) ⊎ (length xs ≡ n) → take n bytes ≡ xs
 take-given bytes xs rest n e fits (inl none) =
     rw (e, none, append-nil xs) (take_all n xs fits)

@@ -1,10 +1,10 @@
 -- The files of a program over a disk: one output, and what is asked of the disk for it.
-use Rattle.std.specs.Prelude.{◌≡◌, ℕ, ◌+◌, ◌≤◌, List, [], ◌∷◌, ◌++◌, map, take}
-use Rattle.std.specs.Prelude.{Option, Some, None}
+use Rattle.std.specs.Prelude.{◌≡◌, ℕ, ◌+◌, ◌≤◌, true, List, [], ◌∷◌, ◌++◌, take}
+use Rattle.std.specs.Prelude.{Option, Some, None, is_some}
 use Rattle.vault_text.specs.declared.sink.Stage.{Stage}
 use Rattle.vault_text.specs.declared.sink.Stage.TheVariants.{Unbegun, Begun, Finished}
-use Rattle.vault_files.specs.Disk.{SystemCall, failed_calls}
-use Rattle.vault_files.specs.Disk.SystemCall.{Open, Create, Restrict, Write, Sync, Failed}
+use Rattle.vault_files.specs.Disk.{OpenCalls, SystemCall}
+use Rattle.vault_files.specs.Disk.SystemCall.{Create, Restrict, Write, Sync, Failed}
 use Rattle.vault_files.specs.declared.access.Access.{Access}
 use Rattle.vault_files.specs.declared.access.Access.TheVariants.{Kept, OwnerOnly}
 
@@ -28,45 +28,52 @@ beginning (Some path) Kept = Create path ∷ []
 beginning (Some path) OwnerOnly = Create path ∷ Restrict ∷ []
 
 -- the calls that bring an output with this beginning from one stage to another, while it takes
--- bytes
-pub data OutputCalls (first : List SystemCall) : Stage → List SystemCall → List ℕ → Stage
+-- bytes; so often it failed: a call did, or a write took nothing
+pub data OutputCalls (first : List SystemCall) : Stage → List SystemCall → List ℕ → ℕ → Stage
     → Type 0 where
-  none : (s : Stage) → OutputCalls first s [] [] s
-  begins : (calls : List SystemCall) (bytes : List ℕ) (t : Stage)
-      → OutputCalls first Begun calls bytes t
-      → OutputCalls first Unbegun (first ++ calls) bytes t
-  writes : (some : List ℕ) (calls : List SystemCall) (bytes : List ℕ) (t : Stage)
-      → OutputCalls first Begun calls bytes t
-      → OutputCalls first Begun (Write some ∷ calls) (some ++ bytes) t
-  finishes : (calls : List SystemCall) (bytes : List ℕ) (t : Stage)
-      → OutputCalls first Finished calls bytes t
-      → OutputCalls first Begun (Sync ∷ calls) bytes t
+  none : (s : Stage) → OutputCalls first s [] [] 0 s
+  begins : (calls : List SystemCall) (bytes : List ℕ) (failed : ℕ) (t : Stage)
+      → OutputCalls first Begun calls bytes failed t
+      → OutputCalls first Unbegun (first ++ calls) bytes failed t
+  writes : (some : List ℕ) (calls : List SystemCall) (bytes : List ℕ) (failed : ℕ) (t : Stage)
+      → OutputCalls first Begun calls bytes failed t
+      → OutputCalls first Begun (Write some ∷ calls) (some ++ bytes) failed t
+  finishes : (calls : List SystemCall) (bytes : List ℕ) (failed : ℕ) (t : Stage)
+      → OutputCalls first Finished calls bytes failed t
+      → OutputCalls first Begun (Sync ∷ calls) bytes failed t
   -- at the last call of so much of the beginning
-  fails_to_begin : (n : ℕ) (calls : List SystemCall) (bytes : List ℕ) (t : Stage)
-      → OutputCalls first Unbegun calls bytes t
-      → OutputCalls first Unbegun (take n first ++ Failed ∷ calls) bytes t
-  fails_to_write : (calls : List SystemCall) (bytes : List ℕ) (t : Stage)
-      → OutputCalls first Begun calls bytes t
-      → OutputCalls first Begun (Write [] ∷ Failed ∷ calls) bytes t
-  fails_to_finish : (calls : List SystemCall) (bytes : List ℕ) (t : Stage)
-      → OutputCalls first Begun calls bytes t
-      → OutputCalls first Begun (Sync ∷ Failed ∷ calls) bytes t
+  fails_to_begin : (n : ℕ) (calls : List SystemCall) (bytes : List ℕ) (failed : ℕ) (t : Stage)
+      → OutputCalls first Unbegun calls bytes failed t
+      → OutputCalls first Unbegun (take n first ++ Failed ∷ calls) bytes (failed + 1) t
+  fails_to_write : (calls : List SystemCall) (bytes : List ℕ) (failed : ℕ) (t : Stage)
+      → OutputCalls first Begun calls bytes failed t
+      → OutputCalls first Begun (Write [] ∷ Failed ∷ calls) bytes (failed + 1) t
+  writes_nothing : (calls : List SystemCall) (bytes : List ℕ) (failed : ℕ) (t : Stage)
+      → OutputCalls first Begun calls bytes failed t
+      → OutputCalls first Begun (Write [] ∷ calls) bytes (failed + 1) t
+  fails_to_finish : (calls : List SystemCall) (bytes : List ℕ) (failed : ℕ) (t : Stage)
+      → OutputCalls first Begun calls bytes failed t
+      → OutputCalls first Begun (Sync ∷ Failed ∷ calls) bytes (failed + 1) t
 
 module _ {Disk : Type 0} (asks : Disk → List SystemCall → Disk → Type 0) where
   -- between two states the output took these bytes: the disk was asked for nothing else, each call
-  -- that failed counts, and all else stayed
+  -- that failed counts, and, where a path was chosen, nothing else does; all else stayed
   pub record HostTakes (old : HostState Disk) (bytes : List ℕ) (new : HostState Disk)
       : Type 0 where
     pub calls : List SystemCall
+    pub failed : ℕ
     pub asked : asks old.disk calls new.disk
     pub are_of_output :
-        OutputCalls (beginning old.aim old.access) old.stage calls bytes new.stage
-    pub failures : old.failures + failed_calls calls ≤ new.failures
+        OutputCalls (beginning old.aim old.access) old.stage calls bytes failed new.stage
+    pub failures : old.failures + failed ≤ new.failures
+    pub no_other_failure : is_some old.aim ≡ true → new.failures ≡ old.failures + failed
     pub aim : new.aim ≡ old.aim
     pub access : new.access ≡ old.access
 
   -- between two states the disk was asked to open these paths, in this order, and all else stayed
   pub record HostOpens (old : HostState Disk) (paths : List (List ℕ)) (new : HostState Disk)
       : Type 0 where
-    pub disk : asks old.disk (map Open paths) new.disk
+    pub calls : List SystemCall
+    pub asked : asks old.disk calls new.disk
+    pub are_opens : OpenCalls paths calls
     pub rest : new ≡ record old { disk = new.disk }

@@ -3,6 +3,8 @@ pub mod Memory
 pub mod Disk
 pub mod Host
 pub mod HostLaws
+pub mod HostReaders
 pub mod SinkLaws
 pub mod SourceLaws
 pub mod FileSystemLaws
+pub mod HostReaderLaws

@@ -11,7 +11,7 @@ use vault_text::{FailureCount, ReadSource, Sink, SinkFailed, Stage};
 
 /// The files of a disk. An output is created when it is begun; under `Access::OwnerOnly` it is
 /// then made its owner's alone, and where that fails, so does `begin`. It is synced when it is
-/// finished. What a file holds no contract says.
+/// finished. What a file holds is what the disk's reader has left.
 #[derive(Drop)]
 pub struct HostFiles<D: Disk> {
     disk: D,
@@ -55,6 +55,13 @@ impl<D: Disk> HostFiles<D> {
             stage: Stage::Unbegun,
             failures: FailureCount::new(),
         }
+    }
+
+    /// The disk.
+    pub fn disk(&self) -> &D
+        ensures { result.now ≡ self.now.disk }
+    {
+        &self.disk
     }
 }
 
@@ -152,17 +159,17 @@ impl<D: Disk> Sink for HostFiles<D> {
 
 impl<D: Disk> FileSystem for HostFiles<D> {
     ghost use Rattle.std.specs.Prelude.{◌≡◌, refl, Some};
-    ghost use Rattle.std.proofs.Common.{arith};
-    ghost use Rattle.vault_files.specs.File.Finding.{Missing};
-    ghost use Rattle.vault_files.specs.FileSystemLaws.{front-any, break-any};
     ghost use Rattle.vault_files.specs.Host.{HostOpens};
     ghost use Rattle.vault_files.specs.HostLaws.{HostOpens-none, HostOpens-more};
+    ghost use Rattle.vault_files.specs.HostReaderLaws.{HostMeets-back, HostMeets-some};
+    ghost use Rattle.vault_files.specs.HostReaderLaws.{HostOpened-back, host-break, host-front};
+    ghost use Rattle.vault_files.specs.HostReaders.{HostMeets, HostOpened};
 
     type Reader = ReadSource<D::Reader>;
 
-    ghost meets = { λ s path file. Unit {0} };
+    ghost meets = { HostMeets D.finds D.Reader.remaining };
 
-    ghost opened = { λ s path reader. Unit {0} };
+    ghost opened = { HostOpened D.finds D.Reader.remaining };
 
     ghost opens = { HostOpens D.asks };
 
@@ -176,16 +183,17 @@ impl<D: Disk> FileSystem for HostFiles<D> {
 
     ghost opens_failures = { λ s t paths opens. rw opens.rest refl };
 
-    ghost opens_meets = { λ s t paths path file opens met. met };
+    ghost opens_meets = { HostMeets-back D.finds D.Reader.remaining D.asks D.opens_find };
 
-    ghost opens_opened = { λ s t paths path reader opens opened. opened };
+    ghost opens_opened = { HostOpened-back D.finds D.Reader.remaining D.asks D.opens_find };
 
-    ghost meets_some = { λ s path. (Missing, tt) };
+    ghost meets_some = { HostMeets-some D.finds D.Reader.remaining D.finds_some };
 
-    ghost front_met = { λ s path r t xs n opened gives fits end unfailed. front-any xs n fits };
+    ghost front_met = { λ s path r t xs n opened gives fits end unfailed.
+        host-front D.finds D.Reader.remaining s path r t xs n opened gives fits end };
 
     ghost break_met = { λ s path r t xs n opened gives short risen.
-        break-any n (Prim.omega (arith, short)) };
+        host-break D.finds D.Reader.remaining s path r t xs n opened gives short };
 
     fn open(&mut self, path: &str) -> Result<ReadSource<D::Reader>, FileFault> {
         match self.disk.open(path) {

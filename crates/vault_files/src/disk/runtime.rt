@@ -10,6 +10,8 @@ const OWNER_ONLY: u32 = 0o600;
 /// The system itself. No contract sees it: that each method asks for what the trait says, and for
 /// nothing else, is taken from these lines.
 impl<R: Files> Disk for &R {
+    ghost use Rattle.std.specs.Prelude.{None};
+
     type Reader = R::File;
 
     type Writer = R::File;
@@ -19,6 +21,12 @@ impl<R: Files> Disk for &R {
     ghost asks_none = { λ s. tt };
 
     ghost asks_more = { λ s t u xs ys p q. tt };
+
+    ghost finds = { λ s path found. Unit {0} };
+
+    ghost finds_some = { λ s path. (None, tt) };
+
+    ghost opens_find = { λ s t paths calls path found opens asks finds. tt };
 
     fn open(&mut self, path: &str) -> io::Result<R::File> {
         fs::open(*self, path)

@@ -1,8 +1,10 @@
-ghost use Rattle.std.specs.Prelude.{◌≡◌, [], ◌∷◌, ◌++◌, MatchOption, OnOk, map};
+ghost use Rattle.std.specs.Prelude.{◌≡◌, [], ◌∷◌, ◌++◌, MatchOption, IsErr, OnOk, OnErr, map};
 ghost use Rattle.std.specs.Option.{option_map};
 ghost use Rattle.std.specs.String.{string_bytes};
 ghost use Rattle.vault_files.specs.File.Finding.{Missing};
-ghost use Rattle.vault_files.specs.Memory.{StoreOpens, bytes_of, file_at, new_store, stands_at};
+ghost use Rattle.vault_text.specs.Failures.{CountsFailure, IsLast};
+ghost use Rattle.vault_files.specs.Memory.{StoreOpens, StoreTakes, bytes_of, file_at};
+ghost use Rattle.vault_files.specs.Memory.{new_store, stands_at};
 
 use super::entry::MemFile;
 use super::reader::MemFileReader;
@@ -11,7 +13,7 @@ use crate::fault::FileFault;
 use crate::file_system::FileSystem;
 use std::alloc::{AllocError, Global};
 use std::marker::Model;
-use vault_text::{MemSink, Sink, SinkFailed};
+use vault_text::{MemSink, Sink, SinkFailed, Stage};
 
 /// Files in memory. Of two files under one path the first counts. What is written stands at the
 /// path that was chosen, from `begin` on, in the place of what stood there; where none was chosen
@@ -122,7 +124,15 @@ impl<'a> Sink for MemFiles<'a> {
 
     ghost failures_stay = { λ s t xs g. g.output.failures_stay };
 
-    fn begin(&mut self) -> Result<(), SinkFailed> {
+    fn begin(&mut self) -> Result<(), SinkFailed>
+        requires { self.old.output.stage ≡ Stage.Unbegun }
+        ensures takes { StoreTakes self.old [] self.new }
+        ensures begun { OnOk result (self.new.output.stage ≡ Stage.Begun) }
+        ensures unbegun { OnErr result (self.new.output.stage ≡ Stage.Unbegun) }
+        ensures failed { CountsFailure self.old.output.failures self.new.output.failures result }
+        ensures full { IsLast self.old.output.failures → IsErr result }
+        ensures only_full { OnErr result (IsLast self.old.output.failures) }
+    {
         self.output.begin()
     }
 
@@ -130,7 +140,15 @@ impl<'a> Sink for MemFiles<'a> {
         self.output.put(bytes)
     }
 
-    fn finish(&mut self) -> Result<(), SinkFailed> {
+    fn finish(&mut self) -> Result<(), SinkFailed>
+        requires { self.old.output.stage ≡ Stage.Begun }
+        ensures takes { StoreTakes self.old [] self.new }
+        ensures finished { OnOk result (self.new.output.stage ≡ Stage.Finished) }
+        ensures unfinished { OnErr result (self.new.output.stage ≡ Stage.Begun) }
+        ensures failed { CountsFailure self.old.output.failures self.new.output.failures result }
+        ensures full { IsLast self.old.output.failures → IsErr result }
+        ensures only_full { OnErr result (IsLast self.old.output.failures) }
+    {
         self.output.finish()
     }
 }

@@ -41,5 +41,6 @@ returns-in-None-created-clause-takes g c =
           let raised = c.raise.ensures.later in
           let later = rw w.self-inside-is at raised in
           rw (← c.self.view_is, w.self-inside-is)
-          (unasked g.D.Disk.asks _ _ (g.met.D.Disk.asks_none _) refl later refl)
+          (unasked g.D.Disk.asks _ _ (g.met.D.Disk.asks_none _) refl later (rw w.in-None.is refl)
+          refl)
     ]

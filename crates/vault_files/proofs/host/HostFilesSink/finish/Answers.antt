@@ -1,8 +1,8 @@
-use Rattle.std.proofs.Common.{◌≡◌, ◌∙◌, ap, refl, arith, true, false}
+use Rattle.std.proofs.Common.{◌≡◌, ◌∙◌, sym, ap, refl, arith, true, false}
 use Rattle.std.specs.Result.{is_ok}
 use Rattle.std.proofs.lemmas.Bool.{false≢true}
 use Rattle.vault_files.specs.HostLaws.{HostTakes-none}
-use Rattle.vault_files.proofs.HostFacts.{finished, unfinished, unasked, rises}
+use Rattle.vault_files.proofs.HostFacts.{finished, unfinished, rises}
 use Rattle.vault_files.proofs.HostFacts.{if_failed-ok, if_failed-err}
 use Rattle.vault_files.proofs.host.HostFilesSink.finish.Goals as goal
 use Rattle.vault_files.proofs.host.HostFilesSink.finish.Goals.{in-Some, in-None}
@@ -25,10 +25,8 @@ returns-then-not-synced-clause-takes g c =
           rw (← c.self.view_is, w.self-inside-is)
           (unfinished g.D.Disk.asks _ _ asked stage stage (rises _ _ unstopped counted) refl)
       | in-None w ↦
-          let raised = c.raise.ensures.later in
-          let later = rw w.self-inside-is at raised in
-          rw (← c.self.view_is, w.self-inside-is)
-          (unasked g.D.Disk.asks _ _ (g.met.D.Disk.asks_none _) refl later refl)
+          let never : true ≡ false = rw (stage, w.in-None.is) at c.self.invariant in
+          absurd (false≢true (sym never))
     ]
 
 pub returns-clause-takes : goal.returns-clause-takes

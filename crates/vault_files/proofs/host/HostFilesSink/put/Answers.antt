@@ -1,6 +1,8 @@
-use Rattle.std.proofs.Common.{◌≡◌, ◌∙◌, sym, ap, refl, arith, []}
+use Rattle.std.proofs.Common.{◌≡◌, ◌∙◌, sym, ap, refl, arith}
 use Rattle.vault_files.specs.HostLaws.{HostTakes-none}
-use Rattle.vault_files.proofs.HostFacts.{written, unwritten, unasked, rises}
+use Rattle.std.proofs.Common.{true, false}
+use Rattle.std.proofs.lemmas.Bool.{false≢true}
+use Rattle.vault_files.proofs.HostFacts.{written, nothing_written, unwritten, rises}
 use Rattle.vault_files.proofs.host.HostFilesSink.put.Goals as goal
 use Rattle.vault_files.proofs.host.HostFilesSink.put.Goals.{in-Some, in-None}
 use Rattle.vault_files.proofs.host.HostFilesSink.put.Goals.{in_default-via-in-Ok+else-n-gt0}
@@ -36,10 +38,11 @@ returns-in_default-clause-takes g c =
                 let none : v.in-Ok.n ≡ 0 = omega (arith, v.if-n-gt0.false) in
                 let made = sym w.written-is ∙ v.in-Ok.is in
                 let asked = rw (made, none) at call in
-                let raised = c.raise.ensures.later in
-                let later = rw w.self-inside-is at raised in
+                let raised = c.raise.ensures.risen in
+                let counted = rw w.self-inside-is at raised in
                 rw (← c.self.view_is, w.self-inside-is)
-                (written g.D.Disk.asks _ _ [] asked stage stage later refl)
+                (nothing_written g.D.Disk.asks _ _ asked stage stage (rises _ _ unstopped counted)
+                refl)
             | in_default-via-in_default v ↦
                 let made = sym w.written-is ∙ v.in_default.is in
                 let asked = rw made at call in
@@ -49,8 +52,6 @@ returns-in_default-clause-takes g c =
                 (unwritten g.D.Disk.asks _ _ asked stage stage (rises _ _ unstopped counted) refl)
           ]
       | in-None w ↦
-          let raised = c.raise.ensures.later in
-          let later = rw w.self-inside-is at raised in
-          rw (← c.self.view_is, w.self-inside-is)
-          (unasked g.D.Disk.asks _ _ (g.met.D.Disk.asks_none _) refl later refl)
+          let never : true ≡ false = rw (stage, w.in-None.is) at c.self.invariant in
+          absurd (false≢true (sym never))
     ]
