@@ -1,11 +1,11 @@
 -- What is shown of a text has no control byte but line ends.
-use Rattle.std.proofs.Common.{◌≡◌, ◌<◌, ◌/◌, ◌%◌, ◌==◌, ◌++◌, ℕ, Bool, true, false, not, List, []}
-use Rattle.std.proofs.Common.{◌∷◌, All, arith, codes, if◌then◌else◌, inl, inr, refl, slice_index}
+use Rattle.std.proofs.Common.{◌≡◌, ◌<◌, ◌/◌, ◌%◌, ℕ, Bool, true, false, not, List, []}
+use Rattle.std.proofs.Common.{◌∷◌, All, arith, codes, if◌then◌else◌, inr, refl, slice_index}
 use Rattle.std.proofs.lemmas.List.Elements.{All-append, All-cons, All-nil}
 use Rattle.std.proofs.lemmas.List.Sums.{AllPass-from_list_all}
 use Rattle.vault_request.specs.Refusal.{is_control}
 use Rattle.vault_cli.specs.Explained.{IsShown}
-use Rattle.vault_cli.specs.Shown.{digit_of, ends_control, escape, is_escaped, shown_behind}
+use Rattle.vault_cli.specs.Shown.{digit_of, escape, is_escaped, shown_behind}
 use Rattle.vault_cli.specs.Shown.{shown_between, shown_text}
 
 not-true : (b : Bool) → not b ≡ true → b ≡ false
