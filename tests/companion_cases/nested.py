@@ -16,8 +16,8 @@ def inside_and_outside(cases: Companions) -> None:
     with cases.place() as place:
         place.put("all.yml", sealed("old", INNER), 0o640)
         done = place.run(ROTATE, *to_new(place), ".")
-        told = ["./all.yml: 1 block within a plaintext rotated\n", summary(2, 0, 1, " (dev 1)")]
-        cases.ended("both", done, 0, *told)
+        reported = ["./all.yml: 1 block within a plaintext rotated\n", summary(2, 0, 1, " (dev 1)")]
+        cases.ended("both", done, 0, *reported)
         after = within(place, "all.yml", "new")
         cases.check("all around stays", without_digits(after), without_digits(INNER))
         cases.check("one is rotated, the other is not", texts(after, "new"), [TEXT, None])
