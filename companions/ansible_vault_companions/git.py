@@ -16,7 +16,7 @@ from ansible_vault_companions.program import Refused
 # What git calls files: neither links nor modules.
 FILE_MODES = {"100644", "100755"}
 RAW = ("--raw", "-z", "--no-abbrev", "--no-renames")
-# By a variable of this name git tells a hook of a commit that is merged.
+# By a variable of this name git names to a hook a commit that is merged.
 MERGED = "GITHEAD_"
 
 

@@ -72,11 +72,10 @@ def _is_whole_block(content: bytes, block: Envelope) -> bool:
 
 def decrypted(before: bytes, after: bytes) -> str | None:
     """What was encrypted in a file and is not any longer; a variable that has gone is none."""
-    if is_whole(before):
-        is_plain = bool(after.strip()) and not is_whole(after)
-        return "was a vault in the parent commit, and is none now" if is_plain else None
     if before.startswith(MAGIC):
-        return None
+        was_damaged = not is_whole(before)
+        is_encrypted = is_whole(after) or (was_damaged and after.startswith(MAGIC))
+        return None if is_encrypted or not after.strip() else "was a vault in the parent commit, and is none now"
     names = _now_plain(before, after)
     return f"has {', '.join(names)} in plaintext, encrypted in the parent commit" if names else None
 

@@ -56,12 +56,12 @@ def write(data: bytes) -> None:
         raise Refused(f"standard output cannot be written: {reason(fault)}") from None
 
 
-def say(text: str) -> None:
+def write_line(text: str) -> None:
     """Prints a line on standard output."""
     write(f"{text}\n".encode(sys.stdout.encoding, "backslashreplace"))
 
 
-def tell(text: str) -> None:
+def write_error(text: str) -> None:
     """Prints a line on standard error."""
     print(text, file=sys.stderr, flush=True)
 
@@ -85,7 +85,7 @@ def run(name: str, main: Callable[[list[str]], int]) -> None:
         stopping.end_by_signal()
     except (Refused, OSError) as fault:
         with suppress(OSError):
-            tell(f"{name}: {shown(str(fault))}")
+            write_error(f"{name}: {shown(str(fault))}")
         status = 1
     for stream in (sys.stdout, sys.stderr):
         try:

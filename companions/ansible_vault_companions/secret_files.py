@@ -21,7 +21,7 @@ class Secret(NamedTuple):
     descriptor: int | None = None
 
     def option(self, name: str = "--vault-id", label: str | None = None) -> str:
-        """The word by which the tool is told of it, under a label of its own or another."""
+        """The word that names it to the tool, under a label of its own or another."""
         return f"{name}={self.label if label is None else label}@{self.path}"
 
     def password(self) -> bytes | None:

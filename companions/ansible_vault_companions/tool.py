@@ -106,8 +106,8 @@ def _has_messages(path: str) -> bool:
 
 def _says_its_name(path: str) -> bool:
     silent = {"stdin": subprocess.DEVNULL, "stderr": subprocess.DEVNULL}
-    told = stopping.run([path, "--version"], stdout=subprocess.PIPE, **silent).stdout
-    return re.match(rb"ansible-vault \d", told) is not None
+    output = stopping.run([path, "--version"], stdout=subprocess.PIPE, **silent).stdout
+    return re.match(rb"ansible-vault \d", output) is not None
 
 
 def _folders(program: str) -> Iterator[str]:

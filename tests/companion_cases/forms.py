@@ -9,7 +9,7 @@ from companion_cases.rotating import summary, to_new
 
 LINE = sealed("old").decode().replace("\n", "\\n")
 COMMENT = b"".join(b"# " + line for line in block("old").splitlines(keepends=True))
-# What stands in a file, and the reason that is told of it.
+# What stands in a file, and the reason that is reported.
 REPORTED = {
     "quotes": (f'a: !vault "{LINE}"\n'.encode(), "in quotes or within a line"),
     "JSON": (f'{{"a": {{"__ansible_vault": "{LINE}"}}}}\n'.encode(), "encrypt the whole file"),
@@ -43,8 +43,8 @@ def several_in_a_line(cases: Companions) -> None:
             place.put(name, "{{{}}}".format(", ".join(f'"x": "{line}"' for line in order)).encode())
         place.put("c.json", f'{{"x": "{LINE}", "y": "{LINE}"}}'.encode())
         done = place.run(ROTATE, *to_new(place), ".")
-        told = summary(0, 0, 2, " (prod 2)", 4)
-        cases.ended("minified JSON", done, 1, "./a.json:1: ", "./b.json:1: ", "./c.json:1: ", told)
+        counts = summary(0, 0, 2, " (prod 2)", 4)
+        cases.ended("minified JSON", done, 1, "./a.json:1: ", "./b.json:1: ", "./c.json:1: ", counts)
 
 
 def taken_as_blocks(cases: Companions) -> None:

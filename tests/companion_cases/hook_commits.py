@@ -82,9 +82,9 @@ def cherry_picks(cases: Companions) -> None:
         place.shell("git merge -q --no-verify branch")
         done = place.run(HOOK, "--since", base)
         cases.ended("a merge", done, 1, f"{leak[:10]}: vars.yml {WHOLE}")
-        told = " ".join(place.run(HOOK, "--help").stdout.split())
+        text = " ".join(place.run(HOOK, "--help").stdout.split())
         for part in ("--no-verify", "cherry-pick", "rebase", "fast-forward"):
-            cases.holds(f"the help speaks of {part}", part in told, told)
+            cases.holds(f"the help speaks of {part}", part in text, text)
 
 
 def shallow_clones(cases: Companions) -> None:
@@ -117,7 +117,7 @@ def installed(cases: Companions) -> None:
 
 
 def other_hooks(cases: Companions) -> None:
-    """One that is there stays; the line to add to it is told."""
+    """One that is there stays; the line to add to it is reported."""
     with cases.place() as place:
         under_git(place, ATTRIBUTES)
         hook = place.tree / ".git/hooks/pre-commit"
@@ -125,8 +125,8 @@ def other_hooks(cases: Companions) -> None:
         hook.write_text("#!/bin/sh\nexit 0\n")
         hook.chmod(0o755)
         done = place.run(HOOK, "--install")
-        told = f"{hook} is there already; add this line to it: {HOOK} || exit 1\n"
-        cases.ended("a hook that is there", done, 1, told)
+        reported = f"{hook} is there already; add this line to it: {HOOK} || exit 1\n"
+        cases.ended("a hook that is there", done, 1, reported)
         cases.check("it stays", hook.read_text(), "#!/bin/sh\nexit 0\n")
         cases.check("the other is installed", (hook.parent / "pre-merge-commit").is_symlink(), True)
         hook.write_text(f"#!/bin/sh\n{HOOK} || exit 1\nexit 0\n")

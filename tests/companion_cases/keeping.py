@@ -190,9 +190,9 @@ def warnings(cases: Companions) -> None:
         late = '(sleep 0.1; echo late > "$1") 2> /dev/null > /dev/null &'
         done = edit(place, late, *place.by_file("old"), "all.yml")
         cases.ended("an editor that returns at once", done, 0, "nothing was changed", "an option to wait")
-        told = " ".join(place.run(EDIT, "--help").stdout.split())
+        text = " ".join(place.run(EDIT, "--help").stdout.split())
         for part in ("as `code --wait`", "undo and backup files", "memory may be swapped"):
-            cases.holds(f"the help says `{part}`", part in told, told)
+            cases.holds(f"the help says `{part}`", part in text, text)
 
 
 GROUPS = [replacing_fails, made_meanwhile, full_and_read_only_folders, mounted_vaults, sealing_fails]

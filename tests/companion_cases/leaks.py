@@ -44,6 +44,12 @@ def unmarked_vaults(cases: Companions) -> None:
         place.shell("git rm -q group_vars/all.yml")
         cases.silent("a removal", commit(place))
         cases.silent("and plaintext behind it", again(place, "group_vars/all.yml", TEXT))
+        place.put("old.yml", b"$ANSIBLE_VAULT;1.0;AES\n" + b"61" * 40 + b"\n")
+        place.put("cut.yml", sealed("old")[:-100])
+        cases.silent("vaults that the tool does not read", add_and_commit(place))
+        place.put("old.yml", TEXT)
+        place.put("cut.yml", TEXT)
+        refused(cases, "their plaintext", add_and_commit(place), "cut.yml", "old.yml", why=WHOLE, hint=MEANT)
 
 
 def decrypted_blocks(cases: Companions) -> None:

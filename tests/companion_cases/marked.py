@@ -58,8 +58,8 @@ def some_labels(cases: Companions) -> None:
         place.put("b.yml", sealed("prod", label="prod"))
         place.put("c.yml", block("dev", label="dev") + block("old") + block("old", label="prod", name="x"))
         dev = place.by_id("dev", "dev")
-        told = "2 opened, 0 not, 3 of other labels (default 1, prod 2)\n"
-        cases.ended("one label", place.run(CHECK, *dev, "--label", "dev", "."), 0, told)
+        reported = "2 opened, 0 not, 3 of other labels (default 1, prod 2)\n"
+        cases.ended("one label", place.run(CHECK, *dev, "--label", "dev", "."), 0, reported)
         done = place.run(CHECK, *dev, "--label", "dev", "--label", "prod", ".")
         cases.ended("two labels", done, 1, "./b.yml: prod: no secret", "2 opened, 2 not, 1 of other labels (default 1)")
         place.put("d.yml", sealed("old", label="dev"))

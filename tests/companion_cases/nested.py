@@ -16,8 +16,8 @@ def inside_and_outside(cases: Companions) -> None:
     with cases.place() as place:
         place.put("all.yml", sealed("old", INNER), 0o640)
         done = place.run(ROTATE, *to_new(place), ".")
-        told = ["./all.yml: 1 block within a plaintext rotated\n", summary(2, 0, 1, " (dev 1)")]
-        cases.ended("both", done, 0, *told)
+        reported = ["./all.yml: 1 block within a plaintext rotated\n", summary(2, 0, 1, " (dev 1)")]
+        cases.ended("both", done, 0, *reported)
         after = within(place, "all.yml", "new")
         cases.check("all around stays", without_digits(after), without_digits(INNER))
         cases.check("one is rotated, the other is not", texts(after, "new"), [TEXT, None])
@@ -50,6 +50,12 @@ def faults_within(cases: Companions) -> None:
         why = "./all.yml: in its plaintext, line 3: no secret decrypts this vault\n"
         cases.ended("a stray block", done, 1, why, summary(2, failed=1))
         cases.check("the others are rotated", texts(within(place, "all.yml", "new"), "new"), [None, TEXT])
+    with cases.place() as place:
+        place.put("all.yml", sealed("old", block("old")))
+        place.stand_before_tool('[ "$1" != encrypt ] || { echo "ERROR! out of memory" >&2; exit 4; }')
+        done = place.run(ROTATE, *to_new(place), ".")
+        cases.ended("it is not sealed", done, 1, "./all.yml: out of memory", summary(0, failed=1))
+        cases.check("the vault stays", place.get("all.yml"), sealed("old", block("old")))
     twice = sealed("old", sealed("old"))
     with cases.place() as place:
         place.put("twice.yml", twice)
