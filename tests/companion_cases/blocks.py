@@ -13,6 +13,7 @@ def lines_of(envelope: bytes, spaces: int, end: bytes = b"\n") -> bytes:
 
 BODY = lines_of(sealed("old"), 10)
 LABELLED = lines_of(sealed("old", label="default"), 2)
+DEEP = b"".join(b" " * n + b"a:\n" for n in range(30))
 # What stands in a file, and how many blocks of it are rotated.
 FILES = {
     "no last line end": (b"a: !vault |\n" + BODY, 1),
@@ -21,18 +22,27 @@ FILES = {
     "CR LF and no last line end": (b"a: !vault |\r\n" + lines_of(sealed("old"), 2, b"\r\n"), 1),
     "lists": (b"a:\n  - !vault |\n" + lines_of(sealed("old"), 4) + b"\n  - b\n  - - !vault |\n" + BODY + b"\n", 2),
     "quoted keys": (b"\"a: b\": !vault |\n" + BODY + b"\n'it''s': !vault |\n" + BODY + b"\n", 2),
-    "any depth": (b"".join(b" " * n + b"a:\n" for n in range(30)) + b" " * 30 + b"b: !vault |\n" + lines_of(sealed("old"), 31) + b"\n", 1),
-    "marks": (b"a: !vault |-\n" + BODY + b"\nb: !vault |+\n" + BODY + b"\nc: !vault |2-   # why\n" + LABELLED + b"\n", 3),
+    "any depth": (DEEP + b" " * 30 + b"b: !vault |\n" + lines_of(sealed("old"), 31) + b"\n", 1),
+    "marks": (
+        b"a: !vault |-\n" + BODY + b"\nb: !vault |+\n" + BODY + b"\nc: !vault |2-   # why\n" + LABELLED + b"\n",
+        3,
+    ),
     "the long tag": (b"a: !vault-encrypted |\n" + BODY + b"\n", 1),
     "an anchor": (b"a: &x !vault |\n" + BODY + b"\nb: !vault &y |\n" + BODY + b"\nc: *x\n", 2),
-    "a document of its own": (b"--- !vault |\n" + BODY + b"\n...\n--- !vault |\n" + lines_of(sealed("old"), 0) + b"\n", 2),
+    "a document of its own": (
+        b"--- !vault |\n" + BODY + b"\n...\n--- !vault |\n" + lines_of(sealed("old"), 0) + b"\n",
+        2,
+    ),
     "digits as keys": (b"a: !vault |\n" + BODY + b"\ndeadbeef: 1\nabcd\n", 1),
     "empty lines": (b"\n\na: !vault |\n\n\n" + BODY + b"\n\n\nb:\n\n", 1),
     "upper case": (b"a: !vault |\n" + re.sub(rb"(?m)^ +[0-9a-f]+$", lambda found: found[0].upper(), BODY) + b"\n", 1),
     "bytes of any kind": (b"\xef\xbb\xbf# \xff\x00\x85\xe2\x80\xa8\t\r\na: !vault |\n" + BODY + b"\n# \x0c \xfe", 1),
     "side by side": (b"a: !vault |\n" + BODY + b"\nb: !vault |\n" + lines_of(sealed("old"), 12) + b"\n", 2),
     "a comment like a block": (b"# $ANSIBLE_VAULT;1.1;AES256\na: !vault |\n" + BODY + b"\n#  6162\n", 1),
-    "words about vaults": (b"a: $ANSIBLE_VAULT;1.1;AES256 is a header\nb: '!vault |'\n  $ANSIBLE_VAULT;1.1;AES256\n", 0),
+    "words about vaults": (
+        b"a: $ANSIBLE_VAULT;1.1;AES256 is a header\nb: '!vault |'\n  $ANSIBLE_VAULT;1.1;AES256\n",
+        0,
+    ),
 }
 DIGITS = re.compile(rb"(?m)^( *)[0-9a-fA-F]{20,}(?=\r?$)")
 FOUND = re.compile(rb"(?m)^ *\$ANSIBLE_VAULT;1.*(?:\n *[0-9a-fA-F]+\r?$)+")
@@ -56,7 +66,8 @@ def around(cases: Companions) -> None:
         cases.ended("blocks", done, 0, summary(sum(count for _, count in FILES.values())))
         for name, (content, count) in FILES.items():
             after = place.get(name)
-            cases.check(f"{name}: all around stays", without_digits(after), without_digits(content).replace(b"1.2;AES256;default", b"1.1;AES256"))
+            around = without_digits(content).replace(b"1.2;AES256;default", b"1.1;AES256")
+            cases.check(f"{name}: all around stays", without_digits(after), around)
             cases.check(f"{name}: the blocks are rotated", texts(after, "new"), [TEXT] * count)
 
 

@@ -49,6 +49,12 @@ def where_the_plaintext_lies(cases: Companions) -> None:
             cases.check("it is gone", (place.left(), os.path.exists(paths[0])), ([], False))
 
 
+def written(place: Place) -> tuple[int, int]:
+    """What a write to the vault would change."""
+    about = (place.tree / "all.yml").stat()
+    return about.st_ino, about.st_mtime_ns
+
+
 def what_stays(cases: Companions) -> None:
     """Whatever ends an edit, the vault stays as it was, and nothing is left."""
     vault = sealed("old")
@@ -61,12 +67,12 @@ def what_stays(cases: Companions) -> None:
     }
     with cases.place() as place:
         place.put("all.yml", vault)
-        before = (place.tree / "all.yml").stat()
+        before = written(place)
         for editor, (status, part) in stops.items():
             cases.ended(editor, edit(place, editor, *place.by_file("old"), "all.yml"), status, part)
             cases.check(f"{editor}: the vault stays", place.get("all.yml"), vault)
-            after = (place.tree / "all.yml").stat()
-            cases.check(f"{editor}: it is not written", (after.st_ino, after.st_mtime_ns), (before.st_ino, before.st_mtime_ns))
+            after = written(place)
+            cases.check(f"{editor}: it is not written", after, before)
             cases.check(f"{editor}: nothing is left", (place.names(), place.left()), (["all.yml"], []))
 
 
@@ -136,7 +142,7 @@ def labels(cases: Companions) -> None:
             cases.silent(f"{words}", edit(place, f'echo {number} > "$1"', *words, "all.yml"))
             envelope = place.get("all.yml")
             cases.check("the password stays", opened("prod", envelope), f"{number}\n".encode())
-            cases.holds("the label stays", envelope.startswith(b"$ANSIBLE_VAULT;1.2;AES256;prod\n"), repr(envelope[:40]))
+            cases.check("the label stays", envelope.partition(b"\n")[0], b"$ANSIBLE_VAULT;1.2;AES256;prod")
         place.put("odd.yml", sealed("prod", label="a@b"))
         done = edit(place, CHANGE, *place.by_file("prod"), "odd.yml")
         cases.ended("a label that no option can name", done, 1, "the label a@b")
@@ -155,7 +161,8 @@ def editors(cases: Companions) -> None:
         for name, variables in calls.items():
             place.put("all.yml", sealed("old"))
             cases.silent(name, place.run(EDIT, *place.by_file("old"), "all.yml", **variables))
-            cases.check(f"{name}: the words", (place.path / "words").read_text().split("|")[:2], ["--wait", "two words"])
+            words = (place.path / "words").read_text().split("|")
+            cases.check(f"{name}: the words", words[:2], ["--wait", "two words"])
             cases.check(f"{name}: the text", opened("old", place.get("all.yml")), CHANGED)
 
 
@@ -218,7 +225,9 @@ def changed_meanwhile(cases: Companions) -> None:
 def command_line(cases: Companions) -> None:
     with cases.place() as place:
         secret = place.by_file("old")
-        for words in ([], ["all.yml"], secret, [*secret, "a", "b"], [*secret, "--loud", "a"], [*secret, "--vault-i", "x", "a"]):
+        lines = [[], ["all.yml"], secret, [*secret, "a", "b"], [*secret, "--loud", "a"]]
+        lines.append([*secret, "--vault-i", "x", "a"])
+        for words in lines:
             cases.ended(f"{words}", place.run(EDIT, *words), 2, "usage: ansible-vault-edit")
 
 

@@ -101,7 +101,8 @@ def awkward_names(cases: Companions) -> None:
         done = add_and_commit(place)
         lines = done.stderr.splitlines()
         cases.check("each is refused", (done.returncode, len(lines)), (1, len(AWKWARD)))
-        cases.holds("a line end is spelled out", any("'secrets/a\\nline.yml' is not" in line for line in lines), done.stderr)
+        is_spelled = any("'secrets/a\\nline.yml' is not" in line for line in lines)
+        cases.holds("a line end is spelled out", is_spelled, done.stderr)
         for name in AWKWARD:
             place.put(f"secrets/{name}", sealed("old"))
         cases.silent("each is let through", add_and_commit(place))

@@ -105,7 +105,8 @@ def failures(cases: Companions) -> None:
             done = place.run(ROTATE, *to_new(place), ".")
             cases.ended(name, done, 1, f"./{name}", part, summary(2, failed=1))
             cases.check(f"{name} stays", place.get(name), content)
-            cases.check("the others are done", [opened("new", place.get(each)) for each in ("a.yml", "z.yml")], [TEXT] * 2)
+            others = [opened("new", place.get(each)) for each in ("a.yml", "z.yml")]
+            cases.check("the others are done", others, [TEXT] * 2)
             cases.check("no other file is left", place.names(), sorted(["a.yml", name, "z.yml"]))
 
 

@@ -63,7 +63,8 @@ def other_tools(cases: Companions) -> None:
     with cases.place() as place:
         place.put("a.yml", sealed("old"))
         (place.tools / "ansible-vault").unlink()
-        place.script('[ "$1" = --version ] && echo "ansible-vault [core 2.14.18]"; echo run >> ../runs', "tools/ansible-vault")
+        theirs = '[ "$1" = --version ] && echo "ansible-vault [core 2.14.18]"; echo run >> ../runs'
+        place.script(theirs, "tools/ansible-vault")
         done = place.run(CHECK, *place.by_file("old"), ".")
         cases.ended("Ansible's tool", done, 1, "is another tool of this name")
         cases.check("is asked its version alone", (place.path / "runs").read_text(), "run\n")
@@ -82,7 +83,8 @@ def other_tools(cases: Companions) -> None:
         (place.path / "interpreter" / "ansible-vault").unlink()
         (place.tools / "ansible-vault").symlink_to(place.program)
         place.environment["PATH"] = str(place.path / "interpreter")
-        cases.ended("the one beside, through a link", place.run(str(linked), *place.by_file("old"), "."), 0, "opened by")
+        done = place.run(str(linked), *place.by_file("old"), ".")
+        cases.ended("the one beside, through a link", done, 0, "opened by")
 
 
 GROUPS = [words_and_environment, written_files, other_tools]

@@ -142,7 +142,8 @@ def stubborn_programs(cases: Companions) -> None:
     """Another signal ends what does not end by the first. Two may come as one, so there are more."""
     with cases.place() as place:
         tree(place)
-        place.environment["EDITOR"] = place.script(f"trap '' TERM; echo $$ > ../started; exec sleep {2 * SECONDS}", "editor")
+        stubborn = f"trap '' TERM; echo $$ > ../started; exec sleep {2 * SECONDS}"
+        place.environment["EDITOR"] = place.script(stubborn, "editor")
         begun = time.monotonic()
         words = [EDIT, *place.by_file("old"), "a.yml"]
         streams = {"stdin": subprocess.DEVNULL, "stdout": subprocess.DEVNULL, "stderr": subprocess.DEVNULL}

@@ -31,8 +31,8 @@ def alone(cases: Companions) -> None:
             done = place.run("sh", "-c", '"$@" > ../shown', "sh", *command, "file")
             cases.silent(name, done)
             found = (place.path / "shown").read_bytes()
-            spaces = b" " * 10
-            lines = around + b"secret: !vault |\n" + spaces + b"one\nx: !vault |\n" + spaces + b"two\n" + spaces + b"three\nend"
+            text = b"secret: !vault |\n{}one\nx: !vault |\n{}two\n{}three\nend"
+            lines = around + text.replace(b"{}", b" " * 10)
             cases.check(f"{name}: what is shown", found, lines if wanted is None else wanted)
 
 

@@ -21,7 +21,8 @@ def awkward_names(cases: Companions) -> None:
         count = 2 * len(AWKWARD) + 1
         done = place.run(ROTATE, *to_new(place), ".")
         cases.ended("awkward names", done, 0, summary(count), "'./a\\nline.yml': rotated\n", "./-rf.yml: rotated\n")
-        wrong = [name for name, content in place.files().items() if content[:1] == b"$" and opened("new", content) != TEXT]
+        vaults = {name: content for name, content in place.files().items() if content[:1] == b"$"}
+        wrong = [name for name, content in vaults.items() if opened("new", content) != TEXT]
         cases.check("all are under the new secret", wrong, [])
         cases.check("and nothing else is there", len(place.files()), count)
         back = [*place.by_file("new"), *place.by_file("old", "new-")]
@@ -77,7 +78,8 @@ def what_is_looked_at(cases: Companions) -> None:
     with cases.place() as place:
         for name in ("vault", ".hidden/vault.yml", "group_vars/all", "host_vars/www.example.org", "notes.md"):
             place.put(name, sealed("old"))
-        for name in ("vars.yaml", "host_vars/db.example.org", "a.json", "b.YML", "prose.md", "prose.RST", ".github/x.yml"):
+        names = ["vars.yaml", "host_vars/db.example.org", "a.json", "b.YML", "prose.md", "prose.RST", ".github/x.yml"]
+        for name in names:
             place.put(name, block("old"))
         for name in (".git/config", "sub/.git/vault.yml"):
             place.put(name, sealed("old"))
