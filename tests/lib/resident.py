@@ -12,6 +12,8 @@ import time
 from pathlib import Path
 from typing import NamedTuple
 
+from lib.limits import SECONDS
+
 PIPE_SIZE = 4096
 PIECE = 1 << 16
 # Between two looks at a run, in seconds.
@@ -44,7 +46,10 @@ def peak(process: int) -> int:
 
 def wait_for_sleep(process: int) -> None:
     """Until it waits for the full pipe, or has ended."""
+    end = time.monotonic() + SECONDS
     while told(process, "State")[:1] not in "SZ":
+        if time.monotonic() > end:
+            raise TimeoutError(f"process {process} does not wait")
         time.sleep(PAUSE)
 
 
