@@ -108,8 +108,8 @@ fn keeps_the_status_where_the_writer_of_the_message_fails(rt: HostRuntime) -> Re
     Ok(())
 }
 
-// The error sink fails at `begin`, at a byte and at `finish`, or, with many calls, not at all. Where
-// it failed it is not asked again.
+// The error sink fails at `begin`, at a byte and at `finish`, or, with many calls, not at all.
+// Where it failed it is not asked again.
 #[test]
 fn keeps_the_status_where_the_message_fails(rt: HostRuntime) -> Result<(), Fail> {
     let alloc = rt.alloc();

@@ -8,7 +8,8 @@ ghost use Rattle.vault_text.specs.Hexadecimal.{value_or_invalid};
 
 use std::marker::Model;
 
-/// How many digits are decoded at once. A line of an envelope has twice as many, and spells as many.
+/// How many digits are decoded at once. A line of an envelope has twice as many digits, which spell
+/// as many of the inner text.
 const BLOCK_DIGITS: usize = 40;
 
 const BLOCK_BYTES: usize = BLOCK_DIGITS / 2;
@@ -44,7 +45,8 @@ fn decode_pairs(pairs: &[u8], bytes: &mut [u8]) -> bool
     is_good & decode_one_by_one(&pairs[2 * done..], &mut bytes[done..])
 }
 
-/// Decodes a block of digits. It has the same length each time, so the compiler makes vectors of it.
+/// Decodes a block of digits, which always has the same length, so that the compiler can use vector
+/// instructions.
 fn decode_block(digits: &[u8], bytes: &mut [u8]) -> bool
     requires digits { length digits.now ≡ BLOCK_DIGITS }
     requires bytes { length bytes.old ≡ BLOCK_BYTES }

@@ -2,8 +2,8 @@
 use crate::reading::{FILLED, HEADER, WORK_LENGTH, read_in_pieces, text_of, work_memory};
 use std::test::Fail;
 
-/// The body that Python's `hashlib` and `hmac` and the command `openssl` made of no plaintext, under
-/// the password `one` and a salt of 32 zero bytes.
+/// The body that Python's `hashlib` and `hmac` and the command `openssl` made of no plaintext,
+/// under the password `one` and a salt of 32 zero bytes.
 const SEALED: [&str; 5] = [
     "30303030303030303030303030303030303030303030303030303030303030303030303030303030",
     "3030303030303030303030303030303030303030303030300a646261356632616236383736383333",

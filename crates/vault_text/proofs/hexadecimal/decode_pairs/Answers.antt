@@ -1,4 +1,5 @@
-use Rattle.std.proofs.Common.{◌≡◌, ◌+◌, ◌-◌, ◌*◌, ◌≤◌, ℕ, [], length, arith, length-drop, length-take}
+use Rattle.std.proofs.Common.{◌≡◌, ◌+◌, ◌-◌, ◌*◌, ◌≤◌, ℕ, [], length, arith}
+use Rattle.std.proofs.Common.{length-drop, length-take}
 use Rattle.std.proofs.lemmas.List.{take_all}
 use Rattle.vault_text.proofs.DigitBlockFacts.{length-part_written, pieces_next}
 use Rattle.vault_text.proofs.HexadecimalFacts.{unhex-spelled_bytes}

@@ -19,7 +19,8 @@ loop-i-init g c =
     search (rules, ap length c.requires.empty) in (
       none,
       rw c.requires.empty
-          (GivesFront-none (g.F.FileSystem.meets c.args.files.now) (secret_paths c.args.request.now)),
+          (GivesFront-none (g.F.FileSystem.meets c.args.files.now)
+          (secret_paths c.args.request.now)),
       g.met.F.FileSystem.opens_none c.args.files.now,
       c.requires.unbegun,
       omega (arith, c.requires.buffers),
@@ -97,7 +98,8 @@ loop-i-preserved g c =
           one_more),
       subst (λ (ps : List (List ℕ)). g.F.FileSystem.opens c.args.files.now ps c.front_of.new.files)
           (sym next) went,
-      g.met.F.FileSystem.opens_stage c.args.files.now c.front_of.new.files _ went ∙ c.requires.unbegun,
+      g.met.F.FileSystem.opens_stage c.args.files.now c.front_of.new.files _ went
+          ∙ c.requires.unbegun,
       omega (arith, one, c.loop-i.invariant.4),
       left-long c.loop-i.unread c.pop.new.self c.pop.result c.unwrap-buf.result c.unwrap-buf.ensures
           c.loop-i.invariant.5 c.pop.ensures.rest,
