@@ -25,7 +25,8 @@ returns-clause-answered c = λ parses.
           (memory_sink c.args.out.now c.drive.new.out) (memory_sink c.args.err.now c.drive.new.err)
           c.drive.result
           (file_at c.args.files.now.entries) opened asks met all_met driven in
-          let (log, same, logged) = log-behind c.args.files.now opened (opened_of asks found) went in
+          let (log, same, logged) = log-behind c.args.files.now opened (opened_of asks found)
+          went in
           embeds c.drive.result c.args.files.now c.drive.new.files log c.args.out.now
           c.drive.new.out c.args.err.now c.drive.new.err c.requires.files_unbegun
           c.requires.files_empty (access_of asks)
@@ -46,7 +47,8 @@ returns-clause-taken c = λ parses fits.
           (memory_sink c.args.out.now c.drive.new.out) (memory_sink c.args.err.now c.drive.new.err)
           c.drive.result
           (file_at c.args.files.now.entries) opened asks met all_met driven in
-          let (log, same, logged) = log-behind c.args.files.now opened (opened_of asks found) went in
+          let (log, same, logged) = log-behind c.args.files.now opened (opened_of asks found)
+          went in
           taken c.drive.result c.args.files.now c.drive.new.files log c.args.out.now
           c.drive.new.out c.args.err.now c.drive.new.err c.requires.files_unbegun
           c.requires.files_empty (access_of asks)
@@ -66,7 +68,8 @@ returns-clause-opened c = λ parses fits.
           (memory_sink c.args.out.now c.drive.new.out) (memory_sink c.args.err.now c.drive.new.err)
           c.drive.result
           (file_at c.args.files.now.entries) opened asks met all_met driven in
-          let (log, same, logged) = log-behind c.args.files.now opened (opened_of asks found) went in
+          let (log, same, logged) = log-behind c.args.files.now opened (opened_of asks found)
+          went in
           let stays = log-kept c.drive.result c.args.files.now c.drive.new.files log c.args.out.now
           c.drive.new.out c.args.err.now c.drive.new.err c.requires.files_unbegun
           c.requires.files_empty (access_of asks) (output_path asks) c.args.src.now c.drive.new.src
