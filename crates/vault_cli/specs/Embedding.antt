@@ -1,6 +1,6 @@
 -- How the program ends over files, an input and sinks in memory: what each holds afterwards.
 use Rattle.std.specs.Prelude.{◌≡◌, ◌⊎◌, ℕ, ◌+◌, if◌then◌else◌, List, [], ◌∷◌, ◌++◌, take, drop}
-use Rattle.std.specs.Prelude.{Option, Some, None}
+use Rattle.std.specs.Prelude.{Option, Some, None, IfSome}
 use Rattle.vault_text.specs.Failures.{HasRisen}
 use Rattle.vault_text.specs.Sink.{MemSinkState}
 use Rattle.vault_text.specs.Source as source
@@ -66,10 +66,16 @@ module _ (result : Status) (files : Change StoreState) (out err : Change MemSink
   abbrev pub IsKept : Type 0
   IsKept = Stands (file_at files.old.entries)
 
+  -- the file at the path of an output was finished, where there is one of both
+  abbrev pub IsFinished : Option (List ℕ) → Option (List ℕ) → Type 0
+  IsFinished aim output =
+      IfSome aim (λ _. IfSome output (λ _. files.new.output.stage ≡ Finished))
+
   -- it ended with the answer, whose output goes to a path or to standard output
   pub record EndsAs (aim : Option (List ℕ)) (answer : Outcome) : Type 0 where
     pub status : result ≡ answer.status
     pub stands : Stands (stands_after (file_at files.old.entries) aim answer.output)
+    pub finished : IsFinished aim answer.output
     pub output : Received aim answer.output out
     pub line : Told err answer.line
 

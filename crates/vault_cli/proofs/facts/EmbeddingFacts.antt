@@ -1,7 +1,7 @@
 -- How the program ends over files, an input and sinks in memory, from how it drives any.
-use Rattle.std.proofs.Common.{◌≡◌, ◌⊎◌, ◌≤◌, ℕ, ◌+◌, ◌-◌, ◌^◌, inl, inr, List, [], ◌∷◌, ◌++◌, length}
-use Rattle.std.proofs.Common.{take, drop, true, false, Option, Some, None, IsTrue, arith, refl, sym, ap}
-use Rattle.std.proofs.Common.{subst, ◌∙◌}
+use Rattle.std.proofs.Common.{◌≡◌, ◌⊎◌, ◌≤◌, ℕ, ◌+◌, ◌-◌, ◌^◌, inl, inr, List, [], ◌∷◌, ◌++◌}
+use Rattle.std.proofs.Common.{length, take, drop, true, false, Option, Some, None, IsTrue, arith}
+use Rattle.std.proofs.Common.{refl, sym, ap, subst, ◌∙◌}
 use Rattle.std.specs.Prelude.{min}
 use Rattle.std.proofs.lemmas.Bool.{false≢true}
 use Rattle.std.proofs.lemmas.Bool.Decides.{eqb_tells}
@@ -17,8 +17,8 @@ use Rattle.vault_files.specs.Memory.{StoreTakes, file_at, stands_at}
 use Rattle.vault_files.specs.declared.access.Access.{Access}
 use Rattle.vault_common.specs.declared.fault.Fault.TheVariants.{Memory, Write}
 use Rattle.vault_cli.specs.Call.{SinkCall, SourceCall, StoreCall}
-use Rattle.vault_cli.specs.Embedding.{Embeds, HoldsPrefix, Holds, IsCut, IsKept, Received, Stands}
-use Rattle.vault_cli.specs.Embedding.{Taken, Told, change, stands_after}
+use Rattle.vault_cli.specs.Embedding.{Embeds, HoldsPrefix, Holds, IsCut, IsFinished, IsKept}
+use Rattle.vault_cli.specs.Embedding.{Received, Stands, Taken, Told, change, stands_after}
 use Rattle.vault_cli.specs.runs.Ending.{Ends, Finishes, LacksMemory, Output, Receives}
 use Rattle.vault_cli.specs.runs.Ending.{to_path, to_sink}
 use Rattle.vault_cli.specs.runs.ReportLine.{line_of}
@@ -174,6 +174,13 @@ module _ (result : Status) (files new_files : StoreState) (log : Option (List (L
       (kept path untouched, received-none path (left-alone path untouched))
   written path (Some bytes) (took, finished) = wrote path bytes took finished
 
+  finishes : (path output : Option (List ℕ)) → Receives (OutputAt path) output
+      → IsFinished result (change files new_files) (change out new_out) (change err new_err) path
+      output
+  finishes None output received = tt
+  finishes (Some aim) None received = tt
+  finishes (Some aim) (Some bytes) (took, finished) = finished
+
   -- so is a prefix of it, where the output failed
   cut-at : (aim bytes : List ℕ) (n : ℕ) (stage : Stage) → new_files.output.stage ≡ stage
       → StoreTakes (record opened { aim = Some aim }) (take n bytes) new_files
@@ -231,6 +238,7 @@ module _ (result : Status) (files new_files : StoreState) (log : Option (List (L
         inl (record {
           status = done.status;
           stands = stands;
+          finished = finishes path answer.output done.output;
           output = received;
           line = told err new_err
               answer.line done.line;
