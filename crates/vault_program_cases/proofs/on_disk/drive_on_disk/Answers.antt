@@ -1,0 +1,22 @@
+use Rattle.std.proofs.Common.{inl, inr, map}
+use Rattle.std.specs.String.{string_bytes}
+use Rattle.vault_request.specs.Settled.{asked_by}
+use Rattle.vault_cli.specs.Opened.{opened_of}
+use Rattle.vault_cli.specs.Program.{access_of, answer_to, output_path, stdin_asked}
+use Rattle.vault_program_cases.proofs.OnDiskFacts.{all-on, leaves}
+use Rattle.vault_program_cases.proofs.on_disk.drive_on_disk.Goals as goal
+
+pub returns : goal.returns
+returns c = λ parses fits ok.
+    let asks = asked_by (map string_bytes c.args.words.now) in
+    elim (c.drive.ensures.answered parses) [
+      | inl (same, unread, memory) ↦ absurd (fits memory.status)
+      | inr (found, met, (opened, (went, ends))) ↦ (
+        found,
+        all-on c.args.files.now asks found met,
+        leaves c.args.files.now c.drive.new.files c.args.src.now c.drive.new.src c.args.out.now
+            c.drive.new.out c.args.err.now c.drive.new.err c.drive.result ok
+            c.requires.files_unbegun (access_of asks) (opened_of asks found) opened went
+            (output_path asks) (stdin_asked asks found) (answer_to asks found) ends,
+      )
+    ]

@@ -1,0 +1,49 @@
+-- What a disk in memory is asked for in two calls, one after the other.
+use Rattle.std.specs.Prelude.{◌≡◌, ℕ, true, false, if◌then◌else◌, List, [], ◌∷◌, ◌++◌, Option, refl}
+use Rattle.std.specs.Option.{option_map}
+use Rattle.std.specs.Str.{bytes_eq}
+use Rattle.std.proofs.Common.{Some, Bool, ap, sym, ◌∙◌}
+use Rattle.vault_files.specs.Disk.{OpenCalls, SystemCall}
+use Rattle.vault_files.specs.Disk.SystemCall.{Open, Create, Restrict, Write, Sync, Failed}
+use Rattle.vault_program_cases.specs.Disk.{DiskAsks, DiskFinds, DiskState, after, bytes_at}
+
+pub after-append : (xs ys : List SystemCall) (s : DiskState)
+    → after (xs ++ ys) s ≡ after ys (after xs s)
+after-append [] ys s = refl
+after-append (Create path ∷ xs) ys s =
+    after-append xs ys (if bytes_eq s.output path then record s { written = Some [] } else s)
+after-append (Write bytes ∷ xs) ys s =
+    after-append xs ys (record s { written = option_map (λ held. held ++ bytes) s.written })
+after-append (Open path ∷ xs) ys s = after-append xs ys s
+after-append (Restrict ∷ xs) ys s = after-append xs ys s
+after-append (Sync ∷ xs) ys s = after-append xs ys s
+after-append (Failed ∷ xs) ys s = after-append xs ys s
+
+pub DiskAsks-more : (s t u : DiskState) (xs ys : List SystemCall)
+    → DiskAsks s xs t → DiskAsks t ys u → DiskAsks s (xs ++ ys) u
+DiskAsks-more s t u xs ys p q = q ∙ ap (after ys) p ∙ sym (after-append xs ys s)
+
+-- creating a file leaves the others
+created-stay : (b : Bool) (s : DiskState)
+    → (if b then record s { written = Some [] } else s).files ≡ s.files
+created-stay true s = refl
+created-stay false s = refl
+
+files-stay : (calls : List SystemCall) (s : DiskState) → (after calls s).files ≡ s.files
+files-stay [] s = refl
+files-stay (Create path ∷ calls) s =
+    files-stay calls (if bytes_eq s.output path then record s { written = Some [] } else s)
+    ∙ created-stay (bytes_eq s.output path) s
+files-stay (Write bytes ∷ calls) s =
+    files-stay calls (record s { written = option_map (λ held. held ++ bytes) s.written })
+files-stay (Open path ∷ calls) s = files-stay calls s
+files-stay (Restrict ∷ calls) s = files-stay calls s
+files-stay (Sync ∷ calls) s = files-stay calls s
+files-stay (Failed ∷ calls) s = files-stay calls s
+
+pub DiskFinds-back : (s t : DiskState) (paths : List (List ℕ)) (calls : List SystemCall)
+    (path : List ℕ) (found : Option (List ℕ))
+    → OpenCalls paths calls → DiskAsks s calls t → DiskFinds t path found → DiskFinds s path found
+DiskFinds-back s t paths calls path found opened asked is =
+    is ∙ ap (λ (u : DiskState). bytes_at u.files path) asked
+    ∙ ap (λ files. bytes_at files path) (files-stay calls s)

@@ -1,0 +1,3 @@
+pub mod Disk
+pub mod DiskLaws
+pub mod OnDisk
