@@ -46,6 +46,8 @@ def test_five_minutes(outcome: Outcome, program: str, tmp_path: pathlib.Path) ->
     folder.mkdir()
     tools.mkdir()
     (tools / "ansible-vault").symlink_to(program)
-    for command, wanted in session(README.read_text()):
+    commands = session(README.read_text())
+    outcome.holds("the README has a first session", len(commands) > 0)
+    for command, wanted in commands:
         found = run(command, folder, tools)
         outcome.holds(command, agrees(found, wanted), f"printed {found!r}")
