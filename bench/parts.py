@@ -1,7 +1,8 @@
 #!/usr/bin/env -S python3 -B
 """Says where the time of `view` and `encrypt` goes, by the programs of the other benchmarks.
 
-Usage: parts.py PROGRAM. All is processor time, taken in turn in one run; of several rounds the median counts.
+Usage: parts.py PROGRAM. All is processor time, taken in turn in one run; of several rounds the least counts,
+since what else a machine does slows each part by another share.
 Beside a part stands the least that it could take: the compressions of `sha2` alone, or a copy of the envelope.
 The kernel's part is the whole program's; the rest is its start, its arguments, line ends and what is not
 measured alone.
@@ -14,14 +15,14 @@ import sys
 import tempfile
 import time
 from pathlib import Path
-from statistics import mean, median
+from statistics import mean
 from typing import NamedTuple
 
 sys.path.insert(0, str(Path(__file__).resolve().parent.parent / "tests"))
 
 from model.vaults import seal
 
-ROUNDS = 7
+ROUNDS = 9
 KIB, MIB = 1 << 10, 1 << 20
 SIZES = {"1 KiB": KIB, "1 MiB": MIB, "16 MiB": 16 * MIB}
 PASSWORD = b"a password"
@@ -135,7 +136,7 @@ class Parts:
                 kernel.setdefault(name, []).append(used.kernel)
         # The system tells the kernel's time by its ticks: only the mean of several runs says something.
         shares = {name: mean(times) / mean(taken[name]) for name, times in kernel.items()}
-        return {name: median(times) for name, times in taken.items()}, shares
+        return {name: min(times) for name, times in taken.items()}, shares
 
 
 def print_run(command: str, name: str, taken: dict[str, float], kernel: float) -> None:
@@ -163,7 +164,7 @@ def print_run(command: str, name: str, taken: dict[str, float], kernel: float) -
 def main() -> None:
     with tempfile.TemporaryDirectory() as folder:
         taken, kernel = Parts(os.path.abspath(sys.argv[1]), Path(folder)).measure()
-    print(f"parts of the processor time, medians of {ROUNDS} rounds, and the least that a part could take:")
+    print(f"parts of the processor time, the least of {ROUNDS} rounds, and the least that a part could take:")
     for command in ("view", "encrypt"):
         for name in SIZES:
             print_run(command, name, taken, kernel[f"{command} {name}"])
