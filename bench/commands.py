@@ -1,10 +1,12 @@
 #!/usr/bin/env -S python3 -B
 """Times the commands of the built program beside Ansible's own tool, the two taking turns.
 
-Usage: commands.py PROGRAM [--runs N] [--chart FILE.svg]. Of all runs of a tool the
-least time counts. A ratio stands only where wall and processor time of both tools agree. The vaults are
-made by the tests' own Python; Ansible's tool is found as `tests/lib/ansible.py` says. The chart shows
-time and memory of `view` against the size of the vault.
+Usage: commands.py PROGRAM [--runs N] [--time clock|processor] [--chart FILE.svg]. Of the runs of a tool, five
+or more, the median counts, and beside it stand the least and the most. A ratio is that of the medians, and
+beside it stand those of single turns. It is of processor time, on which other work on the machine tells
+least; of the clock it stands only where clock and processor agree. The vaults are made by the tests' own
+Python; Ansible's tool is found as `tests/lib/ansible.py` says. The last lines are the table of README.md.
+The chart shows time and memory of `view` against the size of the vault.
 """
 
 import argparse
@@ -21,11 +23,12 @@ TESTS = HERE.parent / "tests"
 sys.path.insert(0, str(TESTS))
 
 from lib.ansible import ansible_vault
-from measured import Times, Work, taken_in_turn
+from measured import CLOCK, PROCESSOR, Spread, Times, Work, spread, taken_in_turn
 from model.vaults import seal
 
 SIZES = {"1 KiB": 1 << 10, "64 KiB": 1 << 16, "1 MiB": 1 << 20, "16 MiB": 1 << 24}
 CHART_SIZES = {"4 KiB": 1 << 12, "16 KiB": 1 << 14, "256 KiB": 1 << 18, "4 MiB": 1 << 22}
+# The default, and the fewest whose median is shown.
 RUNS = 5
 RIGHT = b"the right password"
 OURS, THEIRS = "ours", "theirs"
@@ -37,6 +40,14 @@ GOALS = {
     "encrypt, 1 MiB": 8,
     "rekey, 1 KiB": 13,
 }
+# The rows of the table in README.md, as they are called there.
+README = {
+    "view, 1 KiB": "`view`, 1 KiB",
+    "view, 1 MiB": "`view`, 1 MiB",
+    "view, 16 MiB": "`view`, 16 MiB",
+    "encrypt, 1 MiB": "`encrypt`, 1 MiB",
+}
+TIMES = {CLOCK: "the clock", PROCESSOR: "processor time"}
 
 
 class Row(NamedTuple):
@@ -111,22 +122,44 @@ def plaintext(size: int) -> bytes:
     return ((b"secret: value %d\n" % size) * (size // 16 + 1))[:size]
 
 
-def line_of(name: str, times: dict[str, Times]) -> str:
+def ratio_of(times: dict[str, Times], kind: str) -> Spread:
+    """How many times faster ours is: by the medians, and in single turns."""
+    ours, theirs = times[OURS].of(kind), times[THEIRS].of(kind)
+    turns = spread([their / our for our, their in zip(ours, theirs)])
+    return turns._replace(median=spread(theirs).median / spread(ours).median)
+
+
+def is_told(times: dict[str, Times], kind: str) -> bool:
+    """Whether there is a ratio, and it says something."""
+    return THEIRS in times and (kind == PROCESSOR or all(took.is_steady for took in times.values()))
+
+
+def line_of(name: str, times: dict[str, Times], kind: str) -> str:
     line = f"{name:36}"
     for tool in (OURS, THEIRS):
         if tool in times:
             took = times[tool]
-            line += f" {took.wall:9.1f} {took.processor:9.1f} {took.memory:7.1f}"
+            line += f" {spread(took.clock)!s:>24} {spread(took.processor)!s:>24} {took.memory:7.1f}"
     if THEIRS in times:
-        steady = all(took.is_steady for took in times.values())
-        line += f" {times[THEIRS].wall / times[OURS].wall:7.1f}" if steady else "    none: wall and processor time differ"
+        line += f" {ratio_of(times, kind)!s:>20}" if is_told(times, kind) else "   none: clock and processor differ"
         line += f"  (goal: {GOALS[name]})" if name in GOALS else ""
     return line
 
 
-def heading(with_theirs: bool) -> str:
-    columns = f" {'wall ms':>9} {'cpu ms':>9} {'MiB':>7}"
-    return f"{'':36}{columns}" + (f"{columns} {'ratio':>7}" if with_theirs else "") + "   (ours, then theirs)" * with_theirs
+def heading(with_theirs: bool, kind: str) -> str:
+    columns = f" {'clock, ms':>24} {'processor, ms':>24} {'MiB':>7}"
+    ratio = f"{columns} {'ratio, of ' + TIMES[kind]:>20}   (ours, then theirs)"
+    return f"{'':36}{columns}" + ratio * with_theirs
+
+
+def print_table(measured: dict[str, dict[str, Times]], runs: int, kind: str) -> None:
+    """As it stands in README.md."""
+    print(f"\nTimes of {TIMES[kind]}: the median of {runs} runs, and in parentheses the least and the most.\n")
+    print("| | this tool | Ansible's tool | times faster |\n|---|---|---|---|")
+    for name, title in README.items():
+        if is_told(measured.get(name, {}), kind):
+            ours, theirs = (spread(measured[name][tool].of(kind)) for tool in (OURS, THEIRS))
+            print(f"| {title} | {ours.shown(' ms')} | {theirs.shown(' ms')} | {ratio_of(measured[name], kind)} |")
 
 
 def draw(points: list[dict], path: str) -> None:
@@ -135,12 +168,13 @@ def draw(points: list[dict], path: str) -> None:
         print(f"{path} is not drawn")
 
 
-def chart_points(rows: Rows, runs: int, measured: dict[int, dict[str, Times]]) -> list[dict]:
+def chart_points(rows: Rows, runs: int, kind: str, measured: dict[str, dict[str, Times]]) -> list[dict]:
+    taken = {size: measured[f"view, {name}"] for name, size in SIZES.items() if f"view, {name}" in measured}
     for name, size in CHART_SIZES.items():
-        measured[size] = taken_in_turn(rows.view(name, size, rows.alone).works, runs)
+        taken[size] = taken_in_turn(rows.view(name, size, rows.alone).works, runs)
     return [
-        {"size": size, "tool": tool, "milliseconds": took.wall, "memory": took.memory}
-        for size, times in sorted(measured.items())
+        {"size": size, "tool": tool, "milliseconds": spread(took.of(kind)).median, "memory": took.memory}
+        for size, times in sorted(taken.items())
         for tool, took in times.items()
     ]
 
@@ -149,9 +183,13 @@ def parsed_arguments() -> argparse.Namespace:
     parser = argparse.ArgumentParser(description=__doc__.splitlines()[0])
     parser.add_argument("program")
     parser.add_argument("--runs", type=int, default=RUNS)
+    parser.add_argument("--time", choices=list(TIMES), default=PROCESSOR, help="what ratios, table and chart are of")
     parser.add_argument("--only", default="", help="rows whose names begin so")
     parser.add_argument("--chart")
-    return parser.parse_args()
+    given = parser.parse_args()
+    if given.runs < RUNS:
+        parser.error(f"at least {RUNS} runs")
+    return given
 
 
 def main() -> None:
@@ -159,18 +197,17 @@ def main() -> None:
     ansible = ansible_vault()
     if ansible is None:
         print("Ansible's own tool (Debian's package ansible-core) is not installed: no ratios")
-    measured: dict[int, dict[str, Times]] = {}
+    measured: dict[str, dict[str, Times]] = {}
     with tempfile.TemporaryDirectory() as folder:
         rows = Rows(os.path.abspath(given.program), ansible, Path(folder))
-        print(heading(ansible is not None))
+        print(heading(ansible is not None, given.time))
         for row in rows.every():
             if row.name.startswith(given.only):
-                times = taken_in_turn(row.works, given.runs)
-                print(line_of(row.name, times), flush=True)
-                if row.name in (f"view, {name}" for name in SIZES):
-                    measured[row.size] = times
+                measured[row.name] = taken_in_turn(row.works, given.runs)
+                print(line_of(row.name, measured[row.name], given.time), flush=True)
         if given.chart:
-            draw(chart_points(rows, given.runs, measured), given.chart)
+            draw(chart_points(rows, given.runs, given.time, measured), given.chart)
+    print_table(measured, given.runs, given.time)
 
 
 if __name__ == "__main__":

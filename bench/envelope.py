@@ -22,7 +22,7 @@ READING_TARGET, WRITING_TARGET = 150, 250
 
 def build():
     """Builds the program, and shows that it writes the length that the format gives."""
-    command = [os.environ.get("RT", "rt"), "run", "--", "write", "1"]
+    command = [os.environ.get("RT", "rt"), "run", "--", "write", str(CIPHER_LENGTH), "1"]
     run = subprocess.run(command, cwd=CRATE, stdout=subprocess.PIPE, stderr=subprocess.PIPE, text=True)
     if run.returncode != 0:
         raise SystemExit(run.stderr)
@@ -53,7 +53,7 @@ def read(file, length):
 
 
 def write():
-    subprocess.run([PROGRAM, "write", str(REPEATS)], stdout=subprocess.DEVNULL, check=True)
+    subprocess.run([PROGRAM, "write", str(CIPHER_LENGTH), str(REPEATS)], stdout=subprocess.DEVNULL, check=True)
 
 
 def repeated_python(text):

@@ -1,4 +1,4 @@
-"""Runs of programs that take turns: least wall time, least processor time and peak memory of each."""
+"""Runs of programs that take turns: time of the clock, processor time and peak memory of each."""
 
 import os
 import subprocess
@@ -6,11 +6,13 @@ import sys
 import tempfile
 import threading
 import time
-from dataclasses import dataclass
+from dataclasses import dataclass, field
 from pathlib import Path
-from typing import Callable
+from statistics import median
+from typing import Callable, NamedTuple
 
-# Wall and processor time that differ by more than this part show that the machine was busy.
+CLOCK, PROCESSOR = "clock", "processor"
+# Times of the clock and of the processor that differ by more than this part show that the machine was busy.
 DIFFERENCE = 0.5
 # How often the memory of a running program is looked at, in seconds.
 LOOKS = 0.0005
@@ -27,18 +29,44 @@ class Work:
     prepare: Callable[[], None] = lambda: None
 
 
+class Spread(NamedTuple):
+    """The median of several figures, the least and the most."""
+
+    median: float
+    least: float
+    most: float
+
+    def __str__(self) -> str:
+        return self.shown("")
+
+    def shown(self, unit: str) -> str:
+        return f"{figure(self.median)}{unit} ({figure(self.least)} to {figure(self.most)})"
+
+
+def figure(value: float) -> str:
+    """With three digits or more."""
+    return f"{value:.1f}" if value < 100 else f"{value:.0f}"
+
+
+def spread(values: list[float]) -> Spread:
+    return Spread(median(values), min(values), max(values))
+
+
 @dataclass
 class Times:
-    """Milliseconds and MiB."""
+    """What each run took, in milliseconds of the clock and of the processor, and the most memory, in MiB."""
 
-    wall: float = float("inf")
-    processor: float = float("inf")
+    clock: list[float] = field(default_factory=list)
+    processor: list[float] = field(default_factory=list)
     memory: float = 0.0
+
+    def of(self, kind: str) -> list[float]:
+        return self.clock if kind == CLOCK else self.processor
 
     @property
     def is_steady(self) -> bool:
-        """Whether both times say the same; only then a ratio says anything."""
-        return self.wall <= (1 + DIFFERENCE) * self.processor
+        """Whether both times say the same; only then a ratio of the clock says anything."""
+        return median(self.clock) <= (1 + DIFFERENCE) * median(self.processor)
 
 
 def peak_memory(process: int, seen: list[float]) -> None:
@@ -62,13 +90,13 @@ def run_once(work: Work, times: Times) -> None:
         start = time.perf_counter()
         child = subprocess.Popen(work.command, stdin=stdin, stdout=stdout, stderr=subprocess.DEVNULL)
         _, status, used = os.wait4(child.pid, 0)
-        wall = time.perf_counter() - start
+        clock = time.perf_counter() - start
         child.returncode = os.waitstatus_to_exitcode(status)
         stdout.seek(0)
         if child.returncode != 0 or not work.accepts(stdout.read()):
             sys.exit(f"{' '.join(work.command)[:200]}: status {child.returncode}, or another output")
-    times.wall = min(times.wall, wall * 1000)
-    times.processor = min(times.processor, (used.ru_utime + used.ru_stime) * 1000)
+    times.clock.append(clock * 1000)
+    times.processor.append((used.ru_utime + used.ru_stime) * 1000)
 
 
 def memory_of(work: Work) -> float:

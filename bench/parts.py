@@ -1,67 +1,173 @@
 #!/usr/bin/env -S python3 -B
-"""Says where the time for a vault of 1 MiB goes, by the programs of the other benchmarks.
+"""Says where the time of `view` and `encrypt` goes, by the programs of the other benchmarks.
 
-Usage: parts.py PROGRAM
+Usage: parts.py PROGRAM. All is processor time, taken in turn in one run; of several rounds the least counts,
+since what else a machine does slows each part by another share.
+Beside a part stands the least that it could take: the compressions of `sha2` alone, or a copy of the envelope.
+The kernel's part is the whole program's; the rest is its start, its arguments, line ends and what is not
+measured alone.
 """
 
+import ctypes
 import os
 import subprocess
 import sys
 import tempfile
 import time
 from pathlib import Path
+from statistics import mean
+from typing import NamedTuple
 
 sys.path.insert(0, str(Path(__file__).resolve().parent.parent / "tests"))
 
 from model.vaults import seal
 
-RUNS = 5
-SIZE = 1 << 20
-# A derivation makes so many compressions, the tag of a MiB so many.
-DERIVATION, TAG = 60_000, 16_384
+ROUNDS = 9
+KIB, MIB = 1 << 10, 1 << 20
+SIZES = {"1 KiB": KIB, "1 MiB": MIB, "16 MiB": 16 * MIB}
+PASSWORD = b"a password"
+# A derivation makes so many compressions.
+DERIVATION = 60_000
+BLOCK = 64
+# What a part is repeated for: some MiB of it, and no more than so many times.
+REPEATED, MOST = 8 * MIB, 2_000
 CRATES = Path(__file__).resolve().parent.parent / "crates"
 # The crates of the other benchmarks' programs, with the words of a short run.
 BENCHMARKS = {
-    "bench_envelope": ["write", "1"],
+    "bench_envelope": ["write", "1", "1"],
     "bench_key_derivation": ["derive", "1"],
     "bench_counter_mode": ["48", "1"],
 }
 
 
-def milliseconds(command: list, repeats: int) -> float:
-    """What one of the repeats that a program makes takes, the best of several runs."""
-    best = float("inf")
-    for _ in range(RUNS):
-        start = time.perf_counter()
-        subprocess.run(command, stdout=subprocess.DEVNULL, check=True)
-        best = min(best, time.perf_counter() - start)
-    return best * 1000 / repeats
+class Used(NamedTuple):
+    """Processor time in milliseconds, and how much of it the kernel took."""
+
+    whole: float
+    kernel: float
 
 
-def build() -> list[Path]:
+class Part(NamedTuple):
+    """A program that does a part so many times, as its last word says, with its input."""
+
+    words: list[str]
+    repeats: int
+    stdin: str = os.devnull
+
+    def milliseconds(self) -> float:
+        """What one time takes, without the program's start."""
+        often, never = (run([*self.words, str(times)], self.stdin).whole for times in (self.repeats, 0))
+        return (often - never) / self.repeats
+
+
+def run(command: list[str], stdin: str) -> Used:
+    with open(stdin, "rb") as file, tempfile.TemporaryFile() as stdout:
+        child = subprocess.Popen(command, stdin=file, stdout=stdout)
+        _, status, used = os.wait4(child.pid, 0)
+    child.returncode = os.waitstatus_to_exitcode(status)
+    if child.returncode != 0:
+        sys.exit(f"{' '.join(command)}: status {child.returncode}")
+    return Used((used.ru_utime + used.ru_stime) * 1000, used.ru_stime * 1000)
+
+
+def copy_milliseconds(size: int) -> float:
+    source, target = ctypes.create_string_buffer(size), ctypes.create_string_buffer(size)
+    repeats = times_for(size)
+    start = time.process_time()
+    for _ in range(repeats):
+        ctypes.memmove(target, source, size)
+    return (time.process_time() - start) * 1000 / repeats
+
+
+def times_for(size: int) -> int:
+    return min(MOST, max(1, REPEATED // size))
+
+
+def tag_compressions(size: int) -> int:
+    """Of the message behind the key's block, with its end, and then of the digest behind the key's block."""
+    return 1 + (size + 9 + BLOCK - 1) // BLOCK + 2
+
+
+def build() -> list[str]:
     for crate, words in BENCHMARKS.items():
         command = [os.environ.get("RT", "rt"), "run", "--", *words]
         subprocess.run(command, cwd=CRATES / crate, capture_output=True, check=True)
-    return [CRATES / crate / "out" / crate for crate in BENCHMARKS]
+    return [str(CRATES / crate / "out" / crate) for crate in BENCHMARKS]
+
+
+class Parts:
+    """What is measured, by its name: each part alone, and the whole runs of the program."""
+
+    def __init__(self, program: str, folder: Path) -> None:
+        envelope, keys, counter_mode = build()
+        self.parts = {
+            "derivation": Part([keys, "derive"], 5),
+            "compressions": Part([keys, "compressions"], 5),
+            "tag": Part([keys, "tag"], 5),
+        }
+        self.runs: dict[str, tuple[list[str], str]] = {}
+        self.copies: dict[str, int] = {}
+        password = folder / "password"
+        password.write_bytes(PASSWORD)
+        for name, size in SIZES.items():
+            text, vault = folder / f"text{size}", folder / f"vault{size}"
+            text.write_bytes(bytes(size))
+            vault.write_bytes(seal(PASSWORD, bytes(size)))
+            self.parts[f"read {name}"] = Part([envelope, "read"], times_for(size), str(vault))
+            self.parts[f"write {name}"] = Part([envelope, "write", str(size)], times_for(size))
+            self.parts[f"counter mode {name}"] = Part([counter_mode, str(size)], times_for(size))
+            for command, stdin in (("view", vault), ("encrypt", text)):
+                words = [program, command, "--vault-password-file", str(password)]
+                self.runs[f"{command} {name}"] = words, str(stdin)
+            self.copies[name] = vault.stat().st_size
+
+    def measure(self) -> tuple[dict[str, float], dict[str, float]]:
+        """The milliseconds of each by its name, and the kernel's share of each run."""
+        taken: dict[str, list[float]] = {}
+        kernel: dict[str, list[float]] = {}
+        for _ in range(ROUNDS):
+            for name, part in self.parts.items():
+                taken.setdefault(name, []).append(part.milliseconds())
+            for name, length in self.copies.items():
+                taken.setdefault(f"copy {name}", []).append(copy_milliseconds(length))
+            for name, (words, stdin) in self.runs.items():
+                used = run(words, stdin)
+                taken.setdefault(name, []).append(used.whole)
+                kernel.setdefault(name, []).append(used.kernel)
+        # The system tells the kernel's time by its ticks: only the mean of several runs says something.
+        shares = {name: mean(times) / mean(taken[name]) for name, times in kernel.items()}
+        return {name: min(times) for name, times in taken.items()}, shares
+
+
+def print_run(command: str, name: str, taken: dict[str, float], kernel: float) -> None:
+    whole = taken[f"{command} {name}"]
+    compressions = tag_compressions(SIZES[name])
+    digits = "read" if command == "view" else "write"
+    one = taken["compressions"] / DERIVATION
+    copy = taken[f"copy {name}"]
+    parts = {
+        "derivation": (taken["derivation"], f"{DERIVATION:,} compressions: {taken['compressions']:.2f} ms"),
+        "digits " + {"read": "read", "write": "written"}[digits]: (taken[f"{digits} {name}"], f"a copy: {copy:.2f} ms"),
+        "counter mode": (taken[f"counter mode {name}"], ""),
+        "tag": (
+            taken["tag"] * compressions / tag_compressions(MIB),
+            f"{compressions:,} compressions: {one * compressions:.2f} ms",
+        ),
+        "kernel": (kernel * whole, ""),
+    }
+    parts["the rest"] = (whole - sum(time_of_part for time_of_part, _ in parts.values()), "")
+    print(f"{command} of {name}: {whole:.2f} ms")
+    for part, (time_of_part, floor) in parts.items():
+        print(f"  {part:16} {time_of_part:9.2f} ms {100 * time_of_part / whole:6.1f} %   {floor}".rstrip())
 
 
 def main() -> None:
-    envelope, keys, counter_mode = build()
-    with tempfile.NamedTemporaryFile() as file:
-        file.write(seal(b"a password", bytes(SIZE)))
-        file.flush()
-        reading = milliseconds(["sh", "-c", f'exec "{envelope}" read 10 < "{file.name}"'], 10)
-    parts = {
-        "start": milliseconds([os.path.abspath(sys.argv[1]), "--version"], 1),
-        "reading an envelope": reading,
-        "writing an envelope": milliseconds([envelope, "write", "10"], 10),
-        "derivation": milliseconds([keys, "derive", "10"], 10),
-        "tag": milliseconds([keys, "compressions", "10"], 10) * TAG / DERIVATION,
-        "counter mode": milliseconds([counter_mode, str(SIZE), "16"], 16),
-    }
-    print("parts of the time for 1 MiB:")
-    for name, time_of_part in parts.items():
-        print(f"  {name:30} {time_of_part:9.1f} ms")
+    with tempfile.TemporaryDirectory() as folder:
+        taken, kernel = Parts(os.path.abspath(sys.argv[1]), Path(folder)).measure()
+    print(f"parts of the processor time, the least of {ROUNDS} rounds, and the least that a part could take:")
+    for command in ("view", "encrypt"):
+        for name in SIZES:
+            print_run(command, name, taken, kernel[f"{command} {name}"])
 
 
 if __name__ == "__main__":

@@ -1,22 +1,17 @@
 //! The work that the benchmark of envelopes times: `bench_envelope read N` reads the envelope on
-//! standard input N times, and `bench_envelope write N` writes one of a MiB of ciphertext N times.
-//! Both print how many bytes the last one had: of ciphertext, or of text.
+//! standard input N times, and `bench_envelope write LENGTH N` writes one of so many bytes of
+//! ciphertext N times. Both print how many bytes the last one had: of ciphertext, or of text.
 #![tactic(auto)]
 
 ghost use Rattle.std.specs.Prelude.{◌≡◌, IfOk, length, vec_len};
-ghost use Rattle.bench_envelope.specs.declared.TheConstants.{WORK_LENGTH};
+ghost use Rattle.vault_text.specs.declared.limits.TheConstants.{CIPHERTEXT_LIMIT};
 
 use std::alloc::{AllocError, Global};
 use std::io::{ErrorKind, Read, Write};
 use std::{env, io};
-use vault_text::{EnvelopeReader, Label, PADDING_LIMIT, Salt, Sink, WriteSink, write_envelope};
+use vault_text::{CIPHERTEXT_LIMIT, EnvelopeReader, Label, Salt, Sink, WriteSink, write_envelope};
 
 const PIECE: usize = 4096;
-
-/// A MiB, the length of the ciphertext that is written, and of the longest that is read.
-const CIPHER_LENGTH: usize = 1_048_576;
-
-const WORK_LENGTH: usize = CIPHER_LENGTH + PADDING_LIMIT;
 
 /// Takes all that it is given and looks at each byte, which costs little beside writing it.
 #[derive(Drop)]
@@ -47,8 +42,8 @@ fn write_once(label: &Label, salt: &Salt, cipher: &[u8]) -> Count {
     sink.into_inner()
 }
 
-fn write(rt: &HostRuntime, times: u32) -> io::Result<u64> {
-    let mut cipher = vec![in rt.alloc(); 0u8; CIPHER_LENGTH]?;
+fn write(rt: &HostRuntime, length: usize, times: u32) -> io::Result<u64> {
+    let mut cipher = vec![in rt.alloc(); 0u8; length]?;
     let mut state: u32 = 1;
     for byte in cipher.iter_mut() {
         state = state.wrapping_mul(1664525).wrapping_add(1013904223);
@@ -66,7 +61,7 @@ fn write(rt: &HostRuntime, times: u32) -> io::Result<u64> {
 
 /// The length of the ciphertext of an envelope that comes in pieces; 0 where there is none.
 fn read_once(work: &mut [u8], text: &[u8]) -> usize
-    requires { length work.old ≡ WORK_LENGTH }
+    requires { length work.old ≡ CIPHERTEXT_LIMIT }
 {
     let mut reader = EnvelopeReader::new(work);
     for piece in text.chunks(PIECE) {
@@ -79,9 +74,9 @@ fn read_once(work: &mut [u8], text: &[u8]) -> usize
 }
 
 fn work_memory(alloc: Global) -> Result<Vec<u8>, AllocError>
-    ensures { IfOk result (λ work. vec_len work ≡ WORK_LENGTH) }
+    ensures { IfOk result (λ work. vec_len work ≡ CIPHERTEXT_LIMIT) }
 {
-    vec![in alloc; 0u8; WORK_LENGTH]
+    vec![in alloc; 0u8; CIPHERTEXT_LIMIT]
 }
 
 fn read(rt: &HostRuntime, times: u32) -> io::Result<u64> {
@@ -98,21 +93,26 @@ fn read(rt: &HostRuntime, times: u32) -> io::Result<u64> {
 fn usage() -> io::Error {
     io::Error::new(
         ErrorKind::InvalidInput,
-        "usage: bench_envelope read|write N",
+        "usage: bench_envelope read N, or bench_envelope write LENGTH N",
     )
 }
 
 fn main(rt: HostRuntime) -> io::Result<()> {
     let words: Vec<String> = env::args(&rt)?.collect(rt.alloc())?;
-    let [_, work, times] = words.as_slice() else {
-        return Err(usage());
-    };
-    let Ok(times) = times.parse() else {
-        return Err(usage());
-    };
-    let bytes = match work.as_str() {
-        "read" => read(&rt, times)?,
-        "write" => write(&rt, times)?,
+    let bytes = match words.as_slice() {
+        [_, work, times] => {
+            let ("read", Ok(times)) = (work.as_str(), times.parse()) else {
+                return Err(usage());
+            };
+            read(&rt, times)?
+        }
+        [_, work, length, times] => {
+            let ("write", Ok(length), Ok(times)) = (work.as_str(), length.parse(), times.parse())
+            else {
+                return Err(usage());
+            };
+            write(&rt, length, times)?
+        }
         _ => return Err(usage()),
     };
     println!(rt; "{}", bytes)

@@ -1,13 +1,18 @@
 //! The work that the benchmark of key derivation times: `derive N` derives a vault's keys N times,
-//! and `compressions N` takes 60,000 compressions of SHA-256, as many as a derivation, N times.
+//! `compressions N` takes 60,000 compressions of SHA-256, as many as a derivation, N times, and
+//! `tag N` takes the tag of a MiB N times.
 #![tactic(auto)]
 
 use sha2::{Digest, Sha256};
+use std::alloc::{AllocError, Global};
 use std::io::ErrorKind;
 use std::{env, io};
-use vault_kdf::{Keys, Meter, derive};
+use vault_kdf::{Keys, Meter, derive, hmac};
 
 const COMPRESSIONS: u32 = 60_000;
+
+/// A MiB.
+const MESSAGE_LENGTH: usize = 1_048_576;
 
 // Each derivation takes a key of the one before it as its salt.
 fn derive_keys(times: u32) -> [u8; 32] {
@@ -36,10 +41,20 @@ fn compress(times: u32) -> [u8; 32] {
     digest
 }
 
+// Each tag is the key of the next.
+fn tags(alloc: Global, times: u32) -> Result<[u8; 32], AllocError> {
+    let message = vec![in alloc; 0u8; MESSAGE_LENGTH]?;
+    let mut tag = [0; 32];
+    for _ in 0..times {
+        tag = hmac(&tag, &message);
+    }
+    Ok(tag)
+}
+
 fn usage() -> io::Error {
     io::Error::new(
         ErrorKind::InvalidInput,
-        "usage: bench_key_derivation derive|compressions N",
+        "usage: bench_key_derivation derive|compressions|tag N",
     )
 }
 
@@ -54,6 +69,7 @@ fn main(rt: HostRuntime) -> io::Result<()> {
     match work.as_str() {
         "derive" => println!(rt; "{:?}", derive_keys(times)),
         "compressions" => println!(rt; "{:?}", compress(times)),
+        "tag" => println!(rt; "{:?}", tags(rt.alloc(), times)?),
         _ => Err(usage()),
     }
 }

@@ -93,7 +93,6 @@ fn block_start(name: &str) -> &[u8]
 
 /// Writes what begins a text, and the lines of an envelope behind an indentation. The header line
 /// goes out with the first lines of the body, so that a reader that leaves after it breaks nothing.
-/// One text serves all batches, to bound the stack.
 fn put_lines<K: Sink>(
     sink: &mut K,
     start: &[u8],
@@ -122,5 +121,5 @@ fn put_lines<K: Sink>(
     let (batch, rest) = split_batch(rest);
     append_ciphertext(&mut text, indentation, batch);
     put_all(sink, text.as_slice())?;
-    put_ciphertext(sink, &mut text, indentation, rest)
+    put_ciphertext(sink, indentation, rest)
 }

@@ -55,11 +55,9 @@ pub(super) fn split_batch(cipher: &[u8]) -> (&[u8], &[u8])
     cipher.split_at(cipher.len().min(BATCH_CIPHERTEXT))
 }
 
-/// Writes lines that spell the digits of the ciphertext, from the start of a line on. What the text
-/// held is dropped.
+/// Writes lines that spell the digits of the ciphertext, from the start of a line on.
 pub(super) fn put_ciphertext<K: Sink>(
     sink: &mut K,
-    text: &mut Text,
     indentation: &[u8],
     cipher: &[u8],
 ) -> Result<(), SinkFailed>
@@ -75,19 +73,14 @@ pub(super) fn put_ciphertext<K: Sink>(
     let mut done = 0;
     while cipher.len() - done > BATCH_CIPHERTEXT {
         let batch = &cipher[done..done + BATCH_CIPHERTEXT];
-        put_batch(sink, text, indentation, batch)?;
+        put_batch(sink, indentation, batch)?;
         done += BATCH_CIPHERTEXT;
     }
-    put_batch(sink, text, indentation, &cipher[done..])
+    put_batch(sink, indentation, &cipher[done..])
 }
 
-/// Writes the lines of one batch of ciphertext, in the place of what the text held.
-fn put_batch<K: Sink>(
-    sink: &mut K,
-    text: &mut Text,
-    indentation: &[u8],
-    cipher: &[u8],
-) -> Result<(), SinkFailed>
+/// Writes the lines of one batch of ciphertext.
+fn put_batch<K: Sink>(sink: &mut K, indentation: &[u8], cipher: &[u8]) -> Result<(), SinkFailed>
     requires begun { K.stage sink.old ≡ Stage.Begun }
     requires narrow { length indentation.now ≤ INDENTATION_LIMIT }
     requires batch { length cipher.now ≤ BATCH_CIPHERTEXT }
@@ -98,7 +91,7 @@ fn put_batch<K: Sink>(
     ensures stage { K.stage sink.new ≡ Stage.Begun }
     ensures failed { CountsFailure (K.failures sink.old) (K.failures sink.new) result }
 {
-    text.clear();
-    append_ciphertext(text, indentation, cipher);
+    let mut text = Text::new();
+    append_ciphertext(&mut text, indentation, cipher);
     put_all(sink, text.as_slice())
 }
