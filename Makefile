@@ -36,7 +36,7 @@ SUMS := $(LIBRARY)/installed.sha256
 # What compares outcomes is run by pytest, in so many processes; the others are commands in tests/.
 PYTEST ?= /usr/bin/python3 -B -X utf8 -m pytest
 PYTEST_PROCESSES ?= 4
-TESTS := growths_in_memory outcomes fuzz with_valgrind faults growths dead_names
+TESTS := growths_in_memory outcomes fuzz with_valgrind faults growths lint
 
 .DELETE_ON_ERROR:
 .PHONY: all check mutants test fuzz faults bench install replaceable uninstall package lint clean FORCE $(TESTS:%=test-%)
@@ -96,8 +96,8 @@ test-with_valgrind test-faults test-growths: test-%: all
 test-growths_in_memory: bin/vault_growths
 	tests/growths_in_memory bin/vault_growths
 
-test-dead_names:
-	tools/dead_names
+test-lint:
+	tools/lint
 
 # Random requests, until told to stop.
 fuzz: all

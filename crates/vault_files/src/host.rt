@@ -57,11 +57,11 @@ impl<D: Disk> HostFiles<D> {
         }
     }
 
-    /// The disk.
-    pub fn disk(&self) -> &D
-        ensures { result.now ≡ self.now.disk }
+    /// The disk, with what an output has left on it.
+    pub fn into_disk(self) -> D
+        ensures { result ≡ self.disk }
     {
-        &self.disk
+        self.disk
     }
 }
 

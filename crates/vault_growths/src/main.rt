@@ -40,7 +40,7 @@ fn contents_of(
 }
 
 /// The request of words that are right, and the contents of its password files: where there is
-/// none, memory lacks.
+/// none, the answer is out of memory.
 fn gather(
     alloc: Global,
     files: &MemFiles<'_>,

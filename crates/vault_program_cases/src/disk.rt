@@ -56,6 +56,11 @@ impl<'a> MemDisk<'a> {
             written: None,
         }
     }
+
+    /// What the file that was created has taken; None where none was.
+    pub fn into_written(self) -> Option<Vec<u8>> {
+        self.written
+    }
 }
 
 /// A reader of a file.

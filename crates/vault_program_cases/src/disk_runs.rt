@@ -5,19 +5,19 @@ use std::alloc::Global;
 use std::process::Abort;
 use std::test::Fail;
 use vault_cli::{HostFiles, MemSink, MemSource, Status};
-use vault_made::{envelope, line_of};
+use vault_made::{block, envelope, line_of};
 
 const PLAINTEXT: &[u8] = b"key: value\n";
 
 const SALT: &[u8] = &[7; 32];
 
-/// What a run left: its status, and what both sinks hold. What the file that it created holds the
-/// contract of `drive_on_disk` says.
+/// What a run left: its status, what both sinks hold, and the file that it created.
 #[derive(Drop)]
 struct Ended {
     status: Status,
     output: Vec<u8>,
     message: Vec<u8>,
+    created: Option<Vec<u8>>,
 }
 
 /// Runs the program on these words behind its name, over a disk of these files, on which a file can
@@ -40,19 +40,8 @@ fn run_on_disk(alloc: Global, entries: &[DiskFile<'_>], words: &[&str]) -> Resul
         status,
         output: Vec::from_slice(alloc, out.bytes())?,
         message: Vec::from_slice(alloc, err.bytes())?,
+        created: files.into_disk().into_written(),
     })
-}
-
-/// The block of an envelope, without a variable.
-fn block_of(alloc: Global, envelope: &[u8]) -> Result<Vec<u8>, Fail> {
-    let mut block = Vec::from_slice(alloc, b"!vault |\n")?;
-    let lines = envelope.strip_suffix(b"\n").unwrap_or(envelope);
-    for line in lines.split(|byte| *byte == b'\n') {
-        block.extend_from_slice(b"          ")?;
-        block.extend_from_slice(line)?;
-        block.push(b'\n')?;
-    }
-    Ok(block)
 }
 
 const ONE: &str = "--vault-password-file=one";
@@ -114,7 +103,7 @@ fn encrypts_a_string(rt: HostRuntime) -> Result<(), Fail> {
         },
     ];
     let vault = envelope(alloc, "default", b"first", SALT, PLAINTEXT)?;
-    let block = block_of(alloc, vault.as_slice())?;
+    let block = block(alloc, "", vault.as_slice())?;
     let words = ["encrypt_string", ONE, SALT_FILE, "key: value\n"];
     assert_output(&rt, alloc, &entries, &words, block.as_slice())
 }
@@ -133,9 +122,11 @@ fn decrypts_and_shows(rt: HostRuntime) -> Result<(), Fail> {
             bytes: vault.as_slice(),
         },
     ];
-    // The output goes to the file that is created.
     let decrypt = ["decrypt", ONE, "--output=out", "vault"];
-    assert_output(&rt, alloc, &entries, &decrypt, b"")?;
+    let ended = run_on_disk(alloc, &entries, &decrypt)?;
+    assert_eq!(rt; ended.status, Status::Success);
+    assert!(rt; ended.output.is_empty());
+    assert!(rt; ended.created.unwrap_or(Vec::new(alloc)).as_slice() == PLAINTEXT);
     let view = ["view", ONE, "vault"];
     assert_output(&rt, alloc, &entries, &view, PLAINTEXT)
 }

@@ -13,7 +13,7 @@ ghost use Rattle.vault_program_cases.specs.OnDisk.{Leaves};
 
 use crate::disk::MemDisk;
 use std::alloc::Global;
-use vault_cli::{HostFiles, MemSink, MemSource, Status, drive};
+use vault_cli::{HostFiles, MemSink, MemSource, Status, drive_over};
 use vault_text::Stage;
 
 /// The program over a disk. Where no device fails, what it answers is the answer to the files that
@@ -37,5 +37,5 @@ pub fn drive_on_disk(
         × Leaves result (change files.old.disk files.new.disk) (change out.old out.new)
         (output_path asks) (program texts found input)) }
 {
-    drive(files, alloc, words, src, out, err)
+    drive_over(files, alloc, words, src, out, err)
 }

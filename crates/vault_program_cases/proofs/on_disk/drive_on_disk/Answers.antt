@@ -9,13 +9,14 @@ use Rattle.vault_program_cases.proofs.on_disk.drive_on_disk.Goals as goal
 pub returns : goal.returns
 returns c = λ parses fits ok.
     let asks = asked_by (map string_bytes c.args.words.now) in
-    elim (c.drive.ensures.answered parses) [
+    elim (c.drive_over.ensures.answered parses) [
       | inl (same, unread, memory) ↦ absurd (fits memory.status)
       | inr (found, met, (opened, (went, ends))) ↦ (
         found,
         all-on c.args.files.now asks found met,
-        leaves c.args.files.now c.drive.new.files c.args.src.now c.drive.new.src c.args.out.now
-            c.drive.new.out c.args.err.now c.drive.new.err c.drive.result ok
+        leaves c.args.files.now c.drive_over.new.files c.args.src.now c.drive_over.new.src
+            c.args.out.now c.drive_over.new.out c.args.err.now c.drive_over.new.err
+            c.drive_over.result ok
             c.requires.files_unbegun (access_of asks) (opened_of asks found) opened went
             (output_path asks) (stdin_asked asks found) (answer_to asks found) ends,
       )
