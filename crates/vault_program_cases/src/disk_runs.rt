@@ -36,11 +36,12 @@ fn run_on_disk(alloc: Global, entries: &[DiskFile<'_>], words: &[&str]) -> Resul
         &mut out,
         &mut err,
     );
+    let created = files.into_disk().into_written();
     Ok(Ended {
         status,
         output: Vec::from_slice(alloc, out.bytes())?,
         message: Vec::from_slice(alloc, err.bytes())?,
-        created: files.into_disk().into_written(),
+        created,
     })
 }
 
