@@ -30,35 +30,35 @@ const REKEY_REQUIRED: &[&str] = &[
 ];
 
 /// What is done with a vault under the label `prod`, and what comes of it.
-const AFTERWARDS: [(&[&str], &[u8], Status, &[u8]); 5] = [
+const AFTERWARDS: [(&[&str], &[&[u8]], Status, &[u8]); 5] = [
     (
         &["decrypt", "--vault-id", "f2"],
-        b"two\n",
+        &[b"two\n"],
         Status::Success,
         b"",
     ),
     (
         &["decrypt", "--vault-id", "f1"],
-        b"one\n",
+        &[b"one\n"],
         Status::Refused,
         NO_SECRET_FITS,
     ),
     // The new secret is not tried.
     (
         &["rekey", "--new-vault-id", "x@f2"],
-        b"two\n",
+        &[b"two\n"],
         Status::Refused,
         NO_SECRET_FITS,
     ),
     (
         &["decrypt", "--vault-id", "prod@f2", "--require-id-match"],
-        b"two\n",
+        &[b"two\n"],
         Status::Success,
         b"",
     ),
     (
         &["decrypt", "--vault-id", "f2", "--require-id-match"],
-        b"two\n",
+        &[b"two\n"],
         Status::Refused,
         NO_SECRET_FITS,
     ),
@@ -66,8 +66,8 @@ const AFTERWARDS: [(&[&str], &[u8], Status, &[u8]); 5] = [
 
 /// A vault of nothing, rekeyed to the password `two` and a salt of ones, is opened by it alone.
 fn assert_rekeyed(rt: &impl Abort, alloc: Global, vault: &[u8]) -> Result<(), Fail> {
-    for (words, file, status, message) in AFTERWARDS {
-        let ran = Trial::new(words, &[file], &[1; 32]).run_on(alloc, vault)?;
+    for (words, files, status, message) in AFTERWARDS {
+        let ran = Trial::new(words, files, &[1; 32]).run_on(alloc, vault)?;
         assert_eq!(rt; ran.status, status, "{words:?}");
         assert_eq!(rt; ran.message.as_bytes(), message, "{words:?}");
         assert!(rt; ran.output.is_empty(), "{words:?}");
