@@ -40,7 +40,7 @@ LACKS = [
     Lack(["options_agree.py"], ["zsh", "fish", "mandoc", "groff"], "completions or shown"),
     Lack(["completions.py"], ["zsh", "fish"], "test_program or quoted"),
     Lack(["workflows.py"], ["git"], "caveat"),
-    Lack(["workflows.py"], ["zsh"], "typed"),
+    Lack(["workflows.py"], ["zsh"], "Type and not typed"),
     Lack(["cases/changing_files.py"], ["cc"], "changing"),
     Lack(["cases/closed_streams.py"], ["strace"], "one_failing_write"),
     Lack(["companion_cases/hook.py"], ["git"], "where_it_runs"),

@@ -1,7 +1,8 @@
-//! One run of a command line over memory, for a test that refuses each growth in turn:
+//! One run of a command line over memory, for a test that refuses each allocation in turn:
 //! `vault_growths drive WORD..` by `drive_in_memory`, `vault_growths run WORD..` by `run`. The
 //! password files are `one` and `two`; standard input, of at most 4,096 bytes, is the input. Prints
-//! the status, how many bytes the output, the message and the file `kept` hold, and these bytes.
+//! the status, how many bytes the output, the message and the file `kept` hold, whether the call
+//! was made, and these bytes.
 #![tactic(auto)]
 
 ghost use Rattle.std.specs.Prelude.{◌≡◌, IfOk, length, vec_len};
@@ -39,27 +40,30 @@ fn contents_of(
     Ok(contents)
 }
 
-/// The request of words that are right, and the contents of its password files: where there is
-/// none, the answer is out of memory.
+/// The request of words that are right, the contents of its password files, and a slice to work in:
+/// where there is none, the answer is out of memory.
 fn gather(
     alloc: Global,
     files: &MemFiles<'_>,
     words: &[String],
-) -> Result<(Request, Vec<Vec<u8>>), Fault>
-    ensures { IfOk result (λ found. vec_len found.1 ≡ length (files_of found.0)) }
+) -> Result<(Request, Vec<Vec<u8>>, Vec<u8>), Fault>
+    ensures files { IfOk result (λ found. vec_len found.1 ≡ length (files_of found.0)) }
+    ensures work { IfOk result (λ found. vec_len found.2 ≡ INPUT_LIMIT) }
 {
     let Ok(matches) = parse(alloc, words) else {
         return Err(Fault::Memory);
     };
     let request = settle(alloc, &matches)?;
     let contents = contents_of(alloc, files, &request)?;
+    let work = Vec::from_slice(alloc, &[0; INPUT_LIMIT])?;
     if contents.len() != request.files() {
         return Err(Fault::Memory);
     }
-    Ok((request, contents))
+    Ok((request, contents, work))
 }
 
-/// Runs the request of these words, with a salt of zeros.
+/// Runs the request of these words, with a salt of zeros. It answers beside the status whether
+/// `run` was called.
 fn run_words(
     alloc: Global,
     files: &MemFiles<'_>,
@@ -67,40 +71,37 @@ fn run_words(
     src: &mut MemSource<'_>,
     out: &mut MemSink,
     err: &mut MemSink,
-) -> Status
+) -> (Status, bool)
     requires out_unbegun { out.old.stage ≡ Stage.Unbegun }
     requires err_unbegun { err.old.stage ≡ Stage.Unbegun }
 {
-    let mut work = [0; INPUT_LIMIT];
     match gather(alloc, files, words) {
-        Ok((request, contents)) => {
-            run(
-                &request,
-                contents.as_slice(),
-                &[0; 32],
-                &mut work,
-                src,
-                out,
-                err,
-            )
+        Ok((request, contents, mut work)) => {
+            let contents = contents.as_slice();
+            let work = work.as_mut_slice();
+            let status = run(&request, contents, &[0; 32], work, src, out, err);
+            (status, true)
         }
-        Err(fault) => report(fault, err),
+        Err(fault) => (report(fault, err), false),
     }
 }
 
-/// Prints what a run left: its status, output, message and the file `kept`.
+/// Prints what a run left: its status, output, message and the file `kept`, and whether its call
+/// was made.
 fn print(
     rt: &HostRuntime,
     status: Status,
+    called: bool,
     output: &[u8],
     message: &[u8],
     kept: &[u8],
 ) -> io::Result<()> {
     let (output_length, message_length) = (output.len(), message.len());
     println!(rt;
-        "{} {output_length} {message_length} {}",
+        "{} {output_length} {message_length} {} {}",
         status.code(),
-        kept.len()
+        kept.len(),
+        u8::from(called)
     )?;
     let mut stdout = rt.stdout();
     stdout.write_all(output)?;
@@ -123,14 +124,15 @@ fn answer(rt: &HostRuntime, words: &[String], input: &[u8]) -> io::Result<()> {
     // One byte a call, so that the sinks of a short run grow often.
     let mut out = MemSink::new(alloc, 1);
     let mut err = MemSink::new(alloc, 1);
-    let status = match words {
+    let (status, called) = match words {
         [call, ..] if call.as_str() == "drive" => {
-            drive_in_memory(&mut files, alloc, words, &mut src, &mut out, &mut err)
+            let status = drive_in_memory(&mut files, alloc, words, &mut src, &mut out, &mut err);
+            (status, true)
         }
         _ => run_words(alloc, &files, words, &mut src, &mut out, &mut err),
     };
     let kept = files.content("kept").unwrap_or(&[]);
-    print(rt, status, out.bytes(), err.bytes(), kept)
+    print(rt, status, called, out.bytes(), err.bytes(), kept)
 }
 
 fn main(rt: HostRuntime) -> io::Result<()> {
