@@ -11,14 +11,15 @@ SOURCES := $(shell find crates/*/src crates/*/specs crates/*/proofs) crates.txt
 # What is installed, below the prefix, where Debian's tools look. Python finds what the companions share
 # beside the files that the links lead to.
 TOP := $(DESTDIR)$(PREFIX)
-COMPANIONS := edit rotate check textconv hook
+COMPANIONS := $(patsubst companions/ansible-vault-%,%,$(sort $(wildcard companions/ansible-vault-*)))
+MANUALS := $(wildcard man/*.1)
 LIBRARY := lib/ansible-vault
 PAGES := share/man/man1
 BASH_FOLDER := share/bash-completion/completions
 FISH_FOLDER := share/fish/vendor_completions.d
 ZSH_FOLDER := share/zsh/$(if $(filter /usr,$(PREFIX)),vendor-completions,site-functions)
 DOCUMENTS := share/doc/ansible-vault
-INSTALLED := bin/ansible-vault $(PAGES)/ansible-vault.1 $(BASH_FOLDER)/ansible-vault \
+INSTALLED := bin/ansible-vault $(MANUALS:man/%=$(PAGES)/%) $(BASH_FOLDER)/ansible-vault \
 	$(FISH_FOLDER)/ansible-vault.fish $(ZSH_FOLDER)/_ansible-vault \
 	$(DOCUMENTS)/README.md $(DOCUMENTS)/coming-from-ansible.md $(DOCUMENTS)/workflows.md \
 	$(COMPANIONS:%=$(LIBRARY)/ansible-vault-%) \
@@ -26,10 +27,10 @@ INSTALLED := bin/ansible-vault $(PAGES)/ansible-vault.1 $(BASH_FOLDER)/ansible-v
 # Each with what it leads to, behind the colon.
 LINKS := $(foreach name,$(COMPANIONS),\
 	bin/ansible-vault-$(name):../$(LIBRARY)/ansible-vault-$(name) \
-	$(PAGES)/ansible-vault-$(name).1:ansible-vault.1 \
 	$(BASH_FOLDER)/ansible-vault-$(name):ansible-vault \
 	$(FISH_FOLDER)/ansible-vault-$(name).fish:ansible-vault.fish)
-LINK_PATHS := $(foreach link,$(LINKS),$(firstword $(subst :, ,$(link))))
+# Links of version 0.2.0 where files are now.
+FORMER_LINKS := $(foreach name,edit rotate check textconv hook,$(PAGES)/ansible-vault-$(name).1:ansible-vault.1)
 # The sums of the files that were installed, so that no other is uninstalled.
 SUMS := $(LIBRARY)/installed.sha256
 
@@ -116,11 +117,11 @@ bench: all
 
 install: all replaceable
 	install -D -m 0755 bin/ansible-vault $(TOP)/bin/ansible-vault
-	install -D -m 0644 man/ansible-vault.1 $(TOP)/$(PAGES)/ansible-vault.1
 	install -D -m 0644 completions/ansible-vault.bash $(TOP)/$(BASH_FOLDER)/ansible-vault
 	install -D -m 0644 completions/ansible-vault.zsh $(TOP)/$(ZSH_FOLDER)/_ansible-vault
 	install -D -m 0644 completions/ansible-vault.fish $(TOP)/$(FISH_FOLDER)/ansible-vault.fish
-	install -d $(TOP)/$(DOCUMENTS) $(TOP)/$(LIBRARY)/ansible_vault_companions
+	install -d $(TOP)/$(PAGES) $(TOP)/$(DOCUMENTS) $(TOP)/$(LIBRARY)/ansible_vault_companions
+	install -m 0644 $(MANUALS) $(TOP)/$(PAGES)
 	install -m 0644 README.md docs/coming-from-ansible.md docs/workflows.md $(TOP)/$(DOCUMENTS)
 	install -m 0644 companions/ansible_vault_companions/*.py $(TOP)/$(LIBRARY)/ansible_vault_companions
 	install -m 0755 $(COMPANIONS:%=companions/ansible-vault-%) $(TOP)/$(LIBRARY)
@@ -130,11 +131,11 @@ install: all replaceable
 
 # Refuses to install where a file of another program would be overwritten.
 replaceable:
-	@tools/installed replaceable $(TOP) $(SUMS) $(REPLACE) $(INSTALLED) -- $(LINKS)
+	@tools/installed replaceable $(TOP) $(SUMS) "$(FORMER_LINKS)" $(REPLACE) $(INSTALLED) -- $(LINKS)
 
 # Removes what is as it was installed, and lists the rest.
 uninstall:
-	@tools/installed uninstall $(TOP) $(SUMS) $(LINKS)
+	@tools/installed uninstall $(TOP) $(SUMS) "$(FORMER_LINKS)" $(LINKS)
 	@rmdir --ignore-fail-on-non-empty \
 		$(TOP)/$(DOCUMENTS) $(TOP)/$(LIBRARY)/ansible_vault_companions $(TOP)/$(LIBRARY)
 
@@ -147,7 +148,7 @@ package: all
 	cd bin/package/source && dpkg-buildpackage --build=binary --no-pre-clean --no-sign
 	@mv bin/package/*.deb bin/ && rm -r bin/package
 
-# Every script, the manual page, the length of lines, and names that nothing uses.
+# Every script, the manual pages, the length of lines, and names that nothing uses.
 lint:
 	tools/lint
 

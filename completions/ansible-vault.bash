@@ -1,6 +1,16 @@
 # Completion of ansible-vault's commands, options and files for bash, and of its companions.
 
-# The options that a command takes; without one, those of the program itself.
+# The options of a companion that name secrets and the tool has not.
+_ansible_vault_asking="--vault-pass-file --ask-vault-password --ask-vault-pass -J"
+
+# The commands of the program of this name, the tool or ansible-vault-with.
+_ansible_vault_commands() {
+    local commands="encrypt decrypt view rekey encrypt_string"
+    [[ $1 == ansible-vault-with ]] && commands+=" create edit"
+    echo "$commands"
+}
+
+# The options that a command of the tool takes; without one, those of the tool itself.
 _ansible_vault_options() {
     local common="--vault-id --vault-password-file --help -h"
     local salt="--salt-file --salt"
@@ -18,16 +28,15 @@ _ansible_vault_options() {
     esac
 }
 
-# The command among the words before the one that is completed.
+# The command of the program of this name among the words before the one that is completed.
 _ansible_vault_command() {
-    local word
+    local word commands
+    commands=$(_ansible_vault_commands "$1")
     for word in "${COMP_WORDS[@]:1:COMP_CWORD-1}"; do
-        case $word in
-        encrypt | decrypt | view | rekey | encrypt_string)
+        if [[ -n $word && " $commands " == *" $word "* ]]; then
             echo "$word"
             return
-            ;;
-        esac
+        fi
     done
 }
 
@@ -51,9 +60,25 @@ _ansible_vault_before() {
     echo "${COMP_WORDS[place]}"
 }
 
+# Whether the word stands behind the `=` of an option, where the shell expands no `~`.
+_ansible_vault_is_joined() {
+    [[ ${COMP_WORDS[COMP_CWORD]} == = || ${COMP_WORDS[COMP_CWORD - 1]} == = ]]
+}
+
+# The files whose path begins so. A `~` that the shell would leave as it is, is expanded here.
+_ansible_vault_paths() {
+    local start=$1
+    [[ $start == \~ || $start == \~/* ]] && start=$HOME${start#\~}
+    [[ $start == \~* ]] || compgen -f -- "$start"
+}
+
 # The files whose path begins with the word.
 _ansible_vault_files() {
-    mapfile -t COMPREPLY < <(compgen -f -- "$1")
+    if _ansible_vault_is_joined; then
+        mapfile -t COMPREPLY < <(_ansible_vault_paths "$1")
+    else
+        mapfile -t COMPREPLY < <(compgen -f -- "$1")
+    fi
     compopt -o filenames 2>/dev/null
 }
 
@@ -63,7 +88,7 @@ _ansible_vault_labelled_files() {
     while IFS= read -r path; do
         [[ -d $path ]] && path+=/
         COMPREPLY+=("${1%%@*}@$path")
-    done < <(compgen -f -- "${1#*@}")
+    done < <(_ansible_vault_paths "${1#*@}")
     compopt -o filenames 2>/dev/null
     [[ ${COMPREPLY[*]} == */ ]] && compopt -o nospace 2>/dev/null
 }
@@ -78,7 +103,7 @@ _ansible_vault_value() {
         *) _ansible_vault_files "$word" ;;
         esac
         ;;
-    --vault-password-file | --new-vault-password-file | --salt-file | --output)
+    --vault-password-file | --vault-pass-file | --new-vault-password-file | --salt-file | --output)
         _ansible_vault_files "$word"
         ;;
     --encrypt-vault-id | --salt | --name | -n | --stdin-name | --jobs | --label | --since) ;;
@@ -87,28 +112,41 @@ _ansible_vault_value() {
     return 0
 }
 
+# Of the tool, and of ansible-vault-with, whose secrets may stand before the command.
 _ansible_vault() {
+    local name=${1##*/}
     local word=$2
     local command
-    command=$(_ansible_vault_command)
+    command=$(_ansible_vault_command "$name")
     COMPREPLY=()
     if _ansible_vault_is_argument; then
         [[ $command == encrypt_string ]] || _ansible_vault_files "$word"
     elif _ansible_vault_value "$word"; then
         return 0
+    elif [[ $word == -* && $name == ansible-vault-with ]]; then
+        mapfile -t COMPREPLY < <(compgen -W "$(_ansible_vault_with_options "$command")" -- "$word")
     elif [[ $word == -* ]]; then
         mapfile -t COMPREPLY < <(compgen -W "$(_ansible_vault_options "$command")" -- "$word")
     elif [[ -z $command ]]; then
-        mapfile -t COMPREPLY < <(compgen -W "encrypt decrypt view rekey encrypt_string" -- "$word")
+        mapfile -t COMPREPLY < <(compgen -W "$(_ansible_vault_commands "$name")" -- "$word")
     elif [[ $command != encrypt_string ]]; then
         _ansible_vault_files "$word"
     fi
     return 0
 }
 
+# The options of ansible-vault-with, before a command or behind it.
+_ansible_vault_with_options() {
+    case $1 in
+    create | edit) _ansible_vault_companion_options ansible-vault-edit ;;
+    "") _ansible_vault_companion_options ansible-vault-with ;;
+    *) echo "$(_ansible_vault_options "$1") $_ansible_vault_asking" ;;
+    esac
+}
+
 # The options of a companion.
 _ansible_vault_companion_options() {
-    local common="--vault-id --vault-password-file --help -h --version -V"
+    local common="--vault-id --vault-password-file $_ansible_vault_asking --help -h --version -V"
     case $1 in
     ansible-vault-edit) echo "$common --encrypt-vault-id" ;;
     ansible-vault-rotate)
@@ -136,6 +174,6 @@ _ansible_vault_companion() {
     return 0
 }
 
-complete -F _ansible_vault ansible-vault
+complete -F _ansible_vault ansible-vault ansible-vault-with
 complete -F _ansible_vault_companion ansible-vault-edit ansible-vault-rotate ansible-vault-check \
-    ansible-vault-textconv ansible-vault-hook
+    ansible-vault-textconv ansible-vault-hook ansible-vault-merge

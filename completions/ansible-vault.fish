@@ -1,72 +1,107 @@
 # Completion of ansible-vault's commands, options and files for fish, and of its companions.
 
-# The files behind the label of a vault id, which may be typed with a quote or with backslashes.
-function __ansible_vault_ids
-    set -l typed (commandline -ct | string replace -r '^--[a-z-]*=' '')
-    set -l value (string replace -r '^["\']' '' -- $typed)
-    test "$value" = "$typed"; and set value (string unescape -- $typed)
-    set -l label (string match -r '^[^@]*@' -- $value)
-    set -l start (string replace -r '^[^@]*@' '' -- $value)
+# The files whose path begins so, behind a label where there is one. `~` is offered only where the word begins with
+# it: nowhere else is it expanded.
+function __ansible_vault_paths -a label start
+    set -l home
+    if string match -q '~*' -- $start
+        test -z "$label"; and string match -q '~/*' -- (commandline -ct); or return
+        set home $HOME/
+        set start $home(string sub -s 3 -- $start)
+    end
     for path in "$start"*
         test -d $path; and set path $path/
+        set -q home[1]; and set path '~/'(string replace -- $home '' $path)
         printf '%s\n' "$label$path"
     end
 end
 
+# What is typed of an option's value, which may stand behind `=`, or have a quote or backslashes.
+function __ansible_vault_value
+    set -l typed (commandline -ct | string replace -r '^--[a-z-]*=' '')
+    set -l value (string replace -r '^["\']' '' -- $typed)
+    test "$value" = "$typed"; and set value (string unescape -- $typed)
+    printf '%s\n' "$value"
+end
+
+function __ansible_vault_files
+    __ansible_vault_paths '' (__ansible_vault_value)
+end
+
+# The files behind the label of a vault id.
+function __ansible_vault_ids
+    set -l value (__ansible_vault_value)
+    set -l label (string match -r '^[^@]*@' -- $value)
+    __ansible_vault_paths "$label" (string replace -r '^[^@]*@' '' -- $value)
+end
+
+# The tool, and ansible-vault-with, which takes its commands.
 set -l commands encrypt decrypt view rekey encrypt_string
 set -l given __fish_seen_subcommand_from
-set -l none "not $given $commands"
-
-complete -c ansible-vault -f
-complete -c ansible-vault -n "$none" -a encrypt -d 'Plaintext to an encrypted file'
-complete -c ansible-vault -n "$none" -a decrypt -d 'An encrypted file to its plaintext'
-complete -c ansible-vault -n "$none" -a view -d 'An encrypted file to its plaintext, on standard output'
-complete -c ansible-vault -n "$none" -a rekey -d 'An encrypted file to one under a new secret'
-complete -c ansible-vault -n "$none" -a encrypt_string -d 'A text to a block of YAML'
-complete -c ansible-vault -n "$none" -s V -l version -d 'Print version'
-complete -c ansible-vault -s h -l help -d 'Print help'
-
+for name in ansible-vault ansible-vault-with
+    set -l none "not $given $commands create edit"
+    complete -c $name -f
+    complete -c $name -n "$none" -a encrypt -d 'Plaintext to an encrypted file'
+    complete -c $name -n "$none" -a decrypt -d 'An encrypted file to its plaintext'
+    complete -c $name -n "$none" -a view -d 'An encrypted file to its plaintext, on standard output'
+    complete -c $name -n "$none" -a rekey -d 'An encrypted file to one under a new secret'
+    complete -c $name -n "$none" -a encrypt_string -d 'A text to a block of YAML'
+    complete -c $name -n "not $given $commands" -s V -l version -d 'Print version'
+    complete -c $name -s h -l help -d 'Print help'
+    complete -c $name -n "$given rekey" -l new-vault-id -x -a '(__ansible_vault_ids)' \
+        -d 'The password file of the new secret, with its label'
+    complete -c $name -n "$given rekey" -l new-vault-password-file -x -a '(__ansible_vault_files)' \
+        -d 'The password file of a new secret for the label default'
+    complete -c $name -n "$given encrypt encrypt_string" -l encrypt-vault-id -x \
+        -d 'The label of the secret to encrypt with'
+    complete -c $name -n "$given decrypt view rekey" -l require-id-match \
+        -d 'Try only the secrets with the label of the encrypted file'
+    complete -c $name -n "$given encrypt rekey encrypt_string" -l salt-file -x -a '(__ansible_vault_files)' \
+        -d 'The file whose first 32 bytes are the salt'
+    complete -c $name -n "$given encrypt rekey encrypt_string" -l salt -x \
+        -d 'The salt itself, used once'
+    complete -c $name -n "$given encrypt_string" -s n -l name -x \
+        -d 'The name of the variable'
+    complete -c $name -n "$given encrypt_string" -l stdin-name -x \
+        -d 'The name of the variable, for standard input'
+    complete -c $name -n "$given encrypt decrypt rekey encrypt_string" -l output -x -a '(__ansible_vault_files)' \
+        -d 'The file to write'
+    complete -c $name -n "$given encrypt decrypt view rekey" -F
+end
 complete -c ansible-vault -n "$given $commands" -l vault-id -x -a '(__ansible_vault_ids)' \
     -d 'A password file, with the label of its secret'
-complete -c ansible-vault -n "$given $commands" -l vault-password-file -r -F \
+complete -c ansible-vault -n "$given $commands" -l vault-password-file -x -a '(__ansible_vault_files)' \
     -d 'A password file for the label default'
-complete -c ansible-vault -n "$given encrypt encrypt_string" -l encrypt-vault-id -x \
+set -l none "not $given $commands create edit"
+complete -c ansible-vault-with -n "$none" -a create -d 'A new encrypted file in an editor'
+complete -c ansible-vault-with -n "$none" -a edit -d 'An encrypted file in an editor'
+complete -c ansible-vault-with -n "$given create edit" -l encrypt-vault-id -x \
     -d 'The label of the secret to encrypt with'
-complete -c ansible-vault -n "$given decrypt view rekey" -l require-id-match \
-    -d 'Try only the secrets with the label of the encrypted file'
-complete -c ansible-vault -n "$given rekey" -l new-vault-id -x -a '(__ansible_vault_ids)' \
-    -d 'The password file of the new secret, with its label'
-complete -c ansible-vault -n "$given rekey" -l new-vault-password-file -r -F \
-    -d 'The password file of a new secret for the label default'
-complete -c ansible-vault -n "$given encrypt rekey encrypt_string" -l salt-file -r -F \
-    -d 'The file whose first 32 bytes are the salt'
-complete -c ansible-vault -n "$given encrypt rekey encrypt_string" -l salt -x \
-    -d 'The salt itself, used once'
-complete -c ansible-vault -n "$given encrypt_string" -s n -l name -x \
-    -d 'The name of the variable'
-complete -c ansible-vault -n "$given encrypt_string" -l stdin-name -x \
-    -d 'The name of the variable, for standard input'
-complete -c ansible-vault -n "$given encrypt decrypt rekey encrypt_string" -l output -r -F \
-    -d 'The file to write'
-complete -c ansible-vault -n "$given encrypt decrypt view rekey" -F
+complete -c ansible-vault-with -n "$given create edit" -F
 
-for name in edit rotate check textconv hook
+for name in edit rotate check textconv hook merge
     complete -c ansible-vault-$name -f
     complete -c ansible-vault-$name -s h -l help -d 'Print help'
     complete -c ansible-vault-$name -s V -l version -d 'Print version'
 end
-for name in edit rotate check textconv
+for name in edit rotate check textconv merge
     complete -c ansible-vault-$name -F
+end
+for name in with edit rotate check textconv merge
     complete -c ansible-vault-$name -l vault-id -x -a '(__ansible_vault_ids)' \
         -d 'A password file, with the label of its secret'
-    complete -c ansible-vault-$name -l vault-password-file -r -F \
+    complete -c ansible-vault-$name -l vault-password-file -x -a '(__ansible_vault_files)' \
         -d 'A password file for the label default'
+    complete -c ansible-vault-$name -l vault-pass-file -x -a '(__ansible_vault_files)' \
+        -d 'A password file for the label default'
+    complete -c ansible-vault-$name -s J -l ask-vault-password -d 'Ask for a password of the label default'
+    complete -c ansible-vault-$name -l ask-vault-pass -d 'Ask for a password of the label default'
 end
 complete -c ansible-vault-edit -l encrypt-vault-id -x \
-    -d 'The label of the secret for a new vault'
+    -d 'The label of the secret for what is new'
 complete -c ansible-vault-rotate -l new-vault-id -x -a '(__ansible_vault_ids)' \
     -d 'The password file of a new secret, with its label'
-complete -c ansible-vault-rotate -l new-vault-password-file -r -F \
+complete -c ansible-vault-rotate -l new-vault-password-file -x -a '(__ansible_vault_files)' \
     -d 'The password file of a new secret for the label default'
 complete -c ansible-vault-rotate -l dry-run -d 'Write nothing, and tell what would be done'
 complete -c ansible-vault-rotate -l jobs -x -d 'How many files at once'

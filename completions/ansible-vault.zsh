@@ -1,10 +1,19 @@
-#compdef ansible-vault ansible-vault-edit ansible-vault-rotate ansible-vault-check ansible-vault-textconv ansible-vault-hook
+#compdef ansible-vault ansible-vault-with ansible-vault-edit ansible-vault-rotate ansible-vault-check ansible-vault-textconv ansible-vault-hook ansible-vault-merge
 # Completion of ansible-vault's commands, options and files for zsh, and of its companions.
+
+# A file. A `~` that the shell would leave as it is, behind `=` or a label, is expanded here.
+_ansible_vault_files() {
+    if [[ -n $IPREFIX && $PREFIX == \~* ]]; then
+        [[ $PREFIX == \~(|/*) ]] || return 1
+        PREFIX=$HOME${PREFIX#\~}
+    fi
+    _files
+}
 
 # A file, behind a label and `@` where there is one.
 _ansible_vault_id() {
     compset -P '*@'
-    _files
+    _ansible_vault_files
 }
 
 _ansible_vault_commands() {
@@ -14,6 +23,10 @@ _ansible_vault_commands() {
         'view:an encrypted file to its plaintext, on standard output'
         'rekey:an encrypted file to one under a new secret'
         'encrypt_string:a text to a block of YAML'
+    )
+    [[ $service == ansible-vault-with ]] && commands+=(
+        'create:a new encrypted file in an editor'
+        'edit:an encrypted file in an editor'
     )
     _describe command commands
 }
@@ -31,27 +44,36 @@ _ansible_vault_arguments() {
     )
     local -a secrets=(
         '*--vault-id=[a password file, with its label]:[label@]file:_ansible_vault_id'
-        '*--vault-password-file=[a password file for the label default]:file:_files'
+        '*--vault-password-file=[a password file for the label default]:file:_ansible_vault_files'
     )
+    # Those that a companion takes.
+    local -a sources=(
+        $secrets
+        '*--vault-pass-file=[a password file for the label default]:file:_ansible_vault_files'
+        '*'{-J,--ask-vault-password,--ask-vault-pass}'[ask for a password of the label default]'
+    )
+    [[ $service == ansible-vault-with ]] && secrets=($sources)
     local -a choice=('--encrypt-vault-id=[the label of the secret to encrypt with]:label: ')
     local -a binding=('--require-id-match[try only the secrets with the label of the encrypted file]')
     local -a salt=(
-        '(--salt)--salt-file=[the file whose first 32 bytes are the salt]:file:_files'
+        '(--salt)--salt-file=[the file whose first 32 bytes are the salt]:file:_ansible_vault_files'
         '(--salt-file)--salt=[the salt itself, used once]:text: '
     )
     local -a renewal=(
         '(--new-vault-password-file)--new-vault-id=[the new password file, with its label]:[label@]file:_ansible_vault_id'
-        '(--new-vault-id)--new-vault-password-file=[a new password file for the label default]:file:_files'
+        '(--new-vault-id)--new-vault-password-file=[a new password file for the label default]:file:_ansible_vault_files'
     )
     local -a names=(
         '(--stdin-name)'{-n,--name=}'[the name of the variable]:name: '
         '(-n --name)--stdin-name=[the name of the variable, for standard input]:name: '
     )
-    local -a output=('--output=[the file to write]:file:_files')
-    local -a file=('1:file:_files')
+    local -a output=('--output=[the file to write]:file:_ansible_vault_files')
+    local -a file=('1:file:_ansible_vault_files')
+    # What is changed in place may be several.
+    [[ $service == ansible-vault-with && $1 != (create|edit) ]] && file=('*:file:_ansible_vault_files')
     local -a new_secrets=(
         '*--new-vault-id=[a new password file, with its label]:[label@]file:_ansible_vault_id'
-        '*--new-vault-password-file=[a new password file for the label default]:file:_files'
+        '*--new-vault-password-file=[a new password file for the label default]:file:_ansible_vault_files'
     )
     local -a rotation=(
         '--dry-run[write nothing, and tell what would be done]'
@@ -64,10 +86,11 @@ _ansible_vault_arguments() {
         view) _arguments -s -S $help $secrets $binding $file ;;
         rekey) _arguments -s -S $help $secrets $renewal $binding $salt $output $file ;;
         encrypt_string) _arguments -s -S $help $secrets $choice $salt $names $output '1:text: ' ;;
-        edit) _arguments -s -S $about $secrets $choice $file ;;
-        rotate) _arguments -s -S $about $secrets $new_secrets $rotation '*:path:_files' ;;
-        check) _arguments -s -S $about $secrets $labels '*:path:_files' ;;
-        textconv) _arguments -s -S $about $secrets $file ;;
+        create|edit) _arguments -s -S $about $sources $choice $file ;;
+        rotate) _arguments -s -S $about $sources $new_secrets $rotation '*:path:_ansible_vault_files' ;;
+        check) _arguments -s -S $about $sources $labels '*:path:_ansible_vault_files' ;;
+        textconv) _arguments -s -S $about $sources $file ;;
+        merge) _arguments -s -S $about $sources '*:file:_ansible_vault_files' ;;
         hook) _arguments -s -S $about $commits ;;
     esac
 }
@@ -75,7 +98,14 @@ _ansible_vault_arguments() {
 _ansible_vault() {
     local context state line
     local -A opt_args
+    local -a secrets=()
+    [[ $service == ansible-vault-with ]] && secrets=(
+        '*--vault-id=[a password file, with its label]:[label@]file:_ansible_vault_id'
+        '*--'{vault-password-file,vault-pass-file}'=[a password file for the label default]:file:_ansible_vault_files'
+        '*'{-J,--ask-vault-password,--ask-vault-pass}'[ask for a password of the label default]'
+    )
     _arguments -C \
+        $secrets \
         '(- *)'{-h,--help}'[print help]' \
         '(- *)'{-V,--version}'[print version]' \
         '1:command:_ansible_vault_commands' \
@@ -83,7 +113,7 @@ _ansible_vault() {
     [[ $state == arguments ]] && _ansible_vault_arguments $line[1]
 }
 
-if [[ $service == ansible-vault-* ]]; then
+if [[ $service == ansible-vault-* && $service != ansible-vault-with ]]; then
     _ansible_vault_arguments ${service#ansible-vault-}
 else
     _ansible_vault "$@"

@@ -1,17 +1,16 @@
 """Asks the shells themselves what they offer: the commands, and files where a file is wanted; and of the
-companions the options that their help names.
+companions the options that their help names. None offers a `~` that nobody would expand.
 
 The options of the program are compared in `options_agree`.
 """
 
 import pathlib
-import re
-import subprocess
 
 import pytest
 
+from lib.option_sets import companion_options, page_sets
 from lib.outcome import Outcome
-from lib.paths import ROOT
+from lib.paths import COMPANIONS
 from model.options import OPTIONS
 from shells import SHELLS, needs_shell, typed_in_bash
 
@@ -59,8 +58,8 @@ def test_program(outcome: Outcome, name: str, folder: pathlib.Path) -> None:
         outcome.check(f"{name} offers nothing for `{words}`", ask(words), set())
 
 
-COMPANIONS = [f"ansible-vault-{name}" for name in ("edit", "rotate", "check", "textconv", "hook")]
 # The same for the companions.
+WITH_COMMANDS = {*OPTIONS, "create", "edit"}
 COMPANION_PATHS = [
     ("ansible-vault-edit on", {"one.pass", "one.yml"}),
     ("ansible-vault-rotate folder/", {"folder/inner.yml"}),
@@ -76,29 +75,93 @@ COMPANION_PATHS = [
     ("ansible-vault-check --label on", set()),
     ("ansible-vault-check one.yml -- -", {"-dash.yml"}),
     ("ansible-vault-edit -- on", {"one.pass", "one.yml"}),
+    ("ansible-vault-merge one.yml two.yml folder/", {"folder/inner.yml"}),
+    ("ansible-vault-check --vault-pass-file one.p", {"one.pass"}),
+    ("ansible-vault-check --ask-vault-pass tw", {"two.yml"}),
+    ("ansible-vault-with ", WITH_COMMANDS),
+    ("ansible-vault-with --vault-id one.pass encr", {"encrypt", "encrypt_string"}),
+    ("ansible-vault-with --vault-id one.p", {"one.pass"}),
+    ("ansible-vault-with --vault-password-file one.pass view on", {"one.pass", "one.yml"}),
+    ("ansible-vault-with -J encrypt one.yml tw", {"two.yml"}),
+    ("ansible-vault-with decrypt --output tw", {"two.yml"}),
+    ("ansible-vault-with rekey --new-vault-password-file one.p", {"one.pass"}),
+    ("ansible-vault-with edit on", {"one.pass", "one.yml"}),
+    ("ansible-vault-with encrypt_string on", set()),
+    ("ansible-vault-with encrypt --encrypt-vault-id on", set()),
+    ("ansible-vault-with view -- one.yml -", {"-dash.yml"}),
 ]
 
 
-def options_in(told: str) -> set[str]:
-    """The options that a companion's help describes."""
-    found = re.findall(r"^  (?:(-\w), )?(--[\w-]+)", told, re.MULTILINE)
-    return {option for pair in found for option in pair if option}
+def offered_options(shell: str, words: str, folder: pathlib.Path) -> list[str]:
+    """The options that a shell offers behind words, by one dash and by two."""
+    offered = SHELLS[shell](f"{words} -", folder) | SHELLS[shell](f"{words} --", folder)
+    return sorted(offered - set(FILES))
+
+
+def options_of(name: str) -> set[str]:
+    return set().union(*companion_options(name))
 
 
 @pytest.mark.parametrize("shell", SHELLS)
 def test_companions(outcome: Outcome, shell: str, folder: pathlib.Path) -> None:
     needs_shell(shell)
     for name in COMPANIONS:
-        told = subprocess.run([ROOT / "companions" / name, "--help"], capture_output=True, text=True).stdout
-        offered = SHELLS[shell](f"{name} -", folder) | SHELLS[shell](f"{name} --", folder)
-        outcome.check(
-            f"{shell} offers the options of {name}", sorted(set(offered) - set(FILES)), sorted(options_in(told))
-        )
+        what = f"{shell} offers the options of {name}"
+        outcome.check(what, offered_options(shell, name, folder), sorted(options_of(name)))
     for line, wanted in COMPANION_PATHS:
         outcome.check(f"{shell} offers files for `{line}`", SHELLS[shell](line, folder), wanted)
     wanted = "@one.pass" if shell == "bash" else "dev@one.pass"
     line = "ansible-vault-rotate --new-vault-id dev@one.p"
     outcome.check(f"{shell} offers files for `{line}`", SHELLS[shell](line, folder), {wanted})
+
+
+@pytest.mark.parametrize("shell", SHELLS)
+def test_with(outcome: Outcome, shell: str, folder: pathlib.Path) -> None:
+    """Behind a command ansible-vault-with takes the options of the tool's, and its own for secrets."""
+    needs_shell(shell)
+    own = options_of("ansible-vault-with") - {"-V", "--version"}
+    for command in WITH_COMMANDS:
+        is_tools = command in OPTIONS
+        wanted = page_sets()[command] | own if is_tools else options_of("ansible-vault-edit")
+        offered = offered_options(shell, f"ansible-vault-with {command}", folder)
+        outcome.check(f"{shell} offers the options of {command}", offered, sorted(wanted))
+
+
+# Where `~` begins a path, and whether the shell expands it there.
+HOME_PATHS = {
+    "view --vault-id ~/one.p": True,
+    "view --vault-password-file ~/one.p": True,
+    "view ~/one.p": True,
+    "decrypt --output ~/one.p": True,
+    "view --vault-id dev@~/one.p": False,
+    "view --vault-id=~/one.p": False,
+    "view --vault-id=dev@~/one.p": False,
+    "view --vault-password-file=~/one.p": False,
+    "rekey --new-vault-id=dev@~/one.p": False,
+    "rekey --new-vault-password-file=~/one.p": False,
+    "decrypt --output=~/one.p": False,
+    "encrypt --salt-file=~/one.p": False,
+}
+
+
+@pytest.mark.parametrize("shell", SHELLS)
+def test_home(outcome: Outcome, shell: str, folder: pathlib.Path, monkeypatch: pytest.MonkeyPatch) -> None:
+    """`~` is offered where the shell expands it; elsewhere the path of the folder, and in fish nothing."""
+    needs_shell(shell)
+    monkeypatch.setenv("HOME", str(folder))
+    (folder / "work").mkdir()
+    for name in ("ansible-vault", "ansible-vault-with"):
+        for words, is_expanded in HOME_PATHS.items():
+            line = f"{name} {words}"
+            offered = SHELLS[shell](line, folder / "work")
+            if is_expanded:
+                outcome.check(f"{shell} completes `{line}`", offered, {"~/one.pass"})
+            elif shell == "fish":
+                outcome.check(f"{shell} offers nothing for `{line}`", offered, set())
+            else:
+                outcome.check(f"{shell} expands `{line}`", [each.partition("/")[2] for each in offered], [
+                    f"{folder}/one.pass"[1:]
+                ])
 
 
 # What is typed before a tab in bash, and the arguments that the command gets.
@@ -116,6 +179,9 @@ TYPED = {
     "view --vault-id 'dev@with a": ["view", "--vault-id", "dev@with a space.pass"],
     "view -- -": ["view", "--", "-dash.yml"],
     "rekey --new-vault-id=dev@with": ["rekey", "--new-vault-id=dev@with a space.pass"],
+    "view --vault-id dev@~/one.p": ["view", "--vault-id", "dev@HOME/one.pass"],
+    "view --vault-id=~/with": ["view", "--vault-id=HOME/with a space.pass"],
+    "view --vault-id ~/one.p": ["view", "--vault-id", "HOME/one.pass"],
 }
 
 
@@ -139,5 +205,9 @@ def test_quoted_in_fish(outcome: Outcome, folder: pathlib.Path) -> None:
 
 
 @pytest.mark.parametrize("line", TYPED)
-def test_typed_in_bash(outcome: Outcome, line: str, folder: pathlib.Path) -> None:
-    outcome.check(f"bash on a terminal completes `{line}`", typed_in_bash(line, folder), TYPED[line])
+def test_typed_in_bash(
+    outcome: Outcome, line: str, folder: pathlib.Path, monkeypatch: pytest.MonkeyPatch
+) -> None:
+    monkeypatch.setenv("HOME", str(folder))
+    wanted = [word.replace("HOME", str(folder)) for word in TYPED[line]]
+    outcome.check(f"bash on a terminal completes `{line}`", typed_in_bash(line, folder), wanted)

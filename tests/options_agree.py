@@ -1,17 +1,19 @@
 """Compares the options of each command in the manual page, in the completions of each shell, in the model
-and in the program's own help. `mandoc` and `groff` look the page over.
+and in the program's own help, and those of each companion in its page and its help. `mandoc` and `groff` look
+the pages over.
 """
 
 import re
 import shutil
 import subprocess
+from pathlib import Path
 
 import pytest
 
-from lib.option_sets import described_options, page_sets
-from lib.option_sets import help_commands, help_of, help_options, help_text
+from lib.option_sets import companion_options, companion_page, companion_statuses, described_options, page_sets
+from lib.option_sets import help_commands, help_of, help_options, help_text, options_in, sections, spellings
 from lib.outcome import Outcome
-from lib.paths import PAGE, ROOT
+from lib.paths import COMPANIONS, PAGE, ROOT
 from model.options import COMMON, OPTIONS
 from shells import SHELLS, needs_shell
 
@@ -30,6 +32,14 @@ LOOKS = {
     "groff": ["groff", "-ww", "-mdoc", "-T", "utf8", "-P", "-c"],
 }
 COLUMNS = 80
+# The pages to which a page refers are not installed where the tests run.
+UNINSTALLED = ("referenced manual not found", "outdated mandoc.db", "see above the output for STYLE")
+PAGES = sorted(PAGE.parent.glob("*.1"))
+# The sections of a companion's page, and others that may follow them.
+SECTIONS = [
+    "NAME", "SYNOPSIS", "DESCRIPTION", "OPTIONS", "ENVIRONMENT", "FILES", "EXIT STATUS", "EXAMPLES", "SEE ALSO",
+]
+FURTHER = ["CAVEATS", "SECURITY CONSIDERATIONS"]
 
 
 def completed(name: str, command: str | None) -> set[str]:
@@ -73,11 +83,83 @@ def test_page(outcome: Outcome) -> None:
     outcome.check("the page describes what its synopsis names", sorted(described_options()), sorted(named))
 
 
+def flat(sets: list[set[str]]) -> list[str]:
+    return sorted(set().union(*sets))
+
+
+@pytest.mark.parametrize("name", COMPANIONS)
+def test_companion(outcome: Outcome, name: str) -> None:
+    """The page of a companion beside its help."""
+    page = companion_page(name)
+    titles = [title for title in page if title not in FURTHER]
+    outcome.check("its page has the sections of every companion's", titles, SECTIONS)
+    described, told = spellings(page["OPTIONS"]), companion_options(name)
+    in_order = lambda options: sorted(map(sorted, options))
+    outcome.check("its page describes the options of its help", in_order(described), in_order(told))
+    named = options_in(page["SYNOPSIS"])
+    outcome.check("the synopsis names each option", [each for each in described if not each & named], [])
+    outcome.check("and no other", sorted(named - set(flat(described))), [])
+    statuses = {int(status) for status in re.findall(r"^\.It (\d)$", page["EXIT STATUS"], re.MULTILINE)}
+    outcome.check("its page has the exit statuses of its help", statuses, companion_statuses(name))
+    takes_secrets = "--vault-id" in flat(told)
+    settings = {"ANSIBLE_VAULT_IDENTITY_LIST", "ANSIBLE_VAULT_PASSWORD_FILE", "ANSIBLE_CONFIG"}
+    variables = set(re.findall(r"\bEv (\w+)", page["ENVIRONMENT"]))
+    outcome.check("its page names the settings", settings & variables, settings if takes_secrets else set())
+
+
+def test_variables(outcome: Outcome) -> None:
+    """What the companions read of the environment is named by a page."""
+    code = "".join(path.read_text() for path in (ROOT / "companions").rglob("ansible*") if path.is_file())
+    code += "".join(path.read_text() for path in (ROOT / "companions").rglob("*.py"))
+    read = set(re.findall(r'(?:environ(?:\.get\(|\[)|Setting\()"([A-Z_]+)"', code))
+    named = set().union(*(re.findall(r"\bEv ([A-Z_]+)", companion_page(name)["ENVIRONMENT"]) for name in COMPANIONS))
+    outcome.holds("variables are read", len(read) > 5, sorted(read))
+    outcome.check("each is named", sorted(read - named), [])
+
+
+def test_references(outcome: Outcome) -> None:
+    """The page of the program lists the companions, by the words of their pages, and each page that is referred
+    to is there."""
+    listed = dict(re.findall(r"^\.It Xr (\S+) 1 Ta (.+)$", sections(PAGE.read_text())["COMPANIONS"], re.MULTILINE))
+    described = {name: re.search(r"^\.Nd (.+)$", companion_page(name)["NAME"], re.MULTILINE)[1] for name in COMPANIONS}
+    outcome.check("the page lists the companions", listed, described)
+    outcome.check("each companion has a page", {page.stem for page in PAGES}, {"ansible-vault", *COMPANIONS})
+    references = set().union(*(re.findall(r"\bXr (ansible-vault\S*) 1", page.read_text()) for page in PAGES))
+    outcome.check("each page that is referred to is there", sorted(references - {page.stem for page in PAGES}), [])
+
+
+@pytest.mark.parametrize("page", PAGES, ids=lambda page: page.stem)
 @pytest.mark.parametrize("tool", LOOKS)
-def test_page_as_it_is_shown(outcome: Outcome, tool: str) -> None:
+def test_page_as_it_is_shown(outcome: Outcome, tool: str, page: Path) -> None:
     if not shutil.which(tool):
         pytest.skip(f"{tool} is not installed")
-    done = subprocess.run([*LOOKS[tool], str(PAGE)], capture_output=True, text=True)
+    done = subprocess.run([*LOOKS[tool], str(page)], capture_output=True, text=True)
     lines = [re.sub(".\b", "", line) for line in done.stdout.splitlines()]
-    outcome.check(f"{tool} finds nothing in the page", done.stderr, "")
+    remarks = [line for line in done.stderr.splitlines() if not any(each in line for each in UNINSTALLED)]
+    outcome.check(f"{tool} finds nothing in the page", remarks, [])
     outcome.check("the page is no wider than a terminal", [line for line in lines if len(line) > COLUMNS], [])
+
+
+# Documents with commands of the companions.
+DOCUMENTS = [*PAGES, ROOT / "README.md", *sorted((ROOT / "docs").glob("*.md"))]
+COMMAND = re.compile(r"\b(ansible-vault-\w+)((?: +[^\s`|;&'\"<>()]+)*)")
+
+
+def shell_of(text: str) -> str:
+    """A document's text with its shell in single lines, and without the marks of a manual page."""
+    return re.sub(r" (?:\\e|\\)\n +", " ", text)
+
+
+@pytest.mark.parametrize("document", DOCUMENTS, ids=lambda path: path.name)
+def test_commands(outcome: Outcome, document: Path) -> None:
+    """The options that a document gives to a companion are some of it, or of a command of the tool."""
+    sets = page_sets()
+    for name, words in COMMAND.findall(shell_of(document.read_text())):
+        if name not in COMPANIONS:
+            continue
+        known = set(flat(companion_options(name)))
+        if name == "ansible-vault-with":
+            known |= set().union(*(sets[word] for word in words.split() if word in sets))
+        given = {word.partition("=")[0] for word in words.split() if re.match(r"--?[A-Za-z]", word)}
+        outcome.check(f"{name}{words}", sorted(given - known - {"-v"}), [])
+    outcome.holds("it is read", True)

@@ -19,6 +19,7 @@ VERSION = version()
 COMPANIONS = {each.name for each in (ROOT / "companions").glob("ansible-vault-*")}
 SHARED = {each.name for each in (ROOT / "companions/ansible_vault_companions").glob("*.py")}
 NAMES = {"ansible-vault", *COMPANIONS}
+EDIT_PAGE = ROOT / "man" / "ansible-vault-edit.1"
 # Where Debian's tools look, below the prefix.
 FILES = {
     *(f"bin/{name}" for name in NAMES),
@@ -107,8 +108,9 @@ def check_man(outcome: Outcome, prefix: pathlib.Path):
     page = str(pages / "man1" / "ansible-vault.1")
     path = printed("man", "-M", str(pages), "-w", "ansible-vault").strip()
     outcome.check("man finds the page", path, page)
-    path = printed("man", "-M", str(pages), "-w", "ansible-vault-rotate").strip()
-    outcome.check("man finds it by a companion's name", os.path.realpath(path), page)
+    for name in sorted(COMPANIONS):
+        path = printed("man", "-M", str(pages), "-w", name).strip()
+        outcome.check(f"man finds that of {name}", path, str(pages / "man1" / f"{name}.1"))
 
 
 def check_fish(outcome: Outcome, prefix: pathlib.Path):
@@ -214,8 +216,8 @@ def check_changed(outcome: Outcome, folder: pathlib.Path):
     """make uninstall leaves what it did not put there, and tells of it."""
     words = ["DESTDIR=", f"PREFIX={folder}"]
     make("install", *words)
-    program, page = folder / "bin/ansible-vault", folder / "share/man/man1/ansible-vault.1"
-    links = [folder / "bin/ansible-vault-edit", folder / "share/man/man1/ansible-vault-edit.1"]
+    program, page = folder / "bin/ansible-vault", folder / "share/man/man1/ansible-vault-edit.1"
+    links = [folder / "bin/ansible-vault-edit", folder / "share/bash-completion/completions/ansible-vault-edit"]
     stray = folder / "lib/ansible-vault/stray"
     for path in (program, page, *links, stray):
         path.unlink(missing_ok=True)
@@ -238,9 +240,22 @@ def check_upgraded(outcome: Outcome, folder: pathlib.Path):
     old.write_text("of an older version\n")
     sums = folder / "lib/ansible-vault/installed.sha256"
     sums.write_text(printed("sha256sum", "lib/ansible-vault/older.py", cwd=folder) + sums.read_text())
-    make("install", *words)
+    page = folder / "share/man/man1/ansible-vault-edit.1"
+    links_page(page)
+    outcome.check("make install takes the place of an older version's link", make("install", *words).returncode, 0)
+    outcome.check("with a file", (page.is_symlink(), page.read_bytes()), (False, EDIT_PAGE.read_bytes()))
+    links_page(page)
     make("uninstall", *words)
     outcome.check("make uninstall removes what an older version had", files_below(folder), set())
+    links_page(page)
+    done = make("install", *words)
+    outcome.holds("a link without an installation is another's", done.returncode != 0 and page.is_symlink())
+
+
+def links_page(page: pathlib.Path) -> None:
+    """As version 0.2.0 did."""
+    page.unlink(missing_ok=True)
+    page.symlink_to("ansible-vault.1")
 
 
 def field(package: pathlib.Path, name: str) -> str:

@@ -1,5 +1,5 @@
-"""Runs the shell of docs/workflows.md and the examples of the manual page as they stand there, and what
-its CAVEATS warn of, with the program as `ansible-vault` and its companions beside it. What the companions do
+"""Runs the shell of docs/workflows.md and the examples of the manual pages as they stand there, and what the CAVEATS
+of the program's warn of, with the program as `ansible-vault` and its companions beside it. What the companions do
 otherwise is tested by `companion_cases`.
 """
 
@@ -19,17 +19,21 @@ import pytest
 from lib.limits import SECONDS
 from lib.option_sets import sections
 from lib.outcome import Outcome
-from lib.paths import PAGE, ROOT
+from lib.paths import COMPANIONS, PAGE, ROOT
 from model.vaults import seal, yaml_block
 from shells import all_shown
 
 PASSWORDS = {"old.pass": b"the old one", "new.pass": b"the new one", "prod.pass": b"in production", "ci.pass": b"of CI"}
 # As the document marks files.
-MARKS = "*.vault.yml diff=ansible-vault\nvault.yml diff=ansible-vault\n"
+MARKS = "*.vault.yml diff=ansible-vault merge=ansible-vault\nvault.yml diff=ansible-vault merge=ansible-vault\n"
+SETTINGS = "[defaults]\nvault_identity_list = prod@~/.vault/prod.pass\n"
+INVENTORY = "localhost ansible_connection=local\n"
 # What a piece needs of the machine besides git.
 TOOLS = {
+    "Secrets, named once": ["ansible-playbook"],
     "Vaults and blocks for playbooks": ["ansible-playbook"],
-    "A password that is typed": ["bash", "zsh"],
+    "A password that is typed": ["bash"],
+    "A pipeline": ["ansible-playbook"],
     "Type a password,": ["bash", "zsh"],
 }
 PLAYBOOK = """\
@@ -39,6 +43,19 @@ PLAYBOOK = """\
   tasks:
     - ansible.builtin.debug:
         msg: "{{ shared }} and {{ db_password }}"
+"""
+# The same without a file of variables.
+SHORT_PLAYBOOK = """\
+- hosts: all
+  gather_facts: false
+  tasks:
+    - ansible.builtin.debug:
+        msg: "{{ shared }}"
+"""
+# Stands for the password manager: its entry has more than the password.
+PASS = """\
+[ "$*" = "show ansible/prod" ] || exit 1
+printf 'in production\\nuser: me\\n'
 """
 
 
@@ -50,10 +67,10 @@ def pieces() -> dict[str, str]:
     return {title: "\n".join(lines(text)) + "\n" for title, text in zip(parts[::2], parts[1::2])}
 
 
-def examples() -> dict[str, str]:
-    """The shell of each of the EXAMPLES of the manual page, below the first words in front of it."""
+def examples(page: pathlib.Path = PAGE) -> dict[str, str]:
+    """The shell of each of the EXAMPLES of a manual page, below the first words in front of it."""
     display = r"(?:\A|^\.Pp)\n((?:(?!\.Pp$).+\n)+?)\.Bd .*\n((?:.*\n)+?)\.Ed$"
-    found = re.findall(display, sections(PAGE.read_text())["EXAMPLES"], re.MULTILINE)
+    found = re.findall(display, sections(page.read_text())["EXAMPLES"], re.MULTILINE)
     lines = lambda text: [line.removeprefix("$ ") for line in shown(text).splitlines()]
     return {" ".join(words.split()[:3]): "\n".join(lines(text)) + "\n" for words, text in found}
 
@@ -101,9 +118,9 @@ class Repository:
     def mode(self, name: str) -> str:
         return oct(stat.S_IMODE((self.folder / name).stat().st_mode))
 
-    def script(self, text: str) -> str:
-        """The path of a program that runs this shell."""
-        path = self.folder.parent / "script"
+    def script(self, text: str, name: str = "script") -> str:
+        """The path of a program that runs this shell; it is on PATH."""
+        path = self.folder.parent / "tools" / name
         path.write_text(f"#!/bin/sh\n{text}\n")
         path.chmod(0o755)
         return str(path)
@@ -136,15 +153,34 @@ def check_differences(outcome: Outcome, repository: Repository, shell: str):
         outcome.check(f"git shows the plaintext of each commit in `{folder}`", (shown.returncode, found), (0, wanted))
 
 
+def played(shown: str) -> list[str]:
+    """What the tasks of a playbook tell."""
+    return re.findall(r'"msg": "(.*)"', shown)
+
+
+def check_settings(outcome: Outcome, repository: Repository, shell: str):
+    repository.put("host_vars/web1/secrets.yml", b"port: 1\n")
+    repository.put("group_vars/all/vault.yml", b"shared: battery staple\n")
+    repository.put("inventory", INVENTORY.encode())
+    repository.put("playbook.yml", SHORT_PLAYBOOK.encode())
+    ran = repository.shell(shell)
+    outcome.check("the commands end well", (ran.returncode, ran.stderr), (0, ""))
+    outcome.check("the settings are those of the page", repository.get("ansible.cfg").decode(), SETTINGS)
+    outcome.check("the vault is shown", ran.stdout.splitlines()[:1], ["shared: battery staple"])
+    outcome.check("ansible-playbook reads it by the same settings", played(ran.stdout), ["battery staple"])
+    for name in ("host_vars/web1/secrets.yml", "group_vars/all/vault.yml"):
+        first = repository.get(name).splitlines()[0]
+        outcome.check(f"{name} is a vault of the label", first, b"$ANSIBLE_VAULT;1.2;AES256;prod")
+
+
 def check_playbook(outcome: Outcome, repository: Repository, shell: str):
     repository.put("plain.yml", b"shared: battery staple\n")
     repository.put("group_vars/.keep", b"")
-    repository.put("inventory", b"localhost ansible_connection=local\n")
+    repository.put("inventory", INVENTORY.encode())
     repository.put("playbook.yml", PLAYBOOK.encode())
     ran = repository.shell(shell)
-    message = re.findall(r'"msg": "(.*)"', ran.stdout)
     what = "ansible-playbook reads the vault and the block"
-    outcome.check(what, message, ["battery staple and correct horse"])
+    outcome.check(what, played(ran.stdout), ["battery staple and correct horse"])
 
 
 def check_edit(outcome: Outcome, repository: Repository, shell: str):
@@ -156,6 +192,14 @@ def check_edit(outcome: Outcome, repository: Repository, shell: str):
     shown = repository.shell(f"ansible-vault view --require-id-match --vault-id prod@prod.pass {name}").stdout
     outcome.check("the vault has the new text and the label", shown, "password: second\n")
     outcome.check("it keeps its mode", repository.mode(name), "0o640")
+
+
+def check_asked(outcome: Outcome, repository: Repository, shell: str):
+    repository.put("group_vars/all.yml", seal(PASSWORDS["old.pass"], b"shown\n"))
+    for password, wanted in ((PASSWORDS["old.pass"], True), (b"another", False)):
+        shown = pasted(repository, f"{shell.rstrip()}; exit\n", password.decode())
+        outcome.check(f"`{password.decode()}` is typed", "shown\r\n" in shown, wanted)
+        outcome.check("and is not shown", shown.count(password.decode()), 0)
 
 
 def check_typed(outcome: Outcome, repository: Repository, shell: str):
@@ -244,17 +288,86 @@ def check_first_day(outcome: Outcome, repository: Repository, shell: str):
     repository.put(".gitattributes", MARKS.encode())
     repository.put("vault.yml", seal(PASSWORDS["prod.pass"], b"password: shown\n", b"prod"))
     repository.put("other.yml", seal(PASSWORDS["new.pass"], b"a: 1\n"))
+    repository.put("group_vars/all/vault.yml", seal(PASSWORDS["prod.pass"], b"password: first\n", b"prod"))
+    repository.put("ansible.cfg", SETTINGS.encode())
     repository.shell("rm -r ~/.vault; git add -A")
     ran = repository.shell(shell)
     outcome.check("the first day", (ran.returncode, ran.stderr), (0, ""))
-    outcome.check("counts", ran.stdout.splitlines()[-1:], ["1 opened, 0 not, 1 of other labels (default 1)"])
+    told = ["2 opened, 0 not, 1 of other labels (default 1)", "password: first"]
+    outcome.check("counts, and shows a vault", ran.stdout.splitlines()[-2:], told)
     modes = repository.shell("stat -c %a ~/.vault ~/.vault/prod.pass; ls prod.pass").stdout
     outcome.check("the password file is outside, for its owner alone", modes, "700\n600\n")
     shown = repository.shell("git commit -qm one && git show").stdout
     outcome.holds("git shows plaintext", "+password: shown" in shown, shown)
+    text = b"a: 1\nb: 2\npassword: shown\nc: 3\nd: 4\n"
+    merge_changes(repository, "vault.yml", text, text + b"e: 5\n", b"z: 0\n" + text)
+    ran = repository.shell("git merge --no-edit branch && ansible-vault-textconv vault.yml")
+    outcome.check("git merges", (ran.returncode, ran.stdout.endswith(f"z: 0\n{text.decode()}e: 5\n")), (0, True))
     repository.put("vault.yml", b"password: plain\n")
     ran = repository.shell("git commit -qam two")
-    outcome.check("and refuses it", ran.returncode, 1)
+    outcome.check("and refuses plaintext", ran.returncode, 1)
+
+
+def merge_changes(repository: Repository, name: str, base: bytes, theirs: bytes, ours: bytes):
+    """Commits a vault in three versions, one of them in `branch`."""
+    theirs_after = "git checkout -q -"
+    for text, before, after in ((base, ":", ":"), (theirs, "git checkout -qb branch", theirs_after), (ours, ":", ":")):
+        repository.shell(before)
+        repository.put(name, seal(PASSWORDS["prod.pass"], text, b"prod"))
+        repository.shell(f"git add -A && git commit -qm change && {after}")
+
+
+def check_merge(outcome: Outcome, repository: Repository, shell: str):
+    name = "group_vars/all/vault.yml"
+    repository.put(".gitattributes", MARKS.encode())
+    merge_changes(repository, name, b"a: 1\nb: 2\nc: 3\n", b"a: 1\nb: 2\nc: 4\n", b"a: 0\nb: 2\nc: 3\n")
+    merge, _, solution = shell.partition("\nansible-vault-edit ")
+    ran = repository.shell(merge)
+    outcome.check("git merges what does not conflict", ran.returncode, 0)
+    view = f"ansible-vault view --require-id-match --vault-id prod@prod.pass {name}"
+    outcome.check("both changes are in the vault", repository.shell(view).stdout, "a: 0\nb: 2\nc: 4\n")
+    repository.shell("git checkout -q branch")
+    repository.put(name, seal(PASSWORDS["prod.pass"], b"a: 5\nb: 2\nc: 4\n", b"prod"))
+    repository.shell("git commit -qam other && git checkout -q -")
+    ran = repository.shell(merge)
+    outcome.check("git tells of a conflict", (ran.returncode, "CONFLICT" in ran.stdout), (1, True))
+    outcome.holds("nothing is in plaintext", repository.get(name).startswith(b"$ANSIBLE_VAULT;1.2;AES256;prod\n"))
+    ran = repository.shell("ansible-vault-check --vault-id prod@prod.pass .")
+    outcome.check("a check refuses it", ran.returncode, 1)
+    editor = repository.script("sed -i -e '/^[<=>|]\\{7\\}/d' -e '/^a: [01]$/d' \"$1\"")
+    ran = repository.shell(f"ansible-vault-edit {solution}", EDITOR=editor)
+    outcome.check("the conflict is solved", ran.returncode, 0)
+    outcome.check("in the vault", repository.shell(view).stdout, "a: 5\nb: 2\nc: 4\n")
+    outcome.check("and committed", repository.shell("git status --porcelain").stdout, "")
+
+
+def check_manager(outcome: Outcome, repository: Repository, shell: str):
+    repository.put(".gitattributes", MARKS.encode())
+    repository.put("vault.yml", seal(PASSWORDS["prod.pass"], b"password: shown\n", b"prod"))
+    repository.script(PASS, "pass")
+    repository.shell("git add -A && git commit -qm one")
+    ran = repository.shell(shell)
+    outcome.check("the commands end well", (ran.returncode, ran.stderr), (0, ""))
+    shown = [line for line in ran.stdout.splitlines() if "password: shown" in line]
+    outcome.check("git and the tool show the plaintext", shown, ["+password: shown", "password: shown"])
+
+
+def check_one_secret(outcome: Outcome, repository: Repository, shell: str):
+    name = "host_vars/web1.yml"
+    kept, old = block("other", "kept", "prod.pass", "prod"), block("db_password", "correct horse", "prod.pass", "prod")
+    repository.put("ansible.cfg", SETTINGS.encode())
+    repository.put(name, f"port: 5432  # stays\n{old}{kept}".encode())
+    editor = repository.script("sed -i -e 's/correct horse/battery staple/' -e '$a new: !vault |-\\n  a third' \"$1\"")
+    ran = repository.shell(shell, EDITOR=editor)
+    outcome.check("the commands end well", (ran.returncode, ran.stderr), (0, ""))
+    shown = "port: 5432  # stays\ndb_password: !vault |-\n  correct horse\nother: !vault |-\n  kept\n"
+    outcome.check("the secrets are shown", ran.stdout, shown)
+    text = repository.get(name).decode()
+    outcome.holds("all else stays", text.startswith("port: 5432  # stays\n") and kept in text, text)
+    outcome.holds("and the old value is gone", old not in text)
+    shown = repository.shell(f"ansible-vault-textconv {name}").stdout
+    values = re.findall(r"^  (.*)$", shown, re.MULTILINE)
+    outcome.check("one secret is changed, and one is new", values, ["battery staple", "kept", "a third"])
 
 
 def check_marks(outcome: Outcome, repository: Repository, shell: str):
@@ -265,6 +378,8 @@ def check_marks(outcome: Outcome, repository: Repository, shell: str):
         "group_vars/all/vars.yml: diff: unspecified",
     ]
     outcome.check("the marks", (ran.returncode, ran.stdout.splitlines(), ran.stderr), (0, lines, ""))
+    told = repository.shell("git check-attr merge vault.yml").stdout
+    outcome.check("and those of a merge", told, "vault.yml: merge: ansible-vault\n")
     names = ["vault.yml", "roles/web/vars/vault.yml", "roles/web/vars/vault/db.yml", "group_vars/db.vault.yml"]
     told = repository.shell(f"git check-attr diff {' '.join(names)}").stdout
     outcome.check("of other names", told.count("diff: ansible-vault\n"), len(names))
@@ -272,21 +387,27 @@ def check_marks(outcome: Outcome, repository: Repository, shell: str):
 
 def check_pipeline(outcome: Outcome, repository: Repository, shell: str):
     repository.put(".gitattributes", MARKS.encode())
-    repository.put("vault.yml", seal(PASSWORDS["ci.pass"], b"a: 1\n", b"ci"))
+    repository.put("group_vars/all/vault.yml", seal(PASSWORDS["ci.pass"], b"shared: battery staple\n", b"ci"))
     repository.put("prod.vault.yml", seal(PASSWORDS["prod.pass"], b"a: 1\n", b"prod"))
+    repository.put("inventory", INVENTORY.encode())
+    repository.put("playbook.yml", SHORT_PLAYBOOK.encode())
     repository.shell("git add -A && git commit -qm one && git update-ref refs/remotes/origin/main HEAD")
-    ran = repository.shell(f"set -e\n{shell}")
+    ran = repository.shell(f"set -e\n{shell}", VAULT_PASSWORD=PASSWORDS["ci.pass"].decode())
     outcome.check("all is well", (ran.returncode, ran.stderr), (0, ""))
-    told = "1 opened, 0 not, 1 of other labels (prod 1)"
-    outcome.check("and counted", ran.stdout.splitlines()[-1:], [told])
+    outcome.holds("and counted", "1 opened, 0 not, 1 of other labels (prod 1)" in ran.stdout.splitlines(), ran.stdout)
+    outcome.check("the playbook is run with the same password", played(ran.stdout), ["battery staple"])
+    checks = shell.splitlines()[:4]
+    statuses = lambda: [
+        repository.shell(line, VAULT_PASSWORD=PASSWORDS["ci.pass"].decode()).returncode for line in checks
+    ]
     repository.put("vault.yml", b"a: 1\n")
-    repository.shell("git commit -qam two --no-verify")
-    for line in shell.splitlines():
-        outcome.check(f"plaintext: {line[:28]}", repository.shell(line).returncode, 1)
+    repository.shell("git add -A && git commit -qm two --no-verify")
+    outcome.check("plaintext", statuses(), [1, 1, 0, 1])
     repository.put("vault.yml", seal(PASSWORDS["ci.pass"], b"a: 2\n", b"ci"))
     repository.shell("git commit -qam three --no-verify")
-    statuses = [repository.shell(line).returncode for line in shell.splitlines()]
-    outcome.check("plaintext in between", statuses, [0, 1, 0])
+    outcome.check("plaintext in between", statuses(), [0, 1, 0, 0])
+    ran = repository.shell(f"set -e\n{shell}", VAULT_PASSWORD="another")
+    outcome.check("another password", ran.returncode, 1)
 
 
 def check_encrypt(outcome: Outcome, repository: Repository, shell: str):
@@ -340,14 +461,18 @@ def check_cut_log(outcome: Outcome, repository: Repository, shell: str):
 
 
 RECIPES = {
+    "Secrets, named once": check_settings,
     "The first day in a clone": check_first_day,
     "Vaults and blocks for playbooks": check_playbook,
-    "A password that is typed": check_typed,
+    "A password that is typed": check_asked,
     "Editing a vault": check_edit,
+    "One secret in a YAML file": check_one_secret,
     "A repository under new secrets": check_rotation,
     "Which secret opens what": check_check,
     "Which files are to be encrypted": check_marks,
     "Differences in git": check_differences,
+    "A password manager": check_manager,
+    "A merge": check_merge,
     "A hook against plaintext": check_hook,
     "A pipeline": check_pipeline,
 }
@@ -356,6 +481,59 @@ DISPLAYS = {
     "Make a block": check_string,
     "Type a password,": check_typed,
 }
+# Those of a companion's page that need more than `example_repository` has.
+ROTATED = "old.pass"
+CODE = """\
+[ "$1" = --wait ] || exit 1
+shift
+exec "$EDITOR_OF_TEST" "$@"
+"""
+
+
+def example_repository(repository: Repository, password: str) -> str:
+    """What the examples of the companions' pages work on; and the editor."""
+    vault = lambda text: seal(PASSWORDS[password], text, b"prod")
+    repository.put("ansible.cfg", SETTINGS.encode())
+    repository.put(".gitattributes", MARKS.encode())
+    for name in ("group_vars/all.yml", "group_vars/all/vault.yml", "one.vault.yml", "a.yml", "b.yml"):
+        repository.put(name, vault(b"a: 1\nb: 2\nc: 3\nd: 4\n"))
+    repository.put("host_vars/web1.yml", block("db_password", "correct horse", password, "prod").encode())
+    repository.put("get-pass", b"#!/bin/sh\ncat prod.pass\n")
+    (repository.folder / "get-pass").chmod(0o755)
+    repository.shell("git add -A && git commit -qm one && git update-ref refs/remotes/origin/main HEAD")
+    repository.shell("git checkout -qb branch")
+    repository.put("one.vault.yml", vault(b"a: 1\nb: 2\nc: 3\nd: 5\n"))
+    repository.shell("git commit -qam two && git checkout -q -")
+    repository.put("one.vault.yml", vault(b"a: 0\nb: 2\nc: 3\nd: 4\n"))
+    repository.shell("git commit -qam three")
+    repository.script(CODE, "code")
+    return repository.script("sed -i -e 's/horse/staple/' -e 's/a: 1/a: 2/' \"$1\"")
+
+
+def check_example(outcome: Outcome, repository: Repository, name: str, shell: str) -> None:
+    """It ends well, and says nothing on standard error; a password that is asked for is typed."""
+    editor = example_repository(repository, ROTATED if name == "ansible-vault-rotate" else "prod.pass")
+    if "prompt" in shell or "--ask-" in shell:
+        typed = pasted(repository, shell.rstrip() + " && echo d''one; exit\n", PASSWORDS["prod.pass"].decode())
+        outcome.holds("it ends well", "done\r\n" in typed, typed)
+        return
+    ran = repository.shell(shell, EDITOR=editor, EDITOR_OF_TEST=editor, secret="correct horse", GIT_EDITOR="true")
+    status = 1 if "--dry-run" in shell else 0
+    outcome.check("it ends well", (ran.returncode, ran.stderr), (status, ""))
+
+
+EXAMPLES = [(name, title) for name in COMPANIONS for title in examples(PAGE.with_name(f"{name}.1"))]
+
+
+@pytest.mark.parametrize("name, title", EXAMPLES)
+def test_companion_example(outcome: Outcome, repository: Repository, name: str, title: str) -> None:
+    check_example(outcome, repository, name, examples(PAGE.with_name(f"{name}.1"))[title])
+
+
+def test_companions_have_examples(outcome: Outcome) -> None:
+    outcome.check("each companion's page has examples", {name for name, _ in EXAMPLES}, {*COMPANIONS})
+
+
 WARNINGS = {"A lost password": (LOST_PASSWORD, check_lost_password), "A cut log": (CUT_LOG, check_cut_log)}
 
 

@@ -18,6 +18,8 @@ FILE_MODES = {"100644", "100755"}
 RAW = ("--raw", "-z", "--no-abbrev", "--no-renames")
 # By a variable of this name git names to a hook a commit that is merged.
 MERGED = "GITHEAD_"
+# Where contents are noted that have merge marks within a vault, which are seen with a secret alone.
+CONFLICTS = "ansible-vault-conflicts"
 
 
 @dataclass
@@ -38,6 +40,26 @@ def git(*words: str, data: bytes = b"", index: str | None = None, folder: str | 
     if done.returncode != 0:
         raise Refused(f"git {words[0]} failed")
     return done.stdout
+
+
+def note_conflict(content: bytes) -> None:
+    """Notes in the repository, if this is one, that a content is still to be merged."""
+    try:
+        blob = git("hash-object", "--stdin", data=content).decode().strip()
+        path = git("rev-parse", "--git-path", CONFLICTS).removesuffix(b"\n")
+    except Refused:
+        return
+    with open(path, "a", encoding="ascii") as file:
+        file.write(f"{blob}\n")
+
+
+def conflicts() -> set[str]:
+    """The contents that are noted to be still to be merged."""
+    try:
+        with open(git("rev-parse", "--git-path", CONFLICTS).removesuffix(b"\n"), encoding="ascii") as file:
+            return set(file.read().split())
+    except FileNotFoundError:
+        return set()
 
 
 def top() -> str:

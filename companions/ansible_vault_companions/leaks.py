@@ -48,6 +48,11 @@ def is_unmerged(text: bytes) -> bool:
     return MERGE_MARK.search(text) is not None
 
 
+def has_unmerged_envelopes(text: bytes) -> bool:
+    """Whether it has marks of a merge beside envelopes, and is no vault."""
+    return not text.startswith(MAGIC) and is_unmerged(text) and bool(envelopes(text))
+
+
 def fault_of_marked(content: bytes, marks: set[str]) -> str | None:
     """Why a file with these attributes is refused."""
     if is_whole(content):
@@ -76,11 +81,11 @@ def decrypted(before: bytes, after: bytes) -> str | None:
         was_damaged = not is_whole(before)
         is_encrypted = is_whole(after) or (was_damaged and after.startswith(MAGIC))
         return None if is_encrypted or not after.strip() else "was a vault in the parent commit, and is none now"
-    names = _now_plain(before, after)
+    names = now_plain(before, after)
     return f"has {', '.join(names)} in plaintext, encrypted in the parent commit" if names else None
 
 
-def _now_plain(before: bytes, after: bytes) -> list[str]:
+def now_plain(before: bytes, after: bytes) -> list[str]:
     """The variables of which fewer are encrypted than before, and more are not."""
     encrypted = _encrypted(before)
     if not encrypted:

@@ -18,15 +18,20 @@ calls for all that is secret."""
 
 
 class Refused(Exception):
-    """Something is not done; the text says why."""
+    """Something is not done; the text says why. The status is that of the tool, where it is the tool's text."""
+
+    def __init__(self, text: str, status: int = 1) -> None:
+        super().__init__(text)
+        self.status = status
 
 
-def parser(name: str, summary: str, statuses: str, **options) -> argparse.ArgumentParser:
+def parser(name: str, summary: str, statuses: str, example: str = "", **options) -> argparse.ArgumentParser:
     """A command line whose faults end the program with status 2."""
+    shown_example = f"Example:\n  {example}\n\n" if example else ""
     made = argparse.ArgumentParser(
         prog=name,
         description=summary,
-        epilog=f"Exit status: {statuses}\n\n{NOTE}",
+        epilog=f"{shown_example}Exit status: {statuses}\n\n{NOTE}",
         formatter_class=argparse.RawDescriptionHelpFormatter,
         allow_abbrev=False,
         **options,
@@ -105,13 +110,13 @@ def _status_of(main: Callable[[list[str]], int]) -> int:
 
 
 def _prepare_streams() -> None:
-    """No file that is opened later gets the number of a stream that is closed, and what is written to one
+    """No file that is opened later gets the number of a stream that is closed, and reading or writing one
     fails."""
-    for number in range(3):
+    for number, mode in enumerate((os.O_WRONLY, os.O_RDONLY, os.O_RDONLY)):
         try:
             os.fstat(number)
         except OSError:
-            os.set_inheritable(os.open(os.devnull, os.O_RDONLY), True)
+            os.set_inheritable(os.open(os.devnull, mode), True)
     sys.stdout = sys.stdout or open(1, "w", closefd=False)
     sys.stderr = sys.stderr or open(2, "w", buffering=1, closefd=False)
     for stream in (sys.stdout, sys.stderr):

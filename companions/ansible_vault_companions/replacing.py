@@ -12,6 +12,8 @@ from ansible_vault_companions import files
 from ansible_vault_companions.program import Refused
 
 PREFIX = ".ansible-vault-"
+# The mode of what its owner alone may read.
+PRIVATE = 0o600
 # What says that a file system has no hard links.
 NO_LINKS = (errno.EPERM, errno.EOPNOTSUPP, errno.ENOSYS, errno.EMLINK)
 
@@ -20,11 +22,12 @@ class Changed(Refused):
     """The file is no longer what it was when it was read."""
 
 
-def replace(path: str, content: bytes, before: bytes | None) -> None:
-    """Puts content in the place of what stands there, and still is as it was read; links are followed. The
-    folder is synced, so that the old content does not come back after a power failure."""
+def replace(path: str, content: bytes, before: bytes | None, is_private: bool = False) -> None:
+    """Puts content in the place of what stands there, and still is as it was read; links are followed. What is
+    private is for its owner alone, whatever the mode was. The folder is synced, so that the old content does
+    not come back after a power failure."""
     target = os.path.realpath(path)
-    beside = _write_beside(target, content)
+    beside = _write_beside(target, content, is_private)
     try:
         if files.read(target) != before:
             raise Changed("it was changed meanwhile")
@@ -70,20 +73,20 @@ def _make(beside: str, target: str) -> None:
     os.unlink(beside)
 
 
-def _write_beside(target: str, content: bytes) -> str:
+def _write_beside(target: str, content: bytes, is_private: bool = False) -> str:
     """The path of a new file with this content, and with the owner and the mode of the target if there is
     one; else for its owner alone."""
-    return _write_new(os.path.dirname(target), content, target if os.path.lexists(target) else None)
+    return _write_new(os.path.dirname(target), content, target if os.path.lexists(target) else None, is_private)
 
 
-def _write_new(folder: str, content: bytes, like: str | None = None) -> str:
+def _write_new(folder: str, content: bytes, like: str | None = None, is_private: bool = False) -> str:
     descriptor, path = tempfile.mkstemp(prefix=PREFIX, dir=folder)
     try:
         with open(descriptor, "wb") as file:
             file.write(content)
             file.flush()
             if like is not None:
-                _take_over(descriptor, like)
+                _take_over(descriptor, like, is_private)
             os.fsync(descriptor)
     except BaseException:
         os.unlink(path)
@@ -91,18 +94,19 @@ def _write_new(folder: str, content: bytes, like: str | None = None) -> str:
     return path
 
 
-def _take_over(descriptor: int, target: str) -> None:
-    """Owner, mode and attributes (as lists of access), in the order in which each leaves the others."""
+def _take_over(descriptor: int, target: str, is_private: bool) -> None:
+    """Owner, mode and attributes (as lists of access), in the order in which each leaves the others. What is
+    private has the owner alone."""
     old, new = os.stat(target), os.fstat(descriptor)
     if stat.S_ISREG(old.st_mode) and old.st_nlink > 1:
         raise Refused(f"it has {old.st_nlink} names (hard links), and one alone would change")
     if (old.st_uid, old.st_gid) != (new.st_uid, new.st_gid):
         os.fchown(descriptor, old.st_uid, old.st_gid)
-    wanted = _attributes(target)
+    wanted = [] if is_private else _attributes(target)
     # Those that the folder gives to every new file.
     for name in set(_attributes(descriptor)) - set(wanted):
         os.removexattr(descriptor, name)
-    os.fchmod(descriptor, stat.S_IMODE(old.st_mode))
+    os.fchmod(descriptor, PRIVATE if is_private else stat.S_IMODE(old.st_mode))
     for name in wanted:
         os.setxattr(descriptor, name, os.getxattr(target, name))
 

@@ -1,7 +1,8 @@
 """How a companion ends by a signal: between its steps and never inside of one, with nothing left behind.
 
 A signal is noted and passed on to the programs that run; what comes of it is an exception before or
-behind the run of a program, and nowhere else. So what stands in a `finally` is always done whole.
+behind the run of a program, or where a password is waited for, and nowhere else. So what stands in a
+`finally` is always done whole.
 """
 
 from __future__ import annotations
@@ -10,8 +11,8 @@ import os
 import signal
 import subprocess
 import time
-from contextlib import suppress
-from typing import Iterable, NoReturn
+from contextlib import contextmanager, suppress
+from typing import Iterable, Iterator, NoReturn
 
 # Those that cannot be noted, that end no program by default, and that a fault of Python itself would
 # raise again at once.
@@ -28,6 +29,7 @@ _left_to_programs: set[int] = set()
 _running: set[subprocess.Popen] = set()
 # What these started, where a signal was passed on to it.
 _reached: set[int] = set()
+_is_interruptible = False
 
 
 class Stopped(Exception):
@@ -47,6 +49,9 @@ def _note(number: int, _frame) -> None:
     _noted.append(number)
     for program in list(_running):
         _pass_on(program, number if len(_noted) == 1 else signal.SIGKILL)
+    # The first alone, so that the terminal is put back whole.
+    if _is_interruptible and len(_noted) == 1:
+        raise Stopped
 
 
 def _pass_on(program: subprocess.Popen, number: int) -> None:
@@ -86,6 +91,25 @@ def _wait_for_reached() -> None:
 def check() -> None:
     if _noted:
         raise Stopped
+
+
+@contextmanager
+def interruptible() -> Iterator[None]:
+    """A signal ends at once what stands within, which waits for what somebody types or another program
+    writes."""
+    global _is_interruptible
+    _is_interruptible = True
+    try:
+        check()
+        yield
+    finally:
+        _is_interruptible = False
+
+
+def leave_signals() -> None:
+    """Signals are those of the program that takes the place of this one; Python ignores some."""
+    for number in (signal.SIGPIPE, signal.SIGXFSZ):
+        signal.signal(number, signal.SIG_DFL)
 
 
 def end_by_signal() -> NoReturn:

@@ -6,7 +6,7 @@ import os
 import re
 import shutil
 import subprocess
-from typing import Iterator
+from typing import Iterator, NoReturn
 
 from ansible_vault_companions import stopping
 from ansible_vault_companions.envelopes import label_of
@@ -30,8 +30,7 @@ class Tool:
     """The ansible-vault beside a companion, else the one on PATH."""
 
     def __init__(self, companion: str) -> None:
-        beside = (os.path.join(folder, NAME) for folder in _folders(companion))
-        path = next((each for each in beside if os.access(each, os.X_OK)), None) or shutil.which(NAME)
+        path = beside(companion, NAME) or shutil.which(NAME)
         if path is None:
             raise Refused(f"there is no {NAME} beside this program and on PATH")
         if not (_has_messages(path) or _says_its_name(path)):
@@ -47,12 +46,23 @@ class Tool:
             raise _refusal(done)
         return done.stdout
 
+    def become(self, words: list[str], secrets: list[Secret]) -> NoReturn:
+        """The tool takes the place of this program, and has its streams."""
+        for secret in secrets:
+            if secret.descriptor is not None:
+                os.set_inheritable(secret.descriptor, True)
+        stopping.check()
+        stopping.leave_signals()
+        os.execv(self.path, [self.path, *words])
+
     def view(self, envelope: bytes, secret: Secret) -> bytes:
         """The plaintext, by this secret."""
+        if secret.fault:
+            raise SecretRefused(f"{secret.given}: {secret.fault}")
         try:
             return self.run(["view", secret.option()], envelope, [secret])
         except SecretRefused as fault:
-            raise SecretRefused(f"{secret.given}: {fault}") from None
+            raise SecretRefused(f"{secret.given}: {fault}", fault.status) from None
 
     def accept(self, secrets: list[Secret]) -> None:
         """Refuses a secret that the tool refuses: with no input the secrets alone are looked at."""
@@ -63,7 +73,7 @@ class Tool:
                 raise
             except Refused as fault:
                 if str(fault) != NOT_A_VAULT:
-                    raise Refused(f"{secret.given}: {fault}") from None
+                    raise Refused(f"{secret.given}: {fault}", fault.status) from None
 
     def open(self, envelope: bytes, secrets: list[Secret]) -> tuple[Secret, bytes]:
         """The secret that opens it, those of its label first, and the plaintext."""
@@ -89,9 +99,8 @@ def _refusal(done: subprocess.CompletedProcess) -> Refused:
     if done.returncode < 0:
         return Refused(f"{NAME} was ended by signal {-done.returncode}")
     text = done.stderr.decode(errors="replace").strip().removeprefix("ERROR! ")
-    if text.startswith(OF_SECRETS):
-        return SecretRefused(text)
-    return Refused(text or f"{NAME} ended with status {done.returncode}")
+    kind = SecretRefused if text.startswith(OF_SECRETS) else Refused
+    return kind(text or f"{NAME} ended with status {done.returncode}", done.returncode)
 
 
 def _has_messages(path: str) -> bool:
@@ -108,6 +117,12 @@ def _says_its_name(path: str) -> bool:
     silent = {"stdin": subprocess.DEVNULL, "stderr": subprocess.DEVNULL}
     output = stopping.run([path, "--version"], stdout=subprocess.PIPE, **silent).stdout
     return re.match(rb"ansible-vault \d", output) is not None
+
+
+def beside(companion: str, name: str) -> str | None:
+    """The path of another program that stands beside a companion."""
+    paths = (os.path.join(folder, name) for folder in _folders(companion))
+    return next((path for path in paths if os.access(path, os.X_OK)), None)
 
 
 def _folders(program: str) -> Iterator[str]:

@@ -19,8 +19,8 @@ from lib.paths import ROOT
 from model.vaults import applied, seal, tag_of, yaml_block
 
 COMPANIONS = ROOT / "companions"
-EDIT, ROTATE, CHECK, TEXTCONV, HOOK = (
-    f"ansible-vault-{name}" for name in ("edit", "rotate", "check", "textconv", "hook")
+EDIT, ROTATE, CHECK, TEXTCONV, HOOK, WITH = (
+    f"ansible-vault-{name}" for name in ("edit", "rotate", "check", "textconv", "hook", "with")
 )
 NOBODY = 65_534
 TEXT = b"db_password: correct horse\n"

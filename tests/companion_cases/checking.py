@@ -75,11 +75,12 @@ def no_plaintext(cases: Companions) -> None:
 def help_of_each(cases: Companions) -> None:
     with cases.place() as place:
         names = sorted(each.name for each in COMPANIONS.glob("ansible-vault-*"))
-        cases.check("there are five", len(names), 5)
+        cases.check("there are seven", len(names), 7)
         for name in names:
             for word in ("--help", "-h"):
                 done = place.run(name, word)
-                parts = [f"usage: {name}", "Exit status: 0", "Nothing of this program is proved"]
+                example = f"Example:\n  {name} "
+                parts = [f"usage: {name}", example, "Exit status: 0", "Nothing of this program is proved"]
                 cases.ended(f"{name} {word}", done, 0, *parts)
                 wide = [line for line in done.stdout.splitlines() if len(line) > 80]
                 cases.check(f"{name}: the help is no wider than a terminal", (wide, done.stderr), ([], ""))

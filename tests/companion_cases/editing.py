@@ -95,11 +95,12 @@ def refusals(cases: Companions) -> None:
             (place.by_file("old"), "missing/new.yml", "No such file"),
             (place.by_file("missing"), "all.yml", "missing: a password file cannot be opened"),
             (["--vault-id", f"dev@{place.path}/empty"], "all.yml", "a password is empty"),
-            (["--vault-id", "prompt"], "all.yml", "asking for a password is not supported"),
         ]
         for words, vault, part in refused:
             done = edit(place, "touch ../started", *words, vault)
             cases.ended(f"{words[-1][-12:]} {vault}", done, 1, part)
+        away = ["setsid", "--wait", EDIT, "--vault-id", "prompt", "all.yml"]
+        cases.ended("no terminal", place.run(*away), 1, "prompt: there is no terminal to ask for the password")
         cases.check("no editor is started", (place.path / "started").exists(), False)
         cases.check("all files stay", (place.files(), place.left()), (before, []))
 

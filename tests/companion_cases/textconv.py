@@ -22,7 +22,7 @@ def alone(cases: Companions) -> None:
     shown = {
         "a vault": (sealed("old"), TEXT),
         "a vault of another label": (sealed("old", b"\x00\xff", "prod"), b"\x00\xff"),
-        "blocks": (around + block("old", b"one") + block("new", b"two\nthree", name="x") + b"end", None),
+        "blocks": (around + block("old", b"one") + block("new", b"two\nthree", name="x") + b"# end", None),
     }
     with cases.place() as place:
         for name, (content, wanted) in shown.items():
@@ -31,8 +31,7 @@ def alone(cases: Companions) -> None:
             done = place.run("sh", "-c", '"$@" > ../shown', "sh", *command, "file")
             cases.silent(name, done)
             found = (place.path / "shown").read_bytes()
-            text = b"secret: !vault |\n{}one\nx: !vault |\n{}two\n{}three\nend"
-            lines = around + text.replace(b"{}", b" " * 10)
+            lines = around + b"secret: !vault |-\n  one\nx: !vault |-\n  two\n  three\n# end"
             cases.check(f"{name}: what is shown", found, lines if wanted is None else wanted)
 
 
@@ -53,7 +52,7 @@ def as_it_is(cases: Companions) -> None:
             cases.holds(f"{name}: why is told", part in done.stderr and name in done.stderr, done.stderr)
         place.put("mixed.yml", block("dev") + block("old", b"shown"))
         done = place.run(TEXTCONV, *place.by_file("old"), "mixed.yml")
-        wanted = block("dev").decode() + "secret: !vault |\n          shown\n"
+        wanted = block("dev").decode() + "secret: !vault |-\n  shown\n"
         cases.check("the other blocks are shown", (done.returncode, done.stdout), (0, wanted))
         place.put("a.yml", sealed("old"))
         done = place.run(TEXTCONV, *place.by_file("missing"), *place.by_file("old"), "a.yml")

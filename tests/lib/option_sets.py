@@ -1,12 +1,13 @@
-"""The options of each command, as the manual page and the program's help tell them.
+"""The options of each command and of each companion, as the manual pages and their help tell them.
 
 The key None stands for the program without a command.
 """
 
 import re
 import subprocess
+from functools import lru_cache
 
-from lib.paths import PAGE
+from lib.paths import COMPANIONS, PAGE
 
 OPTION = re.compile(r"\bFl (-?[\w-]+)")
 
@@ -61,3 +62,25 @@ def help_of(text: str, option: str) -> str:
 def help_commands(text: str) -> list[str]:
     listed = text.partition("Commands:\n")[2].partition("\n\n")[0]
     return re.findall(r"^  (\w+)", listed, re.MULTILINE)
+
+
+@lru_cache(maxsize=None)
+def companion_help(name: str) -> str:
+    return subprocess.run([COMPANIONS[name], "--help"], capture_output=True, text=True, check=True).stdout
+
+
+def companion_options(name: str) -> list[set[str]]:
+    """The spellings of each option that a companion's help describes."""
+    lines = re.findall(r"^  (--?[A-Za-z].*?)(?:  .*)?$", companion_help(name), re.MULTILINE)
+    return [set(re.findall(r"(?<!\S)--?[A-Za-z][\w-]*", line)) for line in lines]
+
+
+def companion_statuses(name: str) -> set[int]:
+    """The exit statuses that a companion's help names."""
+    _, _, told = companion_help(name).partition("Exit status: ")
+    return {int(status) for status in re.findall(r"(?:^|; )(\d)\b", " ".join(told.partition("\n\n")[0].split()))}
+
+
+def companion_page(name: str) -> dict[str, str]:
+    """The sections of a companion's manual page."""
+    return sections(PAGE.with_name(f"{name}.1").read_text())

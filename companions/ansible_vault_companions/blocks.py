@@ -1,0 +1,113 @@
+"""Values of YAML that are vaults, and how another envelope or a text takes their place."""
+
+from __future__ import annotations
+
+import re
+from dataclasses import dataclass
+from typing import Iterable, NamedTuple
+
+from ansible_vault_companions import literals
+from ansible_vault_companions.envelopes import FOLDED, IN_A_LINE, label_of
+from ansible_vault_companions.program import Refused, shown
+from ansible_vault_companions.secret_files import Secret
+from ansible_vault_companions.yaml_values import Style, Value
+
+# How many columns an envelope stands to the right of its key, as Ansible's tool writes it.
+INDENTATION = 10
+BODY = re.compile(rb"\r?\n(?P<spaces> *)")
+
+
+class Change(NamedTuple):
+    """Bytes that take the place of others."""
+
+    start: int
+    end: int
+    text: bytes
+
+
+def changed(data: bytes, changes: Iterable[Change]) -> bytes:
+    pieces, place = [], 0
+    for change in sorted(changes):
+        pieces += [data[place : change.start], change.text]
+        place = change.end
+    return b"".join([*pieces, data[place:]])
+
+
+def replacement(value: Value, marks: bytes, body: bytes, end: int) -> list[Change]:
+    """Makes another block scalar of a value that ends there. What stands behind its marks in their line stays."""
+    return [Change(value.start, value.marks_end, marks), Change(value.line_end, end, body)]
+
+
+def line_end(data: bytes, place: int) -> bytes:
+    """How a line ends that ends here."""
+    return b"\r\n" if data.startswith(b"\r\n", place) else b"\n"
+
+
+def named(value: Value) -> str:
+    return shown(value.name) if value.name else "this value"
+
+
+@dataclass(frozen=True)
+class Block:
+    """A value that is a vault."""
+
+    value: Value
+    # As they stand there: its marks, and all below their line.
+    marks: bytes
+    body: bytes
+    # As the tool reads it.
+    envelope: bytes
+    label: str | None
+
+    def in_place_of(self, value: Value) -> list[Change]:
+        """The same envelope where a value stands."""
+        if value.column == self.value.column:
+            return replacement(value, self.marks, self.body, value.end)
+        return self.resealed(value, self.envelope)
+
+    def resealed(self, value: Value, envelope: bytes) -> list[Change]:
+        """Another envelope where a value stands."""
+        marks = self.marks if value.column == self.value.column else b"|"
+        found = BODY.match(self.body)
+        indentation = len(found["spaces"]) - max(self.value.column, 0)
+        return replacement(value, marks, _body(value, envelope, indentation, line_end(self.body, 0)), value.end)
+
+
+def new_block(value: Value, envelope: bytes, end: bytes) -> list[Change]:
+    """An envelope in the place of a value that was none."""
+    return replacement(value, b"|", _body(value, envelope, INDENTATION, end), value.end)
+
+
+def _body(value: Value, envelope: bytes, indentation: int, end: bytes) -> bytes:
+    return literals.lines(envelope, max(value.column, 0) + indentation, end)
+
+
+def is_envelope(value: Value) -> bool:
+    return literals.is_envelope(value.content)
+
+
+def block_of(data: bytes, value: Value) -> Block:
+    """The block that a value is, where it can be put back."""
+    if value.style is not Style.LITERAL:
+        raise Refused(FOLDED if value.style is Style.FOLDED else IN_A_LINE)
+    envelope = value.content.strip() + b"\n"
+    # Empty lines below are none of the envelope's.
+    body = data[value.line_end : value.content_end]
+    return Block(value, data[value.start : value.marks_end], body, envelope, label_of(envelope))
+
+
+class Opened(NamedTuple):
+    """A block with its plaintext, and the secret that opened it."""
+
+    block: Block
+    secret: Secret
+    plaintext: bytes
+
+    @property
+    def path(self) -> tuple[str, ...]:
+        return self.block.value.path
+
+    @property
+    def key(self) -> tuple[Secret, str]:
+        """What it is encrypted with: a secret, and a label."""
+        return self.secret, self.block.label

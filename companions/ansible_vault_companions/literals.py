@@ -1,0 +1,137 @@
+"""A text as a literal scalar of YAML (`|`), and back what stands behind a tag `!vault`.
+
+What YAML cannot show as a literal is not shown, and what could be read in another way than it was meant is refused.
+"""
+
+from __future__ import annotations
+
+import re
+
+from ansible_vault_companions.envelopes import MAGIC
+from ansible_vault_companions.program import Refused
+from ansible_vault_companions.yaml_values import Style, Value
+
+# What YAML has in no text, or would take for the end of a line.
+UNSHOWN = re.compile("[^\t\n\x20-\x7e\xa0-\u2027\u202a-\ud7ff\ue000-\ufefe\uff00-\ufffd\U00010000-\U0010ffff]")
+# A text whose first line begins with a blank would hide its indentation.
+BEGINS_WITH_BLANK = re.compile(rb"\n*[ \t]")
+MOST_INDENTATION = 9
+
+NOT_UTF_8 = "it is not UTF-8"
+CONTROL = "it has control characters"
+VAULT_WITHIN = "its plaintext is itself a vault"
+TOO_DEEP = "its lines would stand too far to the right"
+
+BY_ESCAPES = "has control characters; write them as escapes, in double quotes"
+IN_FLOW = "stands within brackets or braces, where no block can stand; write it in a line of its own"
+BELOW = "stands below its tag; write it in the line of `!vault`"
+SEVERAL_LINES = "goes on in further lines; write `!vault |-`, and its lines below"
+FOLDED = "is a folded scalar (`>`); write `!vault |-`, and its lines below"
+NOTHING = 'is missing behind `!vault`; write `""` for an empty one'
+NO_TEXT = "is no text: a list, a mapping, a key or an alias"
+SURROGATE = "has an escape for half of a character; write the character"
+STRANGE_ESCAPE = "has an escape that YAML does not have"
+
+ESCAPE = re.compile(r"\\(x[0-9a-fA-F]{2}|u[0-9a-fA-F]{4}|U[0-9a-fA-F]{8}|.)", re.DOTALL)
+ESCAPES = {
+    "0": "\0",
+    "a": "\a",
+    "b": "\b",
+    "t": "\t",
+    "\t": "\t",
+    "n": "\n",
+    "v": "\v",
+    "f": "\f",
+    "r": "\r",
+    "e": "\x1b",
+    " ": " ",
+    '"': '"',
+    "/": "/",
+    "\\": "\\",
+    "N": "\x85",
+    "_": "\xa0",
+    "L": "\u2028",
+    "P": "\u2029",
+}
+
+
+def obstacle(text: bytes) -> str:
+    """Why a text cannot be shown as a literal; nothing where it can."""
+    if is_envelope(text):
+        return VAULT_WITHIN
+    try:
+        characters = text.decode()
+    except UnicodeDecodeError:
+        return NOT_UTF_8
+    return CONTROL if UNSHOWN.search(characters) else ""
+
+
+def is_envelope(text: bytes) -> bool:
+    """Whether a text, or what stands behind a tag, is encrypted."""
+    return text.lstrip(b"\"' \t\r\n").startswith(MAGIC)
+
+
+def marks(text: bytes, indentation: int) -> bytes:
+    """What begins the literal, whose lines are indented so much more than its key."""
+    sign = b"-" if not text.endswith(b"\n") else b"+" if text == b"\n" or text.endswith(b"\n\n") else b""
+    if not BEGINS_WITH_BLANK.match(text):
+        return b"|" + sign
+    if indentation > MOST_INDENTATION:
+        raise Refused(TOO_DEEP)
+    return b"|%d%s" % (indentation, sign)
+
+
+def lines(text: bytes, spaces: int, end: bytes) -> bytes:
+    """Its lines behind spaces, each behind the end of the line above; the end of the last is none of them."""
+    if not text:
+        return b""
+    margin = b" " * spaces
+    return b"".join(end + (margin + line if line else b"") for line in text.removesuffix(b"\n").split(b"\n"))
+
+
+def plain(value: Value) -> bytes:
+    """The text that a value stands for."""
+    faults = {
+        NOTHING: value.style is Style.NOTHING,
+        NO_TEXT: value.style is Style.NO_TEXT,
+        IN_FLOW: value.in_flow,
+        FOLDED: value.style is Style.FOLDED,
+        BELOW: value.is_below,
+        SEVERAL_LINES: value.style is not Style.LITERAL and b"\n" in value.content,
+    }
+    fault = next((what for what, holds in faults.items() if holds), None)
+    if fault is None and obstacle(value.content) == NOT_UTF_8:
+        fault = "is not UTF-8"
+    elif fault is None and obstacle(value.content):
+        fault = BY_ESCAPES
+    if fault:
+        raise Refused(fault)
+    return _unquoted(value)
+
+
+def _unquoted(value: Value) -> bytes:
+    if value.style is Style.SINGLE:
+        return value.content[1:-1].replace(b"''", b"'")
+    if value.style is Style.DOUBLE:
+        text = ESCAPE.sub(_unescaped, value.content[1:-1].decode())
+        try:
+            return text.encode()
+        except UnicodeEncodeError:
+            raise Refused(SURROGATE) from None
+    return value.content
+
+
+def _unescaped(found: re.Match[str]) -> str:
+    code = found[1]
+    if len(code) > 1:
+        return _character(int(code[1:], 16))
+    if code not in ESCAPES:
+        raise Refused(STRANGE_ESCAPE)
+    return ESCAPES[code]
+
+
+def _character(number: int) -> str:
+    try:
+        return chr(number)
+    except (ValueError, OverflowError):
+        raise Refused(STRANGE_ESCAPE) from None

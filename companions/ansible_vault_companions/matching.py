@@ -1,0 +1,120 @@
+"""Which of the values that stood encrypted in a file are those of its edited text.
+
+A value is known by the keys that lead to it, and in lists by its text and its place. Where that does not tell the
+secret that it is to get, it is refused.
+"""
+
+from __future__ import annotations
+
+from typing import NamedTuple
+
+from ansible_vault_companions.blocks import Opened, named
+from ansible_vault_companions.program import Refused
+from ansible_vault_companions.secret_files import Secret
+from ansible_vault_companions.yaml_values import Value
+
+NEW = "is new; choose its secret with --encrypt-vault-id"
+NO_SUCH_LABEL = "is new, and no secret has the label of --encrypt-vault-id"
+SEVERAL = "stood there under several labels or secrets; choose one with --encrypt-vault-id"
+NEW_OR_CHANGED = "may be new or changed, which makes two secrets of it; save one change after the other"
+
+# A secret, and a label.
+Key = tuple[Secret, str]
+
+
+class Typed(NamedTuple):
+    """A value of the edited text that is to be encrypted."""
+
+    value: Value
+    plaintext: bytes
+
+
+class Fate(NamedTuple):
+    """What becomes of a value: it keeps the envelope of a block, or is encrypted by a key, and if it was changed,
+    with the looks of a block."""
+
+    block: Opened | None
+    key: Key | None = None
+
+
+class Choice(NamedTuple):
+    """How the secret for a new value is chosen."""
+
+    secrets: list[Secret]
+    # Of --encrypt-vault-id.
+    label: str | None
+
+    def key(self, value: Value) -> Key:
+        fitting = self._fitting()
+        if not fitting:
+            raise unclear(value, NO_SUCH_LABEL)
+        if self.label is None and len(fitting) > 1:
+            raise unclear(value, NEW)
+        return fitting[0], fitting[0].label
+
+    def keys(self) -> list[Key]:
+        """It alone, where it is clear."""
+        fitting = self._fitting()
+        is_clear = self.label is not None or len(fitting) == 1
+        return [(fitting[0], fitting[0].label)] if fitting and is_clear else []
+
+    def _fitting(self) -> list[Secret]:
+        return [secret for secret in self.secrets if self.label in (None, secret.label)]
+
+
+def unclear(value: Value, why: str) -> Refused:
+    return Refused(f"line {value.line}: {named(value)} {why}")
+
+
+def fates(blocks: list[Opened], typed: list[Typed], choice: Choice) -> list[Fate]:
+    """What becomes of each value."""
+    found: dict[int, Fate] = {}
+    left: dict[tuple[str, ...], list[Opened]] = {}
+    for block in blocks:
+        left.setdefault(block.path, []).append(block)
+    _keep(found, left, typed)
+    kept = [fate.block for fate in found.values()]
+    unkept = [block for block in blocks if block not in kept]
+    for path in dict.fromkeys(each.value.path for each in typed):
+        numbers = [number for number, each in enumerate(typed) if each.value.path == path and number not in found]
+        if left.get(path):
+            _change(found, left[path], [(number, typed[number]) for number in numbers], choice)
+    for number, each in enumerate(typed):
+        if number not in found:
+            found[number] = _moved(unkept, each.plaintext) or Fate(None, choice.key(each.value))
+    return [found[number] for number in range(len(typed))]
+
+
+def _keep(found: dict[int, Fate], left: dict[tuple[str, ...], list[Opened]], typed: list[Typed]) -> None:
+    """Those that stayed as they were."""
+    for number, each in enumerate(typed):
+        candidates = left.get(each.value.path, [])
+        same = next((block for block in candidates if block.plaintext == each.plaintext), None)
+        if same:
+            candidates.remove(same)
+            found[number] = Fate(same)
+
+
+def _change(found: dict[int, Fate], left: list[Opened], typed: list[tuple[int, Typed]], choice: Choice) -> None:
+    """Those that were changed in their places: as many as there are blocks, or fewer, or more."""
+    keys = {block.key for block in left}
+    for place, (number, each) in enumerate(typed):
+        if len(typed) == len(left):
+            found[number] = Fate(left[place], left[place].key)
+        elif len(typed) > len(left) and keys != {*choice.keys()}:
+            raise unclear(each.value, NEW_OR_CHANGED)
+        elif len(keys) == 1:
+            found[number] = Fate(left[0], left[0].key)
+        elif choice.label is not None:
+            found[number] = Fate(None, choice.key(each.value))
+        else:
+            raise unclear(each.value, SEVERAL)
+
+
+def _moved(unkept: list[Opened], plaintext: bytes) -> Fate | None:
+    """The envelope of a value that has another key now."""
+    candidates = [block for block in unkept if block.plaintext == plaintext]
+    if len({block.key for block in candidates}) != 1:
+        return None
+    unkept.remove(candidates[0])
+    return Fate(candidates[0])

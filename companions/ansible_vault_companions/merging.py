@@ -1,0 +1,206 @@
+"""Three versions of a file that is a vault, or of YAML with values that are, merged into one.
+
+The lines are merged by git, which has files in memory alone. In YAML a token stands for each value that is a vault, so
+that none is torn apart, and those with the same label and plaintext are the same, whatever their envelopes.
+"""
+
+from __future__ import annotations
+
+import os
+import re
+import secrets as randomness
+import subprocess
+from dataclasses import dataclass
+from typing import NamedTuple
+
+from ansible_vault_companions import blocks, stopping
+from ansible_vault_companions.blocks import Block, Change
+from ansible_vault_companions.inline import Opening
+from ansible_vault_companions.envelopes import MAGIC, label_of
+from ansible_vault_companions.program import Refused
+from ansible_vault_companions.secret_files import Secret
+from ansible_vault_companions.tool import Tool
+from ansible_vault_companions.yaml_values import Style, scan
+
+# What git names the sides of a conflict by.
+SIDES = ("ours", "base", "theirs")
+# A status above it is that of a failure, and none counts the conflicts.
+MOST_CONFLICTS = 127
+KINDS_DIFFER = "one side is a vault and the other is none"
+LABELS_DIFFER = "the labels differ: {} in ours, {} in theirs"
+SECRETS_DIFFER = "both sides have put it under new secrets, and these differ"
+
+
+class Merged(NamedTuple):
+    content: bytes
+    conflicts: int
+
+
+class Version(NamedTuple):
+    """A vault of one side, opened."""
+
+    envelope: bytes
+    label: str
+    secret: Secret
+    plaintext: bytes
+
+
+def merged_lines(ours: bytes, base: bytes, theirs: bytes) -> Merged:
+    """What git makes of three texts."""
+    files = [_in_memory(text) for text in (ours, base, theirs)]
+    names = [word for side in SIDES for word in ("-L", side)]
+    paths = [f"/proc/self/fd/{file}" for file in files]
+    pipes = {"stdin": subprocess.DEVNULL, "stdout": subprocess.PIPE, "stderr": subprocess.PIPE}
+    try:
+        done = stopping.run(["git", "merge-file", "-p", *names, *paths], pass_fds=files, **pipes)
+    except FileNotFoundError:
+        raise Refused("git is not installed") from None
+    finally:
+        for file in files:
+            os.close(file)
+    if not 0 <= done.returncode <= MOST_CONFLICTS:
+        raise Refused("git merge-file cannot merge it; it may be no text")
+    return Merged(done.stdout, done.returncode)
+
+
+def _in_memory(text: bytes) -> int:
+    file = os.memfd_create("version")
+    with open(file, "wb", closefd=False) as writer:
+        writer.write(text)
+    return file
+
+
+def merged(tool: Tool, opening: Opening, base: bytes, ours: bytes, theirs: bytes) -> Merged:
+    """The merged file, with how many conflicts are in it."""
+    are_vaults = [each.startswith(MAGIC) for each in (ours, theirs)]
+    if all(are_vaults):
+        return _merged_vaults(tool, opening, base, ours, theirs)
+    if any(are_vaults):
+        raise Refused(KINDS_DIFFER)
+    # A base that was a vault would show its plaintext in a conflict.
+    return Values(opening, b"" if base.startswith(MAGIC) else base, ours, theirs).merged(tool)
+
+
+def _merged_vaults(tool: Tool, opening: Opening, base: bytes, ours: bytes, theirs: bytes) -> Merged:
+    first, second = _opened(opening, ours), _opened(opening, theirs)
+    before = _opened(opening, base) if base.startswith(MAGIC) else None
+    if first.label != second.label:
+        raise Refused(LABELS_DIFFER.format(first.label, second.label))
+    text, conflicts = merged_lines(first.plaintext, before.plaintext if before else base, second.plaintext)
+    secret = _secret(first.secret, before.secret if before else None, second.secret)
+    for each in (first, second):
+        if each.plaintext == text and _is_same(each.secret, secret):
+            return Merged(each.envelope, conflicts)
+    return Merged(tool.seal(text, secret, first.label), conflicts)
+
+
+def _opened(opening: Opening, envelope: bytes) -> Version:
+    secret, plaintext = opening(envelope)
+    return Version(envelope, label_of(envelope) or "", secret, plaintext)
+
+
+def _is_same(one: Secret, other: Secret) -> bool:
+    return one.password() == other.password()
+
+
+def _secret(ours: Secret, base: Secret | None, theirs: Secret) -> Secret:
+    """That of the side that has put it under another one."""
+    if _is_same(ours, theirs) or base and _is_same(theirs, base):
+        return ours
+    if base and _is_same(ours, base):
+        return theirs
+    raise Refused(SECRETS_DIFFER)
+
+
+class _Place(NamedTuple):
+    """A block where it stands on one side, with what it is known by."""
+
+    block: Block
+    token: bytes
+    secret: Secret | None
+    plaintext: bytes
+
+
+@dataclass
+class _Side:
+    text: bytes
+    places: list[_Place]
+
+    def with_token(self, token: bytes) -> _Place | None:
+        return next((each for each in self.places if each.token == token), None)
+
+    def at(self, path: tuple[str, ...]) -> _Place | None:
+        """The only block that these keys lead to."""
+        found = [each for each in self.places if each.block.value.path == path]
+        return found[0] if len(found) == 1 else None
+
+
+class Values:
+    """Three versions of YAML with tokens in the places of its blocks."""
+
+    def __init__(self, opening: Opening, base: bytes, ours: bytes, theirs: bytes) -> None:
+        self.opening = opening
+        self.mark = f"ansible-vault-{randomness.token_hex(16)}".encode()
+        self.tokens: dict[tuple, bytes] = {}
+        self.ours, self.base, self.theirs = map(self._side, (ours, base, theirs))
+
+    def _side(self, data: bytes) -> _Side:
+        try:
+            found = [value for value in scan(data).values if value.style is Style.LITERAL]
+        except Refused:
+            # It is merged as any text.
+            return _Side(data, [])
+        places = [self._place(blocks.block_of(data, value)) for value in found if blocks.is_envelope(value)]
+        changes = [change for place in places for change in self._tokenized(data, place)]
+        return _Side(blocks.changed(data, changes), places)
+
+    def _place(self, block: Block) -> _Place:
+        try:
+            secret, plaintext = self.opening(block.envelope)
+            known_by = (block.label, plaintext)
+        except Refused:
+            secret, plaintext, known_by = None, b"", (block.envelope,)
+        token = self.tokens.setdefault(known_by, b"%s-%d" % (self.mark, len(self.tokens)))
+        return _Place(block, token, secret, plaintext)
+
+    def _tokenized(self, data: bytes, place: _Place) -> list[Change]:
+        """A token in the line of the tag, and a line below that keeps the lines of two values apart."""
+        value = place.block.value
+        below = blocks.line_end(data, value.line_end) + self.mark + b" " + "/".join(value.path).encode()
+        return blocks.replacement(value, place.token, below, value.content_end)
+
+    def merged(self, tool: Tool) -> Merged:
+        text, conflicts = merged_lines(self.ours.text, self.base.text, self.theirs.text)
+        mark = re.escape(self.mark)
+        line = re.compile(rb"(?P<token>%s-\d+)(?P<rest>[^\n]*)(?P<end>\n|\Z)|%s [^\n]*(?:\n|\Z)" % (mark, mark))
+        return Merged(line.sub(lambda found: self._restored(tool, found), text), conflicts)
+
+    def _restored(self, tool: Tool, found: re.Match[bytes]) -> bytes:
+        """The block of a token; of a line that kept two apart, nothing."""
+        token = found["token"]
+        if token is None:
+            return b""
+        block, envelope = self._chosen(tool, token)
+        body = block.body if envelope is None else _resealed(block, envelope)
+        rest = found["rest"].removesuffix(b"\r")
+        return block.marks + rest + body + found["rest"][len(rest) :] + found["end"]
+
+    def _chosen(self, tool: Tool, token: bytes) -> tuple[Block, bytes | None]:
+        """The block for a token, and another envelope where its secret is that of an older version."""
+        ours, base, theirs = (side.with_token(token) for side in (self.ours, self.base, self.theirs))
+        if ours and theirs:
+            is_ours_old = base and ours.block.envelope == base.block.envelope
+            return (theirs if is_ours_old else ours).block, None
+        chosen = ours or theirs or base
+        other = (self.theirs if ours else self.ours).at(chosen.block.value.path)
+        before = self.base.at(chosen.block.value.path)
+        is_moved = chosen.secret and all(
+            each and each.secret and each.block.label == chosen.block.label for each in (other, before)
+        )
+        if is_moved and _is_same(chosen.secret, before.secret) and not _is_same(other.secret, before.secret):
+            return chosen.block, tool.seal(chosen.plaintext, other.secret, chosen.block.label)
+        return chosen.block, None
+
+
+def _resealed(block: Block, envelope: bytes) -> bytes:
+    return block.resealed(block.value, envelope)[1].text

@@ -1,0 +1,52 @@
+"""Passwords that are asked for at the terminal, in Ansible's words."""
+
+from __future__ import annotations
+
+import getpass
+import os
+
+from ansible_vault_companions import stopping
+from ansible_vault_companions.program import Refused, shown
+
+TERMINAL = "/dev/tty"
+NO_TERMINAL = "there is no terminal to ask for the password"
+# What stands for a path in Ansible's options.
+PROMPT, ASK = "prompt", "prompt_ask_vault_pass"
+# What is asked to open, and what is asked to encrypt.
+TO_OPEN = {PROMPT: ["Vault password ({}): "], ASK: ["Vault password: "]}
+TO_ENCRYPT = {
+    PROMPT: ["New vault password ({}): ", "Confirm new vault password ({}): "],
+    ASK: ["New Vault password: ", "Confirm New Vault password: "],
+}
+
+
+def password(kind: str, label: str, encrypts: bool) -> bytes:
+    """What is typed, once to open and twice to encrypt."""
+    questions = (TO_ENCRYPT if encrypts else TO_OPEN)[kind]
+    typed = [_answer(question.format(shown(label))) for question in questions]
+    if len(set(typed)) > 1:
+        raise Refused("the passwords that were typed differ")
+    return typed[0]
+
+
+def _answer(question: str) -> bytes:
+    _require_terminal()
+    try:
+        with stopping.interruptible():
+            text = getpass.getpass(question)
+    except EOFError:
+        raise Refused("nothing was typed") from None
+    except UnicodeError:
+        raise Refused("what was typed is no text") from None
+    typed = text.encode(errors="surrogateescape").strip()
+    if not typed:
+        raise Refused("an empty password was typed")
+    return typed
+
+
+def _require_terminal() -> None:
+    """Without one the question would go to the standard streams, which are for data."""
+    try:
+        os.close(os.open(TERMINAL, os.O_RDWR | os.O_NOCTTY))
+    except OSError:
+        raise Refused(NO_TERMINAL) from None

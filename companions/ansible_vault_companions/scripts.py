@@ -1,0 +1,58 @@
+"""Password files that are programs: each is run as Ansible runs it, and writes the password."""
+
+from __future__ import annotations
+
+import os
+import stat
+import subprocess
+
+from ansible_vault_companions import stopping
+from ansible_vault_companions.program import Refused, reason, shown
+
+# What the name of a script that is given the label ends with, before its suffix.
+CLIENT = "-client"
+# The status by which such a script says that it has no secret for the label.
+UNKNOWN_LABEL = 2
+
+
+def is_script(path: str) -> bool:
+    """Whether it is a file that anybody may execute."""
+    try:
+        mode = os.stat(path).st_mode
+    except OSError:
+        return False
+    return stat.S_ISREG(mode) and mode & 0o111 != 0
+
+
+def password(path: str, label: str) -> bytes:
+    """What the script writes for a label, which is empty where none is given, without line ends around it."""
+    is_client = os.path.splitext(path)[0].endswith(CLIENT)
+    words = [os.path.abspath(path), *(["--vault-id", label] if is_client and label else [])]
+    try:
+        # A script may ask at the terminal by its streams. Of a client only faults are shown.
+        done = stopping.run(words, stdout=subprocess.PIPE, stderr=subprocess.PIPE if is_client else None)
+    except OSError as fault:
+        raise Refused(f"this script cannot be run: {reason(fault)}; if it is none, `chmod -x` it") from None
+    if done.returncode != 0:
+        raise Refused(_failure(done, is_client))
+    return _whole(done.stdout.strip(b"\r\n"))
+
+
+def _failure(done: subprocess.CompletedProcess, is_client: bool) -> str:
+    if done.returncode < 0:
+        why = f"this script was ended by signal {-done.returncode}"
+    elif is_client and done.returncode == UNKNOWN_LABEL:
+        why = "this script has no secret of this label"
+    else:
+        why = f"this script ended with status {done.returncode}"
+    told = " ".join((done.stderr or b"").decode(errors="replace").split())
+    return f"{why}: {shown(told)}" if told else why
+
+
+def _whole(password: bytes) -> bytes:
+    """Refuses what the tool would take for another password."""
+    if not password:
+        raise Refused("this script wrote no password")
+    if password != password.strip():
+        raise Refused("the password of this script begins or ends with white space, which a password file cannot have")
+    return password

@@ -1,0 +1,32 @@
+"""The same command line by Ansible's tool and by ansible-vault-with, where no terminal is to be asked."""
+
+import os
+import subprocess
+from contextlib import contextmanager
+from typing import Iterator
+
+from companion_cases import WITH, Place
+from companion_cases.terminal import Session, at_terminal
+
+
+def ours(place: Place, *words: str, **variables: str) -> subprocess.CompletedProcess:
+    return place.run("setsid", "--wait", WITH, *words, **variables)
+
+
+def theirs(place: Place, ansible: str, *words: str, **variables: str) -> subprocess.CompletedProcess:
+    with for_ansible(place):
+        return place.run("setsid", "--wait", ansible, *words, **variables)
+
+
+def theirs_at_terminal(place: Place, ansible: str, words: list[str], *answers: tuple[str, bytes]) -> Session:
+    with for_ansible(place):
+        return at_terminal(place, [ansible, *words], *answers)
+
+
+@contextmanager
+def for_ansible(place: Place) -> Iterator[None]:
+    """Meanwhile Ansible's tool finds no program of ours, and has UTF-8."""
+    before = place.environment
+    place.environment = before | {"PATH": os.environ["PATH"], "LC_ALL": "C.UTF-8"}
+    yield
+    place.environment = before

@@ -1,0 +1,90 @@
+"""ansible-vault-merge below git: two branches of a vault, and of YAML with values that are vaults."""
+
+from companion_cases import CHECK, EDIT, HOOK, Companions, Place, block, opened, sealed
+from companion_cases.beside_ansible import theirs
+from companion_cases.blocks import texts
+from companion_cases.editing import edit
+from companion_cases.repository import add_and_commit, under_git
+from lib.ansible import ansible_vault
+
+MERGE = "ansible-vault-merge"
+BASE = b"one: 1\n2: 2\n3: 3\nfour: 4\n"
+OURS, THEIRS = BASE.replace(b"one: 1", b"one: I"), BASE.replace(b"four: 4", b"four: IV")
+TAKE_THEIRS = "sed -i '/^<<<</,/^====/d; /^>>>>/d' \"$1\""
+
+
+def branches(place: Place, base: dict[str, bytes], ours: dict[str, bytes], other: dict[str, bytes], *words: str):
+    """The merge of two branches, where the driver is configured."""
+    under_git(place, "*.yml merge=ansible-vault\n")
+    secrets = " ".join(words or place.by_file("old"))
+    place.run("git", "config", "merge.ansible-vault.driver", f"{MERGE} {secrets} %O %A %B %P")
+    for files, command in ((base, "true"), (other, "git checkout -qb theirs"), (ours, "git checkout -q -")):
+        place.shell(command)
+        for name, content in files.items():
+            place.put(name, content)
+        add_and_commit(place)
+    return place.shell("git merge --no-edit theirs")
+
+
+def without_conflict(cases: Companions) -> None:
+    a, b = block("old", b"a", name="a"), block("old", b"b", name="b")
+    ours = {"whole.yml": sealed("old", OURS), "vars.yml": block("old", b"A", name="a") + b + b"z: 1\n"}
+    other = {"whole.yml": sealed("old", THEIRS), "vars.yml": a + block("old", b"B", name="b") + b"z: 1\n"}
+    with cases.place() as place:
+        done = branches(place, {"whole.yml": sealed("old", BASE), "vars.yml": a + b + b"z: 1\n"}, ours, other)
+        cases.ended("no conflict", done, 0)
+        both = b"one: I\n2: 2\n3: 3\nfour: IV\n"
+        cases.check("both changes are in the vault", opened("old", place.get("whole.yml")), both)
+        wanted = block("old", b"A", name="a") + block("old", b"B", name="b") + b"z: 1\n"
+        cases.check("values keep the envelopes of their sides", place.get("vars.yml"), wanted)
+        if ansible := ansible_vault():
+            shown = theirs(place, ansible, "view", *place.by_file("old"), "whole.yml").stdout
+            cases.check("Ansible's tool reads it", shown.strip(), both.strip())
+
+
+def with_conflict(cases: Companions) -> None:
+    ours = {"whole.yml": sealed("old", b"x: ours\n"), "vars.yml": block("old", b"ours", name="a") + b"z: 1\n"}
+    other = {"whole.yml": sealed("old", b"x: theirs\n"), "vars.yml": block("old", b"theirs", name="a") + b"z: 1\n"}
+    with cases.place() as place:
+        base = {"whole.yml": sealed("old", b"x: 1\n"), "vars.yml": block("old", b"base", name="a") + b"z: 1\n"}
+        done = branches(place, base, ours, other)
+        cases.ended("a conflict", done, 1, "whole.yml: 1 conflict", "vars.yml: 1 conflict")
+        marked = opened("old", place.get("whole.yml"))
+        cases.check("the marks are within", marked, b"<<<<<<< ours\nx: ours\n=======\nx: theirs\n>>>>>>> theirs\n")
+        cases.check("both values stay encrypted", texts(place.get("vars.yml"), "old"), [b"ours", b"theirs"])
+        cases.holds("around them are marks", place.get("vars.yml").startswith(b"<<<<<<< ours\na: !vault |\n"))
+        cases.ended("the check", place.run(CHECK, *place.by_file("old"), "."), 1, "its plaintext has git's merge marks")
+        place.shell(f"git add -A; {HOOK} --install")
+        done = place.shell("git commit -qm merged")
+        cases.ended("the hook", done, 1, "whole.yml has git's merge marks", "vars.yml has git's merge marks")
+        for name in ("whole.yml", "vars.yml"):
+            done = edit(place, TAKE_THEIRS, *place.by_file("old"), name)
+            cases.ended(f"{EDIT} {name}", done, 0, "it has git's merge marks")
+        cases.check("the vault", opened("old", place.get("whole.yml")), b"x: theirs\n")
+        cases.check("the value keeps its envelope", place.get("vars.yml"), other["vars.yml"])
+        cases.silent("the commit", add_and_commit(place))
+
+
+def labels(cases: Companions) -> None:
+    with cases.place() as place:
+        words = [*place.by_file("old"), *place.by_id("prod", "prod")]
+        ours, other = sealed("old", OURS), sealed("prod", THEIRS, "prod")
+        done = branches(place, {"a.yml": sealed("old", BASE)}, {"a.yml": ours}, {"a.yml": other}, *words)
+        why = "a.yml: not merged, ours stays as it is: the labels differ: default in ours, prod in theirs"
+        cases.ended("labels", done, 1, why)
+        cases.check("ours stays", place.get("a.yml"), ours)
+
+
+def rotated(cases: Companions) -> None:
+    """What one side put under a new secret stays under it."""
+    with cases.place() as place:
+        words = [*place.by_file("old"), *place.by_file("new")]
+        base = {"a.yml": sealed("old", BASE), "b.yml": block("old", b"1", name="b") + block("old", b"2", name="c")}
+        other = {"a.yml": sealed("new", BASE), "b.yml": block("new", b"1", name="b") + block("new", b"2", name="c")}
+        ours = {"a.yml": sealed("old", OURS), "b.yml": block("old", b"I", name="b") + block("old", b"2", name="c")}
+        cases.ended("a rotation", branches(place, base, ours, other, *words), 0)
+        cases.check("the vault", opened("new", place.get("a.yml")), OURS)
+        cases.check("the values", texts(place.get("b.yml"), "new"), [b"I", b"2"])
+
+
+GROUPS = [without_conflict, with_conflict, labels, rotated]

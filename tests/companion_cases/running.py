@@ -1,0 +1,332 @@
+"""ansible-vault-with: the tool's own answers, files in place, and the habits of Ansible's tool."""
+
+import os
+import subprocess
+
+from companion_cases import AWKWARD, EDIT, NOBODY, PASSWORDS, SECONDS, TEXT, WITH, Companions, Place, opened, sealed
+from companion_cases.both import for_ansible, ours, theirs
+from lib.ansible import ansible_vault
+
+# Command lines with a secret, as the tool has them too; and what is read.
+SAME = [
+    (["view", "a.yml"], b""),
+    (["view"], sealed("old")),
+    (["view", "-"], sealed("old")),
+    (["decrypt", "--output", "-", "a.yml"], b""),
+    (["decrypt", "--output=out.yml", "a.yml"], b""),
+    (["decrypt"], sealed("old")),
+    (["encrypt", "--salt", "salt", "--output", "-", "plain.yml"], b""),
+    (["encrypt", "--salt=salt"], TEXT),
+    (["encrypt", "--salt=salt", "-"], TEXT),
+    (["encrypt", "--output", "out.yml", "--salt", "salt", "plain.yml"], b""),
+    (["encrypt_string", "--salt", "salt", "-n", "name", "word"], b""),
+    (["encrypt_string", "--salt", "salt", "--stdin-name", "name"], TEXT),
+    (["encrypt_string", "--salt=salt", "--name=name", "--", "--word"], b""),
+    (["rekey", "--salt", "salt", "--new-vault-id", "prod@../secrets/prod", "--output", "-", "a.yml"], b""),
+    (["rekey", "--salt", "salt", "--new-vault-password-file=../secrets/prod"], sealed("old")),
+    (["rekey", "--new-vault-id=a@../secrets/prod", "--new-vault-password-file", "../secrets/new"], b""),
+    (["view", "--require-id-match", "a.yml"], b""),
+    (["view", "plain.yml"], b""),
+    (["view", "new.yml"], b""),
+    (["view", "missing.yml"], b""),
+    (["view", "a.yml", "plain.yml"], b""),
+    (["view", "--output", "x", "a.yml"], b""),
+    (["view", "--loud"], b""),
+    (["view", "--new-vault-id", "prod@../secrets/prod", "a.yml"], b""),
+    (["encrypt", "a.yml", "--output"], b""),
+    (["encrypt", "--encrypt-vault-id", "prod", "--output", "-", "plain.yml"], b""),
+    (["encrypt_string", "-n", "a\nb", "word"], b""),
+    (["encrypt_string", ""], b""),
+    (["decrypt", "--output", "/dev/full", "a.yml"], b""),
+]
+# The status of the tool for what it does not read.
+WRONG_COMMAND_LINE = 2
+# Command lines that have no secret.
+BARE = [["view", "--help"], ["encrypt", "-h"], ["strange"], ["strange", "--help"], ["rekey", "--vault-id", "--help"]]
+
+
+def prepare(place: Place) -> None:
+    place.put("a.yml", sealed("old"))
+    place.put("new.yml", sealed("new"))
+    place.put("plain.yml", TEXT)
+
+
+def run(place: Place, words: list[str], data: bytes) -> tuple:
+    """Status, output, message, and the files that are there then."""
+    prepare(place)
+    options = {"cwd": place.tree, "env": place.environment, "input": data, "capture_output": True}
+    done = subprocess.run(words, timeout=SECONDS, **options)
+    files = place.files()
+    for name in files:
+        (place.tree / name).unlink()
+    return done.returncode, done.stdout, done.stderr, files
+
+
+def the_answers_of_the_tool(cases: Companions) -> None:
+    """Output, message, status and files are the same, wherever the secret stands."""
+    with cases.place() as place:
+        path = place.secret("old")
+        for words, data in SAME:
+            command, *others = words
+            for option in (f"--vault-password-file={path}", f"--vault-id=default@{path}"):
+                wanted = run(place, ["ansible-vault", command, option, *others], data)
+                pair = option.split("=")
+                lines = [[option, command, *others], [*pair, command, *others], [command, *pair, *others]]
+                if wanted[0] != WRONG_COMMAND_LINE and "--" not in others:
+                    lines.append([command, *others, *pair])
+                for line in lines:
+                    cases.check(f"{line}", run(place, [WITH, *line], data), wanted)
+        for words in BARE:
+            cases.check(f"{words}", run(place, [WITH, *words], b""), run(place, ["ansible-vault", *words], b""))
+
+
+def command_lines(cases: Companions) -> None:
+    with cases.place() as place:
+        prepare(place)
+        before = place.files()
+        cases.ended("no word", place.run(WITH), 2, f"usage: {WITH}", "no command is given")
+        cases.ended("no command", place.run(WITH, *place.by_file("old")), 2, "no command is given")
+        refused = {
+            "--vault-password-file=../missing": (3, "../missing: a password file cannot be opened"),
+            "--vault-password-file=.": (3, ".: a password file cannot be read"),
+            "--vault-id=a;b@../secrets/old": (1, "a;b@../secrets/old: a vault id label is not allowed"),
+            "--vault-id=dev@/dev/null": (1, "dev@/dev/null: a password is empty"),
+        }
+        for option, (status, part) in refused.items():
+            done = place.run(WITH, "decrypt", *place.by_file("old"), option, "a.yml")
+            told = (status, "", f"{WITH}: {part}\n")
+            cases.check(option, (done.returncode, done.stdout, done.stderr), told)
+        salted = [*place.by_file("old"), "--salt", "salt"]
+        done = place.run(WITH, "encrypt", *salted, "plain.yml", "plain.yml")
+        cases.ended("one salt for two", done, 2, "--salt is for one FILE")
+        cases.check("all files stay", place.files(), before)
+
+
+def in_place(cases: Companions) -> None:
+    """Several files, under names that a shell or an option would break."""
+    with cases.place() as place:
+        names = [*AWKWARD, "folder/a.yml"]
+        for number, name in enumerate(names):
+            place.put(name, TEXT * number, 0o640 if number % 2 else 0o600)
+            if os.geteuid() == 0:
+                os.chown(place.tree / name, NOBODY, NOBODY)
+        about = lambda: [(place.mode(name), (place.tree / name).stat().st_uid) for name in names]
+        before = about()
+        steps = [
+            ("encrypt", place.by_id("dev", "dev"), "dev", "dev"),
+            ("rekey", [*place.by_file("dev"), *place.by_id("prod", "prod", "new-")], "prod", "prod"),
+            ("rekey", ["--vault-pass-file", place.secret("prod"), *place.by_file("new", "new-")], "new", ""),
+        ]
+        for command, words, password, label in steps:
+            cases.silent(command, place.run(WITH, command, *words, "--", *names))
+            texts = [opened(password, place.get(name)) for name in names]
+            cases.check(f"{command}: all are under it", texts, [TEXT * number for number in range(len(names))])
+            header = f"$ANSIBLE_VAULT;1.2;AES256;{label}\n" if label else "$ANSIBLE_VAULT;1.1;AES256\n"
+            headers = {place.get(name).partition(b"\n")[0].decode() + "\n" for name in names}
+            cases.check(f"{command}: labels, modes and owners", (headers, about()), ({header}, before))
+        cases.silent("decrypt", place.run(WITH, "decrypt", *place.by_file("new"), "--", *names))
+        cases.check("it is plaintext again", [place.get(name) for name in names], [TEXT * n for n in range(len(names))])
+        owners = [uid for _, uid in before]
+        cases.check("for its owner alone", about(), [("0o600", uid) for uid in owners])
+        cases.check("no other file is left", sorted(place.files()), sorted(names))
+
+
+def links_and_lists(cases: Companions) -> None:
+    with cases.place() as place:
+        place.put("vaults/a.yml", TEXT, 0o644)
+        (place.tree / "link.yml").symlink_to("vaults/a.yml")
+        cases.silent("by a link", place.run(WITH, "encrypt", *place.by_file("old"), "link.yml"))
+        cases.check("the link stays", os.readlink(place.tree / "link.yml"), "vaults/a.yml")
+        cases.check("its file is encrypted", opened("old", place.get("vaults/a.yml")), TEXT)
+        os.link(place.tree / "vaults/a.yml", place.tree / "second.yml")
+        before = place.files()
+        done = place.run(WITH, "decrypt", *place.by_file("old"), "second.yml")
+        cases.ended("two names", done, 1, "second.yml: it has 2 names (hard links), and one alone would change")
+        cases.check("both stay", place.files(), before)
+        (place.tree / "second.yml").unlink()
+        if not cases.needs("lists of access", "setfacl", "getfacl"):
+            return
+        place.run("setfacl", "-m", f"u:{NOBODY}:r", "vaults/a.yml")
+        words = [*place.by_file("old"), *place.by_file("new", "new-")]
+        cases.silent("with a list", place.run(WITH, "rekey", *words, "link.yml"))
+        listed = place.run("getfacl", "-cn", "vaults/a.yml").stdout
+        cases.holds("an encrypted one keeps it", f"user:{NOBODY}:r--" in listed, listed)
+        cases.silent("decrypted", place.run(WITH, "decrypt", *place.by_file("new"), "link.yml"))
+        listed = place.run("getfacl", "-cn", "vaults/a.yml").stdout
+        cases.check("plaintext has none", listed.split(), ["user::rw-", "group::---", "other::---"])
+
+
+def those_that_fail(cases: Companions) -> None:
+    """They stay as they are, and the others go on; the status is the highest."""
+    with cases.place() as place:
+        prepare(place)
+        (place.tree / "folder").mkdir()
+        before = place.files()
+        words = [*place.by_file("old"), *place.by_file("dev", "new-")]
+        done = place.run(WITH, "rekey", *words, "new.yml", "missing.yml", "plain.yml", "folder", "a.yml")
+        told = [
+            f"{WITH}: new.yml: no secret decrypts this vault",
+            f"{WITH}: missing.yml: No such file or directory",
+            f"{WITH}: plain.yml: input is not vault encrypted data",
+            f"{WITH}: folder: Is a directory",
+        ]
+        cases.check("what is told", (done.returncode, done.stdout, done.stderr.splitlines()), (1, "", told))
+        after = place.files()
+        cases.check("the others go on", opened("dev", after.pop("a.yml")), TEXT)
+        del before["a.yml"]
+        cases.check("and these stay", after, before)
+        done = place.run(WITH, "encrypt", *place.by_file("old"), "--loud", "plain.yml", "a.yml")
+        cases.ended("a fault of the command line", done, 2, "error: unexpected argument '--loud' found")
+        cases.check("is told once", (done.stderr.count("--help"), place.get("plain.yml")), (1, TEXT))
+        place.put("big.yml", bytes(16_777_217))
+        done = place.run(WITH, "encrypt", *place.by_file("old"), "big.yml")
+        cases.ended("too long", done, 1, f"{WITH}: big.yml: input is longer than the limit")
+        cases.check("stays", (place.tree / "big.yml").stat().st_size, 16_777_217)
+
+
+def changed_meanwhile(cases: Companions) -> None:
+    """What somebody else wrote while the tool ran is not overwritten."""
+    with cases.place() as place:
+        prepare(place)
+        # Not before the run that looks at the command line alone.
+        place.stand_before_tool('case "$*" in *=prompt*) ;; decrypt*) echo other > a.yml ;; esac')
+        done = place.run(WITH, "decrypt", *place.by_file("old"), "a.yml")
+        cases.ended("a change", done, 1, f"{WITH}: a.yml: it was changed meanwhile")
+        cases.check("stays", place.get("a.yml"), b"other\n")
+        cases.check("nothing is left", place.names(), ["a.yml", "new.yml", "plain.yml"])
+
+
+def without_rights(cases: Companions) -> None:
+    with cases.place() as place:
+        place.put("a.yml", sealed("old"))
+        before = place.files()
+        place.tree.chmod(0o555)
+        done = place.as_nobody(WITH, "decrypt", *place.by_file("old"), "a.yml")
+        cases.ended("a folder that cannot be written", done, 1, f"{WITH}: a.yml: Permission denied")
+        cases.check("it stays", place.files(), before)
+
+
+def editing(cases: Companions) -> None:
+    with cases.place() as place:
+        editor = place.script('echo more >> "$1"', "editor")
+        cases.silent("create", place.run(WITH, "create", *place.by_id("dev", "dev"), "a.yml", EDITOR=editor))
+        cases.check("it is made", opened("dev", place.get("a.yml")), b"more\n")
+        cases.silent("edit", place.run(WITH, *place.by_id("dev", "dev"), "edit", "a.yml", EDITOR=editor))
+        cases.check("it is edited", opened("dev", place.get("a.yml")), b"more\n" * 2)
+        before = place.files()
+        done = place.run(WITH, "create", *place.by_id("dev", "dev"), "a.yml", EDITOR=editor)
+        cases.ended("create where one is", done, 1, "a.yml is there already; `edit` opens it")
+        choice = [*place.by_id("dev", "dev"), *place.by_id("prod", "prod"), "--encrypt-vault-id", "prod"]
+        cases.silent("a choice", place.run(WITH, "create", *choice, "b.yml", EDITOR=editor))
+        cases.check("is made", opened("prod", place.get("b.yml")), b"more\n")
+        done = place.run("setsid", "--wait", WITH, "edit", "a.yml", EDITOR=editor)
+        cases.ended("without a secret", done, 1, f"{EDIT}: --ask-vault-password: there is no terminal")
+        cases.check("nothing else is changed", place.get("a.yml"), before["a.yml"])
+        cases.ended("its help", place.run(WITH, "edit", "--help"), 0, f"usage: {EDIT}")
+
+
+HABITS = [
+    "encrypt --vault-password-file ~/secrets/dev a.yml b.yml",
+    "view --vault-id ~/secrets/dev a.yml",
+    "rekey --vault-password-file ~/secrets/dev --new-vault-id prod@~/secrets/prod a.yml b.yml",
+    "decrypt a.yml --vault-id prod@~/secrets/prod -v",
+    "encrypt a.yml --vault-id dev@~/secrets/dev --vault-id prod@~/secrets/prod --encrypt-vault-id dev",
+    "decrypt --vault-pass-file=$HOME/secrets/dev --output - a.yml",
+    "encrypt_string --vault-id dev@~/secrets/dev 'a word' --name word --output c.yml",
+    "encrypt_string --vault-id=dev@~/secrets/dev --stdin-name word --output d.yml <<< words",
+    "edit --vault-id dev@~/secrets/dev a.yml",
+    "create --vault-password-file ~/secrets/dev e.yml",
+]
+
+
+def habits(cases: Companions) -> None:
+    """What Ansible's users type does what Ansible's tool does, by an alias."""
+    ansible = ansible_vault()
+    if not (cases.needs("an alias", "bash") and ansible):
+        cases.left_out("the habits of Ansible's tool", "it is not installed")
+        return
+    results = {}
+    for tool in (WITH, ansible):
+        with cases.place() as place:
+            place.environment["EDITOR"] = place.script('echo more >> "$1"', "editor")
+            place.put("a.yml", TEXT)
+            place.put("b.yml", TEXT * 2)
+            results[tool] = []
+            for line in HABITS:
+                text = f"shopt -s expand_aliases\nalias ansible-vault={tool}\nansible-vault {line}\n"
+                if tool == ansible:
+                    with for_ansible(place):
+                        done = place.shell(text, "bash")
+                else:
+                    done = place.shell(text, "bash")
+                cases.check(f"{tool} {line} ({done.stderr})", done.returncode, 0)
+                # Ansible's tool tells more by -v.
+                results[tool].append((line, line.endswith("-v") or done.stdout.strip(), contents(place)))
+    for mine, other in zip(results[WITH], results[ansible]):
+        cases.check(mine[0], mine, other)
+
+
+def contents(place: Place) -> dict[str, tuple]:
+    """Of each file the header, the password that opens it and the plaintext."""
+    return {name: described(content) for name, content in place.files().items()}
+
+
+def described(content: bytes) -> tuple:
+    envelope = b"".join(line.strip() + b"\n" for line in content.splitlines() if b"!vault" not in line)
+    if not envelope.startswith(b"$ANSIBLE_VAULT"):
+        return (content,)
+    texts = {name: opened(name, envelope) for name in PASSWORDS}
+    return (envelope.partition(b"\n")[0], [(name, text) for name, text in texts.items() if text is not None])
+
+
+def ansible_reads_it(cases: Companions) -> None:
+    ansible = ansible_vault()
+    if not ansible:
+        cases.left_out("what is encrypted in place", "Ansible's tool is not installed")
+        return
+    with cases.place() as place:
+        place.put("a.yml", TEXT)
+        cases.silent("encrypt", ours(place, "encrypt", *place.by_id("dev", "dev"), "a.yml"))
+        done = theirs(place, ansible, "view", *place.by_id("dev", "dev"), "a.yml")
+        cases.check("Ansible's tool opens it", (done.returncode, done.stdout.strip()), (0, TEXT.decode().strip()))
+        theirs(place, ansible, "rekey", *place.by_id("dev", "dev"), *place.by_id("prod", "prod", "new-"), "a.yml")
+        cases.silent("decrypt", ours(place, "decrypt", *place.by_id("prod", "prod"), "a.yml"))
+        cases.check("and is opened here", place.get("a.yml"), TEXT)
+
+
+def streams(cases: Companions) -> None:
+    """The tool has the streams and the place of the companion: its endings are the same."""
+    if not cases.needs("streams", "bash"):
+        return
+    with cases.place() as place:
+        prepare(place)
+        place.put("long.yml", sealed("old", TEXT * 20_000))
+        secret = f"--vault-password-file {place.secret('old')}"
+        lines = [
+            "view {} long.yml | :; echo ${{PIPESTATUS[0]}}",
+            "view {} a.yml >&-; echo $?",
+            "view {} a.yml > /dev/full; echo $?",
+            "view {} <&-; echo $?",
+            "view {} >&- <&- 2>&-; echo $?",
+            "view --vault-password-file <(cat ../secrets/old) a.yml; echo $?",
+        ]
+        for line in lines:
+            wanted = place.shell(f"ansible-vault {line.format(secret)}", "bash")
+            done = place.shell(f"{WITH} {line.format(secret)}", "bash")
+            found = [(each.returncode, each.stdout, each.stderr) for each in (done, wanted)]
+            cases.check(line, found[0], found[1])
+
+
+GROUPS = [
+    the_answers_of_the_tool,
+    command_lines,
+    in_place,
+    links_and_lists,
+    those_that_fail,
+    changed_meanwhile,
+    without_rights,
+    editing,
+    habits,
+    ansible_reads_it,
+    streams,
+]
