@@ -1,1 +1,1 @@
-pub mod AddedFacts
+pub mod BuiltLemmas

@@ -3,5 +3,6 @@
 
 mod arguments;
 mod command_line;
+pub mod option_table;
 
 pub use command_line::command;

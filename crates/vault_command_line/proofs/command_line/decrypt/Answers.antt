@@ -1,20 +1,7 @@
-use Rattle.vault_command_line.proofs.AddedFacts.{IfOk-so, local-added, rule-added}
+use Rattle.vault_command_line.proofs.BuiltLemmas.{three-more}
 use Rattle.vault_command_line.proofs.command_line.decrypt.Goals as goal
 
-pub returns-clause-shape : goal.returns-clause-shape
-returns-clause-shape c =
-    let first = rule-added c.in_ok-arg.ensures c.require_id_match.ensures.local
-    c.in_ok-with_secrets.ensures.shape c.require_id_match.ensures.rule in
-    let second = rule-added c.in_ok-arg-2.ensures c.output.ensures.local
-    first c.output.ensures.rule in
-    IfOk-so c.arg-3.result
-    (λ _ adds. rule-added adds c.file.ensures.local second c.file.ensures.rule)
-    c.arg-3.ensures
-
-pub returns-clause-local : goal.returns-clause-local
-returns-clause-local c =
-    let first = local-added c.in_ok-arg.ensures c.require_id_match.ensures.local
-    c.in_ok-with_secrets.ensures.local in
-    let second = local-added c.in_ok-arg-2.ensures c.output.ensures.local first in
-    IfOk-so c.arg-3.result (λ _ adds. local-added adds c.file.ensures.local second)
-    c.arg-3.ensures
+pub returns : goal.returns
+returns c =
+    three-more c.arg-3.result c.in_ok-with_secrets.ensures c.in_ok-arg.ensures c.flag.ensures
+    c.in_ok-arg-2.ensures c.option.ensures c.arg-3.ensures c.positional.ensures

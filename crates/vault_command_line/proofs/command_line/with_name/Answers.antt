@@ -1,17 +1,7 @@
-use Rattle.vault_command_line.proofs.AddedFacts.{IfOk-so, local-added, rule-added}
+use Rattle.vault_command_line.proofs.BuiltLemmas.{two-more}
 use Rattle.vault_command_line.proofs.command_line.with_name.Goals as goal
 
-pub returns-clause-shape : goal.returns-clause-shape
-returns-clause-shape c =
-    let first = rule-added c.in_ok-arg.ensures c.name.ensures.local
-    c.in_ok-with_salt.ensures.shape c.name.ensures.rule in
-    IfOk-so c.arg-2.result
-    (λ _ adds. rule-added adds c.option.ensures.local first c.option.ensures.rule)
-    c.arg-2.ensures
-
-pub returns-clause-local : goal.returns-clause-local
-returns-clause-local c =
-    let first = local-added c.in_ok-arg.ensures c.name.ensures.local
-    c.in_ok-with_salt.ensures.local in
-    IfOk-so c.arg-2.result (λ _ adds. local-added adds c.option.ensures.local first)
-    c.arg-2.ensures
+pub returns : goal.returns
+returns c =
+    two-more c.arg-2.result c.in_ok-with_salt.ensures c.in_ok-arg.ensures c.name.ensures
+    c.arg-2.ensures c.option.ensures
