@@ -7,6 +7,7 @@ ghost use Rattle.vault_request.specs.Options.{is_given, not_dash, options_of, ru
 use crate::command_name::CommandName;
 use clap::ArgMatches;
 use std::marker::Model;
+use vault_command_line::option_table as table;
 use vault_common::LabelRule;
 
 /// What a command was given, where it has the option.
@@ -72,17 +73,17 @@ impl<'m, 'a> Options<'m, 'a> {
             command,
             vault_ids,
             password_files,
-            encrypt_vault_id: value_if(command.encrypts(), given, "encrypt-vault-id"),
-            new_vault_id: value_if(rekeys, given, "new-vault-id"),
-            new_password_file: value_if(rekeys, given, "new-vault-password-file"),
-            name: value_if(takes_string, given, "name"),
-            stdin_name: value_if(takes_string, given, "stdin-name"),
-            string: not_dash(value_if(takes_string, given, "STRING")),
-            salt_file: value_if(command.seals(), given, "salt-file"),
-            salt_text: value_if(command.seals(), given, "salt"),
+            encrypt_vault_id: value_if(command.encrypts(), given, table::ENCRYPT_VAULT_ID.name),
+            new_vault_id: value_if(rekeys, given, table::NEW_VAULT_ID.name),
+            new_password_file: value_if(rekeys, given, table::NEW_VAULT_PASSWORD_FILE.name),
+            name: value_if(takes_string, given, table::NAME.name),
+            stdin_name: value_if(takes_string, given, table::STDIN_NAME.name),
+            string: not_dash(value_if(takes_string, given, table::STRING.name)),
+            salt_file: value_if(command.seals(), given, table::SALT_FILE.name),
+            salt_text: value_if(command.seals(), given, table::SALT.name),
             rule: rule_of(command, given),
-            file: not_dash(value_if(!takes_string, given, "FILE")),
-            output: value_if(command.has_output(), given, "output"),
+            file: not_dash(value_if(!takes_string, given, table::FILE.name)),
+            output: value_if(command.has_output(), given, table::OUTPUT.name),
         }
     }
 }
@@ -124,7 +125,7 @@ fn is_given(given: &ArgMatches<'_>, flag: &str) -> bool
 fn rule_of(command: CommandName, given: &ArgMatches<'_>) -> LabelRule
     ensures { result ≡ rule_of command (rows_of (found_of given.now)) }
 {
-    if !command.encrypts() && is_given(given, "require-id-match") {
+    if !command.encrypts() && is_given(given, table::REQUIRE_ID_MATCH.name) {
         LabelRule::Required
     } else {
         LabelRule::Hint
