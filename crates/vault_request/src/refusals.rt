@@ -1,34 +1,55 @@
-//! Why options are refused, before memory is asked for.
-ghost use Rattle.std.specs.Prelude.{◌≡◌};
+//! Why options are refused, before memory is asked for, and what is read of them on the way.
+ghost use Rattle.std.specs.Prelude.{◌≡◌, IfOk, map};
 ghost use Rattle.std.specs.List.{list_any};
 ghost use Rattle.std.specs.Option.{option_copied};
 ghost use Rattle.std.specs.Result.{result_err};
 ghost use Rattle.vault_request.specs.Refusal.{label_fault, count_fault, is_control};
 ghost use Rattle.vault_request.specs.Refusal.{mismatch_fault, name_fault, output_fault, refusal};
 ghost use Rattle.vault_request.specs.Refusal.{rekey_fault, salt_fault};
+ghost use Rattle.vault_request.specs.Settled.{file_of_id, new_secret_of};
 
 use crate::limits::SALT_TEXT_LIMIT;
 use crate::options::Options;
-use crate::vault_id;
+use crate::vault_id::{self, SecretPath, SecretPaths};
 use vault_common::{Fault, SECRET_COUNT_LIMIT};
 use vault_text::Label;
+
+/// What was read of options that are not refused.
+#[derive(Drop)]
+pub(crate) struct Checked<'a> {
+    /// The password files of `--vault-id`.
+    pub labelled: SecretPaths<'a>,
+    /// What `rekey` seals with.
+    pub new_secret: Option<SecretPath<'a>>,
+    /// The label of the secret to encrypt with.
+    pub choice: Option<Label>,
+}
 
 /// Refuses the options where they have a fault: more than 16 secrets; each vault id in turn,
 /// its label first and then its source; the label to encrypt with; the new secret of `rekey`;
 /// the names of `encrypt_string`; a FILE without an output; the salt.
 #[tactic(auto, unfolding(crate::specs::Refusal::refusal))]
-pub(crate) fn check(options: &Options<'_, '_>) -> Result<(), Fault>
-    ensures { result_err result ≡ refusal options.now }
+pub(crate) fn check<'a>(options: &Options<'_, 'a>) -> Result<Checked<'a>, Fault>
+    ensures refused { result_err result ≡ refusal options.now }
+    ensures labelled { IfOk result (λ checked.
+        checked.labelled.items ≡ map file_of_id options.now.vault_ids) }
+    ensures new_secret { IfOk result (λ checked. checked.new_secret ≡ new_secret_of options.now) }
+    ensures choice { IfOk result (λ checked. checked.choice ≡ options.now.encrypt_vault_id) }
 {
     check_count(options)?;
-    vault_id::check_all(options.vault_ids)?;
-    check_label(options.encrypt_vault_id)?;
-    check_new_secret(options)?;
+    let labelled = vault_id::parse_all(options.vault_ids)?;
+    let choice = chosen_label(options.encrypt_vault_id)?;
+    let new_secret = new_secret_of(options)?;
     check_mismatch(options)?;
     check_name(options.name)?;
     check_name(options.stdin_name)?;
     check_output(options)?;
-    check_salt(options.salt_text, options.salt_file)
+    check_salt(options.salt_text, options.salt_file)?;
+    Ok(Checked {
+        labelled,
+        new_secret,
+        choice,
+    })
 }
 
 fn check_count(options: &Options<'_, '_>) -> Result<(), Fault>
@@ -41,16 +62,17 @@ fn check_count(options: &Options<'_, '_>) -> Result<(), Fault>
     Ok(())
 }
 
-/// Refuses `rekey` where not exactly one new secret is given.
-fn check_new_secret(options: &Options<'_, '_>) -> Result<(), Fault>
-    ensures { result_err result ≡ rekey_fault options.now }
+/// What `rekey` seals with; refused where not exactly one new secret is given.
+fn new_secret_of<'a>(options: &Options<'_, 'a>) -> Result<Option<SecretPath<'a>>, Fault>
+    ensures file { IfOk result (λ file. file ≡ new_secret_of options.now) }
+    ensures refused { result_err result ≡ rekey_fault options.now }
 {
     if !options.command.rekeys() {
-        return Ok(());
+        return Ok(None);
     }
     match (options.new_vault_id, options.new_password_file) {
-        (Some(id), None) => vault_id::check(id),
-        (None, Some(_)) => Ok(()),
+        (Some(id), None) => Ok(Some(vault_id::parse(id)?)),
+        (None, Some(path)) => Ok(Some(SecretPath::plain(path))),
         _ => Err(Fault::NeedNewSecret),
     }
 }
@@ -79,15 +101,17 @@ fn check_output(options: &Options<'_, '_>) -> Result<(), Fault>
     Ok(())
 }
 
-fn check_label(label: Option<&str>) -> Result<(), Fault>
-    ensures { result_err result ≡ label_fault (option_copied label.entry) }
+/// The label of the secret to encrypt with.
+fn chosen_label(label: Option<&str>) -> Result<Option<Label>, Fault>
+    ensures label { IfOk result (λ chosen. chosen ≡ option_copied label.entry) }
+    ensures refused { result_err result ≡ label_fault (option_copied label.entry) }
 {
     match label {
         Some(label) => match Label::new(label) {
-            Ok(_) => Ok(()),
+            Ok(label) => Ok(Some(label)),
             Err(_) => Err(Fault::BadLabel),
         },
-        None => Ok(()),
+        None => Ok(None),
     }
 }
 

@@ -1,25 +1,24 @@
 //! From the matches of a command line to a request.
-ghost use Rattle.std.specs.Prelude.{◌≡◌, ◌++◌, ◌⊎◌, true, Some, None, map, is_some};
+ghost use Rattle.std.specs.Prelude.{◌≡◌, ◌++◌, true, None, map, is_some};
 ghost use Rattle.std.specs.Prelude.{IfSome, IfOk, IfErr, OnOk};
 ghost use Rattle.std.specs.Option.{option_copied, option_map};
 ghost use Rattle.std.specs.String.{string_bytes};
 ghost use Rattle.clap.specs.Words.{found_of, rows_of, subcommand_rows_of};
-ghost use Rattle.vault_request.specs.Refusal.{label_fault, refusal, rekey_fault};
+ghost use Rattle.vault_request.specs.Refusal.{refusal};
 ghost use Rattle.vault_request.specs.Settled.{Settles, asked, command_in, file_of_id};
 ghost use Rattle.vault_request.specs.Settled.{new_secret_of, plain_file, request_of};
 ghost use Rattle.vault_request.specs.Settled.{salt_path_of, settled_by};
-ghost use Rattle.vault_request.specs.VaultId.{fault_of_id, first_fault};
 ghost use Rattle.vault_common.specs.declared.fault.Fault.TheVariants.{Memory};
 
 use crate::command_name::CommandName;
 use crate::options::{Options, not_dash};
-use crate::refusals::check;
+use crate::refusals::{Checked, check};
 use crate::request::{Request, SecretFile};
-use crate::vault_id;
+use crate::vault_id::SecretPath;
 use clap::ArgMatches;
 use std::alloc::{AllocError, Global};
+use vault_command_line::option_table::{VAULT_ID, VAULT_PASSWORD_FILE};
 use vault_common::Fault;
-use vault_text::Label;
 
 const DEFAULT_SALT_FILE: &str = "/dev/urandom";
 
@@ -33,34 +32,26 @@ fn command_in<'m, 'a>(matches: &'m ArgMatches<'a>) -> Option<(CommandName, &'m A
     Some((command, given))
 }
 
-/// The password file of a vault id.
-fn file_of_id(alloc: Global, id: &str) -> Result<SecretFile, Fault>
-    ensures file { IfOk result (λ file. file ≡ file_of_id id.now) }
-    ensures refused { IfErr result (λ fault. (fault ≡ Memory) ⊎ (fault_of_id id.now ≡ Some fault)) }
+/// The password file of a request.
+fn file_of(alloc: Global, found: &SecretPath<'_>) -> Result<SecretFile, AllocError>
+    ensures { IfOk result (λ file. file ≡ found.now) }
 {
-    let (label, path) = vault_id::parse(id)?;
-    let path = String::from_str(alloc, path)?;
+    let label = found.label.copy();
+    let path = String::from_str(alloc, found.path)?;
     Ok(SecretFile { label, path })
 }
 
-/// A password file without a label of its own.
-fn plain_file(alloc: Global, path: &str) -> Result<SecretFile, AllocError>
-    ensures { IfOk result (λ file. file ≡ plain_file path.now) }
-{
-    let label = Label::default_label();
-    let path = String::from_str(alloc, path)?;
-    Ok(SecretFile { label, path })
-}
-
-/// Adds the password files of vault ids that have no fault.
-fn add_ids(alloc: Global, files: &mut Vec<SecretFile>, ids: &[&str]) -> Result<(), Fault>
-    requires { first_fault (map (λ id. id.now) ids.now) ≡ None }
-    ensures added { OnOk result (files.new.items
-        ≡ files.old.items ++ map file_of_id (map (λ id. id.now) ids.now)) }
+/// Adds the password files of vault ids.
+fn add_labelled(
+    alloc: Global,
+    files: &mut Vec<SecretFile>,
+    labelled: &[SecretPath<'_>],
+) -> Result<(), Fault>
+    ensures added { OnOk result (files.new.items ≡ files.old.items ++ labelled.now) }
     ensures refused { IfErr result (λ fault. fault ≡ Memory) }
 {
-    for id in ids {
-        files.push(file_of_id(alloc, id)?)?;
+    for found in labelled {
+        files.push(file_of(alloc, found)?)?;
     }
     Ok(())
 }
@@ -72,7 +63,7 @@ fn add_plain_files(alloc: Global, files: &mut Vec<SecretFile>, paths: &[&str]) -
     ensures refused { IfErr result (λ fault. fault ≡ Memory) }
 {
     for path in paths {
-        files.push(plain_file(alloc, path)?)?;
+        files.push(file_of(alloc, &SecretPath::plain(path))?)?;
     }
     Ok(())
 }
@@ -88,42 +79,31 @@ fn copied(alloc: Global, text: Option<&str>) -> Result<Option<String>, AllocErro
     }
 }
 
-fn secrets_of(alloc: Global, options: &Options<'_, '_>) -> Result<Vec<SecretFile>, Fault>
-    requires { first_fault options.now.vault_ids ≡ None }
+fn secrets_of(
+    alloc: Global,
+    labelled: &[SecretPath<'_>],
+    paths: &[&str],
+) -> Result<Vec<SecretFile>, Fault>
     ensures files { IfOk result (λ files. files.items
-        ≡ map file_of_id options.now.vault_ids ++ map plain_file options.now.password_files) }
+        ≡ labelled.now ++ map plain_file (map (λ path. path.now) paths.now)) }
     ensures refused { IfErr result (λ fault. fault ≡ Memory) }
 {
     let mut files = Vec::new(alloc);
-    add_ids(alloc, &mut files, options.vault_ids)?;
-    add_plain_files(alloc, &mut files, options.password_files)?;
+    add_labelled(alloc, &mut files, labelled)?;
+    add_plain_files(alloc, &mut files, paths)?;
     Ok(files)
 }
 
 /// What `rekey` seals with.
-fn new_secret_of(alloc: Global, options: &Options<'_, '_>) -> Result<Option<SecretFile>, Fault>
-    requires { rekey_fault options.now ≡ None }
-    ensures file { IfOk result (λ file. file ≡ new_secret_of options.now) }
-    ensures refused { IfErr result (λ fault. fault ≡ Memory) }
+fn new_file_of(
+    alloc: Global,
+    new_secret: Option<&SecretPath<'_>>,
+) -> Result<Option<SecretFile>, AllocError>
+    ensures { IfOk result (λ file. file ≡ option_copied new_secret.entry) }
 {
-    if !options.command.rekeys() {
-        return Ok(None);
-    }
-    match (options.new_vault_id, options.new_password_file) {
-        (Some(id), _) => Ok(Some(file_of_id(alloc, id)?)),
-        (None, Some(path)) => Ok(Some(plain_file(alloc, path)?)),
-        (None, None) => Ok(None),
-    }
-}
-
-/// The label of the secret to encrypt with.
-fn chosen_label(options: &Options<'_, '_>) -> Option<Label>
-    requires { label_fault options.now.encrypt_vault_id ≡ None }
-    ensures { result ≡ options.now.encrypt_vault_id }
-{
-    match options.encrypt_vault_id {
-        Some(label) => Label::new(label).ok(),
-        None => None,
+    match new_secret {
+        Some(found) => Ok(Some(file_of(alloc, found)?)),
+        None => Ok(None),
     }
 }
 
@@ -140,17 +120,25 @@ fn salt_path_of<'a>(options: &Options<'_, 'a>) -> Option<&'a str>
     }
 }
 
-/// The request of options that are not refused.
-fn request_of(alloc: Global, options: &Options<'_, '_>) -> Result<Request, Fault>
-    requires { refusal options.now ≡ None }
+/// The request of options that are not refused, and of what was read of them.
+fn request_of(
+    alloc: Global,
+    options: &Options<'_, '_>,
+    checked: Checked<'_>,
+) -> Result<Request, Fault>
+    requires allowed { refusal options.now ≡ None }
+    requires labelled { checked.labelled.items ≡ map file_of_id options.now.vault_ids }
+    requires new_secret { checked.new_secret ≡ new_secret_of options.now }
+    requires choice { checked.choice ≡ options.now.encrypt_vault_id }
     ensures request { IfOk result (λ request. request ≡ request_of options.now) }
     ensures refused { IfErr result (λ fault. fault ≡ Memory) }
 {
+    let labelled = checked.labelled.as_slice();
     Ok(Request {
         command: options.command,
-        secrets: secrets_of(alloc, options)?,
-        new_secret: new_secret_of(alloc, options)?,
-        choice: chosen_label(options),
+        secrets: secrets_of(alloc, labelled, options.password_files)?,
+        new_secret: new_file_of(alloc, checked.new_secret.as_ref())?,
+        choice: checked.choice,
         name: copied(alloc, options.name.or(options.stdin_name))?,
         string: copied(alloc, options.string)?,
         salt_text: copied(alloc, options.salt_text)?,
@@ -165,8 +153,8 @@ fn request_of(alloc: Global, options: &Options<'_, '_>) -> Result<Request, Fault
 fn settled_by(alloc: Global, options: &Options<'_, '_>) -> Result<Request, Fault>
     ensures { Settles (settled_by options.now) result }
 {
-    check(options)?;
-    request_of(alloc, options)
+    let checked = check(options)?;
+    request_of(alloc, options, checked)
 }
 
 /// The request that the matches of a command, as `parse` gives them, settle, or the first fault of
@@ -176,7 +164,7 @@ pub fn settle(alloc: Global, matches: &ArgMatches<'_>) -> Result<Request, Fault>
     ensures { IfSome (asked (subcommand_rows_of matches.now)) (λ settled. Settles settled result) }
 {
     let (command, given) = command_in(matches).unwrap();
-    let ids = given.get_strs("vault-id").unwrap_or(&[]);
-    let paths = given.get_strs("vault-password-file").unwrap_or(&[]);
+    let ids = given.get_strs(VAULT_ID.name).unwrap_or(&[]);
+    let paths = given.get_strs(VAULT_PASSWORD_FILE.name).unwrap_or(&[]);
     settled_by(alloc, &Options::of(command, given, ids, paths))
 }

@@ -1,11 +1,51 @@
 //! The values of `--vault-id`: a source, or a label, `@` and a source.
-ghost use Rattle.std.specs.Prelude.{◌≡◌, Some, None, IfOk, IfErr, map};
+ghost use Rattle.std.specs.Prelude.{◌≡◌, ◌≤◌, IfOk, length, map};
 ghost use Rattle.std.specs.Result.{result_err};
-ghost use Rattle.vault_request.specs.VaultId.{fault_of_id, first_fault, label_of_id};
-ghost use Rattle.vault_request.specs.VaultId.{label_part, source_of_id};
+ghost use Rattle.vault_common.specs.declared.limits.TheConstants.{SECRET_COUNT_LIMIT};
+ghost use Rattle.vault_request.specs.Settled.{file_of_id, plain_file};
+ghost use Rattle.vault_request.specs.VaultId.{fault_of_id, first_fault, label_part, source_of_id};
 
-use vault_common::Fault;
+use arrayvec::ArrayVec;
+use std::marker::Model;
+use vault_common::{Fault, SECRET_COUNT_LIMIT};
 use vault_text::Label;
+
+/// The path of a password file, which stands on the command line, and the label of its secret.
+#[derive(Drop)]
+pub(crate) struct SecretPath<'a> {
+    pub label: Label,
+    pub path: &'a str,
+}
+
+impl<'a> Model for SecretPath<'a> {
+    ghost use Rattle.vault_request.specs.Request.{SecretFile};
+
+    ghost Value = { SecretFile };
+
+    ghost view = { λ f. record { label = f.label; path = f.path.now } };
+}
+
+impl<'a> SecretPath<'a> {
+    /// That of `--vault-password-file`, with the label `default`.
+    pub(crate) fn plain(path: &'a str) -> Self
+        ensures { result ≡ plain_file path.now }
+    {
+        SecretPath {
+            label: Label::default_label(),
+            path,
+        }
+    }
+}
+
+/// That of no option; only what holds unused places asks for it.
+impl<'a> Default for SecretPath<'a> {
+    fn default() -> Self {
+        SecretPath::plain("")
+    }
+}
+
+/// Those of the vault ids of a command line.
+pub(crate) type SecretPaths<'a> = ArrayVec<SecretPath<'a>, SECRET_COUNT_LIMIT>;
 
 /// The parts before and after the first `@`; all is source where there is none.
 fn split(id: &str) -> (&str, &str)
@@ -18,40 +58,31 @@ fn split(id: &str) -> (&str, &str)
     }
 }
 
-/// The label and the path of a vault id; refused where the label is not allowed, and where the
-/// source is `prompt`.
-pub(crate) fn parse(id: &str) -> Result<(Label, &str), Fault>
-    ensures label { IfOk result (λ parts. parts.0 ≡ label_of_id id.now) }
-    ensures path { IfOk result (λ parts. parts.1.now ≡ source_of_id id.now) }
-    ensures allowed { IfOk result (λ _. fault_of_id id.now ≡ None) }
-    ensures refused { IfErr result (λ fault. fault_of_id id.now ≡ Some fault) }
+/// Reads a vault id; refused where the label is not allowed, and where the source is `prompt`.
+pub(crate) fn parse(id: &str) -> Result<SecretPath<'_>, Fault>
+    ensures file { IfOk result (λ file. file ≡ file_of_id id.now) }
+    ensures refused { result_err result ≡ fault_of_id id.now }
 {
-    let (label, source) = split(id);
+    let (label, path) = split(id);
     let Ok(label) = Label::named(label) else {
         return Err(Fault::BadLabel);
     };
-    if source == "prompt" {
+    if path == "prompt" {
         return Err(Fault::PromptSource);
     }
-    Ok((label, source))
+    Ok(SecretPath { label, path })
 }
 
-/// Refuses a vault id that has a fault.
-pub(crate) fn check(id: &str) -> Result<(), Fault>
-    ensures { result_err result ≡ fault_of_id id.now }
+/// Reads vault ids in their order; refused by the first that has a fault.
+pub(crate) fn parse_all<'a>(ids: &[&'a str]) -> Result<SecretPaths<'a>, Fault>
+    requires { length ids.now ≤ SECRET_COUNT_LIMIT }
+    ensures files { IfOk result (λ files.
+        files.items ≡ map file_of_id (map (λ id. id.now) ids.now)) }
+    ensures refused { result_err result ≡ first_fault (map (λ id. id.now) ids.now) }
 {
-    match parse(id) {
-        Ok(_) => Ok(()),
-        Err(fault) => Err(fault),
-    }
-}
-
-/// Refuses the first vault id that has a fault.
-pub(crate) fn check_all(ids: &[&str]) -> Result<(), Fault>
-    ensures { result_err result ≡ first_fault (map (λ id. id.now) ids.now) }
-{
+    let mut files = ArrayVec::new();
     for id in ids {
-        check(id)?;
+        files.push(parse(id)?);
     }
-    Ok(())
+    Ok(files)
 }

@@ -1,0 +1,6 @@
+use Rattle.std.proofs.Common.{◌≡◌, ◌++◌, take}
+use Rattle.vault_request.proofs.settling.add_labelled.Given as goal
+
+abbrev pub invariant-loop-found : goal.invariant-loop-found
+invariant-loop-found l =
+    l.files.items ≡ l.fn.files.items ++ take l.found-index l.labelled
