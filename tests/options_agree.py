@@ -1,6 +1,6 @@
-"""Compares the options of each command in the manual page, in the completions of each shell, in the model
-and in the program's own help, and those of each companion in its page and its help. `mandoc` and `groff` look
-the pages over.
+"""Compares the table of options in the code with the definitions, the manual page, the completions of each
+shell, the model, the stored texts and the program's own help, and says what each of them lacks; and the
+options of each companion in its page and its help. `mandoc` and `groff` look the pages over.
 """
 
 import re
@@ -12,9 +12,10 @@ import pytest
 
 from lib.option_sets import companion_options, companion_page, companion_statuses, described_options, page_sets
 from lib.option_sets import help_commands, help_of, help_options, help_text, options_in, sections, spellings
+from lib.option_table import code_in, constants_in, entries, literals_in, named_in, options
 from lib.outcome import Outcome
 from lib.paths import COMPANIONS, PAGE, ROOT
-from model.options import COMMON, OPTIONS
+from model.options import COMMON, FLAGS, OPTIONS
 from shells import SHELLS, needs_shell
 
 # What the help of an option has to say, wherever the option stands.
@@ -25,6 +26,9 @@ SAID = {
     "--output": "needed with FILE",
 }
 
+# The definitions and the crates that name each option.
+SPECS = ["vault_command_line/specs/CommandLine.antt", "vault_request/specs/Options.antt"]
+CODE = ["vault_command_line", "vault_request"]
 
 # Who looks the page over, and shows it.
 LOOKS = {
@@ -56,6 +60,66 @@ def test_completions(outcome: Outcome, shell: str) -> None:
         outcome.check(what, sorted(completed(shell, command)), sorted(options))
 
 
+def test_code(outcome: Outcome) -> None:
+    """The code and the definitions name what the table has, and the code has no name of its own."""
+    names = {entry.name for entry in entries()}
+    constants = {entry.constant for entry in entries()}
+    outcome.holds("the table is read", len(names) > 10, sorted(names))
+    for crate in CODE:
+        outcome.check(f"crates/{crate}/src uses each entry of the table", sorted(constants - constants_in(crate)), [])
+        outcome.check(f"crates/{crate}/src has no name beside the table", literals_in(code_in(crate)) & names, set())
+    for specs in SPECS:
+        outcome.check(f"crates/{specs} names each entry of the table", sorted(names - named_in(specs)), [])
+
+
+def page_values(text: str, name: str) -> set[str]:
+    """What the page calls the value of an option, wherever it names the option beside its value."""
+    return set(re.findall(rf"^\.(?:It|Op|Oc)?.*\bFl -{name}(?= |$)(?: Ar (\S+))?", text, re.MULTILINE))
+
+
+def test_table(outcome: Outcome) -> None:
+    """The page, the model and the stored texts have what the table has."""
+    page, known = PAGE.read_text(), COMMON.union(*OPTIONS.values())
+    table = {entry.option for entry in options()}
+    dashed = {option for option in described_options() if option.startswith("--")}
+    outcome.check("the page describes the table's options", sorted(dashed - {"--help", "--version"}), sorted(table))
+    outcome.check("the model knows the table's options", sorted(known), sorted(table))
+    outcome.check("and its flags", sorted(FLAGS), [entry.option for entry in options() if not entry.value_name])
+    items = "\n".join(re.findall(r"^\.It Fl .*$", page, re.MULTILINE)).replace(" , ", "\n.It ")
+    for entry in options():
+        values = page_values(items, entry.name)
+        outcome.check(f"the page has the value of {entry.option}", values, {entry.value_name.lower()})
+    texts = "".join(path.read_text() for path in sorted((ROOT / "tests" / "texts").glob("*.help.txt")))
+    for entry in entries():
+        value = f" <{entry.value_name}>" if entry.value_name else ""
+        start = re.escape(f"{entry.option}{value}" if entry.is_option else f"[{entry.name}]")
+        said = set(re.findall(rf"^ .*(?<![\w-]){start}  +(.*)$", texts, re.MULTILINE))
+        outcome.check(f"the stored texts have the help of {entry.name}", said, {entry.help})
+
+
+# The end of a command line, by the value's name of an option, and the files that are offered.
+VALUES = {
+    "PATH": ("one", {"one.pass"}),
+    "[LABEL@]PATH": ("one", {"one.pass"}),
+    "LABEL": ("one", set()),
+    "TEXT": ("one", set()),
+    "NAME": ("one", set()),
+}
+
+
+@pytest.mark.parametrize("shell", SHELLS)
+def test_completed_values(outcome: Outcome, shell: str, tmp_path: Path) -> None:
+    """Behind an option a shell offers files where its value is a path, and none elsewhere."""
+    needs_shell(shell)
+    (tmp_path / "one.pass").touch()
+    for entry in options():
+        command = next(command for command in OPTIONS if entry.option in OPTIONS[command] | COMMON)
+        if entry.value_name:
+            word, wanted = VALUES[entry.value_name]
+            found = SHELLS[shell](f"ansible-vault {command} {entry.option} {word}", tmp_path)
+            outcome.check(f"{shell} completes the value of {entry.option}", found, wanted)
+
+
 def test_help(outcome: Outcome, program: str) -> None:
     sets = page_sets()
     commands = [command for command in sets if command]
@@ -67,6 +131,10 @@ def test_help(outcome: Outcome, program: str) -> None:
         outcome.check(what, sorted(found), sorted(sets[command]))
         silent = [option for option in SAID.keys() & found if SAID[option] not in help_of(text, option)]
         outcome.check("and says of them what it has to", silent, [])
+        for entry in options():
+            if entry.option in found:
+                wanted = f"<{entry.value_name}> {entry.help}" if entry.value_name else entry.help
+                outcome.check(f"and of {entry.option} what the table has", help_of(text, entry.option), wanted)
         outcome.holds("and needs no word that it does not explain", "envelope" not in text)
 
 

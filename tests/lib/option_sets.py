@@ -55,7 +55,7 @@ def help_options(text: str) -> set[str]:
 
 def help_of(text: str, option: str) -> str:
     """What the help says behind an option."""
-    found = re.search(rf"{option} (.*(?:\n {{12,}}\S.*)*)", text)
+    found = re.search(rf"^ +(?:-\w, )?{option} (.*(?:\n {{12,}}\S.*)*)", text, re.MULTILINE)
     return " ".join(found[1].split()) if found else ""
 
 

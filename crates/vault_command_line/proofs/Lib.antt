@@ -1,1 +1,2 @@
 pub mod BuiltLemmas
+pub mod CommandLineLemmas

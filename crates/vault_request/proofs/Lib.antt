@@ -1,7 +1,5 @@
-pub mod ParsedFacts
-pub mod ParsedSamples
-pub mod SettlingFacts
-pub mod RefusalFacts
-pub mod SettledFacts
+pub mod OptionsSamples
+pub mod RefusalLemmas
+pub mod SettledLemmas
 pub mod SettledSamples
-pub mod NamedFacts
+pub mod theorems

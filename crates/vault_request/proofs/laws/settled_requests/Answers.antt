@@ -1,4 +1,4 @@
-use Rattle.vault_request.proofs.SettledFacts.{settled_requests}
+use Rattle.vault_request.proofs.theorems.SettledRequests.{settled_requests}
 use Rattle.vault_request.proofs.laws.settled_requests.Goals as goal
 
 pub returns : goal.returns

@@ -1,4 +1,4 @@
-use Rattle.vault_request.proofs.NamedFacts.{words_name_a_command}
+use Rattle.vault_request.proofs.theorems.WordsNameACommand.{words_name_a_command}
 use Rattle.vault_request.proofs.laws.words_name_a_command.Goals as goal
 
 pub returns : goal.returns

@@ -1,7 +1,7 @@
 use Rattle.std.proofs.Common.{map}
 use Rattle.std.specs.String.{string_bytes}
-use Rattle.vault_request.proofs.NamedFacts.{parsed_asks}
-use Rattle.vault_request.proofs.ParsedFacts.{fails_as, parsed_as}
+use Rattle.vault_request.proofs.theorems.WordsNameACommand.{parsed_asks}
+use Rattle.vault_command_line.proofs.CommandLineLemmas.{fails_as, parsed_as}
 use Rattle.vault_request.proofs.parsing.parse.Goals as goal
 
 pub returns-clause-matches : goal.returns-clause-matches

@@ -3,7 +3,7 @@ use Rattle.std.specs.Prelude.{is_some}
 use Rattle.vault_request.specs.CommandName.{rekeys}
 use Rattle.vault_request.specs.Options.{Options}
 use Rattle.vault_request.specs.Settled.{file_of_id, plain_file}
-use Rattle.vault_request.proofs.RefusalFacts.{allowed, few_files, new_secrets, salt_texts}
+use Rattle.vault_request.proofs.RefusalLemmas.{allowed, few_files, new_secrets, salt_texts}
 use Rattle.vault_request.proofs.settling.request_of.Goals as goal
 
 pub invariant_of-result : goal.invariant_of-result

@@ -2,7 +2,7 @@ use Rattle.std.proofs.Common.{◌≡◌, ◌∙◌, [], map, ap, codes, refl, un
 use Rattle.clap.specs.Words.{found_of, rows_of, subcommand_rows_of}
 use Rattle.clap.proofs.WalkLemmas.{raw_values-rows}
 use Rattle.vault_request.specs.Options.{values_of}
-use Rattle.vault_request.proofs.SettlingFacts.{asked_given, values_or_none, with_values}
+use Rattle.vault_request.proofs.SettledLemmas.{asked_given, values_or_none, with_values}
 use Rattle.vault_request.proofs.settling.settle.Goals as goal
 
 pub returns : goal.returns

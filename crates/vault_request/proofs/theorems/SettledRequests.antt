@@ -19,7 +19,7 @@ use Rattle.vault_request.specs.Settled.{request_of}
 use Rattle.vault_request.specs.VaultId.{fault_of_id, first_fault, label_of_id}
 use Rattle.vault_request.specs.declared.command_name.CommandName.{CommandName}
 use Rattle.vault_request.specs.declared.command_name.CommandName.TheVariants as command
-use Rattle.vault_request.proofs.RefusalFacts.{allowed, few_files, neither, new_secrets, salt_texts}
+use Rattle.vault_request.proofs.RefusalLemmas.{allowed, few_files, neither, new_secrets, salt_texts}
 
 -- all labels are labels
 abbrev AreLabelled : List SecretFile → Type 0

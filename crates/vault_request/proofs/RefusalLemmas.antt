@@ -26,7 +26,6 @@ neither (Some fault) later e = cc
 pub record IsAllowed (given : Options) : Type 0 where
   pub count : count_fault given ≡ None
   pub ids : first_fault given.vault_ids ≡ None
-  pub label : label_fault given.encrypt_vault_id ≡ None
   pub rekey : rekey_fault given ≡ None
   pub salt : salt_fault given.salt_text given.salt_file ≡ None
 
@@ -42,7 +41,7 @@ allowed given e =
     let h = neither (name_fault given.stdin_name) _ g.1 in
     let i = neither (output_fault given) _ h.1 in
     let j = neither (salt_fault given.salt_text given.salt_file) _ i.1 in
-    record { count = a.0; ids = b.0; label = c.0; rekey = d.0; salt = j.0 }
+    record { count = a.0; ids = b.0; rekey = d.0; salt = j.0 }
 
 -- there are at most so many secrets
 pub few_files : (given : Options) → count_fault given ≡ None

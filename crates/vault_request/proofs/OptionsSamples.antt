@@ -1,15 +1,9 @@
--- What the parser makes of some arguments, by computing.
-use Rattle.std.proofs.Common.{◌≡◌, List, [], ◌∷◌, true, Option, Some, codes, refl, option_map}
-use Rattle.clap.specs.Words.{Text, fault_of, subcommand_of}
-use Rattle.clap.specs.Faults.{is_simple_and_free}
-use Rattle.clap.specs.declared.error.kind.ErrorKind.TheVariants as kind
+-- The values of some arguments, by computing.
+use Rattle.std.proofs.Common.{◌≡◌, List, [], ◌∷◌, Option, Some, codes, refl, option_map}
+use Rattle.clap.specs.Words.{Text, subcommand_of}
 use Rattle.clap.proofs.OnLiterals.{clap_on_literals}
 use Rattle.vault_command_line.specs.CommandLine.{vault_app}
 use Rattle.vault_request.specs.Options.{values_of}
-
-pub vault_app-simple : is_simple_and_free vault_app ≡ true
-unfolding clap_on_literals vault_app
-vault_app-simple = refl
 
 -- the command, and the values under its two options
 abbrev given : List Text → Option (Text × List Text × List Text)
@@ -33,16 +27,3 @@ several : given
     ≡ Some (codes "decrypt", codes "a@x" ∷ codes "y" ∷ [], codes "p" ∷ [])
 unfolding clap_on_literals vault_app
 several = refl
-
-no_command : fault_of vault_app (codes "ansible-vault" ∷ []) ≡ kind.MissingSubcommand ∷ []
-unfolding clap_on_literals vault_app
-no_command = refl
-
-unknown_option : fault_of vault_app (codes "ansible-vault" ∷ codes "view" ∷ codes "--loud" ∷ [])
-    ≡ kind.UnknownArgument ∷ []
-unfolding clap_on_literals vault_app
-unknown_option = refl
-
-help : fault_of vault_app (codes "ansible-vault" ∷ codes "--help" ∷ []) ≡ kind.DisplayHelp ∷ []
-unfolding clap_on_literals vault_app
-help = refl

@@ -20,7 +20,7 @@ use Rattle.vault_command_line.specs.CommandLine.{vault_app}
 use Rattle.vault_request.specs.CommandName.{command_of}
 use Rattle.vault_request.specs.Laws.{WordsNameACommand}
 use Rattle.vault_request.specs.Settled.{asked, asked_by, command_in}
-use Rattle.vault_request.proofs.SettlingFacts.{is_some-map}
+use Rattle.vault_request.proofs.SettledLemmas.{is_some-map}
 
 -- ---- a level without a fault has its subcommand, where one is required
 

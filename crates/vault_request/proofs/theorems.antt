@@ -1,0 +1,2 @@
+pub mod SettledRequests
+pub mod WordsNameACommand
