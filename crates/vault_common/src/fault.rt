@@ -29,7 +29,7 @@ pub enum Fault {
     TooLong,
     /// The input does not begin with `$ANSIBLE_VAULT`.
     NotVault,
-    /// The header line has more than 256 bytes.
+    /// The header line is longer than the limit.
     HeaderTooLong,
     /// It is not ASCII, has fewer than three fields, or its fourth is no label.
     BadHeader,
@@ -39,12 +39,12 @@ pub enum Fault {
     BadCipher,
     /// The body has a byte that is no digit, or an odd number of digits.
     BadHex,
-    /// The inner text lacks a part, or has one that is not hexadecimal, a salt of more than 256
-    /// bytes, or a tag of other than 32.
+    /// The inner text lacks a part, or has one that is not hexadecimal, a salt that is longer
+    /// than the limit, or a tag of other than 32 bytes.
     BadPayload,
     /// The ciphertext is longer than that of the longest plaintext.
     CipherTooLong,
-    /// A password file has more than 4,096 bytes.
+    /// A password file is longer than the limit.
     SecretTooLong,
     /// A password file begins with `#!`.
     SecretIsScript,
@@ -52,7 +52,7 @@ pub enum Fault {
     SecretIsVault,
     /// A password file has nothing but whitespace.
     SecretEmpty,
-    /// There are more than 16 secrets, without the new one of `rekey`.
+    /// There are more secrets than the limit, without the new one of `rekey`.
     TooManySecrets,
     /// There is no secret to encrypt with.
     NoEncryptSecret,
@@ -68,7 +68,7 @@ pub enum Fault {
     NoSecretFits,
     /// The tag agrees with a secret under which the plaintext has no padding.
     BadPadding,
-    /// A label is not of 1 to 128 characters that a label may have.
+    /// A label is empty, longer than the limit, or has a character that it may not have there.
     BadLabel,
     /// The name of a variable holds a control byte.
     BadName,
@@ -92,7 +92,7 @@ pub enum Fault {
     Memory,
     /// Both `--salt` and `--salt-file` were given.
     SaltChoice,
-    /// The text of `--salt` is empty, or longer than 64 bytes.
+    /// The text of `--salt` is empty, or longer than the limit.
     BadSalt,
 }
 

@@ -63,7 +63,7 @@ output_fault given =
     refused_if (has_output given.command && is_some given.file && not (is_some given.output))
     OutputNeeded
 
--- a salt comes from a text of 1 to 64 bytes or from a file, not from both
+-- a salt comes from a text, neither empty nor longer than the limit, or from a file, not from both
 abbrev pub salt_fault : Option (List ℕ) → Option (List ℕ) → Option Fault
 salt_fault None path = None
 salt_fault (Some text) None =

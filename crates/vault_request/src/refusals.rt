@@ -25,7 +25,7 @@ pub(crate) struct Checked<'a> {
     pub choice: Option<Label>,
 }
 
-/// Refuses the options where they have a fault: more than 16 secrets; each vault id in turn,
+/// Refuses the options where they have a fault: more secrets than the limit; each vault id in turn,
 /// its label first and then its source; the label to encrypt with; the new secret of `rekey`;
 /// the names of `encrypt_string`; a FILE without an output; the salt.
 #[tactic(auto, unfolding(crate::specs::Refusal::refusal))]

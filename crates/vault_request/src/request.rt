@@ -26,8 +26,8 @@ impl Model for SecretFile {
     ghost view = { λ f. record { label = f.label; path = string_bytes f.path } };
 }
 
-/// A request that was settled from a command line. It has at most 16 password files, and one more
-/// where the command is `rekey`.
+/// A request that was settled from a command line. It has no more password files than the limit of
+/// secrets, and one more where the command is `rekey`.
 #[derive(Drop)]
 pub struct Request {
     pub(crate) command: CommandName,
@@ -87,7 +87,7 @@ impl Request {
         self.command
     }
 
-    /// How many password files there are, the new one of `rekey` counted: at most 17.
+    /// How many password files there are, the new one of `rekey` counted.
     pub fn files(&self) -> usize
         ensures count { result ≡ length (files_of self.now) }
         ensures limit { result ≤ SECRET_COUNT_LIMIT + 1 }
@@ -95,7 +95,7 @@ impl Request {
         self.secrets.len() + self.new_secret.iter().count()
     }
 
-    /// How many password files there are without the new one of `rekey`: at most 16.
+    /// How many password files there are without the new one of `rekey`.
     pub fn secret_count(&self) -> usize
         ensures count { result ≡ length self.now.secrets }
         ensures limit { result ≤ SECRET_COUNT_LIMIT }
@@ -164,7 +164,7 @@ impl Request {
         self.string.as_deref()
     }
 
-    /// The text of `--salt`, of 1 to 64 bytes, where it was given.
+    /// The text of `--salt`, where it was given: neither empty nor longer than the limit.
     pub fn salt_text(&self) -> Option<&str>
         ensures text { option_copied result ≡ self.now.salt_text }
         ensures length { IfSome result (λ text. IsSaltText text.now) }
