@@ -12,7 +12,7 @@ import pytest
 
 from lib.option_sets import companion_options, companion_page, companion_statuses, described_options, page_sets
 from lib.option_sets import help_commands, help_of, help_options, help_text, options_in, sections, spellings
-from lib.option_table import code_in, constants_in, entries, literals_in, named_in, options
+from lib.option_table import code_in, constants_in, entries, literals_in, named_in, table_options
 from lib.outcome import Outcome
 from lib.paths import COMPANIONS, PAGE, ROOT
 from model.options import COMMON, FLAGS, OPTIONS
@@ -55,7 +55,7 @@ def completed(name: str, command: str | None) -> set[str]:
 @pytest.mark.parametrize("shell", SHELLS)
 def test_completions(outcome: Outcome, shell: str) -> None:
     needs_shell(shell)
-    missing = {entry.option for entry in options()}
+    missing = {entry.option for entry in table_options()}
     for command, wanted in page_sets().items():
         found = completed(shell, command)
         missing -= found
@@ -84,13 +84,13 @@ def page_values(text: str, name: str) -> set[str]:
 def test_table(outcome: Outcome) -> None:
     """The page, the model and the stored texts have what the table has."""
     page, known = PAGE.read_text(), COMMON.union(*OPTIONS.values())
-    table = {entry.option for entry in options()}
+    table = {entry.option for entry in table_options()}
     dashed = {option for option in described_options() if option.startswith("--")}
     outcome.check("the page describes the table's options", sorted(dashed - {"--help", "--version"}), sorted(table))
     outcome.check("the model knows the table's options", sorted(known), sorted(table))
-    outcome.check("and its flags", sorted(FLAGS), [entry.option for entry in options() if not entry.value_name])
+    outcome.check("and its flags", sorted(FLAGS), [entry.option for entry in table_options() if not entry.value_name])
     items = "\n".join(re.findall(r"^\.It Fl .*$", page, re.MULTILINE)).replace(" , ", "\n.It ")
-    for entry in options():
+    for entry in table_options():
         values = page_values(items, entry.name)
         outcome.check(f"the page has the value of {entry.option}", values, {entry.value_name.lower()})
     texts = "".join(path.read_text() for path in sorted((ROOT / "tests" / "texts").glob("*.help.txt")))
@@ -116,7 +116,7 @@ def test_completed_values(outcome: Outcome, shell: str, tmp_path: Path) -> None:
     """Behind an option a shell offers files where its value is a path, and none elsewhere."""
     needs_shell(shell)
     (tmp_path / "one.pass").touch()
-    for entry in options():
+    for entry in table_options():
         commands = [command for command in OPTIONS if entry.option in OPTIONS[command] | COMMON]
         if commands and entry.value_name:
             word, wanted = VALUES[entry.value_name]
@@ -135,7 +135,7 @@ def test_help(outcome: Outcome, program: str) -> None:
         outcome.check(what, sorted(found), sorted(sets[command]))
         silent = [option for option in SAID.keys() & found if SAID[option] not in help_of(text, option)]
         outcome.check("and says of them what it has to", silent, [])
-        for entry in options():
+        for entry in table_options():
             if entry.option in found:
                 wanted = f"<{entry.value_name}> {entry.help}" if entry.value_name else entry.help
                 outcome.check(f"and of {entry.option} what the table has", help_of(text, entry.option), wanted)

@@ -37,19 +37,19 @@ def entries() -> list[Entry]:
     return [Entry(*names, re.sub(r"\\\n *", "", text)) for *names, text in found]
 
 
-def options() -> list[Entry]:
+def table_options() -> list[Entry]:
     return [entry for entry in entries() if entry.is_option]
 
 
 def code_in(crate: str) -> str:
-    """The code of a crate, but for the table."""
+    """The code of a crate without comments, but for the table."""
     files = sorted((ROOT / "crates" / crate / "src").rglob("*.rt"))
-    return "".join(file.read_text() for file in files if file != TABLE)
+    return "".join(re.sub("//.*", "", file.read_text()) for file in files if file != TABLE)
 
 
 def constants_in(crate: str) -> set[str]:
-    """The constants of the table that the code of a crate uses, by another name of its module too."""
-    return set(re.findall(r"\b([A-Z][A-Z_]+)\b", code_in(crate)))
+    """The constants that the code of a crate names."""
+    return set(re.findall(r"\b[A-Z][A-Z_]+\b", code_in(crate)))
 
 
 def literals_in(text: str) -> set[str]:
