@@ -37,7 +37,7 @@ impl<'a> SecretPath<'a> {
     }
 }
 
-/// That of no option; only what holds unused places asks for it.
+/// An unused place of a list.
 impl<'a> Default for SecretPath<'a> {
     fn default() -> Self {
         SecretPath::plain("")
