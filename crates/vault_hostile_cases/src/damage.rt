@@ -9,7 +9,6 @@ use vault_cli::Status;
 use vault_kdf::{Meter, derive};
 use vault_made::{envelope, spelled, tagged};
 use vault_runs::Trial;
-use vault_text::{CIPHERTEXT_LIMIT, MemSink, MemSource};
 
 const SALT: &[u8; 32] = &[7; 32];
 
@@ -28,10 +27,9 @@ fn assert_refused_in_steps(
 ) -> Result<(), Fail>
     requires { 1 ≤ step }
 {
-    let mut src = MemSource::new(input, step);
     let ran = Trial::new(DECRYPT, FIRST, &[])
         .at_the_limit()
-        .run_from(alloc, &mut src)?;
+        .run_in_steps(alloc, input, step)?;
     let line = format!(in alloc; "ERROR! {text}\n")?;
     assert_eq!(rt; ran.status, Status::Refused, "{text} {step}");
     assert_eq!(rt; ran.message.as_str(), line.as_str(), "{text} {step}");
@@ -138,21 +136,4 @@ fn refuses_wrong_padding(rt: HostRuntime) -> Result<(), Fail> {
     let cipher = enciphered(alloc, b"fourteen bytes\x03\x02")?;
     let unpadded = tagged(alloc, "default", b"first", SALT, cipher.as_slice())?;
     assert_refused(&rt, alloc, unpadded.as_slice(), text)
-}
-
-// The longest ciphertext is taken: a byte less than its length is plaintext.
-#[test]
-fn decrypts_up_to_the_limit(rt: HostRuntime) -> Result<(), Fail> {
-    let alloc = rt.alloc();
-    let plaintext = vec![in alloc; b'p'; CIPHERTEXT_LIMIT - 1]?;
-    let vault = envelope(alloc, "default", b"first", SALT, plaintext.as_slice())?;
-    let mut src = MemSource::new(vault.as_slice(), 65_536);
-    let mut out = MemSink::new(alloc, 65_536);
-    let mut err = MemSink::new(alloc, 100);
-    let trial = Trial::new(DECRYPT, FIRST, &[]).at_the_limit();
-    let status = trial.run_between(alloc, &mut src, &mut out, &mut err)?;
-    assert_eq!(rt; status, Status::Success);
-    assert!(rt; out.bytes() == plaintext.as_slice());
-    assert!(rt; !err.begun());
-    Ok(())
 }

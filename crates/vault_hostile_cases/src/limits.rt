@@ -4,9 +4,7 @@ use std::test::Fail;
 use vault_cli::Status;
 use vault_made::{CountingReader, envelope};
 use vault_runs::{Trial, run_on_system};
-use vault_text::{
-    CIPHERTEXT_LIMIT, ENVELOPE_LIMIT, MemSink, MemSource, PLAINTEXT_LIMIT, ReadSource,
-};
+use vault_text::{CIPHERTEXT_LIMIT, ENVELOPE_LIMIT, PLAINTEXT_LIMIT};
 
 const ENCRYPT: &[&str] = &["encrypt", "--vault-password-file", "one"];
 
@@ -24,7 +22,10 @@ const HEADER_LINE: &[u8] = b"$ANSIBLE_VAULT;1.1;AES256\n";
 const DAMAGED: &[u8] = b"$ANSIBLE_VAULT;1.1;AES256\nzz";
 
 /// The line of an input that is too long.
-const TOO_LONG: &[u8] = b"ERROR! input is longer than the limit\n";
+const TOO_LONG: &str = "ERROR! input is longer than the limit\n";
+
+/// The line of a body that is no hexadecimal text.
+const NOT_HEXADECIMAL: &str = "ERROR! vault body is not hexadecimal\n";
 
 #[test]
 fn have_their_sizes(rt: HostRuntime) {
@@ -42,16 +43,12 @@ fn count_lines(text: &[u8]) -> usize {
 fn take_the_longest_plaintext(rt: HostRuntime) -> Result<(), Fail> {
     let alloc = rt.alloc();
     let plaintext = vec![in alloc; b'a'; 16_777_216]?;
-    let mut src = MemSource::new(plaintext.as_slice(), 65_536);
-    let mut out = MemSink::new(alloc, 65_536);
-    let mut err = MemSink::new(alloc, 100);
-    let status = Trial::new(ENCRYPT, ONE, &[0; 32])
+    let ran = Trial::new(ENCRYPT, ONE, &[0; 32])
         .at_the_limit()
-        .run_between(alloc, &mut src, &mut out, &mut err)?;
-    assert_eq!(rt; status, Status::Success);
-    assert_eq!(rt; out.bytes().len(), 67_948_079);
-    assert_eq!(rt; count_lines(out.bytes()), 1 + 838_865);
-    assert!(rt; !err.begun());
+        .run_on(alloc, plaintext.as_slice())?;
+    assert_eq!(rt; ran.status, Status::Success);
+    assert_eq!(rt; ran.output.len(), 67_948_079);
+    assert_eq!(rt; count_lines(ran.output.as_slice()), 1 + 838_865);
     Ok(())
 }
 
@@ -64,15 +61,11 @@ fn take_the_longest_envelope(rt: HostRuntime) -> Result<(), Fail> {
     let vault = envelope(alloc, "default", b"one", &[7; 32], plaintext.as_slice())?;
     for step in [1, 7, 4_096] {
         let mut reader = CountingReader::new(vault.as_slice(), step);
-        let mut src = ReadSource::new(&mut reader);
-        let mut out = MemSink::new(alloc, 65_536);
-        let mut err = MemSink::new(alloc, 100);
-        let status = Trial::new(DECRYPT, ONE, &[])
+        let ran = Trial::new(DECRYPT, ONE, &[])
             .at_the_limit()
-            .run_between(alloc, &mut src, &mut out, &mut err)?;
-        assert_eq!(rt; status, Status::Success, "{step}");
-        assert!(rt; out.bytes() == plaintext.as_slice(), "{step}");
-        assert!(rt; !err.begun(), "{step}");
+            .run_on_reader(alloc, &mut reader)?;
+        assert_eq!(rt; ran.status, Status::Success, "{step}");
+        assert!(rt; ran.output.as_slice() == plaintext.as_slice(), "{step}");
     }
     Ok(())
 }
@@ -84,15 +77,11 @@ fn rekey_the_longest_envelope(rt: HostRuntime) -> Result<(), Fail> {
     let plaintext = vec![in alloc; b'p'; 16_777_231]?;
     let vault = envelope(alloc, "default", b"one", &[7; 32], plaintext.as_slice())?;
     let rekeyed = envelope(alloc, "prod", b"two", &[1; 32], plaintext.as_slice())?;
-    let mut src = MemSource::new(vault.as_slice(), 65_536);
-    let mut out = MemSink::new(alloc, 65_536);
-    let mut err = MemSink::new(alloc, 100);
-    let status = Trial::new(REKEY, TWO, &[1; 32])
+    let ran = Trial::new(REKEY, TWO, &[1; 32])
         .at_the_limit()
-        .run_between(alloc, &mut src, &mut out, &mut err)?;
-    assert_eq!(rt; status, Status::Success);
-    assert!(rt; out.bytes() == rekeyed.as_slice());
-    assert!(rt; !err.begun());
+        .run_on(alloc, vault.as_slice())?;
+    assert_eq!(rt; ran.status, Status::Success);
+    assert!(rt; ran.output.as_slice() == rekeyed.as_slice());
     Ok(())
 }
 
@@ -107,7 +96,6 @@ fn take_more_than_a_mib(rt: HostRuntime) -> Result<(), Fail> {
         .run_on(alloc, vault.as_slice())?;
     assert_eq!(rt; ran.status, Status::Success);
     assert!(rt; ran.output.as_slice() == plaintext.as_slice());
-    assert!(rt; ran.message.is_empty());
     Ok(())
 }
 
@@ -119,94 +107,89 @@ struct Long<'a> {
     length: usize,
     /// How many bytes of it are read.
     read: usize,
+    /// What is written on standard error.
+    line: &'a str,
 }
 
-/// Inputs that are too long by one byte or without end. That their bodies are damaged comes after
-/// that.
-const LONG: [Long<'static>; 6] = [
+/// Inputs that are too long by one byte or without end, where damage to the body comes after that;
+/// and damaged ones up to the limit, of which the shorter is longer than a limit of one MiB allows.
+const LONG: [Long<'static>; 8] = [
     Long {
         words: ENCRYPT,
         front: b"",
         length: 16_777_217,
         read: 16_777_217,
+        line: TOO_LONG,
     },
     Long {
         words: ENCRYPT,
         front: b"",
         length: usize::MAX,
         read: 16_777_217,
+        line: TOO_LONG,
     },
     Long {
         words: DECRYPT,
         front: b"",
         length: usize::MAX,
         read: 100_671_489,
+        line: TOO_LONG,
     },
     Long {
         words: DECRYPT,
         front: HEADER_LINE,
         length: usize::MAX,
         read: 100_671_489,
+        line: TOO_LONG,
     },
     Long {
         words: DECRYPT,
         front: DAMAGED,
         length: 100_671_489,
         read: 100_671_489,
+        line: TOO_LONG,
     },
     Long {
         words: DECRYPT,
         front: DAMAGED,
         length: usize::MAX,
         read: 100_671_489,
+        line: TOO_LONG,
+    },
+    Long {
+        words: DECRYPT,
+        front: DAMAGED,
+        length: 6_299_649,
+        read: 6_299_649,
+        line: NOT_HEXADECIMAL,
+    },
+    Long {
+        words: DECRYPT,
+        front: DAMAGED,
+        length: 100_671_488,
+        read: 100_671_488,
+        line: NOT_HEXADECIMAL,
     },
 ];
 
 #[test]
-fn refuse_one_byte_more(rt: HostRuntime) -> Result<(), Fail> {
+fn are_refused(rt: HostRuntime) -> Result<(), Fail> {
     let alloc = rt.alloc();
     for Long {
         words,
         front,
         length,
         read,
+        line,
     } in LONG {
-        for step in [4_096, 65_536] {
-            let mut reader = CountingReader::with_line_feeds(front, length, step);
-            let mut src = ReadSource::new(&mut reader);
-            let mut out = MemSink::new(alloc, 100);
-            let mut err = MemSink::new(alloc, 100);
-            let status = Trial::new(words, ONE, &[0; 32])
-                .at_the_limit()
-                .run_between(alloc, &mut src, &mut out, &mut err)?;
-            assert_eq!(rt; status, Status::Refused, "{length} {step}");
-            assert_eq!(rt; err.bytes(), TOO_LONG, "{length} {step}");
-            assert!(rt; !out.begun(), "{length} {step}");
-            assert_eq!(rt; reader.given, read, "{length} {step}");
-        }
-    }
-    Ok(())
-}
-
-// Up to the limit the input is read, and what it holds is reported. The shorter one is longer than
-// what a limit of one MiB would allow.
-#[test]
-fn report_the_damage_of_long_inputs(rt: HostRuntime) -> Result<(), Fail> {
-    let alloc = rt.alloc();
-    for length in [6_299_649, 100_671_488] {
-        let mut reader = CountingReader::with_line_feeds(DAMAGED, length, 65_536);
-        let mut src = ReadSource::new(&mut reader);
-        let refused = Trial::new(&["decrypt"], &[], &[])
+        let mut reader = CountingReader::with_line_feeds(front, length, 65_536);
+        let ran = Trial::new(words, ONE, &[0; 32])
             .at_the_limit()
-            .run_from(alloc, &mut src)?;
-        assert_eq!(rt; refused.status, Status::Refused, "{length}");
-        assert_eq!(rt;
-            refused.message.as_str(),
-            "ERROR! vault body is not hexadecimal\n",
-            "{length}"
-        );
-        assert!(rt; !refused.begun, "{length}");
-        assert_eq!(rt; reader.given, length);
+            .run_on_reader(alloc, &mut reader)?;
+        assert_eq!(rt; ran.status, Status::Refused, "{length}");
+        assert_eq!(rt; ran.message.as_str(), line, "{length}");
+        assert!(rt; !ran.begun, "{length}");
+        assert_eq!(rt; reader.given, read, "{length}");
     }
     Ok(())
 }
@@ -218,10 +201,7 @@ fn tell_the_damage_of_the_longest_input(rt: HostRuntime) -> Result<(), Fail> {
     let alloc = rt.alloc();
     let refused = run_on_system(&rt, alloc, &["decrypt"], &mut stdin)?;
     assert_eq!(rt; refused.status, Status::Refused);
-    assert_eq!(rt;
-        refused.message.as_str(),
-        "ERROR! vault body is not hexadecimal\n"
-    );
+    assert_eq!(rt; refused.message.as_str(), NOT_HEXADECIMAL);
     assert!(rt; refused.output.is_empty());
     assert_eq!(rt; stdin.given, 100_671_488);
     Ok(())
@@ -237,25 +217,22 @@ fn letters(alloc: Global, count: usize) -> Result<String, Fail> {
 #[test]
 fn take_the_longest_label(rt: HostRuntime) -> Result<(), Fail> {
     let alloc = rt.alloc();
-    let cases: [(usize, &[u8]); 4] = [
-        (128, b""),
-        (129, b"ERROR! vault header line is malformed\n"),
-        (230, b"ERROR! vault header line is malformed\n"),
-        (231, b"ERROR! vault header line is longer than 256 bytes\n"),
+    let cases: [(usize, &str); 4] = [
+        (128, ""),
+        (129, "ERROR! vault header line is malformed\n"),
+        (230, "ERROR! vault header line is malformed\n"),
+        (231, "ERROR! vault header line is longer than 256 bytes\n"),
     ];
     for (length, message) in cases {
         let label = letters(alloc, length)?;
         let vault = envelope(alloc, label.as_str(), b"one", &[7; 32], b"text")?;
         for step in [1, 7, 4_096] {
-            let mut src = MemSource::new(vault.as_slice(), step);
-            let mut out = MemSink::new(alloc, 100);
-            let mut err = MemSink::new(alloc, 100);
-            Trial::new(DECRYPT, ONE, &[])
+            let ran = Trial::new(DECRYPT, ONE, &[])
                 .at_the_limit()
-                .run_between(alloc, &mut src, &mut out, &mut err)?;
-            assert_eq!(rt; err.bytes(), message, "{length} {step}");
+                .run_in_steps(alloc, vault.as_slice(), step)?;
+            assert_eq!(rt; ran.message.as_str(), message, "{length} {step}");
             assert_eq!(rt;
-                out.bytes() == b"text".as_slice(),
+                ran.output.as_slice() == b"text".as_slice(),
                 message.is_empty(),
                 "{length} {step}"
             );

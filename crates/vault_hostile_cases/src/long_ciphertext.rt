@@ -8,7 +8,7 @@ use std::test::Fail;
 use vault_cli::Status;
 use vault_made::spelled;
 use vault_runs::Trial;
-use vault_text::{CIPHERTEXT_LIMIT, EnvelopeReader, MemSource, TextFault};
+use vault_text::{CIPHERTEXT_LIMIT, EnvelopeReader, TextFault};
 
 const DECRYPT: &[&str] = &["decrypt", "--vault-password-file", "one"];
 
@@ -56,10 +56,9 @@ fn is_refused(rt: HostRuntime) -> Result<(), Fail> {
     let front = front(&rt, alloc)?;
     for (end, _, line) in ENDS {
         let vault = ended(&front, end)?;
-        let mut src = MemSource::new(vault.as_slice(), 65_536);
         let ran = Trial::new(DECRYPT, FIRST, &[])
             .at_the_limit()
-            .run_from(alloc, &mut src)?;
+            .run_on(alloc, vault.as_slice())?;
         assert_eq!(rt; ran.status, Status::Refused, "{line}");
         assert_eq!(rt; ran.message.as_str(), line);
         assert!(rt; !ran.begun, "{line}");

@@ -4,7 +4,6 @@ use std::test::Fail;
 use vault_cli::Status;
 use vault_made::envelope;
 use vault_runs::Trial;
-use vault_text::MemSource;
 
 const DECRYPT: &[&str] = &["decrypt", "--vault-password-file", "one"];
 
@@ -82,8 +81,8 @@ fn are_decrypted(rt: HostRuntime) -> Result<(), Fail> {
     let body = &vault[26..];
     for (name, spelled) in spellings(alloc, body)? {
         for step in [1, 7, 4_096] {
-            let mut src = MemSource::new(spelled.as_slice(), step);
-            let ran = Trial::new(DECRYPT, &[b"one\n"], &[]).run_from(alloc, &mut src)?;
+            let trial = Trial::new(DECRYPT, &[b"one\n"], &[]);
+            let ran = trial.run_in_steps(alloc, spelled.as_slice(), step)?;
             assert_eq!(rt; ran.status, Status::Success, "{name} {step}");
             assert_eq!(rt;
                 ran.output.as_slice(),

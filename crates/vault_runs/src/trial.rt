@@ -1,12 +1,12 @@
 //! Runs of one request.
-ghost use Rattle.std.specs.Prelude.{◌≡◌, IfOk, vec_len};
+ghost use Rattle.std.specs.Prelude.{◌≡◌, ◌≤◌, IfOk, vec_len};
 
 use crate::ran::{Ran, left_by};
 use std::alloc::{AllocError, Global};
 use std::test::Fail;
 use vault_cli::{MemSink, MemSource, Status, parse, run, settle};
-use vault_made::line_of;
-use vault_text::{CIPHERTEXT_LIMIT, PADDING_LIMIT, Sink, Source, Stage};
+use vault_made::{CountingReader, line_of};
+use vault_text::{CIPHERTEXT_LIMIT, PADDING_LIMIT, ReadSource, Sink, Source, Stage};
 
 /// Memory for 64 KiB of plaintext with its padding.
 pub const LITTLE_WORK: usize = 65_552;
@@ -42,14 +42,29 @@ impl<'a> Trial<'a> {
 
     /// Runs the request on these bytes.
     pub fn run_on(&self, alloc: Global, input: &[u8]) -> Result<Ran, Fail> {
-        self.run_from(alloc, &mut MemSource::new(input, 4_096))
+        self.run_in_steps(alloc, input, 4_096)
     }
 
-    /// Runs the request on what the source gives.
+    /// Runs the request on these bytes, which come in steps.
+    pub fn run_in_steps(&self, alloc: Global, input: &[u8], step: usize) -> Result<Ran, Fail>
+        requires { 1 ≤ step }
+    {
+        self.run_from(alloc, &mut MemSource::new(input, step))
+    }
+
+    /// Runs the request on what the reader gives.
+    pub fn run_on_reader(&self, alloc: Global, reader: &mut CountingReader) -> Result<Ran, Fail> {
+        self.run_from(alloc, &mut ReadSource::new(reader))
+    }
+
+    /// Runs the request on what the source gives; fails where a success begins its message.
     pub fn run_from<S: Source>(&self, alloc: Global, src: &mut S) -> Result<Ran, Fail> {
         let mut out = MemSink::new(alloc, 4_096);
         let mut err = MemSink::new(alloc, 4_096);
         let status = self.run_between(alloc, src, &mut out, &mut err)?;
+        if status == Status::Success && err.begun() {
+            return Err(Fail::from("a run that succeeded began its message"));
+        }
         let message = Vec::from_slice(alloc, err.bytes())?;
         left_by(alloc, status, &out, message)
     }
