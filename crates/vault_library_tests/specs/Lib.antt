@@ -1,0 +1,2 @@
+pub mod OnePassword
+pub mod OnePasswordLaws
