@@ -1,5 +1,6 @@
-"""Compares the listings of docs/library.md with the files that they are from, whose tests run them, and its table
-of calls with the crates. `python3 tests/library_agrees.py` puts the files into the page.
+"""Compares the listings of docs/library.md with the files that they are from, whose tests run them, its table of
+calls with the crates, and the picture and the table of the crates with crates.txt. `python3 tests/library_agrees.py`
+puts the files into the page.
 """
 
 import re
@@ -48,6 +49,18 @@ def test_crate_lines(outcome: Outcome) -> None:
         outcome.check(f"the line of {crate}", needed, ours.get(crate))
         for name in needed.split():
             outcome.holds(f"{name}, which {crate} needs, is shown", not name.startswith("vault_") or name in shown)
+
+
+def test_picture(outcome: Outcome) -> None:
+    """The picture and the table of the libraries have those of crates.txt, in front of the tests."""
+    libraries, _, _ = (ROOT / "crates.txt").read_text().partition("\n# tests")
+    crates = sorted(name for name, _ in CRATE_LINE.findall(libraries))
+    picture = re.findall(r'class="name"[^>]*>(\w+)<', (ROOT / "docs" / "crates.svg").read_text())
+    outcome.check("docs/crates.svg has every crate", sorted(picture), crates)
+    page = (ROOT / "docs" / "architecture.md").read_text()
+    table = page.partition("\n| Crate | What it does |")[2].partition("\n\n")[0]
+    listed = re.findall(r"^\| `(\w+)` \|", table, re.MULTILINE)
+    outcome.check("docs/architecture.md lists every crate", sorted(listed), crates)
 
 
 if __name__ == "__main__":
