@@ -12,7 +12,7 @@ use crate::option_table as table;
 use clap::Command;
 use std::alloc::{AllocError, Global};
 
-const VERSION: &str = "0.2.0";
+const VERSION: &str = "0.3.0";
 
 /// The command line's description, to be parsed by `clap`.
 #[tactic(auto, unfolding(crate::specs::CommandLine::vault_app))]
