@@ -1,14 +1,12 @@
 -- What readers of the password and its output keep.
-use Rattle.std.specs.Prelude.{◌≡◌, ℕ, ◌≤◌, ◌⊎◌, List, [], ◌++◌, length, take, Ok, Err, refl}
+use Rattle.std.specs.Prelude.{◌≡◌, ℕ, ◌≤◌, ◌⊎◌, List, [], ◌++◌, length, take, Ok, refl}
 use Rattle.std.specs.Prelude.{IsTrue, false}
-use Rattle.std.proofs.Common.{inl, inr, arith, sym, ap, ◌∙◌, append_assoc}
+use Rattle.std.proofs.Common.{inl, inr, arith, sym, ap, ◌∙◌}
 use Rattle.std.proofs.lemmas.List.{append-nil, take_all, take-append-le}
 use Rattle.std.proofs.lemmas.Bool.{false≢true}
 use Rattle.vault_files.specs.File.{Answers}
 use Rattle.vault_files.specs.File.Finding.{Whole}
-use Rattle.vault_files.specs.declared.fault.FileFault.TheVariants.{CannotRead}
 use Rattle.vault_text.specs.Failures.{HasRisen}
-use Rattle.vault_text.specs.Sink.{state_of}
 use Rattle.vault_text.specs.SinkLaws.{MemoryTakes-none, MemoryTakes-more}
 use Rattle.vault_text.specs.Source.{MemSourceState, MemoryGives}
 use Rattle.vault_library_tests.specs.OnePassword.{OnePassword, Takes, new_reader}
