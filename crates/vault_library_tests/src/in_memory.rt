@@ -5,8 +5,8 @@ use std::alloc::{AllocError, Global};
 use vault_cli::{MemFile, MemFiles, MemSink, MemSource, Status, drive_in_memory};
 use vault_text::Stage;
 
-/// Runs `ansible-vault rekey` over files in memory, and returns the vault under the new password. If
-/// there is none, the line on `err` says why.
+/// Runs `ansible-vault rekey` over files in memory, and returns the vault under the new password.
+/// If there is none, the line on `err` says why.
 pub fn rekey(
     alloc: Global,
     vault: &[u8],
