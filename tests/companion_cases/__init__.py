@@ -19,8 +19,8 @@ from lib.paths import ROOT
 from model.vaults import applied, seal, tag_of, yaml_block
 
 COMPANIONS = ROOT / "companions"
-EDIT, ROTATE, CHECK, TEXTCONV, HOOK, WITH = (
-    f"ansible-vault-{name}" for name in ("edit", "rotate", "check", "textconv", "hook", "with")
+EDIT, ROTATE, CHECK, TEXTCONV, HOOK, WITH, MERGE = (
+    f"ansible-vault-{name}" for name in ("edit", "rotate", "check", "textconv", "hook", "with", "merge")
 )
 NOBODY = 65_534
 TEXT = b"db_password: correct horse\n"
@@ -124,11 +124,12 @@ class Place:
         path.chmod(0o755)
         return str(path)
 
-    def stand_before_tool(self, text: str) -> None:
-        """Lets shell run before each run of the program; what it does not end itself is then the program."""
-        path = self.tools / "ansible-vault"
-        path.unlink()
-        path.write_text(f'#!/bin/sh\n{text}\nexec {self.program} "$@"\n')
+    def stand_before_tool(self, text: str, name: str = "ansible-vault") -> None:
+        """Lets shell run before each run of the program, or of git; what it does not end itself is then that."""
+        path = self.tools / name
+        path.unlink(missing_ok=True)
+        program = self.program if name == "ansible-vault" else shutil.which(name)
+        path.write_text(f'#!/bin/sh\n{text}\nexec {program} "$@"\n')
         path.chmod(0o755)
 
     def run(self, *words: str, **variables: str) -> subprocess.CompletedProcess:

@@ -1,13 +1,12 @@
 """ansible-vault-merge below git: two branches of a vault, and of YAML with values that are vaults."""
 
-from companion_cases import CHECK, EDIT, HOOK, Companions, Place, block, opened, sealed
+from companion_cases import CHECK, EDIT, HOOK, MERGE, Companions, Place, block, opened, sealed
 from companion_cases.beside_ansible import theirs
 from companion_cases.blocks import texts
 from companion_cases.editing import edit
 from companion_cases.repository import add_and_commit, under_git
 from lib.ansible import ansible_vault
 
-MERGE = "ansible-vault-merge"
 BASE = b"one: 1\n2: 2\n3: 3\nfour: 4\n"
 OURS, THEIRS = BASE.replace(b"one: 1", b"one: I"), BASE.replace(b"four: 4", b"four: IV")
 TAKE_THEIRS = "sed -i '/^<<<</,/^====/d; /^>>>>/d' \"$1\""
@@ -24,6 +23,14 @@ def branches(place: Place, base: dict[str, bytes], ours: dict[str, bytes], other
             place.put(name, content)
         add_and_commit(place)
     return place.shell("git merge --no-edit theirs")
+
+
+def versions(place: Place, name: str, base: bytes, ours: bytes, other: bytes) -> list[str]:
+    """The arguments of a merge of three versions, of which ours alone stands in the tree."""
+    place.put(f"../versions/base-{name}", base)
+    place.put(f"../versions/theirs-{name}", other)
+    place.put(name, ours)
+    return [f"../versions/base-{name}", name, f"../versions/theirs-{name}", name]
 
 
 def without_conflict(cases: Companions) -> None:

@@ -1,11 +1,14 @@
 """Where secrets are not to be seen: in the words and the environment of programs, and on disks."""
 
 import os
+import re
 import resource
 import shutil
 import sys
 
-from companion_cases import CHECK, EDIT, PASSWORDS, ROTATE, TEXT, TEXTCONV, Companions, block, sealed
+from companion_cases import CHECK, EDIT, MERGE, PASSWORDS, ROTATE, TEXT, TEXTCONV, WITH
+from companion_cases import Companions, Place, block, opened, sealed
+from companion_cases.merging import versions
 from companion_cases.rotating import to_new
 
 # Notes what a run of the program can be seen to be.
@@ -22,7 +25,9 @@ def words_and_environment(cases: Companions) -> None:
         old = place.by_file("old")
         if resource.getrlimit(resource.RLIMIT_CORE)[1] == 0:
             cases.left_out("cores", "there are none here")
-        runs = [[EDIT, *old, "a.yml"], [CHECK, *old, "."], [TEXTCONV, *old, "b.yml"], [ROTATE, *to_new(place), "."]]
+        runs = [[EDIT, *old, "a.yml"], [CHECK, *old, "."], [TEXTCONV, *old, "b.yml"], [MERGE, *old, *["a.yml"] * 4]]
+        runs += [[ROTATE, *to_new(place), "."], [WITH, "view", *place.by_file("new"), "a.yml"]]
+        runs += [[WITH, "rekey", *place.by_file("new"), *place.by_file("new", "new-"), "a.yml"]]
         for words in runs:
             done = place.run("sh", "-c", 'ulimit -S -c "$(ulimit -H -c)"; exec "$@"', "sh", *words)
             cases.ended(words[0], done, 0)
@@ -58,6 +63,81 @@ def written_files(cases: Companions) -> None:
             cases.check(f"{words[0]} writes nowhere else", strange, [])
 
 
+# Texts of three versions, which merge without a conflict and with one.
+MERGED = (b"one: horse\nx: 1\ny: 2\ntwo: horse\n", b"one: staple\nx: 1\ny: 2\ntwo: horse\n")
+MERGED += (b"one: horse\nx: 1\ny: 2\ntwo: battery\n",)
+CONFLICT = (b"one: horse\n", b"one: staple\n", b"one: battery\n")
+HIDDEN = ["horse", "staple", "battery"]
+# Calls by which a program is started, or something is written or created.
+STARTED = "execve"
+WRITING = "write,pwrite64,writev,sendfile,copy_file_range,splice"
+CREATING = "openat,open,creat,mkdir,mkdirat,memfd_create"
+# Where plaintext may be written in every run.
+IN_MEMORY = {"pipe:[]", "/memfd:version"}
+
+
+def runs_over_plaintext(place: Place) -> dict[str, tuple[list[str], int]]:
+    """Merges, and files in place; with the status of each."""
+    vaults = lambda name, texts: versions(place, name, *(sealed("old", text) for text in texts))
+    values = lambda name, texts: versions(place, name, *(block("old", text) + b"z: 1\n" for text in texts))
+    old, new = place.by_file("old"), place.by_file("new", "new-")
+    for name in ("decrypted", "rekeyed"):
+        place.put(f"{name}.yml", sealed("old", MERGED[0]), 0o644)
+    place.put("encrypted.yml", MERGED[0], 0o644)
+    return {
+        "a merge": ([MERGE, *old, *vaults("merged.yml", MERGED)], 0),
+        "a merge with a conflict": ([MERGE, *old, *vaults("conflict.yml", CONFLICT)], 1),
+        "a merge of values": ([MERGE, *old, *values("values.yml", (*CONFLICT[:1] * 2, CONFLICT[2]))], 0),
+        "a merge of values with a conflict": ([MERGE, *old, *values("values2.yml", CONFLICT)], 1),
+        "encrypt": ([WITH, "encrypt", *old, "encrypted.yml"], 0),
+        "rekey": ([WITH, "rekey", *old, *new, "rekeyed.yml"], 0),
+        "decrypt": ([WITH, "decrypt", *old, "decrypted.yml"], 0),
+    }
+
+
+def writes_of(lines: list[str], hidden: list[str]) -> set[str]:
+    """Where a text was written that is to be hidden, without what is random."""
+    pattern = re.compile(rf"(?:{WRITING.replace(',', '|')})\(\d+<(.*?)>(?:\(deleted\))?, (.*)")
+    written = [found.groups() for found in map(pattern.search, lines) if found]
+    paths = {path for path, data in written if any(word in data for word in hidden)}
+    return {re.sub(r"(?<=pipe:\[)\d+|(?<=/\.ansible-vault-).*", "", path) for path in paths}
+
+
+def merges_and_files_in_place(cases: Companions) -> None:
+    """No process is given plaintext or a password. Plaintext is written to memory alone, and by `decrypt` to a new
+    file for its owner alone."""
+    if not cases.needs("what is written in merges", "strace", "git"):
+        return
+    with cases.place() as place:
+        beside, trace = f"{place.tree}/.ansible-vault-", place.path / "trace"
+        calls, seen = f"trace={STARTED},{WRITING},{CREATING}", set()
+        for what, (words, status) in runs_over_plaintext(place).items():
+            tracer = ["strace", "-f", "-v", "-y", "-s", "65536", "-o", str(trace), "-e", calls]
+            done = place.run(*tracer, str(place.tools / words[0]), *words[1:])
+            cases.check(f"{what}: the status ({done.stderr})", done.returncode, status)
+            lines = trace.read_text(errors="replace").splitlines()
+            passwords = [each.decode() for each in PASSWORDS.values()]
+            started = [line for line in lines if f" {STARTED}(" in line]
+            cases.holds(f"{what}: its processes are seen", len(started) > 2, started)
+            given = [line for line in started if any(word in line for word in [*HIDDEN, *passwords])]
+            cases.check(f"{what}: no process is given a secret", given, [])
+            cases.check(f"{what}: where passwords are written", writes_of(lines, passwords), {"/memfd:password"})
+            allowed = IN_MEMORY | ({beside} if what == "decrypt" else set())
+            found = writes_of(lines, HIDDEN)
+            cases.check(f"{what}: plaintext is written nowhere else", found - allowed, set())
+            seen |= found
+            created = [line for line in lines if re.search("O_CREAT|O_TMPFILE|mkdir", line)]
+            strange = [line for line in created if f'"{beside}' not in line and '"/dev/null"' not in line]
+            cases.check(f"{what}: nothing else is created", strange, [])
+            modes = [line for line in created if f'"{beside}' in line and "O_EXCL" in line and ", 0600)" in line]
+            cases.check(f"{what}: one file, for its owner alone", len(modes), 1)
+        cases.check("plaintext was seen in each of these places", seen, IN_MEMORY | {beside})
+        texts = {name: opened("old", place.get(name)) for name in ("merged.yml", "encrypted.yml")}
+        wanted = {"merged.yml": b"one: staple\nx: 1\ny: 2\ntwo: battery\n", "encrypted.yml": MERGED[0]}
+        cases.check("the runs did their work", texts, wanted)
+        cases.check("nothing is left", [name for name in place.names() if name.startswith(".")], [])
+
+
 def other_tools(cases: Companions) -> None:
     """A program of this name that is not the one meant gets no password."""
     with cases.place() as place:
@@ -87,4 +167,4 @@ def other_tools(cases: Companions) -> None:
         cases.ended("the one beside, through a link", done, 0, "opened by")
 
 
-GROUPS = [words_and_environment, written_files, other_tools]
+GROUPS = [words_and_environment, written_files, merges_and_files_in_place, other_tools]
