@@ -7,7 +7,9 @@ import subprocess
 import time
 from pathlib import Path
 
-from companion_cases import CHECK, EDIT, ROTATE, SECONDS, TEXT, TEXTCONV, Companions, Place, block, opened, sealed
+from companion_cases import CHECK, EDIT, MERGE, ROTATE, SECONDS, TEXT, TEXTCONV, WITH
+from companion_cases import Companions, Place, block, opened, sealed
+from companion_cases.merging import versions
 from companion_cases.rotating import summary, to_new
 
 CHANGE = 'sed -i s/correct/wrong/ "$1"'
@@ -40,42 +42,62 @@ runpy.run_path(sys.argv[0], run_name="__main__")
 
 
 def tree(place: Place) -> None:
-    place.put("a.yml", sealed("old"), 0o640)
-    place.put("b.yml", b"x: 1\n" + block("old") + block("old", name="c"), 0o600)
+    """A vault and a file of blocks; and versions to merge, by which ours are put under the new secret."""
+    vault, blocks = sealed("old"), b"x: 1\n" + block("old") + block("old", name="c")
+    versions(place, "a.yml", sealed("old", CHANGED), vault, sealed("new", CHANGED))
+    rekeyed = b"x: 1\n" + block("new", CHANGED) + block("new", CHANGED, name="c")
+    versions(place, "b.yml", b"x: 1\n" + block("old", CHANGED) + block("old", CHANGED, name="c"), blocks, rekeyed)
+    place.put("a.yml", vault, 0o640)
+    place.put("b.yml", blocks, 0o600)
     place.environment["EDITOR"] = place.script(CHANGE, "editor")
 
 
-def calls_of(place: Place) -> dict[str, list[str]]:
+def merge_of(place: Place, name: str) -> list[str]:
+    secrets = [*place.by_file("old"), *place.by_file("new")]
+    return [MERGE, *secrets, f"../versions/base-{name}", name, f"../versions/theirs-{name}", name]
+
+
+def runs_of(place: Place) -> dict[str, list[str]]:
+    old = place.by_file("old")
     return {
-        EDIT: [*place.by_file("old"), "a.yml"],
-        ROTATE: [*to_new(place), "--jobs", "1", "."],
-        CHECK: [*place.by_file("old"), "."],
-        TEXTCONV: [*place.by_file("old"), "b.yml"],
+        EDIT: [EDIT, *old, "a.yml"],
+        ROTATE: [ROTATE, *to_new(place), "--jobs", "1", "."],
+        CHECK: [CHECK, *old, "."],
+        TEXTCONV: [TEXTCONV, *old, "b.yml"],
+        "merge": merge_of(place, "a.yml"),
+        "merge of blocks": merge_of(place, "b.yml"),
+        "rekey": [WITH, "rekey", *to_new(place), "a.yml"],
+        "decrypt": [WITH, "decrypt", *old, "a.yml"],
     }
 
 
 def check_whole(cases: Companions, what: str, place: Place) -> None:
-    """Each vault is the old one or the new one, and no other file is there."""
+    """Each vault is the old one or the new one, or its plaintext for the owner alone; and no other file is there."""
     vault = place.get("a.yml")
-    cases.holds(f"{what}: the vault is whole", {opened("old", vault), opened("new", vault)} & {TEXT, CHANGED} != set())
+    is_vault = vault.startswith(b"$ANSIBLE_VAULT")
+    texts = {opened("old", vault), opened("new", vault)} if is_vault else {vault}
+    cases.holds(f"{what}: the vault is whole", texts & {TEXT, CHANGED} != set(), vault)
     blocks = place.get("b.yml").split(b": !vault |\n")[1:]
     envelopes = [b"".join(line.strip() + b"\n" for line in each.splitlines()[:6]) for each in blocks]
     whole = [TEXT in (opened("old", each), opened("new", each)) for each in envelopes]
     cases.check(f"{what}: the blocks are whole", whole, [True, True])
     cases.check(f"{what}: nothing is left", (place.names(), place.left()), (["a.yml", "b.yml"], []))
-    cases.check(f"{what}: modes stay", [place.mode(name) for name in ("a.yml", "b.yml")], ["0o640", "0o600"])
+    modes = [place.mode(name) for name in ("a.yml", "b.yml")]
+    cases.check(f"{what}: modes stay", modes, ["0o640" if is_vault else "0o600", "0o600"])
 
 
 def at_each_run(cases: Companions) -> None:
-    """Before each run of the program, which dies by the signal, or goes on in spite of it."""
+    """Before each run of the program, or of git, which dies by the signal, or goes on in spite of it."""
     with cases.place() as place:
-        for companion, words in calls_of(place).items():
+        for companion, words in runs_of(place).items():
             for number in range(1, 20):
                 tree(place)
                 trap, name = ("", "TERM") if number % 2 else ("trap '' INT; ", "INT")
-                place.stand_before_tool(AT_RUN.format(number=number, trap=trap, signal=name))
+                for program in ("ansible-vault", "git"):
+                    text = AT_RUN.format(number=number, trap=trap, signal=name)
+                    place.stand_before_tool(text if program == "ansible-vault" or words[0] == MERGE else "", program)
                 shutil.rmtree(place.path / "counted", ignore_errors=True)
-                done = place.run(companion, *words)
+                done = place.run(*words)
                 if done.returncode == 0:
                     break
                 what = f"{companion}, run {number}"
@@ -83,21 +105,23 @@ def at_each_run(cases: Companions) -> None:
                 cases.check(f"{what}: no word of Python", "Traceback" in done.stderr, False)
                 check_whole(cases, what, place)
             cases.holds(f"{companion}: there were such runs", 3 < number < 19, str(number))
+            check_whole(cases, f"{companion}, without a signal", place)
 
 
 def at_each_call(cases: Companions) -> None:
     """Before and behind each call by which files come and go."""
     with cases.place() as place:
         script = place.script(AT_CALL, "signalling", "/usr/bin/env -S python3 -ISB")
-        words = calls_of(place)
-        runs = [(EDIT, call) for call in CALLS] + [(ROTATE, call) for call in CALLS[:5]]
+        words = runs_of(place)
+        runs = [(EDIT, call) for call in CALLS]
+        runs += [(name, call) for name in (ROTATE, "merge", "rekey", "decrypt") for call in CALLS[:5]]
         for number, (companion, call) in enumerate(runs):
             when, name = [("before", "SIGHUP"), ("behind", "SIGTERM")][number % 2]
             tree(place)
-            path = str(place.tools / companion)
-            done = place.run(script, call, when, str(signal.Signals[name].value), path, *words[companion])
+            path = str(place.tools / words[companion][0])
+            done = place.run(script, call, when, str(signal.Signals[name].value), path, *words[companion][1:])
             what = f"{companion}, {when} {call}"
-            reached = not (companion == ROTATE and call == "os.unlink")
+            reached = companion == EDIT or call != "os.unlink"
             cases.check(f"{what}: the status", done.returncode, -signal.Signals[name] if reached else 0)
             check_whole(cases, what, place)
 
