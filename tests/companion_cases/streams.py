@@ -4,8 +4,9 @@ import os
 import signal
 import subprocess
 
-from companion_cases import CHECK, EDIT, HOOK, ROTATE, TEXT, TEXTCONV, Companions, Place, opened, sealed
+from companion_cases import CHECK, EDIT, HOOK, MERGE, ROTATE, TEXT, TEXTCONV, WITH, Companions, Place, opened, sealed
 from companion_cases.editing import CHANGE, CHANGED
+from companion_cases.merging import versions
 from companion_cases.repository import under_git
 from companion_cases.rotating import summary, to_new
 
@@ -30,12 +31,16 @@ def no_words_of_python(cases: Companions, what: str, done) -> None:
 def outputs_that_fail(cases: Companions) -> None:
     with cases.place() as place:
         lines = tree(place)
-        helps = {f"{name} --help": f"{name} --help" for name in (EDIT, HOOK, ROTATE, CHECK, TEXTCONV)}
+        names = (EDIT, HOOK, ROTATE, CHECK, TEXTCONV, WITH, MERGE)
+        helps = {f"{name} --help": f"{name} --help" for name in names}
         for name, line in {**lines, **helps}.items():
             for redirection, why in ((">&-", "Bad file descriptor"), ("> /dev/full", "No space left on device")):
                 done = place.shell(f"{line} {redirection}")
                 cases.ended(f"{name} {redirection}", done, 1, UNWRITTEN.format(why))
                 no_words_of_python(cases, f"{name} {redirection}", done)
+        old = " ".join(place.by_file("old"))
+        lines[WITH] = f"{WITH} decrypt {old} a.yml"
+        lines[MERGE] = f"{MERGE} {old} a.yml a.yml a.yml a.yml"
         for name, line in lines.items():
             wrong = line.replace(place.secret("old"), place.secret("dev"))
             for redirection in ("2>&-", "2> /dev/full", ">&- 2>&-"):
@@ -66,6 +71,13 @@ def closed_inputs(cases: Companions) -> None:
             done = place.shell(f"{EDIT} {typed} a.yml {streams}", "bash")
             cases.silent(f"{EDIT} {streams}", done)
             cases.check(f"{streams}: the text is changed", opened("old", place.get("a.yml")), CHANGED)
+            place.put("a.yml", sealed("old"))
+            done = place.shell(f"{WITH} decrypt {typed} a.yml {streams}", "bash")
+            cases.silent(f"{WITH} {streams}", done)
+            cases.check(f"{streams}: it is decrypted", place.get("a.yml"), TEXT)
+            words = " ".join(versions(place, "b.yml", sealed("old"), sealed("old"), sealed("old", CHANGED)))
+            cases.silent(f"{MERGE} {streams}", place.shell(f"{MERGE} {typed} {words} {streams}", "bash"))
+            cases.check(f"{streams}: it is merged", opened("old", place.get("b.yml")), CHANGED)
         place.put("a.yml", sealed("old"))
         done = place.shell(f"{CHECK} {typed} a.yml <&-", "bash")
         cases.ended("a closed input", done, 0, "1 opened, 0 not")
@@ -87,6 +99,13 @@ def ignored_children(cases: Companions) -> None:
         cases.ended("an edit", done, 1, "no secret decrypts this vault")
         cases.check("the vault stays", place.get("a.yml"), sealed("old"))
         cases.ended("a text", ignoring(TEXTCONV, *wrong, "a.yml"), 0, "shown as it is")
+        done = ignoring(WITH, "decrypt", *wrong, "a.yml")
+        cases.ended("in place", done, 1, "no secret decrypts this vault")
+        words = versions(place, "b.yml", sealed("old", b"a\n"), sealed("old", b"b\n"), sealed("old", b"c\n"))
+        cases.ended("a merge", ignoring(MERGE, *wrong, *words), 1, "no secret decrypts this vault")
+        cases.check("both stay", (place.get("a.yml"), place.get("b.yml")), (sealed("old"), sealed("old", b"b\n")))
+        cases.ended("a conflict", ignoring(MERGE, *place.by_file("old"), *words), 1, "b.yml: 1 conflict")
+        (place.tree / "b.yml").unlink()
         under_git(place, "*.yml diff=ansible-vault\n")
         place.put("a.yml", TEXT)
         place.shell("git add -A")
@@ -100,6 +119,11 @@ def ignored_interrupts(cases: Companions) -> None:
         place.stand_before_tool("kill -INT $PPID; sleep 0.05")
         done = place.shell(f"trap '' INT; {ROTATE} {' '.join(to_new(place))} .")
         cases.ended("SIGINT", done, 0, summary(1))
+        new = " ".join(place.by_file("new"))
+        cases.silent("in place", place.shell(f"trap '' INT; {WITH} decrypt {new} a.yml"))
+        words = versions(place, "b.yml", sealed("new"), sealed("new"), sealed("new", CHANGED))
+        cases.silent("a merge", place.shell(f"trap '' INT; {MERGE} {new} {' '.join(words)}"))
+        cases.check("both are done", (place.get("a.yml"), opened("new", place.get("b.yml"))), (TEXT, CHANGED))
 
 
 def all_ending_signals(cases: Companions) -> None:
@@ -123,11 +147,19 @@ def all_ending_signals(cases: Companions) -> None:
             cases.check(f"signal {int(number)}: nothing is left", (place.names(), place.left()), (["a.yml"], []))
 
 
+def merges_with(path: str) -> list[list[str]]:
+    """The arguments of merges in which one version has this path."""
+    return [[path if place == number else "a.yml" for place in range(3)] + ["a.yml"] for number in range(3)]
+
+
 def waiting_pipes(cases: Companions) -> None:
     """A pipe is no vault; opening it would wait for ever, deaf to signals."""
     with cases.place() as place:
         os.mkfifo(place.tree / "pipe")
-        for words in ([EDIT, *place.by_file("old"), "pipe"], [TEXTCONV, *place.by_file("old"), "pipe"]):
+        old = place.by_file("old")
+        place.put("a.yml", sealed("old"))
+        runs = [[EDIT, *old, "pipe"], [TEXTCONV, *old, "pipe"], [WITH, "decrypt", *old, "pipe"]]
+        for words in [*runs, *([MERGE, *old, *merge] for merge in merges_with("pipe"))]:
             try:
                 streams = {"capture_output": True, "text": True, "timeout": 20}
                 done = subprocess.run(words, cwd=place.tree, env=place.environment, **streams)

@@ -4,9 +4,10 @@ import os
 import re
 import subprocess
 
-from companion_cases import CHECK, EDIT, NOBODY, ROTATE, Companions, Place, block, opened, sealed
+from companion_cases import CHECK, EDIT, MERGE, NOBODY, ROTATE, TEXT, WITH, Companions, Place, block, opened, sealed
 from companion_cases.editing import CHANGE, edit
 from companion_cases.keeping import run_changed
+from companion_cases.merging import versions
 from companion_cases.rotating import summary, to_new
 
 
@@ -42,6 +43,22 @@ def syncs(cases: Companions) -> None:
         place.environment["EDITOR"] = place.script('echo a > "$1"', "editor")
         found = traced(cases, place, EDIT, [*place.by_file("old"), "new.yml"])
         cases.check("a new vault", found, ["synced", *wanted])
+        cases.check("a merge", traced(cases, place, MERGE, merge_of_two(place, "b.yml")), wanted)
+        for command, words in {"decrypt": place.by_file("old"), "rekey": to_new(place)}.items():
+            place.put("a.yml", sealed("old"))
+            cases.check(command, traced(cases, place, WITH, [command, *words, "a.yml"]), wanted)
+        cases.check("encrypt", traced(cases, place, WITH, ["encrypt", *place.by_file("old"), plain(place)]), wanted)
+
+
+def plain(place: Place) -> str:
+    place.put("plain.yml", TEXT)
+    return "plain.yml"
+
+
+def merge_of_two(place: Place, name: str) -> list[str]:
+    """The arguments of a merge that takes the vault of theirs."""
+    before, after = sealed("old"), sealed("old", TEXT * 2)
+    return [*place.by_file("old"), *versions(place, name, before, before, after)]
 
 
 def unreadable_folders(cases: Companions) -> None:
@@ -54,6 +71,12 @@ def unreadable_folders(cases: Companions) -> None:
         (place.tree / "folder").chmod(0o300)
         done = place.as_nobody(ROTATE, *to_new(place), "folder/a.yml")
         cases.ended("a folder that cannot be read", done, 0, summary(1))
+        words = ["rekey", *place.by_file("new"), *place.by_file("old", "new-")]
+        cases.silent("in place", place.as_nobody(WITH, *words, "folder/a.yml"))
+        place.put("../versions/theirs", sealed("old", TEXT * 2))
+        place.put("../versions/base", sealed("old"))
+        words = [*place.by_file("old"), "../versions/base", "folder/a.yml", "../versions/theirs", "folder/a.yml"]
+        cases.silent("a merge", place.as_nobody(MERGE, *words))
         (place.tree / "folder").chmod(0o755)
 
 
@@ -76,6 +99,23 @@ def lists_of_access(cases: Companions) -> None:
         cases.check("lists stay", {name: acl(name) for name in before}, before)
         cases.silent("an edit", edit(place, CHANGE, *place.by_file("new"), "none.yml"))
         cases.check("the list stays", acl("none.yml"), before["none.yml"])
+
+
+def full_disks(cases: Companions) -> None:
+    """Where the new file cannot be written whole, all stays, and nothing is left beside it."""
+    with cases.place() as place:
+        long = TEXT * 4000
+        place.put("a.yml", sealed("old", long))
+        merge = versions(place, "b.yml", sealed("old", long), sealed("old", long), sealed("old", long + TEXT))
+        before = place.files()
+        runs = {
+            "a.yml": [WITH, "decrypt", *place.by_file("old"), "a.yml"],
+            "b.yml": [MERGE, *place.by_file("old"), *merge],
+        }
+        for name, words in runs.items():
+            done = place.shell('ulimit -f 32; "$@"'.replace('"$@"', " ".join(words)), "bash")
+            cases.ended(f"{words[0]}", done, 1, f"{name}: ", "File too large")
+            cases.check(f"{words[0]}: all stays", (place.files(), place.names()), (before, sorted(before)))
 
 
 def dry_runs(cases: Companions) -> None:
@@ -147,6 +187,10 @@ def long_passwords(cases: Companions) -> None:
         for words in (["--vault-password-file", "../long"], ["--vault-id", "dev@../long"]):
             done = place.run(CHECK, *words, "new.yml")
             cases.ended("4097 bytes", done, 1, "../long: a password file is longer than 4096 bytes")
+            done = place.run(WITH, "decrypt", *words, "new.yml")
+            cases.ended("4097 bytes in place", done, 1, "../long: a password file is longer than 4096 bytes")
+            done = place.run(MERGE, *words, "new.yml", "new.yml", "new.yml", "new.yml")
+            cases.ended("4097 bytes in a merge", done, 1, "../long: a password file is longer than 4096 bytes")
 
 
 def prose(cases: Companions) -> None:
@@ -158,4 +202,5 @@ def prose(cases: Companions) -> None:
         cases.ended("prose", place.run(ROTATE, *to_new(place), "."), 0, summary(1))
 
 
-GROUPS = [syncs, unreadable_folders, lists_of_access, dry_runs, no_hard_links, named_paths, long_passwords, prose]
+GROUPS = [syncs, unreadable_folders, lists_of_access, full_disks, dry_runs, no_hard_links, named_paths]
+GROUPS += [long_passwords, prose]
