@@ -172,18 +172,22 @@ class Values:
     def merged(self, tool: Tool) -> Merged:
         text, conflicts = merged_lines(self.ours.text, self.base.text, self.theirs.text)
         mark = re.escape(self.mark)
-        line = re.compile(rb"(?P<token>%s-\d+)(?P<rest>[^\n]*)(?P<end>\n|\Z)|%s [^\n]*(?:\n|\Z)" % (mark, mark))
+        below = rb"%s [^\n]*?(?P<%s>\r?\n|\Z)"
+        line = re.compile(
+            rb"(?P<token>%s-\d+)(?P<rest>[^\n]*?)(?P<end>\r?\n|\Z)(?:%s)?|%s"
+            % (mark, below % (mark, b"last"), below % (mark, b"alone"))
+        )
         return Merged(line.sub(lambda found: self._restored(tool, found), text), conflicts)
 
     def _restored(self, tool: Tool, found: re.Match[bytes]) -> bytes:
-        """The block of a token; of a line that kept two apart, nothing."""
+        """The block of a token, which ends as the line below it; of such a line alone, nothing."""
         token = found["token"]
         if token is None:
             return b""
         block, envelope = self._chosen(tool, token)
         body = block.body if envelope is None else _resealed(block, envelope)
-        rest = found["rest"].removesuffix(b"\r")
-        return block.marks + rest + body + found["rest"][len(rest) :] + found["end"]
+        end = found["end"] if found["last"] is None else found["last"]
+        return block.marks + found["rest"] + body + end
 
     def _chosen(self, tool: Tool, token: bytes) -> tuple[Block, bytes | None]:
         """The block for a token, and another envelope where its secret is that of an older version."""

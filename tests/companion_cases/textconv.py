@@ -2,7 +2,7 @@
 
 import re
 
-from companion_cases import AWKWARD, TEXT, TEXTCONV, Companions, Place, block, sealed
+from companion_cases import AWKWARD, MERGE, TEXT, TEXTCONV, Companions, Place, block, sealed
 from companion_cases.repository import add_and_commit, under_git
 
 ATTRIBUTES = "*.yml diff=ansible-vault\n* diff=ansible-vault\n"
@@ -112,4 +112,49 @@ def untouched_differences(cases: Companions) -> None:
         cases.ended("an unknown vault", done, 0, "+password: second", "shown as it is: no secret decrypts this vault")
 
 
-GROUPS = [alone, as_it_is, differences, awkward_names, untouched_differences]
+# How a git that is set up for all clones names the secret, other settings, and whether a script of the clone is run.
+SETTINGS_OF_ALL_CLONES = [
+    ("", {}, True),
+    ("--vault-password-file {home}/secrets/old", {}, False),
+    ("--vault-id x@~/secrets/old", {}, False),
+    ("--vault-id x@old", {}, True),
+    ("", {"ANSIBLE_CONFIG": "{home}/own.cfg"}, False),
+    ("", {"ANSIBLE_CONFIG": "{home}/missing.cfg"}, True),
+    ("", {"ANSIBLE_VAULT_PASSWORD_FILE": "{home}/secrets/old"}, True),
+]
+
+
+def clones_of_others(cases: Companions) -> None:
+    """A clone whose `ansible.cfg` names a script, and which has an executable file named as a password file: as the
+    manual page says, neither `git diff` nor `git merge` runs them, where options or ANSIBLE_CONFIG name the secret by
+    an absolute path."""
+    if not cases.needs("clones of others", "git"):
+        return
+    for words, variables, is_run in SETTINGS_OF_ALL_CLONES:
+        with cases.place() as place:
+            under_git(place, "*.yml diff=ansible-vault merge=ansible-vault\n")
+            place.environment["GIT_CONFIG_GLOBAL"] = str(place.path / "config")
+            words = words.format(home=place.path)
+            for name, setting in (("diff.ansible-vault.textconv", ""), ("merge.ansible-vault.driver", "%O %A %B %P")):
+                tool = TEXTCONV if name.startswith("diff") else MERGE
+                place.run("git", "config", "--global", name, f"{tool} {words} {setting}")
+            script = b"#!/bin/sh\ntouch ../run\ncat ../secrets/old\n"
+            place.put("ansible.cfg", b"[defaults]\nvault_identity_list = x@old\n")
+            place.put("old", script, 0o755)
+            place.put("../own.cfg", b"[defaults]\nvault_identity_list = x@~/secrets/old\n")
+            changes = (("true", b"first\n"), ("git checkout -qb theirs", b"second\n"), ("git checkout -q -", b"third\n"))
+            for command, text in changes:
+                place.shell(command)
+                place.put("a.yml", sealed("old", text))
+                add_and_commit(place)
+            variables = {name: value.format(home=place.path) for name, value in variables.items()}
+            run = place.path / "run"
+            for command, status in (("git show --format=", 0), ("git merge --no-edit theirs", 1)):
+                done = place.shell(command, **variables)
+                what = f"{command} by `{words}` and {variables}"
+                cases.check(f"{what}: the status", (done.returncode, done.stderr.count("no secret")), (status, 0))
+                cases.check(f"{what}: a script of the clone is run", run.exists(), is_run)
+                run.unlink(missing_ok=True)
+
+
+GROUPS = [alone, as_it_is, differences, awkward_names, untouched_differences, clones_of_others]

@@ -1,0 +1,142 @@
+"""What ansible-vault-merge makes of three versions is what `git merge-file` makes of their plaintexts, in each style of
+conflicts, and whatever the ends of the lines are.
+"""
+
+import re
+import subprocess
+from typing import Iterator
+
+from companion_cases import CHECK, MERGE, PASSWORDS, Companions, Place, opened
+from companion_cases.blocks import texts
+from companion_cases.merging import versions
+from companion_cases.repository import under_git
+from model.vaults import SALT, seal, yaml_block
+
+STYLES = ["diff3", "zdiff3"]
+FILLER = b"f: 1\ng: 2\nh: 3\ni: 4\n"
+OPEN = b"a: 1\n" + FILLER + b"b: 1"
+# Base, ours and theirs.
+TEXTS = {
+    "each side": (b"a: 1\n" + FILLER + b"b: 1\n", b"a: 2\n" + FILLER + b"b: 1\n", b"a: 1\n" + FILLER + b"b: 2\n"),
+    "a conflict": (b"a: 1\nc: 1\nb: 1\n", b"a: 1\nc: 2\nb: 1\n", b"a: 1\nc: 3\nb: 1\n"),
+    "two conflicts": (b"a: 1\n" + FILLER + b"b: 1\n", b"a: 2\n" + FILLER + b"b: 2\n", b"a: 3\n" + FILLER + b"b: 3\n"),
+    "one side removes": (b"a: 1\n" + FILLER + b"b: 1\n", FILLER + b"b: 1\n", b"a: 1\n" + FILLER + b"b: 2\n"),
+    "one removes what the other changes": (b"a: 1\n" + FILLER, FILLER, b"a: 2\n" + FILLER),
+    "both remove": (b"a: 1\n" + FILLER + b"b: 1\n", FILLER + b"b: 1\n", FILLER + b"b: 2\n"),
+    "both add the same": (FILLER, FILLER + b"a: 1\n", FILLER + b"a: 1\n"),
+    "both change the same": (b"a: 1\n" + FILLER, b"a: 2\n" + FILLER, b"a: 2\n" + FILLER),
+    "both add": (FILLER, FILLER + b"a: 1\n", FILLER + b"a: 2\n"),
+    "no end of the last line": (OPEN, OPEN.replace(b"a: 1", b"a: 2"), OPEN.replace(b"b: 1", b"b: 2")),
+    "one side ends the last line": (OPEN, OPEN + b"\n", OPEN.replace(b"a: 1", b"a: 2")),
+    "a conflict in the last line": (FILLER + b"b: 1", FILLER + b"b: 2", FILLER + b"b: 3"),
+    "a conflict of its end": (FILLER + b"b: 1", FILLER + b"b: 1\n", FILLER + b"b: 3"),
+    "no common base": (b"", b"a: 1\n" + FILLER, b"a: 2\n" + FILLER),
+    "one side is empty": (b"a: 1\n", b"", b"a: 2\n"),
+}
+# What the sides of a conflict have in common stands outside of it, or within it in the style diff3. Below a value
+# that is a vault there is always such a line.
+COMMON = {"what both have": (b"a: 1\n", b"x: 1\na: 2\ny: 1\n", b"x: 1\na: 3\ny: 1\n")}
+# A value that is a vault, as the texts above have it.
+VALUE = re.compile(rb"(?m)^([abc]): (\w+)")
+BLOCK = re.compile(rb"(?m)^(\w): !vault \|\r?\n((?: {10}\S+\r?(?:\n|\Z))+)")
+
+
+def by_git(place: Place, contents: list[bytes]) -> tuple[bytes, int]:
+    """What git makes of base, ours and theirs, with how many conflicts there are."""
+    for name, content in zip(("base", "ours", "theirs"), contents):
+        place.put(f"../plain/{name}", content)
+    names = ["-L", "ours", "-L", "base", "-L", "theirs"]
+    words = ["git", "merge-file", "-p", *names, *(f"../plain/{name}" for name in ("ours", "base", "theirs"))]
+    done = subprocess.run(words, cwd=place.tree, env=place.environment, capture_output=True)
+    return done.stdout, done.returncode
+
+
+def merges(place: Place, texts: dict[str, tuple]) -> Iterator[tuple[str, bytes, list[bytes], bytes, int]]:
+    """Each with its name, the end of its lines, its versions, and what git makes of them. A style is of conflicts
+    alone."""
+    under_git(place, "")
+    for style in ("", *STYLES):
+        if style:
+            place.run("git", "config", "merge.conflictStyle", style)
+        for name, contents in texts.items():
+            for end in (b"\n", b"\r\n"):
+                plain = [each.replace(b"\n", end) for each in contents]
+                wanted, conflicts = by_git(place, plain)
+                if conflicts or not style:
+                    yield f"{style} {name} {end!r}", end, plain, wanted, conflicts
+
+
+def check_merge(cases: Companions, place: Place, what: str, merge: list[str], conflicts: int) -> None:
+    done = place.run(MERGE, *place.by_file("old"), *merge)
+    told = f"{MERGE}: a.yml: {conflicts} conflict{'s' if conflicts > 1 else ''}, to be solved by ansible-vault-edit\n"
+    found = (done.returncode, done.stdout, done.stderr)
+    cases.check(f"{what}: the status", found, (1, "", told) if conflicts else (0, "", ""))
+    if conflicts:
+        checked = place.run(CHECK, *place.by_file("old"), "a.yml")
+        cases.holds(f"{what}: the check sees the marks", "merge marks" in checked.stderr, checked.stderr)
+
+
+def of_vaults(cases: Companions) -> None:
+    if not cases.needs("styles of conflicts", "git"):
+        return
+    with cases.place() as place:
+        for what, _, plain, wanted, conflicts in merges(place, TEXTS | COMMON):
+            merge = versions(place, "a.yml", *(seal(PASSWORDS["old"], each) for each in plain))
+            check_merge(cases, place, what, merge, conflicts)
+            cases.check(f"{what}: the plaintext", opened("old", place.get("a.yml")), wanted)
+
+
+def encrypted(content: bytes, end: bytes, salt: bytes) -> bytes:
+    """The same with blocks for values."""
+
+    def block(found: re.Match[bytes]) -> bytes:
+        envelope = seal(PASSWORDS["old"], found[2], b"", salt)
+        return yaml_block(envelope, found[1]).rstrip(b"\n")
+
+    return VALUE.sub(block, content.replace(end, b"\n")).replace(b"\n", end)
+
+
+def decrypted(content: bytes) -> bytes:
+    """The opposite; a block has the end of its last line, if that has one."""
+
+    def value(found: re.Match[bytes]) -> bytes:
+        envelope = b"".join(line.strip() + b"\n" for line in found[2].splitlines())
+        end = found[2][len(found[2].rstrip(b"\r\n")) :]
+        return found[1] + b": " + (opened("old", envelope) or b"") + end
+
+    return BLOCK.sub(value, content)
+
+
+def of_values(cases: Companions) -> None:
+    """Each has another envelope on each side."""
+    if not cases.needs("styles of conflicts", "git"):
+        return
+    salts = [SALT, SALT[::-1], SALT[1:] + b"s"]
+    with cases.place() as place:
+        for what, end, plain, wanted, conflicts in merges(place, TEXTS):
+            sides = [encrypted(each, end, salt) for each, salt in zip(plain, salts)]
+            check_merge(cases, place, what, versions(place, "a.yml", *sides), conflicts)
+            found = place.get("a.yml")
+            cases.check(f"{what}: the text", decrypted(found), wanted)
+            cases.check(f"{what}: no value is torn", found.count(b"ANSIBLE_VAULT"), len(BLOCK.findall(found)))
+
+
+def labels_of_values(cases: Companions) -> None:
+    """One side gives a value another label, and both do."""
+    block = lambda label: yaml_block(seal(PASSWORDS["old"], b"text", label), b"a") + b"z: 1\n"
+    with cases.place() as place:
+        under_git(place, "")
+        secrets = [*place.by_file("old"), *place.by_id("dev", "old"), *place.by_id("prod", "old")]
+        for base, ours, other in ((b"", b"", b"dev"), (b"", b"dev", b""), (b"", b"dev", b"dev")):
+            merge = versions(place, "a.yml", block(base), block(ours), block(other))
+            cases.silent(f"{ours} and {other}", place.run(MERGE, *secrets, *merge))
+            cases.check(f"{ours} and {other}: the label", place.get("a.yml"), block(b"dev"))
+        merge = versions(place, "a.yml", block(b""), block(b"dev"), block(b"prod"))
+        cases.ended("two labels", place.run(MERGE, *secrets, *merge), 1, "a.yml: 1 conflict")
+        found = place.get("a.yml")
+        cases.check("both are there", texts(found, "old"), [b"text", b"text"])
+        headers = [found.count(f"AES256;{label}\n".encode()) for label in ("dev", "prod")]
+        cases.check("with their labels", headers, [1, 1])
+
+
+GROUPS = [of_vaults, of_values, labels_of_values]
