@@ -112,9 +112,17 @@ _ansible_vault_value() {
     return 0
 }
 
+# The name of the program that a word runs, also by an alias, which bash does not expand here.
+_ansible_vault_name() {
+    local words=${BASH_ALIASES[$1]:-$1}
+    words=${words%% *}
+    echo "${words##*/}"
+}
+
 # Of the tool, and of ansible-vault-with, whose secrets may stand before the command.
 _ansible_vault() {
-    local name=${1##*/}
+    local name
+    name=$(_ansible_vault_name "$1")
     local word=$2
     local command
     command=$(_ansible_vault_command "$name")

@@ -113,6 +113,8 @@ _ansible_vault() {
     [[ $state == arguments ]] && _ansible_vault_arguments $line[1]
 }
 
+# An alias that zsh does not expand, by its option complete_aliases.
+[[ $service == ansible-vault && ${aliases[ansible-vault]} == ansible-vault-with* ]] && service=ansible-vault-with
 if [[ $service == ansible-vault-* && $service != ansible-vault-with ]]; then
     _ansible_vault_arguments ${service#ansible-vault-}
 else

@@ -92,9 +92,9 @@ COMPANION_PATHS = [
 ]
 
 
-def offered_options(shell: str, words: str, folder: pathlib.Path) -> list[str]:
+def offered_options(shell: str, words: str, folder: pathlib.Path, alias: str = "") -> list[str]:
     """The options that a shell offers behind words, by one dash and by two."""
-    offered = SHELLS[shell](f"{words} -", folder) | SHELLS[shell](f"{words} --", folder)
+    offered = SHELLS[shell](f"{words} -", folder, alias) | SHELLS[shell](f"{words} --", folder, alias)
     return sorted(offered - set(FILES))
 
 
@@ -119,12 +119,45 @@ def test_companions(outcome: Outcome, shell: str, folder: pathlib.Path) -> None:
 def test_with(outcome: Outcome, shell: str, folder: pathlib.Path) -> None:
     """Behind a command ansible-vault-with takes the options of the tool's, and its own for secrets."""
     needs_shell(shell)
+    check_options_of_commands(outcome, shell, "ansible-vault-with", folder)
+
+
+def check_options_of_commands(outcome: Outcome, shell: str, name: str, folder: pathlib.Path, alias: str = "") -> None:
     own = options_of("ansible-vault-with") - {"-V", "--version"}
     for command in WITH_COMMANDS:
         is_tools = command in OPTIONS
         wanted = page_sets()[command] | own if is_tools else options_of("ansible-vault-edit")
-        offered = offered_options(shell, f"ansible-vault-with {command}", folder)
+        offered = offered_options(shell, f"{name} {command}", folder, alias)
         outcome.check(f"{shell} offers the options of {command}", offered, sorted(wanted))
+
+
+# Each makes one of the other for all that is typed.
+ALIASES = ["alias ansible-vault=ansible-vault-with", "alias ansible-vault='ansible-vault-with --vault-id one.pass'"]
+
+
+@pytest.mark.parametrize("shell", SHELLS)
+def test_alias(outcome: Outcome, shell: str, folder: pathlib.Path) -> None:
+    """By an alias, ansible-vault has the completion of ansible-vault-with; without one it has its own."""
+    needs_shell(shell)
+    for alias in ALIASES:
+        for line, wanted in COMPANION_PATHS:
+            name, _, words = line.partition(" ")
+            if name == "ansible-vault-with":
+                offered = SHELLS[shell](f"ansible-vault {words}", folder, alias)
+                outcome.check(f"{shell} offers files for `{words}` by {alias}", offered, wanted)
+    check_options_of_commands(outcome, shell, "ansible-vault", folder, ALIASES[0])
+    # As somebody may have set it, and an alias of another tool.
+    if shell == "zsh":
+        offered = SHELLS[shell]("ansible-vault ", folder, f"setopt complete_aliases; {ALIASES[0]}")
+        outcome.check("zsh offers the commands of an alias that it does not expand", offered, WITH_COMMANDS)
+    offered = SHELLS[shell]("ansible-vault ", folder, "alias ansible-vault-edit=ansible-vault-with")
+    outcome.check(f"{shell} offers those of the tool where it is no alias", offered, set(OPTIONS))
+
+
+def test_alias_typed_in_bash(outcome: Outcome, folder: pathlib.Path) -> None:
+    needs_shell("bash")
+    for line, wanted in {"cre": ["create"], "-J edit one.y": ["-J", "edit", "one.yml"]}.items():
+        outcome.check(f"bash completes `{line}` by an alias", typed_in_bash(line, folder, ALIASES[0]), wanted)
 
 
 # Where `~` begins a path, and whether the shell expands it there.

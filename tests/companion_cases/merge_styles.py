@@ -12,7 +12,7 @@ from companion_cases.merging import versions
 from companion_cases.repository import under_git
 from model.vaults import SALT, seal, yaml_block
 
-STYLES = ["diff3", "zdiff3"]
+STYLES = [("", b"\n"), ("", b"\r\n"), ("diff3", b"\n"), ("zdiff3", b"\n")]
 FILLER = b"f: 1\ng: 2\nh: 3\ni: 4\n"
 OPEN = b"a: 1\n" + FILLER + b"b: 1"
 # Base, ours and theirs.
@@ -52,18 +52,17 @@ def by_git(place: Place, contents: list[bytes]) -> tuple[bytes, int]:
 
 
 def merges(place: Place, texts: dict[str, tuple]) -> Iterator[tuple[str, bytes, list[bytes], bytes, int]]:
-    """Each with its name, the end of its lines, its versions, and what git makes of them. A style is of conflicts
-    alone."""
+    """Each with its name, the end of its lines, its versions, and what git makes of them. Other ends and styles are of
+    conflicts alone."""
     under_git(place, "")
-    for style in ("", *STYLES):
+    for style, end in STYLES:
         if style:
             place.run("git", "config", "merge.conflictStyle", style)
         for name, contents in texts.items():
-            for end in (b"\n", b"\r\n"):
-                plain = [each.replace(b"\n", end) for each in contents]
-                wanted, conflicts = by_git(place, plain)
-                if conflicts or not style:
-                    yield f"{style} {name} {end!r}", end, plain, wanted, conflicts
+            plain = [each.replace(b"\n", end) for each in contents]
+            wanted, conflicts = by_git(place, plain)
+            if conflicts or (style, end) == STYLES[0]:
+                yield f"{style} {name} {end!r}", end, plain, wanted, conflicts
 
 
 def check_merge(cases: Companions, place: Place, what: str, merge: list[str], conflicts: int) -> None:

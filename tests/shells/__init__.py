@@ -20,8 +20,9 @@ NAME = "ansible-vault"
 # a match replaces, which keeps its `@`.
 BASH = r"""
 source "$1"
-text=$2
-shift 2
+eval "$2"
+text=$3
+shift 3
 COMP_WORDS=("$@")
 COMP_CWORD=$(($# - 1))
 [[ $(complete -p "$1") =~ -F\ ([^ ]+) ]]
@@ -52,9 +53,10 @@ def printed(command: list[str], folder: pathlib.Path) -> set[str]:
     return {line for line in run.stdout.split("\n") if line}
 
 
-def bash(line: str, folder: pathlib.Path) -> set[str]:
+def bash(line: str, folder: pathlib.Path, alias: str = "") -> set[str]:
+    """What it offers for a line; behind a definition of an alias, if there is one."""
     script = str(COMPLETIONS / f"{NAME}.bash")
-    command = ["bash", "--norc", "-c", BASH, "bash", script, readline_text(line), *readline_words(line)]
+    command = ["bash", "--norc", "-c", BASH, "bash", script, alias, readline_text(line), *readline_words(line)]
     return printed(command, folder)
 
 
@@ -72,13 +74,14 @@ def all_shown(terminal: int) -> bytes:
         shown += piece
 
 
-def typed_in_bash(line: str, folder: pathlib.Path) -> list[str]:
+def typed_in_bash(line: str, folder: pathlib.Path, alias: str = ":") -> list[str]:
     """The arguments that a command gets whose line is typed on a terminal and ended by a tab."""
     here, there = pty.openpty()
     shell = subprocess.Popen(
         ["bash", "--norc", "--noprofile", "-i"], cwd=folder, stdin=there, stdout=there, stderr=there
     )
-    told = f"{NAME}() {{ printf 'got'; printf '<%s>' \"$@\"; echo .; }}"
+    body = "{ printf 'got'; printf '<%s>' \"$@\"; echo .; }"
+    told = f"{NAME}() {body}; {NAME}-with() {body}; {alias}"
     setup = f"bind 'set bell-style none'; source {COMPLETIONS / NAME}.bash; {told}"
     os.close(there)
     os.write(here, f"{setup}\n{NAME} {line}\t\nexit\n".encode())
@@ -89,18 +92,19 @@ def typed_in_bash(line: str, folder: pathlib.Path) -> list[str]:
     return shown.split("got<")[-1].split(">.\r")[0].split("><")
 
 
-def fish(line: str, folder: pathlib.Path) -> set[str]:
+def fish(line: str, folder: pathlib.Path, alias: str = "") -> set[str]:
     script = COMPLETIONS / f"{NAME}.fish"
     # What fish brings along for the other tool of this name is dropped first.
-    text = 'complete -C "$argv[2] " >/dev/null; complete -e $argv[2]; source $argv[1]; complete -C "$argv[3]"'
-    found = printed(["fish", "--no-config", "-c", text, str(script), line.split(" ")[0], line], folder)
+    text = 'complete -C "$argv[2] " >/dev/null; complete -e $argv[2]; source $argv[1]; eval "$argv[4]"; '
+    text += 'complete -C "$argv[3]"'
+    found = printed(["fish", "--no-config", "-c", text, str(script), line.split(" ")[0], line, alias], folder)
     return {match.split("\t")[0] for match in found}
 
 
-def zsh(line: str, folder: pathlib.Path) -> set[str]:
+def zsh(line: str, folder: pathlib.Path, alias: str = "") -> set[str]:
     with tempfile.TemporaryDirectory() as functions:
         shutil.copy(COMPLETIONS / f"{NAME}.zsh", pathlib.Path(functions) / f"_{NAME}")
-        return printed([str(HERE / "zsh_matches"), functions, line], folder)
+        return printed([str(HERE / "zsh_matches"), functions, line, alias], folder)
 
 
 SHELLS = {"bash": bash, "zsh": zsh, "fish": fish}
