@@ -40,7 +40,7 @@ _ansible_vault_command() {
     done
 }
 
-# Whether a `--` stands before the word that is completed, so that it is no option.
+# Whether a `--` precedes the word that is completed, so that it is no option.
 _ansible_vault_is_argument() {
     local word
     for word in "${COMP_WORDS[@]:1:COMP_CWORD-1}"; do
@@ -60,7 +60,7 @@ _ansible_vault_before() {
     echo "${COMP_WORDS[place]}"
 }
 
-# Whether the word stands behind the `=` of an option, where the shell expands no `~`.
+# Whether the word follows the `=` of an option, where the shell expands no `~`.
 _ansible_vault_is_joined() {
     [[ ${COMP_WORDS[COMP_CWORD]} == = || ${COMP_WORDS[COMP_CWORD - 1]} == = ]]
 }
@@ -119,7 +119,7 @@ _ansible_vault_name() {
     echo "${words##*/}"
 }
 
-# Of the tool, and of ansible-vault-with, whose secrets may stand before the command.
+# Of the tool, and of ansible-vault-with, whose secrets may precede the command.
 _ansible_vault() {
     local name
     name=$(_ansible_vault_name "$1")

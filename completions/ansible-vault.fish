@@ -16,7 +16,7 @@ function __ansible_vault_paths -a label start
     end
 end
 
-# What is typed of an option's value, which may stand behind `=`, or have a quote or backslashes.
+# What is typed of an option's value, which may follow `=`, or have a quote or backslashes.
 function __ansible_vault_value
     set -l typed (commandline -ct | string replace -r '^--[a-z-]*=' '')
     set -l value (string replace -r '^["\']' '' -- $typed)
@@ -103,7 +103,7 @@ complete -c ansible-vault-rotate -l new-vault-id -x -a '(__ansible_vault_ids)' \
     -d 'The password file of a new secret, with its label'
 complete -c ansible-vault-rotate -l new-vault-password-file -x -a '(__ansible_vault_files)' \
     -d 'The password file of a new secret for the label default'
-complete -c ansible-vault-rotate -l dry-run -d 'Write nothing, and tell what would be done'
+complete -c ansible-vault-rotate -l dry-run -d 'Write nothing, and report what would be done'
 complete -c ansible-vault-rotate -l jobs -x -d 'How many files at once'
 complete -c ansible-vault-check -l label -x -d 'A label that is to open; others are counted'
 complete -c ansible-vault-hook -l all -d 'Look at every file of the commit that is checked out'

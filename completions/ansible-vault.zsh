@@ -76,7 +76,7 @@ _ansible_vault_arguments() {
         '*--new-vault-password-file=[a new password file for the label default]:file:_ansible_vault_files'
     )
     local -a rotation=(
-        '--dry-run[write nothing, and tell what would be done]'
+        '--dry-run[write nothing, and report what would be done]'
         '--jobs=[how many files at once]:number: '
     )
 

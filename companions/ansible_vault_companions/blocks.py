@@ -34,7 +34,7 @@ def changed(data: bytes, changes: Iterable[Change]) -> bytes:
 
 
 def replacement(value: Value, marks: bytes, body: bytes, end: int) -> list[Change]:
-    """Makes another block scalar of a value that ends there. What stands behind its marks in their line stays."""
+    """Makes another block scalar of a value that ends there. What follows its marks in their line stays."""
     return [Change(value.start, value.marks_end, marks), Change(value.line_end, end, body)]
 
 

@@ -204,7 +204,7 @@ def _obstacle(line: _Line) -> str:
 
 
 def _name(head: bytes) -> str | None:
-    """The name of the variable, from what stands in front of its tag."""
+    """The name of the variable, from what precedes its tag."""
     words = head[-LONGEST_TAG:].split()
     if words and words[-1].startswith(b"&"):
         words.pop()

@@ -13,7 +13,7 @@ from ansible_vault_companions.program import Refused
 
 # What is read at once of a file that may be no text at all.
 PIECE = 1 << 20
-# Bytes of an envelope's beginning that may stand at the end of one piece and go on in the next.
+# Bytes of an envelope's beginning that may end one piece and go on in the next.
 OVERLAP = max(map(len, UTF_16)) - 1
 # Prose shows blocks that are not meant.
 PROSE = (".md", ".rst", ".adoc", ".html")
@@ -21,7 +21,7 @@ PLACES = """\
 Looked at are the files PATH and those below a folder PATH, but for folders
 .git. Links to files are followed, and links to folders where they are a PATH.
 Blocks are looked for in every file but prose (.md, .rst, .adoc, .html): an
-envelope whose lines stand behind the same spaces, as after `NAME: !vault |`,
+envelope whose lines have the same indentation, as after `NAME: !vault |`,
 also within another text; and in the plaintext of a vault. An envelope in
 another form (quotes, JSON, comments, tabs, `!vault >`, UTF-16, behind a byte
 order mark) is reported as a failure, with what to do."""
@@ -66,7 +66,7 @@ def _candidates(path: str, refuse: Callable[[str, Exception], None]) -> Iterator
 def work_on(
     files: Iterable[str], jobs: int, work: Callable[[str], Result], take: Callable[[Result], None]
 ) -> None:
-    """Works on so many files at once, and takes what comes of each in their order. Where that ends early,
+    """Works on several files at once, and takes what comes of each in their order. Where that ends early,
     the files that are worked on are finished, and no other is begun."""
     with ThreadPoolExecutor(jobs) as pool:
         # It cancels the others when it is left.
@@ -100,7 +100,7 @@ def _mentions_envelope(file: BinaryIO) -> bool:
 
 
 def read(path: str) -> bytes | None:
-    """What stands at a path, if anything does."""
+    """The content of the file at a path, if there is one."""
     try:
         with _opened(path) as file:
             return file.read()

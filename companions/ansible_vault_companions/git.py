@@ -152,7 +152,7 @@ def marks(names: list[bytes], index: str | None = None, folder: str | None = Non
 
 
 def blobs_in(folder: bytes, index: str | None = None) -> list[str]:
-    """The contents of the files that stand in a folder, and not below one in it."""
+    """The contents of the files in a folder itself."""
     path = os.fsdecode(folder)
     lines = git("--literal-pathspecs", "ls-files", "-s", "-z", "--", path or ".", index=index).split(b"\0")[:-1]
     entries = [(about.decode().split(), name) for about, _, name in (line.partition(b"\t") for line in lines)]
@@ -160,7 +160,7 @@ def blobs_in(folder: bytes, index: str | None = None) -> list[str]:
 
 
 def marks_of(paths: list[str]) -> dict[str, set[str]]:
-    """The attributes by which files are marked, each in the repository that it stands in, if in any."""
+    """The attributes by which files are marked, each in the repository that it is in, if in any."""
     found: dict[str, set[str]] = {path: set() for path in paths}
     repositories: dict[str, dict[bytes, str]] = {}
     for path in paths:

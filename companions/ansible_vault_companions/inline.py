@@ -30,7 +30,7 @@ EMPTY_LINE = re.compile(rb"\r?\n[ \t]*\r?\n")
 COMMENT = re.compile(rb"(?:[ \t]*\r?\n)+(?P<spaces> *)#")
 
 JOINED = "it is empty, and the comment below would become its text"
-HIDDEN = "`!vault` within a comment or another text is no tag, and what stands behind it would stay in plaintext"
+HIDDEN = "`!vault` within a comment or another text is no tag, and what follows it would stay in plaintext"
 
 
 class Closed(NamedTuple):

@@ -21,7 +21,7 @@ HEADER = re.compile(rb"\$ANSIBLE_VAULT;1\.(?:1;AES256|2;AES256;[^;\r\n]{1,128})[
 TAG_LENGTH = 32
 CIPHER_BLOCK = 16
 MERGE_MARK = re.compile(rb"^(?:<<<<<<<|>>>>>>>|\|\|\|\|\|\|\|)(?:[ \t][^\r\n]*)?\r?$", re.MULTILINE)
-# What stands behind a block, up to its first character.
+# What follows a block, up to its first character.
 NEXT_LINE = re.compile(rb"(?:\r?\n[ \t]*(?=[\r\n]))*\r?\n(?P<spaces> *)\S")
 # A variable of YAML and what it has in its line.
 VARIABLE = re.compile(

@@ -1,4 +1,4 @@
-"""A text as a literal scalar of YAML (`|`), and back what stands behind a tag `!vault`.
+"""A text as a literal scalar of YAML (`|`), and back what follows a tag `!vault`.
 
 What YAML cannot show as a literal is not shown, and what could be read in another way than it was meant is refused.
 """
@@ -23,7 +23,7 @@ VAULT_WITHIN = "its plaintext is itself a vault"
 TOO_DEEP = "its lines would stand too far to the right"
 
 BY_ESCAPES = "has control characters; write them as escapes, in double quotes"
-IN_FLOW = "stands within brackets or braces, where no block can stand; write it in a line of its own"
+IN_FLOW = "is within brackets or braces, where no block can be; write it in a line of its own"
 BELOW = "stands below its tag; write it in the line of `!vault`"
 SEVERAL_LINES = "goes on in further lines; write `!vault |-`, and its lines below"
 FOLDED = "is a folded scalar (`>`); write `!vault |-`, and its lines below"
@@ -67,7 +67,7 @@ def obstacle(text: bytes) -> str:
 
 
 def is_envelope(text: bytes) -> bool:
-    """Whether a text, or what stands behind a tag, is encrypted."""
+    """Whether a text, or what follows a tag, is encrypted."""
     return text.lstrip(b"\"' \t\r\n").startswith(MAGIC)
 
 

@@ -72,7 +72,7 @@ def write_error(text: str) -> None:
 
 
 def reason(fault: Exception) -> str:
-    """Why something is refused, without the path that stands in front of it anyway."""
+    """Why something is refused, without the path, which precedes it anyway."""
     return fault.strerror if isinstance(fault, OSError) and fault.strerror else str(fault)
 
 

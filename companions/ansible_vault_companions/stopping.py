@@ -95,7 +95,7 @@ def check() -> None:
 
 @contextmanager
 def interruptible() -> Iterator[None]:
-    """A signal ends at once what stands within, which waits for what somebody types or another program
+    """A signal ends at once what is within, which waits for what somebody types or another program
     writes."""
     global _is_interruptible
     _is_interruptible = True

@@ -120,13 +120,13 @@ def _says_its_name(path: str) -> bool:
 
 
 def beside(companion: str, name: str) -> str | None:
-    """The path of another program that stands beside a companion."""
+    """The path of another program beside a companion."""
     paths = (os.path.join(folder, name) for folder in _folders(companion))
     return next((path for path in paths if os.access(path, os.X_OK)), None)
 
 
 def _folders(program: str) -> Iterator[str]:
-    """The folders that a program stands in, from link to link."""
+    """The folders that a program is in, from link to link."""
     path = os.path.abspath(program)
     yield os.path.dirname(path)
     while os.path.islink(path):

@@ -74,7 +74,7 @@ class Words:
             self.command = word
 
     def end(self, words: list[str]) -> None:
-        """What stands behind the end of the options."""
+        """The words after the end of the options."""
         self.arguments += words
         self.others += [END, *words]
 

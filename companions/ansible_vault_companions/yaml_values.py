@@ -1,7 +1,7 @@
-"""Where values with the tag `!vault` stand in YAML, and which bytes are theirs.
+"""Where values with the tag `!vault` are in YAML, and which bytes are theirs.
 
 It reads no more of YAML than that takes: indentation, keys, and where each scalar ends, as PyYAML has them, which
-Ansible reads with. What it cannot read is refused, so that no plaintext that stands in the wrong column is taken for
+Ansible reads with. What it cannot read is refused, so that no plaintext in the wrong column is taken for
 something else. Between git's merge marks each side begins where the other began.
 """
 
@@ -22,7 +22,7 @@ SPACES = re.compile(rb" *")
 BLANKS = re.compile(rb"[ \t]*")
 LINE_END = re.compile(rb"\r?\n")
 REST_OF_LINE = re.compile(rb"[^\n]*?(?=\r?\n|\Z)")
-# An indicator stands in front of a blank or the end of a line.
+# An indicator is followed by a blank or the end of a line.
 INDICATOR = re.compile(rb"[-?:](?=[ \t\r\n]|\Z)")
 DOCUMENT_MARK = re.compile(rb"(?:---|\.\.\.)(?=[ \t\r\n]|\Z)")
 MERGE_MARK = re.compile(rb"(?P<mark><{7}|\|{7}|={7}|>{7})(?:[ \t][^\r\n]*)?(?=\r?\n|\Z)")
@@ -62,7 +62,7 @@ class Style(Enum):
 
 @dataclass(frozen=True)
 class Value:
-    """What stands behind a tag."""
+    """What follows a tag."""
 
     style: Style
     # Of the tag: its line, from 1, and where that begins.
@@ -70,7 +70,7 @@ class Value:
     line_start: int
     # The keys that lead to it.
     path: tuple[str, ...]
-    # The column of the collection that it stands in; -1 where it stands in none.
+    # The column of the collection that it is in; -1 where it is in none.
     column: int
     in_flow: bool
     # Whether it begins in a line below that of the tag.
@@ -91,7 +91,7 @@ class Value:
 
 
 class Hidden(NamedTuple):
-    """A line in which `!vault` stands within a comment, or within a text of several lines."""
+    """A line in which `!vault` is part of a comment, or of a text of several lines."""
 
     line: int
     text: bytes
@@ -99,7 +99,7 @@ class Hidden(NamedTuple):
 
 @dataclass
 class Scan:
-    """What stands in a file."""
+    """What a file contains."""
 
     values: list[Value] = field(default_factory=list)
     hidden: list[Hidden] = field(default_factory=list)
@@ -120,7 +120,7 @@ class _Level(NamedTuple):
     column: int
     key: str = ""
     is_sequence: bool = False
-    # Whether dashes stand at the column of a mapping, below its key.
+    # Whether dashes are at the column of a mapping, below its key.
     has_dashes: bool = False
 
 
@@ -130,7 +130,7 @@ class _Key(NamedTuple):
     place: int
     column: int
     line: int
-    # Whether nothing else can stand in its column.
+    # Whether nothing else can be in its column.
     is_required: bool
     may_begin_level: bool
 
@@ -341,7 +341,7 @@ class _Scanner:
         self.place += 1
 
     def _enter(self, column: int, key: str, may_begin: bool) -> None:
-        """A key stands in this column."""
+        """A key is in this column."""
         if self._level_column() < column:
             if not may_begin:
                 raise self._fault(OUT_OF_PLACE)
@@ -395,7 +395,7 @@ class _Scanner:
         self.place += 1
 
     def _take_back(self, place: int) -> None:
-        """What stands at this place is a key, and no text."""
+        """What is at this place is a key, and no text."""
         last = self.found.values[-1] if self.found.values else None
         if last and last.start >= place and last.style is not Style.NOTHING:
             self.found.values[-1] = replace(last, style=Style.NO_TEXT)

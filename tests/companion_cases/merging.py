@@ -94,4 +94,46 @@ def rotated(cases: Companions) -> None:
         cases.check("the values", texts(place.get("b.yml"), "new"), [b"I", b"2"])
 
 
-GROUPS = [without_conflict, with_conflict, labels, rotated]
+# Versions that are not merged, and why.
+REFUSED = {
+    "no secret decrypts this vault": (sealed("old"), sealed("old", OURS), sealed("dev", THEIRS)),
+    "one side is a vault and the other is none": (sealed("old"), sealed("old", OURS), THEIRS),
+    "both sides have put it under new secrets, and these differ": (sealed("old"), sealed("new"), sealed("prod")),
+    "git merge-file cannot merge it; it may be no text": (
+        sealed("old"),
+        sealed("old", b"a\0\n"),
+        sealed("old", b"b\0\n"),
+    ),
+    "vault header line is malformed": (sealed("old"), sealed("old", OURS), b"$ANSIBLE_VAULT;1.1\n"),
+}
+
+
+def those_that_fail(cases: Companions) -> None:
+    """Ours stays to the byte, no other file is left, and the message says why."""
+    with cases.place() as place:
+        secrets = [*place.by_file("old"), *place.by_file("new"), *place.by_file("prod")]
+        where = f"{MERGE}: a.yml: not merged, ours stays as it is: "
+        for why, contents in REFUSED.items():
+            done = place.run(MERGE, *secrets, *versions(place, "a.yml", *contents))
+            cases.check(why, (done.returncode, done.stdout, done.stderr), (1, "", f"{where}{why}\n"))
+            cases.check(f"{why}: ours stays", place.files(), {"a.yml": contents[1]})
+        changes = [sealed("old", text) for text in (BASE, OURS, THEIRS)]
+        words = versions(place, "a.yml", *changes)
+        for number in range(3):
+            names = [*words[:number], "../missing", *words[number + 1 :]]
+            cases.ended(f"version {number} is not there", place.run(MERGE, *secrets, *names), 1, "is not there")
+        done = place.run(MERGE, "--vault-password-file", "../missing", *words)
+        cases.ended("no password file", done, 1, f"{where}../missing: a password file cannot be opened")
+        place.stand_before_tool('[ "$1" != encrypt ] || echo other > a.yml')
+        done = place.run(MERGE, *secrets, *words)
+        cases.ended("changed meanwhile", done, 1, f"{where}it was changed meanwhile")
+        cases.check("what somebody wrote stays", place.files(), {"a.yml": b"other\n"})
+        place.stand_before_tool('[ "$1" != encrypt ] || exit 4')
+        words = versions(place, "a.yml", *changes)
+        cases.ended("the tool fails", place.run(MERGE, *secrets, *words), 1, "ansible-vault ended with status 4")
+        place.stand_before_tool("exit 255", "git")
+        cases.ended("git fails", place.run(MERGE, *secrets, *words), 1, "git merge-file cannot merge it")
+        cases.check("ours stays", place.files(), {"a.yml": changes[1]})
+
+
+GROUPS = [without_conflict, with_conflict, labels, rotated, those_that_fail]

@@ -142,8 +142,8 @@ def clones_of_others(cases: Companions) -> None:
             place.put("ansible.cfg", b"[defaults]\nvault_identity_list = x@old\n")
             place.put("old", script, 0o755)
             place.put("../own.cfg", b"[defaults]\nvault_identity_list = x@~/secrets/old\n")
-            changes = (("true", b"first\n"), ("git checkout -qb theirs", b"second\n"), ("git checkout -q -", b"third\n"))
-            for command, text in changes:
+            changes = {b"first\n": "true", b"second\n": "git checkout -qb theirs", b"third\n": "git checkout -q -"}
+            for text, command in changes.items():
                 place.shell(command)
                 place.put("a.yml", sealed("old", text))
                 add_and_commit(place)

@@ -119,7 +119,7 @@ def misplaced(cases: Companions) -> None:
         "b: !vault |-\n   x\n  y\n": "line 3: what stands here is neither",
         "# b: !vault |-\n#   x\n": "line 1: `!vault` within a comment",
         "t: |\n  b: !vault |-\n    x\n": "line 2: `!vault` within",
-        "b: {c: !vault x}\n": "line 1: c stands within brackets",
+        "b: {c: !vault x}\n": "line 1: c is within brackets",
     }
     with cases.place() as place:
         content = block("old", b"x", name="b")
