@@ -2,7 +2,7 @@
 use Rattle.std.proofs.Common.{◌≡◌, ◌≢◌, ℕ, ◌+◌, ◌<◌, ◌≤◌, ◌==◌, true, false, not, List, [], ◌∷◌}
 use Rattle.std.proofs.Common.{◌++◌, length, Option, Some, None, Result, Ok, Err, cond, refl, ap}
 use Rattle.std.proofs.Common.{subst, ◌∙◌, eq-eqb, arith, inl, inr}
-use Rattle.std.specs.Prelude.{if◌then◌else◌, nat_lt, nat_le, IfSome, MatchOption}
+use Rattle.std.specs.Prelude.{if◌then◌else◌, nat_lt, nat_le, IfSome}
 use Rattle.std.specs.List.{after_first, before_first, count_by, list_all}
 use Rattle.std.specs.Option.{ok_or}
 use Rattle.std.proofs.lemmas.Bool.{and_parts, cases_Bool}
@@ -96,6 +96,11 @@ payload_of room label salt tag cipher = (do
     if nat_lt room (length parts.cipher) then Err CipherTooLong
     else Ok (record { label = label; salt = parts.salt; tag = parts.tag; cipher = parts.cipher }))
 
+-- the bytes of a ciphertext, by what its digits spell
+abbrev within : ℕ → Option (List ℕ) → Result (List ℕ) TextFault
+within room spelled = ok_or spelled BadPayload >>= (λ bytes.
+  if nat_lt room (length bytes) then Err CipherTooLong else Ok bytes)
+
 module _ (limit : ℕ) (label : List ℕ) where
   abbrev room : ℕ
   room = ciphertext_limit limit
@@ -123,25 +128,21 @@ module _ (limit : ℕ) (label : List ℕ) where
         | inr over ↦ rw over refl
       ]
 
-  pub payload_of-bad_cipher : (s t : List ℕ) (cipher : Option (List ℕ)) (fault : TextFault)
-      → length s ≤ SALT_LIMIT → length t ≡ TAG_LENGTH
-      → MatchOption cipher (fault ≡ BadPayload) (λ c. (fault ≡ CipherTooLong) × (room < length c))
-      → payload_of room label (Some s) (Some t) cipher ≡ Err fault
-  payload_of-bad_cipher s t None fault fits whole bad = rw bad refl
-  payload_of-bad_cipher s t (Some c) fault fits whole bad =
-      let over = bad.1 in
+  -- where the salt and the tag fit, the answer is that of the ciphertext
+  pub payload_of-ciphertext : (s t : List ℕ) (cipher : Option (List ℕ))
+      (answer : Result (List ℕ) TextFault) → length s ≤ SALT_LIMIT → length t ≡ TAG_LENGTH
+      → within room cipher ≡ answer
+      → payload_of room label (Some s) (Some t) cipher
+      ≡ (answer >>= (λ c. Ok (record { label = label; salt = s; tag = t; cipher = c })))
+  payload_of-ciphertext s t None answer fits whole same =
+      ap (λ r. r >>= (λ c. Ok (record { label = label; salt = s; tag = t; cipher = c }))) same
+  payload_of-ciphertext s t (Some c) answer fits whole same =
       let within : nat_le (length s) SALT_LIMIT ≡ true = grind (arith, nat_tests) in
-      let long : nat_lt room (length c) ≡ true = grind (arith, nat_tests) in
-      rw (within, eq-eqb (length t) TAG_LENGTH whole, long, bad.0) refl
-
-  pub payload_of-whole : (s t c : List ℕ) → length s ≤ SALT_LIMIT → length t ≡ TAG_LENGTH
-      → length c ≤ room
-      → payload_of room label (Some s) (Some t) (Some c)
-      ≡ Ok (record { label = label; salt = s; tag = t; cipher = c })
-  payload_of-whole s t c fits whole short =
-      let within : nat_le (length s) SALT_LIMIT ≡ true = grind (arith, nat_tests) in
-      let no_more : nat_lt room (length c) ≡ false = grind (arith, nat_tests) in
-      rw (within, eq-eqb (length t) TAG_LENGTH whole, no_more) refl
+      let tested = eq-eqb (length t) TAG_LENGTH whole in
+      elim (cases_Bool (nat_lt room (length c))) [
+        | inl long ↦ rw (← same, within, tested, long) refl
+        | inr short ↦ rw (← same, within, tested, short) refl
+      ]
 
   -- ---- what the text answers
 

@@ -8,7 +8,7 @@ use Rattle.vault_text.specs.Hexadecimal.{unhex}
 use Rattle.vault_text.specs.Steps.{◌>>=◌}
 use Rattle.vault_text.specs.declared.limits.TheConstants.{SALT_LIMIT, TAG_LENGTH}
 use Rattle.vault_text.specs.declared.fault.TextFault.{TextFault}
-use Rattle.vault_text.specs.declared.fault.TextFault.TheVariants.{BadPayload}
+use Rattle.vault_text.specs.declared.fault.TextFault.TheVariants.{BadPayload, CipherTooLong}
 
 -- salt, tag and ciphertext: as digits, or as the bytes that these spell
 pub record Parts : Type 0 where
@@ -39,6 +39,12 @@ fitting parts =
 -- the bytes of a part, where it is hexadecimal
 abbrev pub part_bytes : List ℕ → Result (List ℕ) TextFault
 part_bytes digits = ok_or (unhex digits) BadPayload
+
+-- the bytes of a ciphertext, where it is hexadecimal and no longer than the limit
+abbrev pub ciphertext_of : ℕ → List ℕ → Result (List ℕ) TextFault
+ciphertext_of limit digits = do
+  bytes ← part_bytes digits
+  if nat_lt limit (length bytes) then Err CipherTooLong else Ok bytes
 
 -- step 8: the bytes of the three parts, where each is hexadecimal and the parts fit
 unfoldable pub parts_of : List ℕ → Result Parts TextFault

@@ -1,10 +1,8 @@
 //! The ciphertext of the inner text.
-ghost use Rattle.std.specs.Prelude.{◌≡◌, ◌<◌, ◌≤◌, ℕ, List, [], MatchOption, MatchResult, Some};
-ghost use Rattle.std.specs.Prelude.{length};
-ghost use Rattle.vault_text.specs.Hexadecimal.{unhex};
+ghost use Rattle.std.specs.Prelude.{◌≡◌, ◌≤◌, ℕ, List, [], IfErr, IfOk, Err, Ok, length};
 ghost use Rattle.vault_text.specs.InnerReader.{PartHas};
+ghost use Rattle.vault_text.specs.InnerText.{ciphertext_of};
 ghost use Rattle.vault_text.specs.Pieces.{TakesPiece};
-ghost use Rattle.vault_text.specs.declared.fault.TextFault.TheVariants.{BadPayload, CipherTooLong};
 
 use super::{PART_LIMIT, RUN_LIMIT};
 use crate::fault::TextFault;
@@ -62,11 +60,10 @@ impl<'a> CipherPart<'a> {
 
     /// The ciphertext, where no digit follows.
     pub(super) fn finish(self) -> Result<&'a mut [u8], TextFault>
-        ensures { (limit : ℕ) (digits : List ℕ) → PartHas limit self.entry digits
-            → MatchResult result
-            (λ bytes. (unhex digits ≡ Some bytes.now) × (length bytes.now ≤ limit))
-            (λ fault. MatchOption (unhex digits) (fault ≡ BadPayload)
-            (λ bytes. (fault ≡ CipherTooLong) × (limit < length bytes))) }
+        ensures bytes { (limit : ℕ) (digits : List ℕ) → PartHas limit self.entry digits
+            → IfOk result (λ bytes. ciphertext_of limit digits ≡ Ok bytes.now) }
+        ensures fault { (limit : ℕ) (digits : List ℕ) → PartHas limit self.entry digits
+            → IfErr result (λ fault. ciphertext_of limit digits ≡ Err fault) }
     {
         let CipherPart {
             memory,

@@ -1,11 +1,11 @@
-use Rattle.std.proofs.Common.{◌≢◌, length, sym, ◌∙◌, arith}
+use Rattle.std.proofs.Common.{◌≢◌, length, Ok, Err, sym, ◌∙◌, arith}
 use Rattle.std.specs.Prelude.{IfSome}
 use Rattle.vault_text.specs.Hexadecimal.{unhex}
 use Rattle.vault_text.specs.declared.limits.TheConstants.{TAG_LENGTH}
 use Rattle.std.proofs.lemmas.Option.{IfSome_then}
 use Rattle.std.proofs.lemmas.Result.{err_from_is_err_and}
-use Rattle.vault_text.proofs.PartsFacts.{payload_of-bad_cipher, payload_of-bad_salt}
-use Rattle.vault_text.proofs.PartsFacts.{payload_of-bad_tag, payload_of-whole, read_inner-cut_off}
+use Rattle.vault_text.proofs.PartsFacts.{payload_of-bad_salt, payload_of-ciphertext}
+use Rattle.vault_text.proofs.PartsFacts.{payload_of-bad_tag, read_inner-cut_off}
 use Rattle.vault_text.proofs.PartsFacts.{read_inner-parts}
 use Rattle.vault_text.proofs.reader.inner_text.InnerReader.finish.Goals as goal
 
@@ -59,17 +59,17 @@ returns-in_err-cipher c limit text has =
     let tag = c.in_ok-finish-2.ensures here.digits.tag here.tag in
     rw (p.1, p.2)
     (sym (rw (salt.0, tag.0) at (read_inner-parts limit c.args.label text _ here c.in-Cipher.is)
-    ∙ payload_of-bad_cipher limit c.args.label _ _ _ _ salt.1 c.in-Ok.ensures.1.long
-    (c.in_err-cipher.ensures _ here.digits.cipher here.cipher)))
+    ∙ payload_of-ciphertext limit c.args.label _ _ (unhex here.digits.cipher) (Err _) salt.1
+    c.in-Ok.ensures.1.long (c.in_err-cipher.ensures.fault _ here.digits.cipher here.cipher)))
 
 pub returns : goal.returns
 returns c limit text has =
     let here = rw (← c.self.view_is) at has in
     let salt = c.in_ok-finish.ensures here.digits.salt here.salt in
     let tag = c.in_ok-finish-2.ensures here.digits.tag here.tag in
-    let cipher = c.in_ok-cipher.ensures _ here.digits.cipher here.cipher in
+    let cipher = c.in_ok-cipher.ensures.bytes _ here.digits.cipher here.cipher in
     let whole = c.in-Ok.ensures.1 in
     rw (c.new-2.ensures, c.in-Some.ensures.bytes, whole.same)
-    (sym (rw (salt.0, tag.0, cipher.0)
-    at (read_inner-parts limit c.args.label text _ here c.in-Cipher.is)
-    ∙ payload_of-whole limit c.args.label _ _ _ salt.1 whole.long cipher.1))
+    (sym (rw (salt.0, tag.0) at (read_inner-parts limit c.args.label text _ here c.in-Cipher.is)
+    ∙ payload_of-ciphertext limit c.args.label _ _ (unhex here.digits.cipher) (Ok _) salt.1
+    whole.long cipher))
