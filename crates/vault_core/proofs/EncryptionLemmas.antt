@@ -5,6 +5,7 @@ use Rattle.std.specs.Prelude.{◌&&◌, ◌==◌}
 use Rattle.std.proofs.lemmas.Bool.{cases_Bool, cases_lt, eq-eqb, le-ltb, lt-ltb, ne_eqb}
 use Rattle.vault_core.specs.Encryption.{encryption, is_vault}
 use Rattle.vault_core.specs.Form.{Form, is_block}
+use Rattle.vault_core.specs.Input.{fits}
 use Rattle.vault_core.specs.Sealing.{sealed, text_in}
 use Rattle.vault_core.specs.Secrets.{Secret, secret_at}
 use Rattle.vault_common.specs.declared.fault.Fault.{Fault}
@@ -20,11 +21,28 @@ no_empty_string form input n has is long (inl some) =
     rw (← is, some.0, long, ne_eqb n 0 some.1) refl
 no_empty_string form input n has is long (inr envelope) = rw (← is, envelope) refl
 
+-- an input that fits is within the limit
+pub fits-within : (limit : ℕ) (input : List ℕ) (x : Unit {0}) → Ok x ≡ fits limit input
+    → length input ≤ limit
+fits-within limit input x whole = elim (cases_lt limit (length input)) [
+  | inl long ↦ let other = rw (lt-ltb _ _ long) at whole in cc
+  | inr short ↦ short
+]
+
 module _ (limit : ℕ) (secrets : List Secret) (index : ℕ) (form : Form) (salt input : List ℕ) where
   pub encryption-too_long : limit < length input
       → encryption limit secrets index form salt input ≡ Err TooLong
   unfolding encryption
   encryption-too_long long = rw (lt-ltb _ _ long) refl
+
+  -- an input that does not fit is refused
+  pub encryption-refused : (fault : Fault) → Err fault ≡ fits limit input
+      → Err fault ≡ encryption limit secrets index form salt input
+  encryption-refused fault refused = elim (cases_lt limit (length input)) [
+    | inl long ↦
+        let same = rw (lt-ltb _ _ long) at refused in rw (encryption-too_long long) cc
+    | inr short ↦ let other = rw (le-ltb _ _ short) at refused in cc
+  ]
 
   encryption-none : length input ≤ limit → (is_block form && length input == 0) ≡ true
       → encryption limit secrets index form salt input ≡ Err EmptyString

@@ -1,15 +1,19 @@
 -- How a call reads its input.
-use Rattle.std.specs.Prelude.{◌≡◌, ◌≢◌, ℕ, ◌+◌, ◌≤◌, ◌⊎◌, Bool, IsTrue, List, length}
-use Rattle.std.specs.Prelude.{Result, Ok, Err}
+use Rattle.std.specs.Prelude.{◌≡◌, ◌≢◌, ℕ, ◌+◌, ◌≤◌, ◌⊎◌, nat_lt, if◌then◌else◌, Bool, IsTrue}
+use Rattle.std.specs.Prelude.{List, length, Result, Ok, Err}
 use Rattle.vault_text.specs.Failures.{HasRisen}
 use Rattle.vault_text.specs.declared.source.Source.{Ghosts as SourceTerms}
 use Rattle.vault_common.specs.declared.fault.Fault.{Fault}
-use Rattle.vault_common.specs.declared.fault.Fault.TheVariants.{Read}
+use Rattle.vault_common.specs.declared.fault.Fault.TheVariants.{Read, TooLong}
 use Rattle.vault_common.specs.declared.fault.Role.TheVariants.{Input}
 
 -- the end was told, or one byte more than the limit was given
 abbrev pub IsReadToEndOrPastLimit : ℕ → Bool → List ℕ → Type 0
 IsReadToEndOrPastLimit limit ended input = IsTrue ended ⊎ (length input ≡ limit + 1)
+
+-- an input fits that is within the limit, and any other is too long
+abbrev pub fits : ℕ → List ℕ → Result (Unit {0}) Fault
+fits limit input = if nat_lt limit (length input) then Err TooLong else Ok tt
 
 -- the source failed, and the call answered so
 abbrev pub IsUnreadable : ℕ → ℕ → Fault → Type 0

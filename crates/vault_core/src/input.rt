@@ -4,9 +4,9 @@ ghost use Rattle.std.specs.Prelude.{IsTrue, IsErr, IfOk, OnErr, Err, MatchResult
 ghost use Rattle.vault_text.specs.EnvelopeReader.{StandsFor};
 ghost use Rattle.vault_text.specs.Failures.{CountsFailure, IsLast};
 ghost use Rattle.vault_core.specs.Decryption.{payload_of};
-ghost use Rattle.vault_core.specs.Input.{IsReadToEndOrPastLimit, UnlessUnreadable};
+ghost use Rattle.vault_core.specs.Input.{IsReadToEndOrPastLimit, UnlessUnreadable, fits};
 ghost use Rattle.vault_text.specs.Limits.{IsWorkLength, envelope_limit, limit_of};
-ghost use Rattle.vault_common.specs.declared.fault.Fault.TheVariants.{Read, TooLong};
+ghost use Rattle.vault_common.specs.declared.fault.Fault.TheVariants.{Read};
 ghost use Rattle.vault_common.specs.declared.fault.Role.TheVariants.{Input};
 
 use vault_common::Fault;
@@ -21,15 +21,13 @@ pub(crate) fn read_plaintext<S: Source>(src: &mut S, memory: &mut TextMemory) ->
     requires empty { memory.old.bytes ≡ [] }
     requires room { IsWorkLength memory.old.limit }
     ensures limit { memory.new.limit ≡ memory.old.limit }
-    ensures input { let limit = limit_of memory.old.limit in
+    ensures gives { S.gives src.old memory.new.bytes src.new }
+    ensures bound { length memory.new.bytes ≤ limit_of memory.old.limit + 1 }
+    ensures answer { let limit = limit_of memory.old.limit in
         let input = memory.new.bytes in
-        S.gives src.old input src.new
-        × (length input ≤ limit + 1)
-        × UnlessUnreadable (S.failures src.old) (S.failures src.new) result
+        UnlessUnreadable (S.failures src.old) (S.failures src.new) result
         (length input ≤ limit)
-        (IsReadToEndOrPastLimit limit (S.ended src.new) input × MatchResult result
-        (λ _. length input ≤ limit)
-        (λ fault. (fault ≡ TooLong) × (limit < length input))) }
+        (IsReadToEndOrPastLimit limit (S.ended src.new) input × (result ≡ fits limit input)) }
     ensures full { IsLast (S.failures src.old) → result ≡ Err (Read Input) }
 {
     put_input(src, memory)?;
