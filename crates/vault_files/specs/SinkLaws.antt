@@ -2,7 +2,7 @@
 use Rattle.std.specs.Prelude.{ℕ, ◌++◌, List, [], refl}
 use Rattle.std.proofs.Common.{◌∙◌}
 use Rattle.vault_text.specs.Sink.{state_of}
-use Rattle.vault_text.specs.SinkLaws.{Takes-none, Takes-more}
+use Rattle.vault_text.specs.SinkProofs.{Takes-none, Takes-more}
 use Rattle.vault_files.specs.Memory.{StoreState, StoreTakes}
 
 pub StoreTakes-none : (s : StoreState) → StoreTakes s [] s

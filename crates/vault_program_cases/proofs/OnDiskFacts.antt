@@ -10,7 +10,7 @@ use Rattle.std.proofs.lemmas.Slice.Eq.{bytes_eq-Decides}
 use Rattle.vault_common.specs.declared.fault.Fault.{Fault}
 use Rattle.vault_text.specs.Sink.{MemSinkState, MemoryTakes, has_begun}
 use Rattle.vault_text.specs.Source.{MemSourceState, MemoryGives, SourceState}
-use Rattle.vault_text.specs.SourceLaws.{MemoryGives-none}
+use Rattle.vault_text.specs.SourceProofs.{MemoryGives-none}
 use Rattle.vault_text.specs.declared.sink.Stage.{Stage}
 use Rattle.vault_text.specs.declared.sink.Stage.TheVariants.{Unbegun, Begun, Finished}
 use Rattle.vault_files.specs.Disk.{SystemCall}

@@ -3,9 +3,9 @@ pub mod Steps
 pub mod Limits
 pub mod TextMemory
 pub mod Source
-pub mod SourceLaws
+pub mod SourceProofs
 pub mod Sink
-pub mod SinkLaws
+pub mod SinkProofs
 pub mod Whitespace
 pub mod Label
 pub mod Header

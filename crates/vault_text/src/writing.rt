@@ -18,6 +18,15 @@ use header::{START_LIMIT, append_head};
 use lines::{INDENTATION_LIMIT, Text, append_ciphertext, append_lines};
 pub(crate) use lines::{LINE_BYTES, LINE_DIGITS};
 
+/// The parts of an envelope that is to be written.
+#[derive(Drop)]
+struct Parts<'a> {
+    label: &'a Label,
+    salt: &'a Salt,
+    tag: &'a [u8; TAG_LENGTH],
+    ciphertext: &'a [u8],
+}
+
 /// What stands before each line of an envelope in a block.
 const BLOCK_INDENTATION: &[u8; INDENTATION_LIMIT] = b"          ";
 
@@ -40,7 +49,13 @@ pub fn write_envelope<K: Sink>(
     ensures failed { CountsFailure (K.failures sink.old) (K.failures sink.new) result }
     ensures full { IsLast (K.failures sink.old) → IsErr result }
 {
-    put_lines(sink, &[], &[], label, salt, tag, cipher)
+    let parts = Parts {
+        label,
+        salt,
+        tag,
+        ciphertext: cipher,
+    };
+    put_lines(sink, &[], &[], &parts)
 }
 
 /// Writes an envelope as a YAML block, for a variable of the name if there is one that is not
@@ -67,7 +82,13 @@ pub fn write_block<K: Sink>(
     let name = name_or_empty(name);
     let start = block_start(name);
     put_all(sink, name.as_bytes())?;
-    put_lines(sink, start, BLOCK_INDENTATION, label, salt, tag, cipher)
+    let parts = Parts {
+        label,
+        salt,
+        tag,
+        ciphertext: cipher,
+    };
+    put_lines(sink, start, BLOCK_INDENTATION, &parts)
 }
 
 fn name_or_empty(name: Option<&str>) -> &str
@@ -97,26 +118,24 @@ fn put_lines<K: Sink>(
     sink: &mut K,
     start: &[u8],
     indentation: &[u8],
-    label: &Label,
-    salt: &Salt,
-    tag: &[u8; TAG_LENGTH],
-    cipher: &[u8],
+    parts: &Parts,
 ) -> Result<(), SinkFailed>
     requires begun { K.stage sink.old ≡ Stage.Begun }
     requires short { length start.now ≤ START_LIMIT }
     requires narrow { length indentation.now ≤ INDENTATION_LIMIT }
-    ensures takes { let lines = written_lines label.now salt.now tag.now cipher.now in
-        OnOk result (K.takes sink.old (start.now ++ text_of_lines indentation.now lines) sink.new) }
-    ensures prefix { let lines = written_lines label.now salt.now tag.now cipher.now in
-        let text = start.now ++ text_of_lines indentation.now lines in
+    ensures takes { let text = start.now ++ text_of_lines indentation.now (written_lines
+        parts.now.label.now parts.now.salt.now parts.now.tag.now parts.now.ciphertext.now) in
+        OnOk result (K.takes sink.old text sink.new) }
+    ensures prefix { let text = start.now ++ text_of_lines indentation.now (written_lines
+        parts.now.label.now parts.now.salt.now parts.now.tag.now parts.now.ciphertext.now) in
         (n : ℕ) × K.takes sink.old (take n text) sink.new }
     ensures stage { K.stage sink.new ≡ Stage.Begun }
     ensures failed { CountsFailure (K.failures sink.old) (K.failures sink.new) result }
     ensures full { IsLast (K.failures sink.old) → IsErr result }
 {
     let mut text = Text::new();
-    append_head(&mut text, start, indentation, label);
-    let (first, rest) = first_lines(salt, tag, cipher);
+    append_head(&mut text, start, indentation, parts.label);
+    let (first, rest) = first_lines(parts);
     append_lines(&mut text, indentation, first.as_slice());
     let (batch, rest) = split_batch(rest);
     append_ciphertext(&mut text, indentation, batch);

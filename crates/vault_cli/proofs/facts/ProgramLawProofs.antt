@@ -10,7 +10,7 @@ use Rattle.vault_text.specs.declared.limits.TheConstants.{PLAINTEXT_LIMIT}
 use Rattle.vault_files.specs.File.{Finding}
 use Rattle.vault_files.specs.File.Finding.{Whole}
 use Rattle.vault_common.specs.declared.fault.Fault.{Fault}
-use Rattle.vault_core.proofs.SealedOpens.{bytes_eq-same}
+use Rattle.vault_core.proofs.theorems.SealedOpens.{bytes_eq-same}
 use Rattle.vault_command_line.specs.CommandLine.{vault_app}
 use Rattle.vault_cli.specs.Embedding.{stands_after}
 use Rattle.vault_cli.specs.Laws as outcomes

@@ -81,7 +81,7 @@ impl FailingSink {
 
 impl Sink for FailingSink {
     ghost use Rattle.vault_text.specs.Sink.{FailingTakes};
-    ghost use Rattle.vault_text.specs.SinkLaws.{FailingTakes-none, FailingTakes-more};
+    ghost use Rattle.vault_text.specs.SinkProofs.{FailingTakes-none, FailingTakes-more};
 
     ghost takes = { FailingTakes };
 

@@ -65,7 +65,7 @@ impl MemSink {
 
 impl Sink for MemSink {
     ghost use Rattle.vault_text.specs.Sink.{MemoryTakes};
-    ghost use Rattle.vault_text.specs.SinkLaws.{MemoryTakes-none, MemoryTakes-more};
+    ghost use Rattle.vault_text.specs.SinkProofs.{MemoryTakes-none, MemoryTakes-more};
 
     ghost takes = { MemoryTakes };
 

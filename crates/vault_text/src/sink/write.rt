@@ -51,7 +51,7 @@ impl<W: Write> WriteSink<W> {
 
 impl<W: Write> Sink for WriteSink<W> {
     ghost use Rattle.vault_text.specs.Sink.{Takes};
-    ghost use Rattle.vault_text.specs.SinkLaws.{Takes-none, Takes-more};
+    ghost use Rattle.vault_text.specs.SinkProofs.{Takes-none, Takes-more};
 
     ghost takes = { Takes };
 

@@ -47,7 +47,7 @@ impl<'a> FailingSource<'a> {
 
 impl<'a> Source for FailingSource<'a> {
     ghost use Rattle.vault_text.specs.Source.{FailingGives};
-    ghost use Rattle.vault_text.specs.SourceLaws.{FailingGives-none, FailingGives-more};
+    ghost use Rattle.vault_text.specs.SourceProofs.{FailingGives-none, FailingGives-more};
 
     ghost gives = { FailingGives };
 

@@ -41,7 +41,7 @@ impl<'a> MemSource<'a> {
 
 impl<'a> Source for MemSource<'a> {
     ghost use Rattle.vault_text.specs.Source.{MemoryGives};
-    ghost use Rattle.vault_text.specs.SourceLaws.{MemoryGives-none, MemoryGives-more};
+    ghost use Rattle.vault_text.specs.SourceProofs.{MemoryGives-none, MemoryGives-more};
 
     ghost gives = { MemoryGives };
 

@@ -43,7 +43,7 @@ impl<R: Read> ReadSource<R> {
 
 impl<R: Read> Source for ReadSource<R> {
     ghost use Rattle.vault_text.specs.Source.{Gives};
-    ghost use Rattle.vault_text.specs.SourceLaws.{Gives-none, Gives-more};
+    ghost use Rattle.vault_text.specs.SourceProofs.{Gives-none, Gives-more};
 
     ghost gives = { Gives };
 

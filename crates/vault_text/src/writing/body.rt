@@ -6,6 +6,7 @@ ghost use Rattle.hex.specs.Hex.{encode_lower};
 ghost use Rattle.vault_text.specs.Failures.{CountsFailure};
 ghost use Rattle.vault_text.specs.Written.{hexadecimal_lines, inner_text};
 
+use super::Parts;
 use super::lines::{
     BATCH_CIPHERTEXT, FIRST_BYTES, First, INDENTATION_LIMIT, LINE_CIPHERTEXT, Text, append,
     append_ciphertext, append_hexadecimal,
@@ -15,19 +16,15 @@ use crate::salt::Salt;
 use crate::sink::{Sink, SinkFailed, Stage, put_all};
 
 /// The inner text as far as it fits into the first lines, and the ciphertext that is left.
-pub(super) fn first_lines<'a>(
-    salt: &Salt,
-    tag: &[u8; TAG_LENGTH],
-    cipher: &'a [u8],
-) -> (First, &'a [u8])
+pub(super) fn first_lines<'a>(parts: &Parts<'a>) -> (First, &'a [u8])
     ensures text { result.0.items ++ encode_lower result.1.now
-        ≡ inner_text salt.now tag.now cipher.now }
+        ≡ inner_text parts.now.salt.now parts.now.tag.now parts.now.ciphertext.now }
     ensures few { array_vec_len result.0 ≤ FIRST_BYTES }
     ensures full { (array_vec_len result.0 ≡ FIRST_BYTES) ⊎ (result.1.now ≡ []) }
 {
-    let mut inner = salt_and_tag(salt, tag);
+    let mut inner = salt_and_tag(parts.salt, parts.tag);
     let room = (FIRST_BYTES - inner.len()) / 2;
-    let (front, rest) = cipher.split_at(cipher.len().min(room));
+    let (front, rest) = parts.ciphertext.split_at(parts.ciphertext.len().min(room));
     append_hexadecimal(&mut inner, front);
     (inner, rest)
 }

@@ -1,6 +1,6 @@
 use Rattle.std.proofs.Common.{arith, eqb-true, refl, take_all}
 use Rattle.std.proofs.lemmas.Bool.{eq-eqb}
-use Rattle.vault_core.proofs.TagLemmas.{tells_more}
+use Rattle.vault_core.proofs.AgreementTagLemmas.{tells_more}
 use Rattle.vault_core.proofs.agreement.is_same_tag.Goals as goal
 
 pub loop-i-init : goal.loop-i-init

@@ -1,4 +1,4 @@
-use Rattle.vault_core.proofs.TagLemmas.{TellsPrefixes}
+use Rattle.vault_core.proofs.AgreementTagLemmas.{TellsPrefixes}
 use Rattle.vault_core.proofs.agreement.is_same_tag.Given as goal
 
 abbrev pub invariant-loop-i : goal.invariant-loop-i

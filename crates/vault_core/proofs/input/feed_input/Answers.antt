@@ -2,7 +2,7 @@ use Rattle.std.proofs.Common.{◌≡◌, ◌≤◌, ℕ, ◌++◌, append_assoc,
 use Rattle.std.proofs.Common.{length-append, length-take, rules, sym, ◌∙◌}
 use Rattle.std.proofs.lemmas.List.{nil_from_length}
 use Rattle.std.proofs.lemmas.Result.{MatchResult-from_err}
-use Rattle.vault_text.proofs.Progress.{taken_none}
+use Rattle.vault_text.proofs.SinkLemmas.{taken_none}
 use Rattle.vault_core.proofs.input.feed_input.Goals as goal
 
 pub returns-in_err-piece-clause-fed : goal.returns-in_err-piece-clause-fed

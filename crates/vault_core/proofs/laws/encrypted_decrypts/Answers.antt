@@ -1,4 +1,4 @@
-use Rattle.vault_core.proofs.MadeVaultsDecrypt.{encrypted_decrypts}
+use Rattle.vault_core.proofs.theorems.RoundTrips.{encrypted_decrypts}
 use Rattle.vault_core.proofs.laws.encrypted_decrypts.Goals as goal
 
 pub returns : goal.returns

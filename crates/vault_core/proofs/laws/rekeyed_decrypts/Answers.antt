@@ -1,4 +1,4 @@
-use Rattle.vault_core.proofs.MadeVaultsDecrypt.{rekeyed_decrypts}
+use Rattle.vault_core.proofs.theorems.RoundTrips.{rekeyed_decrypts}
 use Rattle.vault_core.proofs.laws.rekeyed_decrypts.Goals as goal
 
 pub returns : goal.returns

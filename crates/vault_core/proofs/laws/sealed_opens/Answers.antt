@@ -1,4 +1,4 @@
-use Rattle.vault_core.proofs.SealedOpens.{sealed_opens}
+use Rattle.vault_core.proofs.theorems.SealedOpens.{sealed_opens}
 use Rattle.vault_core.proofs.laws.sealed_opens.Goals as goal
 
 pub returns : goal.returns

@@ -1,4 +1,5 @@
-use Rattle.vault_core.proofs.ShortInputs.{decryption-short, encryption-short, rekeying-short}
+use Rattle.vault_core.proofs.theorems.ShortInputs.{decryption-short, encryption-short}
+use Rattle.vault_core.proofs.theorems.ShortInputs.{rekeying-short}
 use Rattle.vault_core.proofs.laws.short_inputs.Goals as goal
 
 pub returns : goal.returns

@@ -1,6 +1,6 @@
 use Rattle.std.proofs.Common.{◌==◌}
 use Rattle.std.proofs.lemmas.List.{take_rest}
-use Rattle.vault_text.proofs.LineFacts.{byte_found, slice_split-cut, slice_split-whole}
+use Rattle.vault_text.proofs.ListLemmas.{byte_found, slice_split-cut, slice_split-whole}
 use Rattle.vault_text.proofs.header.split_at_byte.Goals as goal
 
 pub returns-then-place-bytes-clause-found : goal.returns-then-place-bytes-clause-found

@@ -1,4 +1,4 @@
-use Rattle.vault_text.proofs.DigitBlockFacts.{unhex-block}
+use Rattle.vault_text.proofs.HexadecimalBlockLemmas.{unhex-block}
 use Rattle.vault_text.proofs.hexadecimal.decode_block.Goals as goal
 
 pub returns : goal.returns

@@ -1,7 +1,7 @@
 use Rattle.std.proofs.Common.{◌*◌, [], arith}
 use Rattle.std.proofs.lemmas.List.{take_all}
-use Rattle.vault_text.proofs.DigitFacts.{decoded_next}
-use Rattle.vault_text.proofs.HexadecimalFacts.{unhex-spelled_bytes}
+use Rattle.vault_text.proofs.HexadecimalDigitLemmas.{decoded_next}
+use Rattle.vault_text.proofs.HexadecimalLemmas.{unhex-spelled_bytes}
 use Rattle.vault_text.proofs.hexadecimal.decode_one_by_one.Goals as goal
 
 pub loop-place-init : goal.loop-place-init

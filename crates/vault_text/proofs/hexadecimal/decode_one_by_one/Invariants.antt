@@ -1,6 +1,6 @@
 use Rattle.std.proofs.Common.{◌≡◌, ◌*◌, take}
 use Rattle.vault_text.specs.Hexadecimal.{unhex}
-use Rattle.vault_text.proofs.DigitFacts.{found_if}
+use Rattle.vault_text.proofs.HexadecimalDigitLemmas.{found_if}
 use Rattle.vault_text.proofs.hexadecimal.decode_one_by_one.Given as goal
 
 abbrev pub invariant-loop-place : goal.invariant-loop-place

@@ -1,8 +1,8 @@
 use Rattle.std.proofs.Common.{◌≡◌, ◌+◌, ◌-◌, ◌*◌, ◌≤◌, ℕ, [], length, arith}
 use Rattle.std.proofs.Common.{length-drop, length-take}
 use Rattle.std.proofs.lemmas.List.{take_all}
-use Rattle.vault_text.proofs.DigitBlockFacts.{length-part_written, pieces_next}
-use Rattle.vault_text.proofs.HexadecimalFacts.{unhex-spelled_bytes}
+use Rattle.vault_text.proofs.HexadecimalBlockLemmas.{length-part_written, pieces_next}
+use Rattle.vault_text.proofs.HexadecimalLemmas.{unhex-spelled_bytes}
 use Rattle.vault_text.proofs.hexadecimal.decode_pairs.Goals as goal
 use borrow.Rule.Slice.PartMut.{put_mid}
 

@@ -1,6 +1,6 @@
 use Rattle.std.proofs.Common.{◌≡◌, ◌≤◌, ◌-◌, ◌*◌, length, take}
 use Rattle.vault_text.specs.Hexadecimal.{unhex}
-use Rattle.vault_text.proofs.DigitFacts.{found_if}
+use Rattle.vault_text.proofs.HexadecimalDigitLemmas.{found_if}
 use Rattle.vault_text.proofs.hexadecimal.decode_pairs.Given as goal
 
 abbrev pub invariant-loop-bytes : goal.invariant-loop-bytes

@@ -1,6 +1,6 @@
 use Rattle.std.proofs.Common.{◌≡◌, true, false, ap, sym, ◌∙◌}
 use Rattle.std.specs.Prelude.{is_ok, is_some}
-use Rattle.vault_text.proofs.DigitFacts.{digit-answered}
+use Rattle.vault_text.proofs.HexadecimalDigitLemmas.{digit-answered}
 use Rattle.vault_text.proofs.hexadecimal.digit_value.Goals as goal
 
 pub returns-in_err-ok : goal.returns-in_err-ok

@@ -1,6 +1,6 @@
 use Rattle.std.proofs.Common.{ℕ, arith}
 use Rattle.std.proofs.lemmas.List.{length-set, take_all}
-use Rattle.vault_text.proofs.DigitBlockFacts.{digits_next, values_next}
+use Rattle.vault_text.proofs.HexadecimalBlockLemmas.{digits_next, values_next}
 use Rattle.vault_text.proofs.hexadecimal.digit_values.Goals as goal
 
 pub loop-place-preserved : goal.loop-place-preserved

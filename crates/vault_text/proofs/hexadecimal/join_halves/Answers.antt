@@ -1,8 +1,8 @@
 use Rattle.std.proofs.Common.{◌≡◌, ◌*◌, [], length, ap, ◌∙◌, arith}
 use Rattle.std.proofs.lemmas.List.{length-map}
 use Rattle.vault_text.specs.Hexadecimal.{value_or_invalid}
-use Rattle.vault_text.proofs.DigitBlockFacts.{joined_next}
-use Rattle.vault_text.proofs.HexadecimalFacts.{unhex-spelled_bytes}
+use Rattle.vault_text.proofs.HexadecimalBlockLemmas.{joined_next}
+use Rattle.vault_text.proofs.HexadecimalLemmas.{unhex-spelled_bytes}
 use Rattle.vault_text.proofs.hexadecimal.join_halves.Goals as goal
 
 pub loop-place-init : goal.loop-place-init

@@ -1,4 +1,4 @@
-use Rattle.vault_text.proofs.LimitFacts.{short_inputs}
+use Rattle.vault_text.proofs.theorems.LargerLimits.{short_inputs}
 use Rattle.vault_text.proofs.laws.short_inputs.Goals as goal
 
 pub returns : goal.returns

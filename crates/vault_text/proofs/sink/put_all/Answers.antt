@@ -1,5 +1,5 @@
 use Rattle.std.proofs.Common.{rules, length, ◌-◌, drop, arith, length-drop, length-take}
-use Rattle.vault_text.proofs.Progress.{taken_next, taken_none}
+use Rattle.vault_text.proofs.SinkLemmas.{taken_next, taken_none}
 use Rattle.vault_text.proofs.sink.put_all.Goals as goal
 
 pub returns-in_err-done-clause-prefix : goal.returns-in_err-done-clause-prefix

@@ -1,6 +1,7 @@
 use Rattle.std.proofs.Common.{rules, ◌-◌, take, drop, length, arith, length-take, length-drop}
 use Rattle.std.proofs.lemmas.Result.{MatchResult-from_err}
-use Rattle.vault_text.proofs.Progress.{taken_none, given_none, given_next, length-written}
+use Rattle.vault_text.proofs.SinkLemmas.{taken_none}
+use Rattle.vault_text.proofs.SourceLemmas.{given_none, given_next, length-written}
 use Rattle.vault_text.proofs.source.fill_up.Goals as goal
 
 pub returns-in_err-n-clause-some : goal.returns-in_err-n-clause-some

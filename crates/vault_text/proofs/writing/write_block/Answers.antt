@@ -1,7 +1,7 @@
 use Rattle.std.proofs.Common.{◌∙◌}
 use Rattle.std.proofs.lemmas.Result.{on_ok_weaker}
-use Rattle.vault_text.proofs.BlockFacts.{block-parts}
-use Rattle.vault_text.proofs.Prefixes.{prefix_first, prefix_second, takes_both}
+use Rattle.vault_text.proofs.BlockLemmas.{block-parts}
+use Rattle.vault_text.proofs.SinkLemmas.{prefix_first, prefix_second, takes_both}
 use Rattle.vault_text.proofs.writing.write_block.Goals as goal
 
 pub returns-in_err-put_all-clause-prefix : goal.returns-in_err-put_all-clause-prefix

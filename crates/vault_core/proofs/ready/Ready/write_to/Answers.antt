@@ -1,5 +1,5 @@
 use Rattle.std.proofs.Common.{◌≡◌, [], length, take, take_all, ap, arith}
-use Rattle.vault_text.proofs.Progress.{taken_none}
+use Rattle.vault_text.proofs.SinkLemmas.{taken_none}
 use Rattle.vault_core.specs.Ready.{Ready}
 use Rattle.vault_core.proofs.ready.Ready.write_to.Goals as goal
 

@@ -1,8 +1,8 @@
 use Rattle.std.proofs.Common.{◌≡◌, ◌-◌, ◌++◌, ◌≤◌, None, drop, length, refl, ℕ, arith}
 use Rattle.std.proofs.Common.{length-append, length-take, length-drop}
 use Rattle.std.proofs.lemmas.List.{take_at}
-use Rattle.vault_text.proofs.Progress.{take-written}
-use Rattle.vault_text.proofs.HexadecimalFacts.{Decodes-more, Decodes-pairs, Decodes-waiting}
+use Rattle.vault_text.proofs.SourceLemmas.{take-written}
+use Rattle.vault_text.proofs.HexadecimalLemmas.{Decodes-more, Decodes-pairs, Decodes-waiting}
 use Rattle.vault_text.proofs.hexadecimal.HexDecoder.decode.Goals as goal
 
 pub returns-clause-decoded : goal.returns-clause-decoded

@@ -1,6 +1,6 @@
 use Rattle.std.proofs.Common.{◌≡◌, ℕ, ◌*◌, ◌/◌, ◌%◌, take, drop, length, arith, length-take}
 use Rattle.std.proofs.lemmas.List.{take_at}
-use Rattle.vault_text.proofs.HexadecimalFacts.{Decodes-aligned, Decodes-pairs}
+use Rattle.vault_text.proofs.HexadecimalLemmas.{Decodes-aligned, Decodes-pairs}
 use Rattle.vault_text.proofs.hexadecimal.HexDecoder.decode_aligned.Goals as goal
 
 pub returns-clause-decoded : goal.returns-clause-decoded

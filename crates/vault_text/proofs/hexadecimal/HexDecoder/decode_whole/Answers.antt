@@ -1,6 +1,6 @@
 use Rattle.std.proofs.Common.{true, arith, refl, ◌∙◌}
 use Rattle.vault_text.specs.Hexadecimal.{new_decoder}
-use Rattle.vault_text.proofs.HexadecimalFacts.{Decodes-pairs, complete-is_new, unhex_on-incomplete}
+use Rattle.vault_text.proofs.HexadecimalLemmas.{Decodes-pairs, complete-is_new, unhex_on-incomplete}
 use Rattle.vault_text.proofs.hexadecimal.HexDecoder.decode_whole.Goals as goal
 
 pub returns-then-is_complete-clause-decoded : goal.returns-then-is_complete-clause-decoded

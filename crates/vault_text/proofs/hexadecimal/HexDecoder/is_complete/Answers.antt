@@ -1,4 +1,4 @@
-use Rattle.vault_text.proofs.HexadecimalFacts.{unhex_on-nil}
+use Rattle.vault_text.proofs.HexadecimalLemmas.{unhex_on-nil}
 use Rattle.vault_text.proofs.hexadecimal.HexDecoder.is_complete.Goals as goal
 
 pub returns-then-not-self : goal.returns-then-not-self

@@ -1,5 +1,5 @@
 use Rattle.std.proofs.Common.{refl}
-use Rattle.vault_text.proofs.EnvelopeFacts.{StandsFor-piece}
+use Rattle.vault_text.proofs.EnvelopeReaderLemmas.{StandsFor-piece}
 use Rattle.vault_text.proofs.reader.EnvelopeReader.feed.Goals as goal
 
 pub returns-clause-taken : goal.returns-clause-taken

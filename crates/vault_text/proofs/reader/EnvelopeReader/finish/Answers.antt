@@ -1,7 +1,7 @@
 use Rattle.std.proofs.Common.{◌<◌, ◌≤◌, arith, sym, ◌∙◌}
 use Rattle.std.proofs.lemmas.Result.{err_from_is_err_and}
 use Rattle.vault_text.specs.Limits.{envelope_limit}
-use Rattle.vault_text.proofs.EnvelopeFacts.{read-long, read-short}
+use Rattle.vault_text.proofs.EnvelopeReaderLemmas.{read-long, read-short}
 use Rattle.vault_text.proofs.reader.EnvelopeReader.finish.Goals as goal
 
 pub returns-then-fed-envelope_limit : goal.returns-then-fed-envelope_limit

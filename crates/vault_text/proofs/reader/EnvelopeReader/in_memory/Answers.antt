@@ -1,6 +1,6 @@
 use Rattle.std.proofs.Common.{◌≡◌, ap, arith, length}
 use Rattle.vault_text.specs.Limits.{ciphertext_limit, limit_of}
-use Rattle.vault_text.proofs.EnvelopeFacts.{StandsFor-nothing}
+use Rattle.vault_text.proofs.EnvelopeReaderLemmas.{StandsFor-nothing}
 use Rattle.vault_text.proofs.reader.EnvelopeReader.in_memory.Goals as goal
 
 pub returns-clause-nothing : goal.returns-clause-nothing

@@ -3,8 +3,8 @@ use Rattle.std.proofs.lemmas.List.{take_all}
 use Rattle.std.proofs.lemmas.Result.{on_ok_weaker}
 use Rattle.hex.specs.Hex.{encode_lower}
 use Rattle.vault_text.specs.Written.{hexadecimal_lines}
-use Rattle.vault_text.proofs.BodyFacts.{cipher_text-nil, cipher_text-next, cipher_text-rest}
-use Rattle.vault_text.proofs.Prefixes.{prefix_first, prefix_second, takes_both}
+use Rattle.vault_text.proofs.WrittenLemmas.{cipher_text-nil, cipher_text-next, cipher_text-rest}
+use Rattle.vault_text.proofs.SinkLemmas.{prefix_first, prefix_second, takes_both}
 use Rattle.vault_text.proofs.writing.body.put_ciphertext.Goals as goal
 
 pub loop-done-init : goal.loop-done-init

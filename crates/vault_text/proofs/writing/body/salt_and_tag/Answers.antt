@@ -1,5 +1,5 @@
 use Rattle.std.proofs.Common.{append_assoc, ◌∙◌}
-use Rattle.vault_text.proofs.BodyFacts.{encode_lower-nil}
+use Rattle.vault_text.proofs.WrittenLemmas.{encode_lower-nil}
 use Rattle.vault_text.proofs.writing.body.salt_and_tag.Goals as goal
 
 pub returns-clause-text : goal.returns-clause-text

@@ -3,7 +3,7 @@ use Rattle.std.proofs.Common.{append_assoc, List, ℕ, refl}
 use Rattle.std.proofs.lemmas.List.{append-nil}
 use Rattle.hex.specs.Hex.{encode_lower}
 use Rattle.vault_text.specs.Written.{hexadecimal_lines}
-use Rattle.vault_text.proofs.BodyFacts.{cipher_text-line, cipher_text-nil}
+use Rattle.vault_text.proofs.WrittenLemmas.{cipher_text-line, cipher_text-nil}
 use Rattle.vault_text.proofs.writing.lines.append_ciphertext.Goals as goal
 
 pub loop-line-init : goal.loop-line-init

@@ -2,7 +2,7 @@ use Rattle.std.proofs.Common.{◌++◌, take, drop, ◌-◌, arith, refl, ◌∙
 use Rattle.std.proofs.Common.{length-drop, length-take, List, ℕ}
 use Rattle.std.proofs.lemmas.List.{append-nil}
 use Rattle.hex.specs.Hex.{encode_lower}
-use Rattle.vault_text.proofs.BodyFacts.{encode_lower-next, encode_lower-nil}
+use Rattle.vault_text.proofs.WrittenLemmas.{encode_lower-next, encode_lower-nil}
 use Rattle.vault_text.proofs.writing.lines.append_hexadecimal.Goals as goal
 
 pub loop-done-init : goal.loop-done-init

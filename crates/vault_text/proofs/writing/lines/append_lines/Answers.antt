@@ -3,7 +3,7 @@ use Rattle.std.proofs.Common.{append_assoc, length-drop, length-take, List, ℕ,
 use Rattle.std.proofs.lemmas.List.{append-nil}
 use Rattle.hex.specs.Hex.{encode_lower}
 use Rattle.vault_text.specs.Written.{hexadecimal_lines}
-use Rattle.vault_text.proofs.BodyFacts.{encode_lower-nil, body_text-nil, body_text-next}
+use Rattle.vault_text.proofs.WrittenLemmas.{encode_lower-nil, body_text-nil, body_text-next}
 use Rattle.vault_text.proofs.writing.lines.append_lines.Goals as goal
 
 pub loop-line-init : goal.loop-line-init

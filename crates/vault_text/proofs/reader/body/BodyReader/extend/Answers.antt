@@ -2,7 +2,7 @@ use Rattle.std.proofs.Common.{rules, tests}
 use Rattle.std.proofs.lemmas.List.{nil_from_length}
 use Rattle.vault_text.specs.Envelope.{without_line_ends}
 use Rattle.vault_text.specs.EnvelopeReader.{BodyHas}
-use Rattle.vault_text.proofs.PieceFacts.{TakesPiece-whole, TakesUpTo-more}
+use Rattle.vault_text.proofs.PiecesLemmas.{TakesPiece-whole, TakesUpTo-more}
 use Rattle.vault_text.proofs.reader.body.BodyReader.extend.Goals as goal
 
 pub loop-rest-preserved : goal.loop-rest-preserved

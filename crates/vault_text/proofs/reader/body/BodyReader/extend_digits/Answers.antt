@@ -1,4 +1,4 @@
-use Rattle.vault_text.proofs.EnvelopeFacts.{BodyHas-more}
+use Rattle.vault_text.proofs.EnvelopeReaderLemmas.{BodyHas-more}
 use Rattle.vault_text.proofs.reader.body.BodyReader.extend_digits.Goals as goal
 
 pub returns : goal.returns

@@ -1,8 +1,7 @@
 use Rattle.std.proofs.Common.{refl}
 use Rattle.std.proofs.lemmas.List.{take-append-drop}
 use Rattle.vault_text.specs.declared.writing.lines.TheConstants.{LINE_DIGITS}
-use Rattle.vault_text.proofs.EnvelopeFacts.{BodyHas-more}
-use Rattle.vault_text.proofs.WholeLineFacts.{TakesUpTo-whole_line}
+use Rattle.vault_text.proofs.EnvelopeReaderLemmas.{BodyHas-more, TakesUpTo-whole_line}
 use Rattle.vault_text.proofs.reader.body.BodyReader.extend_line.Goals as goal
 
 pub returns-clause-taken : goal.returns-clause-taken

@@ -1,5 +1,5 @@
 use Rattle.std.proofs.lemmas.List.{take_rest}
-use Rattle.vault_text.proofs.LineEndFacts.{without_line_ends-run}
+use Rattle.vault_text.proofs.HeaderLemmas.{without_line_ends-run}
 use Rattle.vault_text.proofs.reader.body.BodyReader.extend_run.Goals as goal
 
 pub returns-clause-taken : goal.returns-clause-taken

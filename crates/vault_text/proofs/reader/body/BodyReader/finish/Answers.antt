@@ -1,4 +1,4 @@
-use Rattle.vault_text.proofs.EnvelopeFacts.{read_body-bad, read_body-good}
+use Rattle.vault_text.proofs.EnvelopeReaderLemmas.{read_body-bad, read_body-good}
 use Rattle.vault_text.proofs.reader.body.BodyReader.finish.Goals as goal
 
 pub returns-then-not-is_complete : goal.returns-then-not-is_complete

@@ -1,5 +1,5 @@
 use Rattle.std.proofs.Common.{refl, rules, tests}
-use Rattle.vault_text.proofs.InnerFacts.{PartHas-fits, PartHas-long}
+use Rattle.vault_text.proofs.InnerReaderLemmas.{PartHas-fits, PartHas-long}
 use Rattle.vault_text.proofs.reader.cipher_part.CipherPart.extend.Goals as goal
 
 pub returns-then-count-room : goal.returns-then-count-room

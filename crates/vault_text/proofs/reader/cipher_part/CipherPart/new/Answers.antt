@@ -1,4 +1,4 @@
-use Rattle.vault_text.proofs.InnerFacts.{PartHas-nothing}
+use Rattle.vault_text.proofs.InnerReaderLemmas.{PartHas-nothing}
 use Rattle.vault_text.proofs.reader.cipher_part.CipherPart.new.Goals as goal
 
 pub returns : goal.returns

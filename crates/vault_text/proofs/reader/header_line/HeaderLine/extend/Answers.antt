@@ -1,5 +1,5 @@
 use Rattle.std.proofs.lemmas.List.{take_rest}
-use Rattle.vault_text.proofs.EnvelopeFacts.{LineHas-ended, LineHas-more}
+use Rattle.vault_text.proofs.EnvelopeReaderLemmas.{LineHas-ended, LineHas-more}
 use Rattle.vault_text.proofs.reader.header_line.HeaderLine.extend.Goals as goal
 
 pub returns-then-self-clause-line : goal.returns-then-self-clause-line

@@ -2,7 +2,7 @@ use Rattle.std.proofs.Common.{◌≡◌, true, false, sym, ◌∙◌}
 use Rattle.std.specs.Prelude.{nat_eq}
 use Rattle.std.specs.List.{starts_with}
 use Rattle.vault_text.specs.Header.{marker}
-use Rattle.vault_text.proofs.EnvelopeFacts.{read_head-kept}
+use Rattle.vault_text.proofs.EnvelopeReaderLemmas.{read_head-kept}
 use Rattle.vault_text.proofs.reader.header_line.HeaderLine.finish.Goals as goal
 
 pub returns-then-not-starts_with : goal.returns-then-not-starts_with

@@ -1,6 +1,6 @@
 use Rattle.std.proofs.Common.{◌≡◌, ◌+◌, ◌-◌, ℕ, arith, min, length, length-take}
 use Rattle.vault_text.specs.declared.limits.TheConstants.{HEADER_LIMIT}
-use Rattle.vault_text.proofs.EnvelopeFacts.{IsKept-more, on_ok}
+use Rattle.vault_text.proofs.EnvelopeReaderLemmas.{IsKept-more, on_ok}
 use Rattle.vault_text.proofs.reader.header_line.HeaderLine.keep.Goals as goal
 
 pub returns-clause-line : goal.returns-clause-line

@@ -1,5 +1,5 @@
 use Rattle.std.proofs.Common.{◌++◌, ap, append_assoc}
-use Rattle.vault_text.proofs.InnerFacts.{one_line-append}
+use Rattle.vault_text.proofs.InnerReaderLemmas.{one_line-append}
 use Rattle.vault_text.proofs.reader.inner_text.InnerReader.extend_digits.Goals as goal
 
 pub returns-in-Salt-clause-taken : goal.returns-in-Salt-clause-taken

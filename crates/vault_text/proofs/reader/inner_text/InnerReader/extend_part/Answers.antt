@@ -1,6 +1,6 @@
 use Rattle.std.proofs.Common.{◌++◌, ◌∷◌, [], sym, ap, ◌∙◌, append_assoc}
 use Rattle.std.proofs.lemmas.List.{append-nil}
-use Rattle.vault_text.proofs.InnerFacts.{InnerHas-end}
+use Rattle.vault_text.proofs.InnerReaderLemmas.{InnerHas-end}
 use Rattle.vault_text.proofs.reader.inner_text.InnerReader.extend_part.Goals as goal
 
 pub returns-in_default-clause-taken : goal.returns-in_default-clause-taken

@@ -4,9 +4,9 @@ use Rattle.vault_text.specs.Hexadecimal.{unhex}
 use Rattle.vault_text.specs.declared.limits.TheConstants.{TAG_LENGTH}
 use Rattle.std.proofs.lemmas.Option.{IfSome_then}
 use Rattle.std.proofs.lemmas.Result.{err_from_is_err_and}
-use Rattle.vault_text.proofs.PartsFacts.{payload_of-bad_salt, payload_of-ciphertext}
-use Rattle.vault_text.proofs.PartsFacts.{payload_of-bad_tag, read_inner-cut_off}
-use Rattle.vault_text.proofs.PartsFacts.{read_inner-parts}
+use Rattle.vault_text.proofs.InnerTextLemmas.{payload_of-bad_salt, payload_of-ciphertext}
+use Rattle.vault_text.proofs.InnerTextLemmas.{payload_of-bad_tag, read_inner-cut_off}
+use Rattle.vault_text.proofs.InnerTextLemmas.{read_inner-parts}
 use Rattle.vault_text.proofs.reader.inner_text.InnerReader.finish.Goals as goal
 
 pub returns-in_default : goal.returns-in_default

@@ -1,4 +1,4 @@
-use Rattle.vault_text.proofs.InnerFacts.{InnerHas-nothing}
+use Rattle.vault_text.proofs.InnerReaderLemmas.{InnerHas-nothing}
 use Rattle.vault_text.proofs.reader.inner_text.InnerReader.new.Goals as goal
 
 pub returns : goal.returns

@@ -3,7 +3,7 @@ use Rattle.vault_text.specs.InnerReader.{IsOneLine, MayHave}
 use Rattle.vault_text.specs.InnerText.{is_line_feed}
 use Rattle.vault_text.specs.declared.reader.inner_text.Part.{Part}
 use Rattle.vault_text.specs.declared.reader.inner_text.Part.TheVariants.{Salt, Tag}
-use Rattle.vault_text.proofs.LineFacts.{before_first-clean_front}
+use Rattle.vault_text.proofs.ListLemmas.{before_first-clean_front}
 use Rattle.vault_text.proofs.reader.inner_text.Part.split.Goals as goal
 
 may_have-line : (part : Part) (digits : List ℕ) → (part ≡ Salt) ⊎ (part ≡ Tag) → IsOneLine digits

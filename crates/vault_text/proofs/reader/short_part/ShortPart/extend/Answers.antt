@@ -1,5 +1,5 @@
 use Rattle.std.proofs.Common.{rules, tests}
-use Rattle.vault_text.proofs.InnerFacts.{PartHas-fits, PartHas-long}
+use Rattle.vault_text.proofs.InnerReaderLemmas.{PartHas-fits, PartHas-long}
 use Rattle.vault_text.proofs.reader.short_part.ShortPart.extend.Goals as goal
 
 pub returns-then-is_err : goal.returns-then-is_err

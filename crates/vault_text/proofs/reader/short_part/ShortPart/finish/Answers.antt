@@ -1,5 +1,5 @@
 use Rattle.std.proofs.Common.{refl, rules, tests}
-use Rattle.vault_text.proofs.InnerFacts.{unhex-bad, unhex-long}
+use Rattle.vault_text.proofs.InnerReaderLemmas.{unhex-bad, unhex-long}
 use Rattle.vault_text.proofs.reader.short_part.ShortPart.finish.Goals as goal
 
 pub returns-then-self : goal.returns-then-self

@@ -3,7 +3,7 @@ use Rattle.std.proofs.Common.{◌≡◌, ℕ, ◌*◌, ◌≤◌, List, length, 
 use Rattle.std.specs.Prelude.{nat_lt, false}
 use Rattle.std.specs.Result.{result_map_both}
 use Rattle.std.proofs.lemmas.Bool.{le-ltb}
-use Rattle.vault_text.proofs.LimitFacts.{short_inputs}
+use Rattle.vault_text.proofs.theorems.LargerLimits.{short_inputs}
 use Rattle.vault_core.specs.Decryption.{decryption, payload_of}
 use Rattle.vault_core.specs.Encryption.{encryption}
 use Rattle.vault_common.specs.Fault.{of_text}

@@ -19,11 +19,11 @@ use Rattle.vault_common.specs.declared.label_rule.LabelRule.{LabelRule}
 use Rattle.vault_core.proofs.DecryptionLemmas.{decryption-Ok}
 use Rattle.vault_core.proofs.EncryptionLemmas.{encryption-sealed, encryption-too_long}
 use Rattle.vault_core.proofs.EncryptionLemmas.{encryption-vault}
-use Rattle.vault_core.proofs.OpenedPlaintext.{FitsAgain-decryption}
+use Rattle.vault_core.proofs.OpeningPlaintextLemmas.{FitsAgain-decryption}
 use Rattle.vault_core.proofs.RekeyingLemmas.{rekeying-no_payload, rekeying-payload, resealing-Err}
 use Rattle.vault_core.proofs.RekeyingLemmas.{resealing-sealed, resealing-vault}
-use Rattle.vault_core.proofs.SealedOpens.{bytes_eq-same, sealed_opens}
-use Rattle.vault_core.proofs.SealedReadsBack.{sealed_reads_back}
+use Rattle.vault_core.proofs.theorems.SealedOpens.{bytes_eq-same, sealed_opens}
+use Rattle.vault_core.proofs.theorems.SealedReadsBack.{sealed_reads_back}
 
 -- the envelope of the plaintext under a secret
 abbrev envelope_of : Secret → List ℕ → List ℕ → ℕ → Ready

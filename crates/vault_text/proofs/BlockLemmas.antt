@@ -5,7 +5,7 @@ use Rattle.hex.specs.Hex.{encode_lower}
 use Rattle.vault_text.specs.Block.{block, block_indentation, first_line}
 use Rattle.vault_text.specs.Written.{hexadecimal_lines, inner_text, text_of_lines}
 use Rattle.vault_text.specs.Written.{written_header, written_lines}
-use Rattle.vault_text.proofs.BodyFacts.{body_text-split, cipher_text-parts, text_of_lines-cons}
+use Rattle.vault_text.proofs.WrittenLemmas.{body_text-split, cipher_text-parts, text_of_lines-cons}
 
 -- the name, what follows it on the first line, and the lines of the envelope
 pub block-parts : (name : Option (List ℕ)) (start label salt tag cipher : List ℕ)

@@ -13,7 +13,7 @@ use Rattle.vault_text.specs.InnerText.{Parts, is_line_feed}
 use Rattle.vault_text.specs.declared.limits.TheConstants.{SALT_LIMIT, TAG_LENGTH}
 use Rattle.vault_text.specs.declared.reader.inner_text.Part.{Part}
 use Rattle.vault_text.specs.declared.reader.inner_text.Part.TheVariants.{Salt, Tag, Cipher}
-use Rattle.vault_text.proofs.HexadecimalFacts.{Decodes-more, Decodes-nothing, Decodes-whole}
+use Rattle.vault_text.proofs.HexadecimalLemmas.{Decodes-more, Decodes-nothing, Decodes-whole}
 
 -- ---- one part
 

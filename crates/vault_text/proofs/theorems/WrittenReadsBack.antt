@@ -13,12 +13,12 @@ use Rattle.vault_text.specs.Laws.{WrittenReadsBack}
 use Rattle.vault_text.specs.Limits.{envelope_limit}
 use Rattle.vault_text.specs.Written.{body_lines, digits_per_line, inner_text, text_of_lines}
 use Rattle.vault_text.specs.Written.{written, written_header}
-use Rattle.vault_text.proofs.BodyFacts.{length-encode_lower, length-inner_text, text_of_lines-cons}
-use Rattle.vault_text.proofs.BodyFacts.{text_of_lines-one}
-use Rattle.vault_text.proofs.CleanText.{before_first-clean, encode_lower-clean, filter-clean}
-use Rattle.vault_text.proofs.WrittenBodyFacts.{body-reads, body_text-short, filter-body_text}
-use Rattle.vault_text.proofs.WrittenHeaderFacts.{header-clean, header-reads, header-short}
-use Rattle.vault_text.proofs.WrittenHeaderFacts.{header-starts}
+use Rattle.vault_text.proofs.WrittenLemmas.{length-encode_lower, length-inner_text}
+use Rattle.vault_text.proofs.WrittenLemmas.{text_of_lines-cons, text_of_lines-one}
+use Rattle.vault_text.proofs.ListLemmas.{before_first-clean, encode_lower-clean, filter-clean}
+use Rattle.vault_text.proofs.theorems.WrittenBody.{body-reads, body_text-short, filter-body_text}
+use Rattle.vault_text.proofs.theorems.WrittenHeader.{header-clean, header-reads, header-short}
+use Rattle.vault_text.proofs.theorems.WrittenHeader.{header-starts}
 
 -- an envelope whose parts are known
 read-known : (limit : ℕ) (input line label digits : List ℕ) (payload : Payload)

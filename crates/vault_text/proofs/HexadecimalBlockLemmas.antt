@@ -16,10 +16,9 @@ use Rattle.std.proofs.lemmas.Nat.{le_or_l, le_or_r, or_lt}
 use Rattle.std.proofs.lemmas.Slice.{take-put_mid}
 use Rattle.hex.specs.Hex.{hex_digit_value, is_hex_digit}
 use Rattle.vault_text.specs.Hexadecimal.{unhex, value_or_invalid}
-use Rattle.vault_text.proofs.DigitFacts.{decoded_next, found_if, hex_digit_value-small}
-use Rattle.vault_text.proofs.HexadecimalFacts.{both_found, byte_of-pair, cons_found}
-use Rattle.vault_text.proofs.HexadecimalFacts.{pair_found, spelled_bytes, unhex-append}
-use Rattle.vault_text.proofs.HexadecimalFacts.{unhex-spelled_bytes}
+use Rattle.vault_text.proofs.HexadecimalDigitLemmas.{decoded_next, found_if, hex_digit_value-small}
+use Rattle.vault_text.proofs.HexadecimalLemmas.{both_found, byte_of-pair, cons_found, pair_found}
+use Rattle.vault_text.proofs.HexadecimalLemmas.{spelled_bytes, unhex-append, unhex-spelled_bytes}
 use borrow.Rule.Slice.PartMut.{post_of, put_mid}
 
 -- ---- the values of digits

@@ -18,9 +18,9 @@ use Rattle.vault_text.specs.Steps.{◌>>=◌}
 use Rattle.vault_text.specs.declared.fault.TextFault.{TextFault}
 use Rattle.vault_text.specs.declared.fault.TextFault.TheVariants.{TooLong, BadHex, BadPayload}
 use Rattle.vault_text.specs.declared.fault.TextFault.TheVariants.{CipherTooLong}
-use Rattle.vault_text.proofs.PayloadFacts.{IfOk-if, IfOk-steps}
-use Rattle.vault_text.proofs.HexadecimalFacts.{byte_of, cons_found, spelled_bytes}
-use Rattle.vault_text.proofs.HexadecimalFacts.{unhex-spelled_bytes}
+use Rattle.vault_text.proofs.EnvelopeLemmas.{IfOk-if, IfOk-steps}
+use Rattle.vault_text.proofs.HexadecimalLemmas.{byte_of, cons_found, spelled_bytes}
+use Rattle.vault_text.proofs.HexadecimalLemmas.{unhex-spelled_bytes}
 
 -- ---- two limits that give one answer
 

@@ -1,26 +1,10 @@
--- One more step of a loop that reads into a buffer or writes out of one.
-use Rattle.std.proofs.Common.{◌≡◌, ℕ, ◌+◌, ◌-◌, ◌≤◌, List, [], ◌++◌, length, take, drop, ap, ◌∙◌}
-use Rattle.std.proofs.Common.{arith, length-append, length-drop, length-take}
-use Rattle.std.proofs.Math.Seq.{take-add, take-append-add}
-use Rattle.std.proofs.lemmas.List.{length-take-le, take-append-le, take-take, take_rest, append-nil}
+-- What a source gave into a buffer, piece by piece.
+use Rattle.std.proofs.Common.{◌≡◌, ℕ, ◌+◌, ◌-◌, ◌≤◌, List, ◌++◌, length, take, drop, ap, ◌∙◌, arith}
+use Rattle.std.proofs.Common.{length-append, length-drop, length-take}
+use Rattle.std.proofs.Math.Seq.{take-append-add}
+use Rattle.std.proofs.lemmas.List.{length-take-le, take-append-le, take-take}
 use borrow.Rule.Slice.PartMut.{put_mid, post_of}
-
--- after `done` bytes, the first n of the rest
-pub taken_next : {S : Type 0} (takes : S → List ℕ → S → Type 0)
-    → ((s t u : S) (xs ys : List ℕ) → takes s xs t → takes t ys u → takes s (xs ++ ys) u)
-    → (s t u : S) (bytes : List ℕ) (done n : ℕ)
-    → takes s (take done bytes) t
-    → takes t (take n (take (length bytes - done) (drop done bytes))) u
-    → takes s (take (done + n) bytes) u
-taken_next takes more s t u bytes done n p q =
-    let rest = rw take_rest at q in
-    rw (take-add done n bytes) (more s t u (take done bytes) (take n (drop done bytes)) p rest)
-
--- nothing more
-pub taken_none : {S : Type 0} (takes : S → List ℕ → S → Type 0)
-    → ((s t u : S) (xs ys : List ℕ) → takes s xs t → takes t ys u → takes s (xs ++ ys) u)
-    → (s t u : S) (xs : List ℕ) → takes s xs t → takes t [] u → takes s xs u
-taken_none takes more s t u xs p q = rw append-nil at (more s t u xs [] p q)
+use Rattle.vault_text.proofs.SinkLemmas.{taken_none}
 
 -- the front of a buffer whose part from `filled` on was written
 pub take-written : (filled n k : ℕ) (old part : List ℕ) → filled ≤ length old → n ≤ length part

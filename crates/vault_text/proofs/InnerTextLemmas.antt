@@ -20,8 +20,7 @@ use Rattle.vault_text.specs.declared.fault.TextFault.{TextFault}
 use Rattle.vault_text.specs.declared.fault.TextFault.TheVariants.{BadPayload, CipherTooLong}
 use Rattle.vault_text.specs.declared.reader.inner_text.Part.{Part}
 use Rattle.vault_text.specs.declared.reader.inner_text.Part.TheVariants.{Salt, Tag, Cipher}
-use Rattle.vault_text.proofs.CleanText.{after_first-clean, before_first-clean}
-use Rattle.vault_text.proofs.LineFacts.{not_true}
+use Rattle.vault_text.proofs.ListLemmas.{after_first-clean, before_first-clean, not_true}
 
 -- ---- the text, cut
 

@@ -1,10 +1,11 @@
 -- What is kept of an envelope, and what it answers at its end.
 use Rattle.std.proofs.Common.{◌≡◌, ℕ, ◌+◌, ◌-◌, ◌^◌, ◌<◌, ◌≤◌, true, false, not, List, [], ◌++◌}
 use Rattle.std.proofs.Common.{length, take, drop, min, Some, None, Result, Ok, Err, refl, sym, ap}
-use Rattle.std.proofs.Common.{◌∙◌, arith, inl, inr, append_assoc, length-append}
-use Rattle.std.specs.Prelude.{if◌then◌else◌, nat_lt, nat_eq, IsOk, OnOk}
-use Rattle.std.specs.List.{starts_with}
-use Rattle.std.proofs.lemmas.Bool.{cases_lt}
+use Rattle.std.proofs.Common.{◌∙◌, arith, inl, inr, append_assoc, length-append, ◌==◌, Bool, ◌∷◌}
+use Rattle.std.proofs.Common.{Option}
+use Rattle.std.specs.Prelude.{if◌then◌else◌, nat_lt, nat_eq, IsOk, OnOk, IfSome}
+use Rattle.std.specs.List.{starts_with, list_all}
+use Rattle.std.proofs.lemmas.Bool.{cases_lt, cases_Bool, eqb-true}
 use Rattle.std.proofs.lemmas.Bool.Decides.{nat_tests}
 use Rattle.std.proofs.lemmas.List.{append-nil, drop-append-le, drop-drop, drop_all, drop_at}
 use Rattle.std.proofs.lemmas.List.{take-append-le, take-append-drop, length-take}
@@ -14,17 +15,21 @@ use Rattle.vault_text.specs.Envelope.{without_line_ends}
 use Rattle.vault_text.specs.EnvelopeReader.{BodyHas, BodyState, IsKept, LineHas, LineState}
 use Rattle.vault_text.specs.EnvelopeReader.{ReaderState, StandsFor}
 use Rattle.vault_text.specs.Header.{header_line, is_line_end, marker, read_header}
-use Rattle.vault_text.specs.Hexadecimal.{DecoderState, Decodes, new_decoder, unhex_on}
+use Rattle.vault_text.specs.Hexadecimal.{DecoderState, Decodes, new_decoder, unhex_on, unhex}
 use Rattle.vault_text.specs.InnerReader.{InnerHas, InnerState}
 use Rattle.vault_text.specs.Limits.{ciphertext_limit, envelope_limit}
-use Rattle.vault_text.specs.Pieces.{TakesPiece}
+use Rattle.vault_text.specs.Pieces.{TakesPiece, TakesUpTo}
 use Rattle.vault_text.specs.Steps.{◌>>=◌}
 use Rattle.vault_text.specs.declared.limits.TheConstants.{HEADER_LIMIT, PLAINTEXT_LIMIT}
 use Rattle.vault_text.specs.declared.fault.TextFault.{TextFault}
 use Rattle.vault_text.specs.declared.fault.TextFault.TheVariants.{TooLong, BadHex, NotVault}
-use Rattle.vault_text.proofs.HexadecimalFacts.{Decodes-more, Decodes-whole}
-use Rattle.vault_text.proofs.LineEndFacts.{header_line-ended, header_line-goes_on}
-use Rattle.vault_text.proofs.LineEndFacts.{header_line-whole, starts_with-header_line}
+use Rattle.hex.specs.Hex.{hex_digit_value}
+use Rattle.vault_text.proofs.HexadecimalLemmas.{Decodes-more, Decodes-whole, byte_of, byte_of-pair}
+use Rattle.vault_text.proofs.HexadecimalLemmas.{cons_found, pair_found, spelled_bytes}
+use Rattle.vault_text.proofs.HexadecimalLemmas.{unhex-spelled_bytes}
+use Rattle.vault_text.proofs.HeaderLemmas.{header_line-ended, header_line-goes_on}
+use Rattle.vault_text.proofs.HeaderLemmas.{header_line-whole, starts_with-header_line}
+use Rattle.vault_text.proofs.ListLemmas.{filter-clean}
 
 -- ---- the header line
 
@@ -217,3 +222,63 @@ read-short reader input stands short =
 pub on_ok : {T E P : Type 0} (r : Result T E) → IsOk r → OnOk r P → P
 on_ok (Ok x) ok holds = holds
 on_ok (Err e) ok holds = cc
+
+-- ---- digits are no line ends
+
+line_end-is_no_digit : (b : ℕ) → is_line_end b ≡ true → hex_digit_value b ≡ None
+line_end-is_no_digit b end =
+    elim (cases_Bool (b == 10)) [
+      | inl feed ↦ rw (eqb-true b 10 feed) refl
+      | inr other ↦
+          let return : (b == 13) ≡ true = rw other at end in
+          rw (eqb-true b 13 return) refl
+    ]
+
+pair_found-none : (high : Option ℕ) → pair_found high None ≡ None
+pair_found-none (Some h) = refl
+pair_found-none None = refl
+
+cons_found-clean : (byte : Option ℕ) (bytes : Option (List ℕ)) (clean rest : Bool) → clean ≡ true
+    → IfSome bytes (λ found. rest ≡ true) → IfSome (cons_found byte bytes) (λ found. rest ≡ true)
+cons_found-clean None bytes clean rest e later = tt
+cons_found-clean (Some byte) None clean rest e later = tt
+cons_found-clean (Some byte) (Some bytes) clean rest e later = later
+
+spelled_bytes-clean : (text : List ℕ)
+    → IfSome (spelled_bytes text) (λ found. list_all (λ b. not (is_line_end b)) text ≡ true)
+spelled_bytes-clean [] = refl
+spelled_bytes-clean (digit ∷ []) = tt
+spelled_bytes-clean (high ∷ low ∷ rest) =
+    elim (cases_Bool (is_line_end high)) [
+      | inl end ↦ rw (byte_of-pair high low, line_end-is_no_digit high end) tt
+      | inr first ↦
+          elim (cases_Bool (is_line_end low)) [
+            | inl end ↦
+                rw (
+                  byte_of-pair high low,
+                  line_end-is_no_digit low end,
+                  pair_found-none (hex_digit_value high),
+                ) tt
+            | inr second ↦
+                rw (first, second) (cons_found-clean (byte_of high low) (spelled_bytes rest) true _
+                refl (spelled_bytes-clean rest))
+          ]
+    ]
+
+-- text that spells bytes has no line ends
+without_line_ends-digits : (digits bytes : List ℕ) → unhex digits ≡ Some bytes
+    → without_line_ends digits ≡ digits
+without_line_ends-digits digits bytes spelled =
+    let found : spelled_bytes digits ≡ Some bytes = rw (unhex-spelled_bytes digits) at spelled in
+    filter-clean (λ b. not (is_line_end b)) digits (rw found at (spelled_bytes-clean digits))
+
+-- ---- the body
+
+-- the front of a text, which spells bytes
+pub TakesUpTo-whole_line : (limit : ℕ) (old new : BodyState) (text line rest bytes : List ℕ)
+    → unhex line ≡ Some bytes
+    → TakesPiece (BodyHas limit) old line new → line ++ rest ≡ text
+    → TakesUpTo (BodyHas limit) old (without_line_ends text) (without_line_ends rest) new
+TakesUpTo-whole_line limit old new text line rest bytes spelled taken cut =
+    let clean = without_line_ends-digits line bytes spelled in
+    (line, rw (← cut, filter-append (λ b. not (is_line_end b)) line rest, clean) refl, taken)

@@ -10,7 +10,7 @@ use Rattle.vault_kdf.specs.declared.keys.Keys.{Keys}
 use Rattle.vault_text.specs.Envelope.{Payload, read_within}
 use Rattle.vault_text.specs.Limits.{ciphertext_limit}
 use Rattle.vault_text.specs.declared.fault.TextFault.{TextFault}
-use Rattle.vault_text.proofs.PayloadFacts.{HasFittingCipher, read_within-fits}
+use Rattle.vault_text.proofs.EnvelopeLemmas.{HasFittingCipher, read_within-fits}
 use Rattle.vault_core.specs.Agreement.{agrees, keys_of}
 use Rattle.vault_core.specs.Decryption.{decryption, payload_of}
 use Rattle.vault_common.specs.Fault.{of_text}
@@ -19,7 +19,7 @@ use Rattle.vault_core.specs.Opening.{deciphered_by, opening, plaintext_of}
 use Rattle.vault_aes.specs.Padding.{padded_length}
 use Rattle.vault_core.specs.Ready.{Ready}
 use Rattle.vault_core.specs.Secrets.{Secret, SecretList, tried_order}
-use Rattle.vault_core.proofs.ByteLemmas.{counter_mode-bytes, take-bytes}
+use Rattle.vault_core.proofs.SealingByteLemmas.{counter_mode-bytes, take-bytes}
 use Rattle.vault_core.proofs.DecryptionLemmas.{decryption-Err, decryption-Ok}
 use Rattle.vault_core.proofs.OpeningLemmas.{opening-bad_padding, opening-no_secret, opening-plain}
 

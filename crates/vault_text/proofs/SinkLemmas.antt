@@ -1,7 +1,25 @@
--- What a sink took of two texts, of which the second was written after the first.
-use Rattle.std.proofs.Common.{◌≡◌, ℕ, ◌+◌, List, ◌++◌, length, take, min, arith, ◌∙◌}
-use Rattle.std.proofs.Math.Seq.{take-append-add}
-use Rattle.std.proofs.lemmas.List.{take_min, take-append-le}
+-- What a sink took, or a source gave, of one text after another.
+use Rattle.std.proofs.Common.{◌≡◌, ℕ, ◌+◌, ◌-◌, ◌≤◌, List, [], ◌++◌, length, take, drop, ◌∙◌, arith}
+use Rattle.std.proofs.Common.{min}
+use Rattle.std.proofs.Math.Seq.{take-add, take-append-add}
+use Rattle.std.proofs.lemmas.List.{take-append-le, take_rest, append-nil, take_min}
+
+-- after `done` bytes, the first n of the rest
+pub taken_next : {S : Type 0} (takes : S → List ℕ → S → Type 0)
+    → ((s t u : S) (xs ys : List ℕ) → takes s xs t → takes t ys u → takes s (xs ++ ys) u)
+    → (s t u : S) (bytes : List ℕ) (done n : ℕ)
+    → takes s (take done bytes) t
+    → takes t (take n (take (length bytes - done) (drop done bytes))) u
+    → takes s (take (done + n) bytes) u
+taken_next takes more s t u bytes done n p q =
+    let rest = rw take_rest at q in
+    rw (take-add done n bytes) (more s t u (take done bytes) (take n (drop done bytes)) p rest)
+
+-- nothing more
+pub taken_none : {S : Type 0} (takes : S → List ℕ → S → Type 0)
+    → ((s t u : S) (xs ys : List ℕ) → takes s xs t → takes t ys u → takes s (xs ++ ys) u)
+    → (s t u : S) (xs : List ℕ) → takes s xs t → takes t [] u → takes s xs u
+taken_none takes more s t u xs p q = rw append-nil at (more s t u xs [] p q)
 
 -- a prefix of the first text is one of both
 pub prefix_first : {S : Type 0} (takes : S → List ℕ → S → Type 0) (s t : S) (xs ys whole : List ℕ)

@@ -12,8 +12,8 @@ use Rattle.std.proofs.lemmas.Nat.{or_shifted}
 use Rattle.hex.specs.Hex.{decode_pairs, decode_sized, digit_or_error, hex_digit_value, ◌>>=◌}
 use Rattle.hex.specs.declared.error.FromHexError.{FromHexError}
 use Rattle.vault_text.specs.Hexadecimal.{unhex}
-use Rattle.vault_text.proofs.HexadecimalFacts.{both_found, byte_of-pair, cons_found, pair_found}
-use Rattle.vault_text.proofs.HexadecimalFacts.{unhex-append, unhex-spelled_bytes}
+use Rattle.vault_text.proofs.HexadecimalLemmas.{both_found, byte_of-pair, cons_found, pair_found}
+use Rattle.vault_text.proofs.HexadecimalLemmas.{unhex-append, unhex-spelled_bytes}
 
 -- ---- one digit
 

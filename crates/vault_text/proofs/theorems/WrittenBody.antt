@@ -19,9 +19,9 @@ use Rattle.vault_text.specs.InnerText.{Parts, cut, is_line_feed, parts_of}
 use Rattle.vault_text.specs.Limits.{ciphertext_limit}
 use Rattle.vault_text.specs.declared.limits.TheConstants.{SALT_LIMIT, TAG_LENGTH}
 use Rattle.vault_text.specs.Written.{body_lines, inner_text, text_of_lines}
-use Rattle.vault_text.proofs.BodyFacts.{body_text-nil, body_text-step}
-use Rattle.vault_text.proofs.CleanText.{encode_lower-clean}
-use Rattle.vault_text.proofs.PartsFacts.{cut-lines}
+use Rattle.vault_text.proofs.WrittenLemmas.{body_text-nil, body_text-step}
+use Rattle.vault_text.proofs.ListLemmas.{encode_lower-clean}
+use Rattle.vault_text.proofs.InnerTextLemmas.{cut-lines}
 
 -- ---- lines
 

@@ -8,14 +8,14 @@ use Rattle.vault_text.specs.Envelope.{Payload}
 use Rattle.vault_text.specs.Label.{is_label}
 use Rattle.vault_text.specs.Limits.{ciphertext_limit}
 use Rattle.vault_text.specs.declared.limits.TheConstants.{SALT_LIMIT, TAG_LENGTH}
-use Rattle.vault_text.proofs.WrittenReadsBack.{written_reads_back}
+use Rattle.vault_text.proofs.theorems.WrittenReadsBack.{written_reads_back}
 use Rattle.vault_core.specs.Decryption.{payload_of}
 use Rattle.vault_common.specs.Fault.{of_text}
 use Rattle.vault_core.specs.Laws.{IsBytes, SealedReadsBack}
 use Rattle.vault_aes.specs.Padding.{padded_length}
 use Rattle.vault_core.specs.Sealing.{sealed}
 use Rattle.vault_core.specs.Secrets.{Secret}
-use Rattle.vault_core.proofs.ByteLemmas.{counter_mode-bytes, padded-bytes}
+use Rattle.vault_core.proofs.SealingByteLemmas.{counter_mode-bytes, padded-bytes}
 use Rattle.vault_core.proofs.SealingLemmas.{label-sealed, salt-sealed, text_in-Envelope}
 
 module _ (sealing : Secret) (salt plain : List ℕ) where

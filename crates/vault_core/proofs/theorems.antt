@@ -1,0 +1,4 @@
+pub mod RoundTrips
+pub mod SealedOpens
+pub mod SealedReadsBack
+pub mod ShortInputs

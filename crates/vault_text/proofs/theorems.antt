@@ -1,0 +1,5 @@
+pub mod LargerLimits
+pub mod WrittenBody
+pub mod WrittenHeader
+pub mod WrittenReadsBack
+pub mod WrittenVectors
