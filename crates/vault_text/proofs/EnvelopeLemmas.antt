@@ -89,4 +89,4 @@ unfolding read_within
 read_within-fits limit input =
     IfOk-unless (nat_lt (envelope_limit limit) (length input)) TooLong _ (HasFittingCipher limit) (
     IfOk-steps (read_head input) _ (HasFittingCipher limit)
-    (λ label _. read_body-fits limit label (body input)))
+    (λ header _. read_body-fits limit header.label (body input)))

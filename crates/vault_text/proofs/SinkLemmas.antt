@@ -16,13 +16,14 @@ taken_next takes more s t u bytes done n p q =
     rw (take-add done n bytes) (more s t u (take done bytes) (take n (drop done bytes)) p rest)
 
 -- nothing more
-pub taken_none : {S : Type 0} (takes : S → List ℕ → S → Type 0)
-    → ((s t u : S) (xs ys : List ℕ) → takes s xs t → takes t ys u → takes s (xs ++ ys) u)
-    → (s t u : S) (xs : List ℕ) → takes s xs t → takes t [] u → takes s xs u
+pub taken_none : {A S : Type 0} (takes : S → List A → S → Type 0)
+    → ((s t u : S) (xs ys : List A) → takes s xs t → takes t ys u → takes s (xs ++ ys) u)
+    → (s t u : S) (xs : List A) → takes s xs t → takes t [] u → takes s xs u
 taken_none takes more s t u xs p q = rw append-nil at (more s t u xs [] p q)
 
 -- a prefix of the first text is one of both
-pub prefix_first : {S : Type 0} (takes : S → List ℕ → S → Type 0) (s t : S) (xs ys whole : List ℕ)
+pub prefix_first : {A S : Type 0} (takes : S → List A → S → Type 0) (s t : S)
+    (xs ys whole : List A)
     → xs ++ ys ≡ whole → (n : ℕ) × takes s (take n xs) t → (n : ℕ) × takes s (take n whole) t
 prefix_first takes s t xs ys whole e (n, p) =
     let front : take (min n (length xs)) (xs ++ ys) ≡ take n xs =
@@ -30,9 +31,9 @@ prefix_first takes s t xs ys whole e (n, p) =
     (min n (length xs), rw (← e) (rw front p))
 
 -- the first text and a prefix of the second
-pub prefix_second : {S : Type 0} (takes : S → List ℕ → S → Type 0)
-    → ((s t u : S) (xs ys : List ℕ) → takes s xs t → takes t ys u → takes s (xs ++ ys) u)
-    → (s t u : S) (xs ys whole : List ℕ) → xs ++ ys ≡ whole → takes s xs t
+pub prefix_second : {A S : Type 0} (takes : S → List A → S → Type 0)
+    → ((s t u : S) (xs ys : List A) → takes s xs t → takes t ys u → takes s (xs ++ ys) u)
+    → (s t u : S) (xs ys whole : List A) → xs ++ ys ≡ whole → takes s xs t
     → (n : ℕ) × takes t (take n ys) u → (n : ℕ) × takes s (take n whole) u
 prefix_second takes more s t u xs ys whole e p (n, q) =
     (length xs + n, rw (← e) (rw (take-append-add xs ys n) (more s t u xs (take n ys) p q)))

@@ -4,15 +4,48 @@ ghost use Rattle.std.specs.Prelude.{◌≡◌, ◌==◌, ◌≤◌, [], ◌∷�
 ghost use Rattle.std.specs.Prelude.{IfSome, IfNone};
 ghost use Rattle.std.specs.List.{before_first, list_all, position_or_len, slice_split};
 ghost use Rattle.vault_text.specs.Header.{field, header_line, is_ascii, is_cipher, is_line_end};
-ghost use Rattle.vault_text.specs.Header.{is_version, parts_of_line, read_header};
+ghost use Rattle.vault_text.specs.Header.{parts_of_line, read_header, version_of};
 
 use crate::fault::TextFault;
 use crate::label::Label;
 use crate::limits::HEADER_LIMIT;
 use crate::whitespace::strip;
+use std::marker::Model;
 
 /// What every vault begins with.
 pub const MARKER: &[u8; 14] = b"$ANSIBLE_VAULT";
+
+/// A version of the payload format.
+#[derive(Clone, Copy)]
+pub(crate) enum Version {
+    V1_1,
+    V1_2,
+}
+
+/// What a header line says.
+#[derive(Drop)]
+pub(crate) struct Header {
+    version: Version,
+    label: Label,
+}
+
+impl Model for Header {
+    ghost use Rattle.vault_text.specs.Header.{Header};
+
+    ghost Value = { Header };
+
+    ghost view = { λ h. record { version = h.version; label = h.label } };
+}
+
+impl Header {
+    /// The label that the line names, `default` where it names none.
+    pub(crate) fn into_label(self) -> Label
+        ensures { result ≡ self.label }
+    {
+        let Header { version: _, label } = self;
+        label
+    }
+}
 
 /// The fields of a header line that are read, without whitespace at their ends. The label is empty
 /// where the line has none.
@@ -100,10 +133,17 @@ fn is_ascii(line: &[u8]) -> bool
     line.iter().all(|byte| *byte < 128)
 }
 
-fn is_version(field: &[u8]) -> bool
-    ensures { result ≡ is_version field.now }
+/// The version that a field names.
+fn version_of(field: &[u8]) -> Option<Version>
+    ensures { result ≡ version_of field.now }
 {
-    field == b"1.1".as_slice() || field == b"1.2".as_slice()
+    if field == b"1.1".as_slice() {
+        Some(Version::V1_1)
+    } else if field == b"1.2".as_slice() {
+        Some(Version::V1_2)
+    } else {
+        None
+    }
 }
 
 fn is_cipher(field: &[u8]) -> bool
@@ -112,9 +152,9 @@ fn is_cipher(field: &[u8]) -> bool
     field == b"AES256".as_slice()
 }
 
-/// The label of a header line, given without its line end.
+/// What a header line says, given without its line end.
 #[tactic(auto, unfolding(crate::specs::Header::read_header))]
-pub(crate) fn read_header(line: &[u8]) -> Result<Label, TextFault>
+pub(crate) fn read_header(line: &[u8]) -> Result<Header, TextFault>
     ensures { result ≡ read_header line.now }
 {
     if line.len() > HEADER_LIMIT {
@@ -129,11 +169,11 @@ pub(crate) fn read_header(line: &[u8]) -> Result<Label, TextFault>
     let Some(label) = Label::named_by_bytes(fields.label) else {
         return Err(TextFault::BadHeader);
     };
-    if !is_version(fields.version) {
+    let Some(version) = version_of(fields.version) else {
         return Err(TextFault::BadVersion);
-    }
+    };
     if !is_cipher(fields.cipher) {
         return Err(TextFault::BadCipher);
     }
-    Ok(label)
+    Ok(Header { version, label })
 }

@@ -114,7 +114,7 @@ impl<'a> EnvelopeReader<'a> {
         if fed > envelope_limit(limit) {
             return Err(TextFault::TooLong);
         }
-        let label = line.finish()?;
-        body.finish(label)
+        let header = line.finish()?;
+        body.finish(header.into_label())
     }
 }

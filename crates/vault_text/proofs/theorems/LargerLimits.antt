@@ -9,7 +9,7 @@ use Rattle.std.proofs.lemmas.Bool.{cases_Bool}
 use Rattle.std.proofs.lemmas.Bool.Decides.{nat_tests}
 use Rattle.std.proofs.lemmas.List.Sums.{count_by-le-length, length-filter}
 use Rattle.vault_text.specs.Envelope.{Payload, body, read_body, read_head, read_within}
-use Rattle.vault_text.specs.Header.{header_line, is_line_end}
+use Rattle.vault_text.specs.Header.{Header, header_line, is_line_end}
 use Rattle.vault_text.specs.Hexadecimal.{unhex}
 use Rattle.vault_text.specs.InnerText.{Parts, cut, is_line_feed, part_bytes, parts_of}
 use Rattle.vault_text.specs.Laws.{LargerLimits, ShortInputs}
@@ -55,8 +55,8 @@ read_body-same smaller larger label digits same =
 -- an envelope whose body has one answer
 read_within-same : (smaller larger : ℕ) (input : List ℕ)
     → nat_lt (envelope_limit smaller) (length input) ≡ false → smaller ≤ larger
-    → ((label : List ℕ) → read_head input ≡ Ok label
-    → read_body larger label (body input) ≡ read_body smaller label (body input))
+    → ((header : Header) → read_head input ≡ Ok header
+    → read_body larger header.label (body input) ≡ read_body smaller header.label (body input))
     → read_within larger input ≡ read_within smaller input
 unfolding read_within
 read_within-same smaller larger input short more same =
@@ -71,11 +71,11 @@ read_within-long : (limit : ℕ) (input : List ℕ)
 unfolding read_within
 read_within-long limit input long = rw long refl
 
-read_within-body : (limit : ℕ) (input label : List ℕ)
-    → nat_lt (envelope_limit limit) (length input) ≡ false
-    → read_head input ≡ Ok label → read_within limit input ≡ read_body limit label (body input)
+read_within-body : (limit : ℕ) (input : List ℕ) (header : Header)
+    → nat_lt (envelope_limit limit) (length input) ≡ false → read_head input ≡ Ok header
+    → read_within limit input ≡ read_body limit header.label (body input)
 unfolding read_within
-read_within-body limit input label short names = rw (short, names) refl
+read_within-body limit input header short names = rw (short, names) refl
 
 read_body-long : (limit : ℕ) (label digits inner : List ℕ) (parts : Parts)
     → unhex digits ≡ Some inner → parts_of inner ≡ Ok parts
@@ -109,9 +109,9 @@ larger_limits smaller larger input more not_long fits =
     elim (cases_Bool (nat_lt (envelope_limit smaller) (length input))) [
       | inl long ↦ absurd (not_long (read_within-long smaller input long))
       | inr short ↦
-          read_within-same smaller larger input short more (λ label names.
-          read_body-larger smaller larger label (body input) more (λ refused.
-          fits (read_within-body smaller input label short names ∙ refused)))
+          read_within-same smaller larger input short more (λ header names.
+          read_body-larger smaller larger header.label (body input) more (λ refused.
+          fits (read_within-body smaller input header short names ∙ refused)))
     ]
 
 -- ---- a short input
@@ -187,5 +187,5 @@ pub short_inputs : ShortInputs
 short_inputs smaller larger input few more =
     let short : nat_lt (envelope_limit smaller) (length input) ≡ false = grind (arith, nat_tests) in
     let body_few = body-short input in
-    read_within-same smaller larger input short more (λ label names.
-    read_body-short smaller larger label (body input) (omega arith) more)
+    read_within-same smaller larger input short more (λ header names.
+    read_body-short smaller larger header.label (body input) (omega arith) more)

@@ -1,8 +1,8 @@
 -- What is read in a header line that was written.
 use Rattle.std.proofs.Common.{◌≡◌, ℕ, ◌-◌, ◌<◌, ◌≤◌, ◌==◌, Bool, true, false, not, List, [], ◌∷◌}
-use Rattle.std.proofs.Common.{◌++◌, length, get_or, codes, inl, inr, arith, refl, Ok}
+use Rattle.std.proofs.Common.{◌++◌, length, get_or, codes, inl, inr, arith, refl, Ok, Some}
 use Rattle.std.specs.List.{list_all, slice_split, starts_with, suffix_len}
-use Rattle.std.specs.Prelude.{nat_eq, nat_le, nat_lt}
+use Rattle.std.specs.Prelude.{if◌then◌else◌, nat_eq, nat_le, nat_lt}
 use Rattle.std.specs.Str.{bytes_eq}
 use Rattle.std.proofs.lemmas.Bool.{and_parts, cases_Bool, leb-true, lt-leb, not-true}
 use Rattle.std.proofs.lemmas.Bool.Decides.{nat_tests}
@@ -12,8 +12,10 @@ use Rattle.std.proofs.lemmas.List.Splits.{slice_split_none}
 use Rattle.std.proofs.lemmas.List.Sums.{AllPass-from_list_all, prefix_len_is, suffix_len_is}
 use Rattle.std.proofs.lemmas.List.{take_all}
 use Rattle.std.proofs.lemmas.Slice.Eq.{bytes_eq-Decides}
-use Rattle.vault_text.specs.Header.{field, is_ascii, is_cipher, is_line_end, is_version, label_of}
-use Rattle.vault_text.specs.Header.{marker, parts_of_line, read_header}
+use Rattle.vault_text.specs.Header.{field, is_ascii, is_cipher, is_line_end, label_of}
+use Rattle.vault_text.specs.Header.{marker, parts_of_line, read_header, version_of}
+use Rattle.vault_text.specs.declared.header.Version.{Version}
+use Rattle.vault_text.specs.declared.header.Version.TheVariants.{V1_1, V1_2}
 use Rattle.vault_text.specs.Label.{default_label, is_label, is_label_character}
 use Rattle.vault_text.specs.Whitespace.{is_whitespace, strip}
 use Rattle.vault_text.specs.Written.{written_header}
@@ -138,31 +140,33 @@ header-starts label rest =
 -- ---- reading
 
 -- a header line whose fields are known
-read_header-fields : (line label : List ℕ) → nat_lt 256 (length line) ≡ false
+read_header-fields : (line label : List ℕ) (version : Version) → nat_lt 256 (length line) ≡ false
     → list_all is_ascii line ≡ true
     → nat_le 3 (length (parts_of_line line)) ≡ true → label_of line ≡ label → is_label label ≡ true
-    → is_version (field 1 line) ≡ true → is_cipher (field 2 line) ≡ true
-    → read_header line ≡ Ok label
+    → version_of (field 1 line) ≡ Some version → is_cipher (field 2 line) ≡ true
+    → read_header line ≡ Ok (record { version = version; label = label })
 unfolding read_header
-read_header-fields line label short ascii enough names good version cipher =
-    rw (short, ascii, enough, names, good, version, cipher) refl
+read_header-fields line label version short ascii enough names good known cipher =
+    rw (short, ascii, enough, names, good, known, cipher) refl
 
 -- a header line of format 1.2 whose parts are known
 read_header-parts : (line label : List ℕ) → nat_lt 256 (length line) ≡ false
     → list_all is_ascii line ≡ true
     → parts_of_line line ≡ codes "$ANSIBLE_VAULT" ∷ codes "1.2" ∷ codes "AES256" ∷ label ∷ []
     → strip label ≡ label → (length label == 0) ≡ false → is_label label ≡ true
-    → read_header line ≡ Ok label
+    → read_header line ≡ Ok (record { version = V1_2; label = label })
 read_header-parts line label short ascii parts stripped filled good =
-    read_header-fields line label short ascii (rw parts refl) (rw (parts, stripped, filled) refl)
+    read_header-fields line label V1_2 short ascii (rw parts refl) (rw (parts, stripped, filled) refl)
     good (rw parts refl) (rw parts refl)
 
-read_header-default : read_header (codes "$ANSIBLE_VAULT;1.1;AES256") ≡ Ok default_label
+read_header-default : read_header (codes "$ANSIBLE_VAULT;1.1;AES256")
+    ≡ Ok (record { version = V1_1; label = default_label })
 unfolding read_header
 read_header-default = refl
 
 read_header-labelled : (label : List ℕ) → is_label label ≡ true
-    → read_header (codes "$ANSIBLE_VAULT;1.2;AES256;" ++ label) ≡ Ok label
+    → read_header (codes "$ANSIBLE_VAULT;1.2;AES256;" ++ label)
+    ≡ Ok (record { version = V1_2; label = label })
 read_header-labelled label good =
     let known = label_parts label good in
     let few = known.short in
@@ -177,12 +181,17 @@ read_header-labelled label good =
     (characters-pass is_ascii character-ascii label known.characters) parts
     (strip-label label known) filled good
 
+-- the version of the format in which a label is written
+abbrev pub written_version : List ℕ → Version
+written_version label = if bytes_eq label default_label then V1_1 else V1_2
+
 pub header-reads : (label : List ℕ) → is_label label ≡ true
-    → read_header (written_header label) ≡ Ok label
+    → read_header (written_header label)
+    ≡ Ok (record { version = written_version label; label = label })
 header-reads label good =
     elim (cases_Bool (bytes_eq label default_label)) [
       | inl same ↦
-          rw (header-default label same, (bytes_eq-Decides label default_label).0 same)
+          rw (header-default label same, same, (bytes_eq-Decides label default_label).0 same)
           read_header-default
-      | inr other ↦ rw (header-labelled label other) (read_header-labelled label good)
+      | inr other ↦ rw (header-labelled label other, other) (read_header-labelled label good)
     ]

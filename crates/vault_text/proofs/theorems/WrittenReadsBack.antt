@@ -8,7 +8,7 @@ use Rattle.std.proofs.lemmas.Bool.{lt-leb}
 use Rattle.std.proofs.lemmas.List.{drop_at}
 use Rattle.hex.specs.Hex.{encode_lower}
 use Rattle.vault_text.specs.Envelope.{Payload, body, read_body, read_within}
-use Rattle.vault_text.specs.Header.{header_line, is_line_end, marker, read_header}
+use Rattle.vault_text.specs.Header.{Header, header_line, is_line_end, marker, read_header}
 use Rattle.vault_text.specs.Laws.{WrittenReadsBack}
 use Rattle.vault_text.specs.Limits.{envelope_limit}
 use Rattle.vault_text.specs.Written.{body_lines, digits_per_line, inner_text, text_of_lines}
@@ -21,12 +21,12 @@ use Rattle.vault_text.proofs.theorems.WrittenHeader.{header-clean, header-reads,
 use Rattle.vault_text.proofs.theorems.WrittenHeader.{header-starts}
 
 -- an envelope whose parts are known
-read-known : (limit : ℕ) (input line label digits : List ℕ) (payload : Payload)
+read-known : (limit : ℕ) (input line digits : List ℕ) (header : Header) (payload : Payload)
     → nat_lt (envelope_limit limit) (length input) ≡ false → starts_with nat_eq input marker ≡ true
-    → body input ≡ digits → header_line input ≡ line → read_header line ≡ Ok label
-    → read_body limit label digits ≡ Ok payload → read_within limit input ≡ Ok payload
+    → body input ≡ digits → header_line input ≡ line → read_header line ≡ Ok header
+    → read_body limit header.label digits ≡ Ok payload → read_within limit input ≡ Ok payload
 unfolding read_within
-read-known limit input line label digits payload short starts spells at names known =
+read-known limit input line digits header payload short starts spells at names known =
     rw (short, starts, spells, at, names) known
 
 -- the header line, its end, and the lines of the body
@@ -64,7 +64,7 @@ written_reads_back limit label salt tag cipher good salt_bytes salt_short tag_by
     ∙ filter-body_text p refl count digits few
     ∙ filter-clean p digits (encode_lower-clean p refl refl inner) in
     rw (written-parts label salt tag cipher)
-    (read-known limit input line label digits _ (lt-leb _ _ (omega arith))
+    (read-known limit input line digits _ _ (lt-leb _ _ (omega arith))
     (header-starts label (10 ∷ text)) spells
     at (header-reads label good)
     (body-reads limit label salt tag cipher salt_bytes salt_short tag_bytes tag_whole cipher_bytes
