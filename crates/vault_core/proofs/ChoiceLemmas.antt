@@ -49,7 +49,7 @@ found-within secrets label index (Some at) known is =
     let empty : Secret = record { label = []; password = [] } in
     rw same at ((position-Some (has_label label) secrets at empty known).0)
 
-chosen_index-within : (secrets : List Secret) (label : Option (List ℕ)) (index : ℕ)
+pub chosen_index-within : (secrets : List Secret) (label : Option (List ℕ)) (index : ℕ)
     → chosen_index secrets label ≡ Ok index → index < length secrets
 unfolding chosen_index
 chosen_index-within [] label index is = absurd cc

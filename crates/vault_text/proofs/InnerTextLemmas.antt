@@ -98,7 +98,7 @@ payload_of room label salt tag cipher = (do
 -- the bytes of a ciphertext, by what its digits spell
 abbrev within : ℕ → Option (List ℕ) → Result (List ℕ) TextFault
 within room spelled = ok_or spelled BadPayload >>= (λ bytes.
-  if nat_lt room (length bytes) then Err CipherTooLong else Ok bytes)
+    if nat_lt room (length bytes) then Err CipherTooLong else Ok bytes)
 
 module _ (limit : ℕ) (label : List ℕ) where
   abbrev room : ℕ

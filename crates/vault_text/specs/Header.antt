@@ -1,7 +1,8 @@
 -- The header line of an envelope, with semicolons between its fields: one that begins with
 -- `$ANSIBLE_VAULT`, the version, the cipher and perhaps a label. Later fields are ignored.
 use Rattle.std.specs.Prelude.{ℕ, ◌==◌, ◌&&◌, ◌||◌, nat_lt, nat_le, not, Bool, if◌then◌else◌, List}
-use Rattle.std.specs.Prelude.{[], length, slice_index_or, codes, Option, Some, None, Result, Ok, Err}
+use Rattle.std.specs.Prelude.{[], length, slice_index_or, codes, Option, Some, None, Result, Ok}
+use Rattle.std.specs.Prelude.{Err}
 use Rattle.std.specs.List.{list_all, slice_split, before_first}
 use Rattle.std.specs.Option.{ok_or}
 use Rattle.std.specs.Str.{bytes_eq}

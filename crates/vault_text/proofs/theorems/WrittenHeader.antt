@@ -156,8 +156,8 @@ read_header-parts : (line label : List ℕ) → nat_lt 256 (length line) ≡ fal
     → strip label ≡ label → (length label == 0) ≡ false → is_label label ≡ true
     → read_header line ≡ Ok (record { version = V1_2; label = label })
 read_header-parts line label short ascii parts stripped filled good =
-    read_header-fields line label V1_2 short ascii (rw parts refl) (rw (parts, stripped, filled) refl)
-    good (rw parts refl) (rw parts refl)
+    read_header-fields line label V1_2 short ascii (rw parts refl)
+    (rw (parts, stripped, filled) refl) good (rw parts refl) (rw parts refl)
 
 read_header-default : read_header (codes "$ANSIBLE_VAULT;1.1;AES256")
     ≡ Ok (record { version = V1_1; label = default_label })

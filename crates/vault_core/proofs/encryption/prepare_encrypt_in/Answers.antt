@@ -3,7 +3,8 @@ use Rattle.std.proofs.lemmas.Result.{err_from_is_err_and}
 use Rattle.vault_text.specs.Limits.{limit_of}
 use Rattle.vault_core.specs.Form.{form_of}
 use Rattle.vault_core.proofs.DecryptionLemmas.{UnlessUnreadable-from}
-use Rattle.vault_core.proofs.EncryptionLemmas.{encryption-is_no_read, encryption-refused, fits-within}
+use Rattle.vault_core.proofs.EncryptionLemmas.{encryption-is_no_read, encryption-refused}
+use Rattle.vault_core.proofs.EncryptionLemmas.{fits-within}
 use Rattle.vault_core.proofs.encryption.prepare_encrypt_in.Goals as goal
 
 pub returns-in_err-read_plaintext-clause-answer : goal.returns-in_err-read_plaintext-clause-answer
