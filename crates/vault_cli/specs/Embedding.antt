@@ -1,6 +1,7 @@
 -- How the program ends over files, an input and sinks in memory: what each holds afterwards.
 use Rattle.std.specs.Prelude.{◌≡◌, ◌⊎◌, ℕ, ◌+◌, if◌then◌else◌, List, [], ◌∷◌, ◌++◌, take, drop}
 use Rattle.std.specs.Prelude.{Option, Some, None, IfSome}
+use Rattle.clap.specs.Words.{Text}
 use Rattle.vault_text.specs.Failures.{HasRisen}
 use Rattle.vault_text.specs.Sink.{MemSinkState}
 use Rattle.vault_text.specs.Source as source
@@ -9,10 +10,16 @@ use Rattle.vault_files.specs.File.{Finding}
 use Rattle.vault_files.specs.File.Finding.{Whole}
 use Rattle.vault_files.specs.Memory.{StoreState, file_at, is_aimed_at, stands_at}
 use Rattle.vault_common.specs.declared.fault.Fault.TheVariants.{Memory, Write}
+use Rattle.vault_request.specs.Settled.{asked_by}
+use Rattle.vault_cli.specs.Program.{Files, files_in}
 use Rattle.vault_cli.specs.runs.ReportLine.{line_of}
 use Rattle.vault_cli.specs.runs.Outcome.{Outcome}
 use Rattle.vault_cli.specs.declared.runs.status.Status.{Status}
 use Rattle.vault_cli.specs.declared.runs.status.Status.TheVariants.{DeviceFailed, OutOfMemory}
+
+-- the files that stand at the paths of arguments
+abbrev pub found_by : StoreState → List Text → Files
+found_by files words = files_in (file_at files.entries) (asked_by words)
 
 -- what was in memory before a call, and what is after it
 pub record Change (T : Type 0) : Type 0 where

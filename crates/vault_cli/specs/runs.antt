@@ -2,6 +2,7 @@ pub mod Ending
 pub mod Found
 pub mod Gathered
 pub mod Outcome
+pub mod Performed
 pub mod ReportLine
 pub mod Reports
 pub mod Reserved

@@ -2,14 +2,14 @@
 ghost use Rattle.std.specs.Prelude.{◌≡◌, ◌≢◌, [], false, map};
 ghost use Rattle.std.specs.String.{string_bytes};
 ghost use Rattle.clap.specs.Words.{fault_of};
-ghost use Rattle.vault_files.specs.Memory.{Logs, file_at};
+ghost use Rattle.vault_files.specs.Memory.{Logs};
 ghost use Rattle.vault_cli.specs.Call.{sink};
 ghost use Rattle.vault_command_line.specs.CommandLine.{vault_app};
-ghost use Rattle.vault_cli.specs.Embedding.{Embeds, Taken, change};
+ghost use Rattle.vault_cli.specs.Embedding.{Embeds, Taken, change, found_by};
 ghost use Rattle.vault_cli.specs.Explained.{ExplainsOneOf};
 ghost use Rattle.vault_cli.specs.Opened.{opened_of};
 ghost use Rattle.vault_request.specs.Settled.{asked_by};
-ghost use Rattle.vault_cli.specs.Program.{files_in, output_path, program, stdin_asked};
+ghost use Rattle.vault_cli.specs.Program.{output_path, program, stdin_asked};
 
 use crate::program::drive_over;
 use crate::runs::Status;
@@ -37,18 +37,18 @@ pub fn drive_in_memory(
 
     // Arguments that parse are answered as the program says, unless a growth is refused.
     ensures answered { let texts = map string_bytes words.now in
-        let found = files_in (file_at files.old.entries) (asked_by texts) in
+        let answer = program texts (found_by files.old texts) src.old.left in
         fault_of vault_app texts ≡ []
         → Embeds result (change files.old files.new) (change out.old out.new)
-        (change err.old err.new) (output_path (asked_by texts)) (program texts found src.old.left) }
-    ensures taken { let asks = asked_by (map string_bytes words.now) in
-        fault_of vault_app (map string_bytes words.now) ≡ [] → result ≢ Status.OutOfMemory
-        → Taken (stdin_asked asks (files_in (file_at files.old.entries) asks))
-        (change src.old src.new) }
-    ensures opened { let asks = asked_by (map string_bytes words.now) in
-        fault_of vault_app (map string_bytes words.now) ≡ [] → result ≢ Status.OutOfMemory
-        → Logs files.old.log (opened_of asks (files_in (file_at files.old.entries) asks))
-        files.new.log }
+        (change err.old err.new) (output_path (asked_by texts)) answer }
+    ensures taken { let texts = map string_bytes words.now in
+        let limit = stdin_asked (asked_by texts) (found_by files.old texts) in
+        fault_of vault_app texts ≡ [] → result ≢ Status.OutOfMemory
+        → Taken limit (change src.old src.new) }
+    ensures opened { let texts = map string_bytes words.now in
+        let paths = opened_of (asked_by texts) (found_by files.old texts) in
+        fault_of vault_app texts ≡ [] → result ≢ Status.OutOfMemory
+        → Logs files.old.log paths files.new.log }
     ensures memory { result ≡ Status.OutOfMemory
         → (files.new ≡ files.old) × (src.new ≡ src.old) }
 

@@ -1,18 +1,15 @@
 //! The whole run of a request.
-ghost use Rattle.std.specs.Prelude.{◌≡◌, ◌≢◌, ◌+◌, ◌≤◌, ◌⊎◌, ℕ, List, [], true, false, Err};
-ghost use Rattle.std.specs.Prelude.{is_some, length, map, take, IsTrue};
+ghost use Rattle.std.specs.Prelude.{◌≡◌, ◌≢◌, ◌⊎◌, [], true, false, Ok, Err};
+ghost use Rattle.std.specs.Prelude.{is_some, length, map};
 ghost use Rattle.vault_text.specs.Failures.{HasRisen, IsLast};
-ghost use Rattle.vault_core.specs.Input.{IsReadToEndOrPastLimit, UnlessUnreadable};
 ghost use Rattle.vault_text.specs.Limits.{IsWorkLength, limit_of};
-ghost use Rattle.vault_common.specs.declared.fault.Fault.TheVariants.{Read, Write};
+ghost use Rattle.vault_common.specs.declared.fault.Fault.TheVariants.{Read};
 ghost use Rattle.vault_common.specs.declared.fault.Role.TheVariants.{Input};
-ghost use Rattle.vault_cli.specs.Call.{sink, source};
-ghost use Rattle.vault_cli.specs.runs.Ending.{Ends, to_sink};
-ghost use Rattle.vault_cli.specs.runs.ReportLine.{line_of};
-ghost use Rattle.vault_cli.specs.runs.Outcome.{input_asked, outcome_within};
-ghost use Rattle.vault_cli.specs.runs.Outcome.{performed, task_limit, text_of_request};
-ghost use Rattle.vault_cli.specs.runs.Reports.{Reports};
 ghost use Rattle.vault_request.specs.Request.{files_of};
+ghost use Rattle.vault_cli.specs.Call.{sink, source};
+ghost use Rattle.vault_cli.specs.runs.Ending.{Ends, Finishes, to_sink};
+ghost use Rattle.vault_cli.specs.runs.Outcome.{answered, input_asked, outcome_within};
+ghost use Rattle.vault_cli.specs.runs.Performed.{Performs};
 ghost use Rattle.vault_cli.specs.runs.StoredTask.{task_in};
 ghost use Rattle.vault_cli.specs.runs.Task.{HasValidIndex};
 
@@ -53,15 +50,8 @@ fn perform<'a, S: Source>(
     requires empty { memory.bytes ≡ [] }
     requires room { IsWorkLength memory.limit }
     requires index { HasValidIndex (task_in task.now) }
-    ensures answer { let limit = limit_of memory.entry.limit in
-        let bound = task_limit limit (task_in task.now) in
-        (input : List ℕ) × S.gives src.old input src.new × (length input ≤ bound + 1)
-        × UnlessUnreadable (S.failures src.old) (S.failures src.new) result
-        ((is_some request.now.string ≡ false) × (length input ≤ bound))
-        ((is_some request.now.string ≡ false → IsReadToEndOrPastLimit bound (S.ended src.new) input)
-        × (result
-        ≡ performed limit (task_in task.now) (text_of_request request.now input))) }
-    ensures unread { IsTrue (is_some request.now.string) → src.new ≡ src.old }
+    ensures performs { Performs (source S.Source src.old src.new) (limit_of memory.entry.limit)
+        (task_in task.now) result request.now.string }
     ensures full { is_some request.now.string ≡ false → IsLast (S.failures src.old)
         → result ≡ Err (Read Input) }
 {
@@ -75,15 +65,8 @@ fn perform<'a, S: Source>(
 fn deliver<K: Sink, E: Sink>(ready: Ready<'_>, out: &mut K, err: &mut E) -> Status
     requires out_unbegun { K.stage out.old ≡ Stage.Unbegun }
     requires err_unbegun { E.stage err.old ≡ Stage.Unbegun }
-    ensures status { (result ≡ Status.Success) ⊎ (result ≡ Status.DeviceFailed) }
-    ensures written { result ≢ Status.DeviceFailed
-        → K.takes out.old ready.entry.output out.new × (K.stage out.new ≡ Stage.Finished) }
-    ensures silent { result ≢ Status.DeviceFailed → err.new ≡ err.old }
-    ensures intact { result ≢ Status.DeviceFailed → K.failures out.new ≡ K.failures out.old }
-    ensures failed { result ≡ Status.DeviceFailed
-        → HasRisen (K.failures out.old) (K.failures out.new)
-        × Reports (sink E.Sink err.old err.new) (line_of Write) }
-    ensures prefix { (n : ℕ) × K.takes out.old (take n ready.entry.output) out.new }
+    ensures finishes { Finishes (to_sink (sink K.Sink out.old out.new))
+        (sink E.Sink err.old err.new) result (answered (Ok ready.entry)) }
     ensures full { IsLast (K.failures out.old) → result ≡ Status.DeviceFailed }
 {
     match ready.write_to(out) {

@@ -1,13 +1,13 @@
 //! What is to be done with the input of a request: how that is prepared, and how it is performed.
-ghost use Rattle.std.specs.Prelude.{◌≡◌, ℕ, ◌+◌, ◌≤◌, List, [], length, map, slice_index_or, true};
+ghost use Rattle.std.specs.Prelude.{◌≡◌, [], length, map, slice_index_or, true};
 ghost use Rattle.std.specs.Prelude.{Err, IfErr, IfOk};
 ghost use Rattle.vault_core.specs.Form.{form_of};
-ghost use Rattle.vault_core.specs.Input.{IsReadToEndOrPastLimit, UnlessUnreadable};
 ghost use Rattle.vault_text.specs.Failures.{IsLast};
 ghost use Rattle.vault_text.specs.Limits.{IsWorkLength, limit_of};
 ghost use Rattle.vault_common.specs.declared.fault.Fault.TheVariants.{Read};
 ghost use Rattle.vault_common.specs.declared.fault.Role.TheVariants.{Input};
-ghost use Rattle.vault_cli.specs.runs.Outcome.{performed, task_limit};
+ghost use Rattle.vault_cli.specs.Call.{source};
+ghost use Rattle.vault_cli.specs.runs.Performed.{PerformsOnInput};
 ghost use Rattle.vault_request.specs.CommandName.{rekeys};
 ghost use Rattle.vault_request.specs.Request.{files_of};
 ghost use Rattle.vault_cli.specs.runs.StoredTask.{task_in};
@@ -137,13 +137,8 @@ impl<'p> Task<'p> {
         requires empty { memory.bytes ≡ [] }
         requires room { IsWorkLength memory.limit }
         requires index { HasValidIndex (task_in self.now) }
-        ensures answer { let limit = limit_of memory.entry.limit in
-            let bound = task_limit limit (task_in self.now) in
-            (input : List ℕ) × S.gives src.old input src.new × (length input ≤ bound + 1)
-            × UnlessUnreadable (S.failures src.old) (S.failures src.new) result
-            (length input ≤ bound)
-            (IsReadToEndOrPastLimit bound (S.ended src.new) input
-            × (result ≡ performed limit (task_in self.now) input)) }
+        ensures performs { PerformsOnInput (source S.Source src.old src.new)
+            (limit_of memory.entry.limit) (task_in self.now) result }
         ensures full { IsLast (S.failures src.old) → result ≡ Err (Read Input) }
     {
         let mut meter = Meter::new();

@@ -1,10 +1,9 @@
 -- How a run ends, by what its task answered.
-use Rattle.std.proofs.Common.{◌≡◌, ◌≢◌, ◌⊎◌, ℕ, ◌+◌, ◌≤◌, true, false, List, length, take, Option}
+use Rattle.std.proofs.Common.{◌≡◌, ◌≢◌, ◌⊎◌, ℕ, true, false, List, Option}
 use Rattle.std.proofs.Common.{Some, None, Result, Ok, Err, inl, inr, refl, sym, ap, subst, ◌∙◌}
-use Rattle.std.specs.Prelude.{IsTrue, is_some, unwrap_or}
+use Rattle.std.specs.Prelude.{is_some}
 use Rattle.vault_text.specs.Failures.{HasRisen}
-use Rattle.vault_text.specs.declared.sink.Stage.TheVariants.{Finished}
-use Rattle.vault_core.specs.Input.{IsUnreadable, IsReadToEndOrPastLimit}
+use Rattle.vault_core.specs.Input.{IsUnreadable}
 use Rattle.vault_core.specs.Ready.{Ready}
 use Rattle.vault_common.specs.declared.fault.Fault.{Fault}
 use Rattle.vault_common.specs.declared.fault.Fault.TheVariants.{CannotOpen, Memory, Read, Write}
@@ -12,92 +11,66 @@ use Rattle.vault_cli.specs.Call.{SinkCall, SourceCall}
 use Rattle.vault_cli.specs.runs.Ending.{Ends, Finishes, SourceFails, to_sink}
 use Rattle.vault_cli.specs.runs.ReportLine.{line_of}
 use Rattle.vault_cli.specs.runs.Outcome.{answered, asked_for, input_asked, input_limit}
-use Rattle.vault_cli.specs.runs.Outcome.{outcome_within, performed, ready_by, task_limit}
+use Rattle.vault_cli.specs.runs.Outcome.{outcome_within, ready_by, task_limit}
+use Rattle.vault_cli.specs.runs.Performed.{Performs}
 use Rattle.vault_cli.specs.runs.Reports.{Says}
 use Rattle.vault_request.specs.Request.{Request}
 use Rattle.vault_cli.specs.runs.Status.{status_of}
 use Rattle.vault_cli.specs.runs.Task.{Task, prepared}
 use Rattle.vault_cli.specs.declared.runs.status.Status.{Status}
-use Rattle.vault_cli.specs.declared.runs.status.Status.TheVariants.{DeviceFailed, Success}
+use Rattle.vault_cli.specs.declared.runs.status.Status.TheVariants.{DeviceFailed, Refused, Success}
+use Rattle.vault_cli.proofs.facts.runs.RefusedAlone.{alone-performed}
 use Rattle.vault_cli.proofs.facts.runs.TaskFacts.{limit-prepared}
 
 module _ {S K E : Type 0} (src : SourceCall S) (out : SinkCall K) (err : SinkCall E)
     (result : Status) where
+  abbrev FinishesBy : Result Ready Fault → Type 0
+  FinishesBy answer = Finishes (to_sink out) err result (answered answer)
+
   -- ---- what is ready was written, or was refused
 
-  pub finishes-ready : (ready : Ready) → (result ≡ Success) ⊎ (result ≡ DeviceFailed)
-      → (result ≢ DeviceFailed → out.takes out.old ready.output out.new
-      × (out.stage out.new ≡ Finished))
-      → (result ≢ DeviceFailed → err.new ≡ err.old)
-      → (result ≢ DeviceFailed → out.failures out.new ≡ out.failures out.old)
-      → (result ≡ DeviceFailed → HasRisen (out.failures out.old) (out.failures out.new)
-      × Says err (line_of Write))
-      → (n : ℕ) × out.takes out.old (take n ready.output) out.new
-      → (answer : Result Ready Fault) → Ok ready ≡ answer
-      → Finishes (to_sink out) err result (answered answer)
-  finishes-ready ready (inl done) written silent intact failed prefix answer is =
-      let fine : result ≢ DeviceFailed =
-      λ device. let other : Success ≡ DeviceFailed = sym done ∙ device in absurd cc in
-      subst (λ (r : Result Ready Fault). Finishes (to_sink out) err result (answered r)) is
-      (inl
-      (record { status = done; unfailed = intact fine; output = written fine; line = silent fine }))
-  finishes-ready ready (inr device) written silent intact failed prefix answer is =
-      subst (λ (r : Result Ready Fault). Finishes (to_sink out) err result (answered r)) is
-      (inr
-      (record {
-        status = device;
-        failed = (failed device).0;
-        output = (ready.output, refl, prefix);
-        line =
-            (failed device).1;
-      }))
+  -- a device that fails is an output that failed
+  pub finished : (ready : Ready) → FinishesBy (Ok ready)
+      → ((result ≡ Success) × (out.failures out.new ≡ out.failures out.old))
+      ⊎ ((result ≡ DeviceFailed) × HasRisen (out.failures out.old) (out.failures out.new))
+  finished ready (inl done) = inl (done.status, done.unfailed)
+  finished ready (inr fails) = inr (fails.status, fails.failed)
 
   pub finishes-refused : (fault : Fault) → result ≡ status_of fault → out.new ≡ out.old
-      → Says err (line_of fault)
-      → (answer : Result Ready Fault) → Err fault ≡ answer
-      → Finishes (to_sink out) err result (answered answer)
-  finishes-refused fault status unwritten line answer is =
-      subst (λ (r : Result Ready Fault). Finishes (to_sink out) err result (answered r)) is
-      (inl
-      (record
-      { status = status; unfailed = ap out.failures unwritten; output = unwritten; line = line }))
-
-  pub source-failed : (fault : Fault)
-      → IsUnreadable (src.failures src.old) (src.failures src.new) fault
-      → result ≡ status_of fault → out.new ≡ out.old → Says err (line_of fault)
-      → SourceFails (to_sink out) err result src
-  source-failed fault (unread, risen) status unwritten line = record {
-    status = status ∙ ap status_of unread;
-    failed = risen;
+      → Says err (line_of fault) → FinishesBy (Err fault)
+  finishes-refused fault status unwritten line = inl (record {
+    status = status;
     unfailed = ap out.failures unwritten;
     output = unwritten;
-    line = rw unread at line;
+    line = line;
+  })
+
+  source-failed : (fault : Fault) → IsUnreadable (src.failures src.old) (src.failures src.new) fault
+      → FinishesBy (Err fault) → SourceFails (to_sink out) err result src
+  source-failed fault (unread, risen) (inl done) = record {
+    status = done.status ∙ ap status_of unread;
+    failed = risen;
+    unfailed = done.unfailed;
+    output = done.output;
+    line = rw unread at done.line;
   }
+  source-failed fault (unread, risen) (inr fails) =
+      let (bytes, none, prefix) = fails.output in absurd cc
 
   -- ---- on the STRING, or on the input
 
   module _ (limit : ℕ) (task : Task) where
-    abbrev pub TaskEnds : Option (List ℕ) → List ℕ → Type 0
-    TaskEnds string input =
-        (SourceFails (to_sink out) err result src × (is_some string ≡ false)
-        × (length input ≤ task_limit limit task))
-        ⊎ ((src.failures src.new ≡ src.failures src.old)
-        × (is_some string ≡ false
-        → IsReadToEndOrPastLimit (task_limit limit task) (src.ended src.new) input)
-        × Finishes (to_sink out) err result
-        (answered (performed limit task (unwrap_or string input))))
-
-    ends-text : (string : Option (List ℕ)) (input : List ℕ) → src.gives src.old input src.new
-        → length input ≤ task_limit limit task + 1
-        → (IsTrue (is_some string) → src.new ≡ src.old) → TaskEnds string input
+    ends-text : (answer : Result Ready Fault) (string : Option (List ℕ))
+        → Performs src limit task answer string → FinishesBy answer
         → Ends (to_sink out) err result src (asked_for (Ok task) string (task_limit limit task))
         (λ text. answered (ready_by limit (Ok task) string (Ok text)))
-    ends-text (Some string) input given fits unread (inl (u, none, short)) = absurd cc
-    ends-text (Some string) input given fits unread (inr (stay, whole, done)) = (unread refl, done)
-    ends-text None input given fits unread (inl (u, none, short)) =
-        (input, (given, fits, inl (u, short)))
-    ends-text None input given fits unread (inr (stay, whole, done)) =
-        (input, (given, fits, inr ((stay, whole refl), done)))
+    ends-text answer (Some string) (unread, is) done = (unread, subst FinishesBy is done)
+    ends-text (Ok ready) None (input, given, fits, (stay, (whole, is))) done =
+        (input, (given, fits, inr ((stay, whole), subst FinishesBy is done)))
+    ends-text (Err fault) None (input, given, fits, inl (unread, (short, none))) done =
+        (input, (given, fits, inl (source-failed fault unread done, short)))
+    ends-text (Err fault) None (input, given, fits, inr ((other, stay), (whole, is))) done =
+        (input, (given, fits, inr ((stay, whole), subst FinishesBy is done)))
 
   -- a run whose steps 1 to 3 answer so
   module _ (limit : ℕ) (request : Request) (contents : List (List ℕ)) (salt : List ℕ) where
@@ -118,14 +91,12 @@ module _ {S K E : Type 0} (src : SourceCall S) (out : SinkCall K) (err : SinkCal
     ends-after prepares is ends = subst EndsAfter (sym is) ends
 
     pub ends-performed : (task : Task) → prepared request contents salt ≡ Ok task
-        → (input : List ℕ) → src.gives src.old input src.new
-        → length input ≤ task_limit limit task + 1
-        → (IsTrue (is_some request.string) → src.new ≡ src.old)
-        → TaskEnds limit task request.string input → EndsWithin
-    ends-performed task found input given fits unread cases =
+        → (answer : Result Ready Fault) → Performs src limit task answer request.string
+        → FinishesBy answer → EndsWithin
+    ends-performed task found answer performs done =
         ends-after (Ok task) found
         (rw (← limit-prepared limit request contents salt task found)
-        (ends-text limit task request.string input given fits unread cases))
+        (ends-text limit task answer request.string performs done))
 
     -- steps 1 to 3 refused
     pub ends-unprepared : (fault : Fault) → prepared request contents salt ≡ Err fault
@@ -133,7 +104,26 @@ module _ {S K E : Type 0} (src : SourceCall S) (out : SinkCall K) (err : SinkCal
         → Says err (line_of fault) → EndsWithin
     ends-unprepared fault refusal status unread unwritten line =
         ends-after (Err fault) refusal
-        (unread, finishes-refused fault status unwritten line (Err fault) refl)
+        (unread, finishes-refused fault status unwritten line)
+
+-- a task whose output is ready did not see its source fail
+pub performed-unfailed : {S : Type 0} (src : SourceCall S) (limit : ℕ) (task : Task) (ready : Ready)
+    (string : Option (List ℕ)) → Performs src limit task (Ok ready) string
+    → src.failures src.new ≡ src.failures src.old
+performed-unfailed src limit task ready (Some string) (unread, is) = ap src.failures unread
+performed-unfailed src limit task ready None (input, given, fits, (stay, read)) = stay
+
+-- one that answers a fault refuses alone, or its source failed
+pub performed-refused : {S : Type 0} (src : SourceCall S) (limit : ℕ) (task : Task) (fault : Fault)
+    (string : Option (List ℕ)) → Performs src limit task (Err fault) string
+    → ((status_of fault ≡ Refused) × (src.failures src.new ≡ src.failures src.old))
+    ⊎ ((status_of fault ≡ DeviceFailed) × HasRisen (src.failures src.old) (src.failures src.new))
+performed-refused src limit task fault (Some string) (unread, is) =
+    inl ((alone-performed limit task string).status fault (sym is), ap src.failures unread)
+performed-refused src limit task fault None (input, given, fits, inl ((unread, risen), short)) =
+    inr (ap status_of unread, risen)
+performed-refused src limit task fault None (input, given, fits, inr ((other, stay), (whole, is))) =
+    inl ((alone-performed limit task input).status fault (sym is), stay)
 
 -- where a source is asked there is no STRING
 pub asked-no_string : (prepares : Result Task Fault) (string : Option (List ℕ)) (limit : ℕ)

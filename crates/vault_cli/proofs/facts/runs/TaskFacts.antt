@@ -136,18 +136,16 @@ performed-front limit task ended text front left e last (inr long) =
 
 -- what was performed on a text in memory, which never fails
 pub performed-text : (limit : ℕ) (task : Task) (result : Result Ready Fault) (ended : Bool)
-    (text front left : List ℕ) (failures : ℕ) (Failed Read : Type 0)
+    (text front left : List ℕ) (Failed : Type 0)
     → text ≡ front ++ left → (IsTrue ended → left ≡ [])
-    → UnlessUnreadable 0 0 result (length front ≤ task_limit limit task)
+    → UnlessUnreadable 0 0 result Failed
     (IsReadToEndOrPastLimit (task_limit limit task) ended front
     × (result ≡ performed limit task front))
-    → Read → UnlessUnreadable failures failures result Failed
-    (Read × (result ≡ performed limit task text))
-performed-text limit task (Ok ready) ended text front left failures Failed Read e last
-    (same, (whole, is)) read =
-    (refl, (read, is ∙ performed-front limit task ended text front left e last whole))
-performed-text limit task (Err fault) ended text front left failures Failed Read e last
-    (inl ((is, risen), bound)) read = absurd cc
-performed-text limit task (Err fault) ended text front left failures Failed Read e last
-    (inr ((other, same), (whole, is))) read =
-    inr ((other, refl), (read, is ∙ performed-front limit task ended text front left e last whole))
+    → result ≡ performed limit task text
+performed-text limit task (Ok ready) ended text front left Failed e last (same, (whole, is)) =
+    is ∙ performed-front limit task ended text front left e last whole
+performed-text limit task (Err fault) ended text front left Failed e last
+    (inl ((is, risen), failed)) = absurd cc
+performed-text limit task (Err fault) ended text front left Failed e last
+    (inr ((other, same), (whole, is))) =
+    is ∙ performed-front limit task ended text front left e last whole

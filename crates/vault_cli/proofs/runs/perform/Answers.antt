@@ -1,30 +1,24 @@
-use Rattle.std.proofs.Common.{◌≡◌, [], Some, arith, true, false, refl, sym, ◌∙◌}
+use Rattle.std.proofs.Common.{◌≡◌, [], Some, true, false, refl, sym, ◌∙◌}
 use Rattle.std.specs.Prelude.{IsTrue}
 use Rattle.vault_text.specs.Limits.{limit_of}
 use Rattle.vault_cli.specs.runs.StoredTask.{task_in}
 use Rattle.vault_cli.proofs.facts.runs.TaskFacts.{performed-text}
 use Rattle.vault_cli.proofs.runs.perform.Goals as goal
 
-pub returns-in-Some-clause-answer : goal.returns-in-Some-clause-answer
-returns-in-Some-clause-answer g c =
+pub returns-in-Some-clause-performs : goal.returns-in-Some-clause-performs
+returns-in-Some-clause-performs g c =
     let limit = limit_of c.args.memory.limit in
     let task = task_in c.args.task.now in
     let string : Some c.in-Some.string.now ≡ c.args.request.now.string =
     rw c.in-Some.is at c.string.ensures in
-    let (front, gave, bound, cases) = c.perform.ensures.answer in
+    let (front, gave, bound, cases) = c.perform.ensures.performs in
     let text : c.new.result.left ≡ c.in-Some.string.now =
     rw c.new.ensures c.as_bytes.ensures.value in
-    let given = gave.0.consumed in
     let unended : c.new.result.ended ≡ false = rw c.new.ensures refl in
     let none : IsTrue c.new.result.ended → c.new.result.left ≡ [] =
     λ ended. let wrong : false ≡ true = sym unended ∙ ended in absurd cc in
-    let last = gave.0.end_is_real none in (
-      [],
-      g.met.S.Source.gives_none c.args.src.now,
-      omega arith,
-      rw (← string)
-          (performed-text limit task c.perform.result c.perform.new.src.ended c.in-Some.string.now
-          front
-          c.perform.new.src.left _ _ _
-          (sym text ∙ given) last cases (λ missing. absurd cc)),
+    rw (← string) (
+      refl,
+      performed-text limit task c.perform.result c.perform.new.src.ended c.in-Some.string.now front
+          c.perform.new.src.left _ (sym text ∙ gave.0.consumed) (gave.0.end_is_real none) cases,
     )

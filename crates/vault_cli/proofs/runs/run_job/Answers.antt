@@ -1,18 +1,19 @@
-use Rattle.std.proofs.Common.{◌≡◌, map, inl, inr, refl, sym, ap, ◌∙◌}
+use Rattle.std.proofs.Common.{◌≡◌, map, Ok, Err, inl, inr, refl, sym, ap, ◌∙◌}
 use Rattle.vault_text.specs.Limits.{limit_of}
 use Rattle.vault_cli.specs.Call.{sink, source}
 use Rattle.vault_common.specs.declared.fault.Fault.TheVariants.{Read}
 use Rattle.vault_common.specs.declared.fault.Role.TheVariants.{Input}
-use Rattle.vault_cli.specs.runs.Outcome.{input_limit, text_of_request}
+use Rattle.vault_cli.specs.runs.Outcome.{input_limit}
 use Rattle.vault_cli.specs.runs.Status.{status_of}
 use Rattle.vault_cli.specs.runs.StoredTask.{task_in}
 use Rattle.vault_cli.specs.declared.runs.status.Status.TheVariants.{DeviceFailed, OutOfMemory}
 use Rattle.vault_cli.specs.declared.runs.status.Status.TheVariants.{Refused, Success}
 use Rattle.vault_cli.specs.runs.Task.{prepared}
-use Rattle.vault_cli.proofs.facts.runs.RefusedAlone.{alone-performed, alone-prepared}
-use Rattle.vault_cli.proofs.facts.runs.RunFacts.{ends-performed, ends-unprepared, finishes-ready}
-use Rattle.vault_cli.proofs.facts.runs.RunFacts.{asked-no_string, asked-prepared, fault-fails}
-use Rattle.vault_cli.proofs.facts.runs.RunFacts.{finishes-refused, source-failed}
+use Rattle.vault_cli.proofs.facts.runs.RefusedAlone.{alone-prepared}
+use Rattle.vault_cli.proofs.facts.runs.RunFacts.{asked-no_string, asked-prepared, ends-performed}
+use Rattle.vault_cli.proofs.facts.runs.RunFacts.{ends-unprepared, fault-fails, finished}
+use Rattle.vault_cli.proofs.facts.runs.RunFacts.{finishes-refused, performed-refused}
+use Rattle.vault_cli.proofs.facts.runs.RunFacts.{performed-unfailed}
 use Rattle.vault_cli.proofs.runs.run_job.Goals as goal
 
 pub returns-in-Err-clause-ends : goal.returns-in-Err-clause-ends
@@ -42,19 +43,49 @@ returns-in-Err-clause-device_failed g c = λ device.
 
 pub returns-in-Ok-perform-clause-ends : goal.returns-in-Ok-perform-clause-ends
 returns-in-Ok-perform-clause-ends g c =
-    let src = source g.S.Source c.args.src.now c.perform.new.src in
-    let out = sink g.K.Sink c.args.out.now c.deliver.new.out in
-    let err = sink g.E.Sink c.args.err.now c.deliver.new.err in
-    let (input, gave, bound, (unfailed, (whole, is))) = c.in-Ok-perform.ensures.answer in
-    let done = finishes-ready src out err c.deliver.result c.in-Ok-perform.ready
-    c.deliver.ensures.status c.deliver.ensures.written
-    c.deliver.ensures.silent c.deliver.ensures.intact c.deliver.ensures.failed
-    c.deliver.ensures.prefix _ is in
-    ends-performed src out err c.deliver.result (limit_of c.args.job.memory.limit)
-    c.args.job.request.now
+    ends-performed (source g.S.Source c.args.src.now c.perform.new.src)
+    (sink g.K.Sink c.args.out.now c.deliver.new.out)
+    (sink g.E.Sink c.args.err.now c.deliver.new.err) c.deliver.result
+    (limit_of c.args.job.memory.limit) c.args.job.request.now
     (map (λ file. file.items) c.args.job.secret_files.now) c.args.job.salt.now
-    (task_in c.in-Ok.task) c.in-Ok.ensures.prepared
-    input gave bound c.in-Ok-perform.ensures.unread (inr (unfailed, whole, done))
+    (task_in c.in-Ok.task) c.in-Ok.ensures.prepared (Ok c.in-Ok-perform.ready)
+    c.in-Ok-perform.ensures.performs c.deliver.ensures.finishes
+
+pub returns-in-Ok-perform-clause-memory_suffices : goal.returns-in-Ok-perform-clause-memory_suffices
+returns-in-Ok-perform-clause-memory_suffices g c = λ memory.
+    elim (finished (source g.S.Source c.args.src.now c.perform.new.src)
+    (sink g.K.Sink c.args.out.now c.deliver.new.out)
+    (sink g.E.Sink c.args.err.now c.deliver.new.err) c.deliver.result c.in-Ok-perform.ready
+    c.deliver.ensures.finishes) [
+      | inl (success, stayed) ↦
+          let wrong : Success ≡ OutOfMemory = sym success ∙ memory in absurd cc
+      | inr (failed, risen) ↦
+          let wrong : DeviceFailed ≡ OutOfMemory = sym failed ∙ memory in absurd cc
+    ]
+
+pub returns-in-Ok-perform-clause-device_failed : goal.returns-in-Ok-perform-clause-device_failed
+returns-in-Ok-perform-clause-device_failed g c = λ device.
+    elim (finished (source g.S.Source c.args.src.now c.perform.new.src)
+    (sink g.K.Sink c.args.out.now c.deliver.new.out)
+    (sink g.E.Sink c.args.err.now c.deliver.new.err) c.deliver.result c.in-Ok-perform.ready
+    c.deliver.ensures.finishes) [
+      | inl (success, stayed) ↦
+          let wrong : Success ≡ DeviceFailed = sym success ∙ device in absurd cc
+      | inr (failed, risen) ↦ inr risen
+    ]
+
+pub returns-in-Ok-perform-clause-none_failed : goal.returns-in-Ok-perform-clause-none_failed
+returns-in-Ok-perform-clause-none_failed g c = λ none.
+    let stay = performed-unfailed (source g.S.Source c.args.src.now c.perform.new.src)
+    (limit_of c.args.job.memory.limit) (task_in c.in-Ok.task) c.in-Ok-perform.ready
+    c.args.job.request.now.string c.in-Ok-perform.ensures.performs in
+    elim (finished (source g.S.Source c.args.src.now c.perform.new.src)
+    (sink g.K.Sink c.args.out.now c.deliver.new.out)
+    (sink g.E.Sink c.args.err.now c.deliver.new.err) c.deliver.result c.in-Ok-perform.ready
+    c.deliver.ensures.finishes) [
+      | inl (success, stayed) ↦ (stay, stayed)
+      | inr (failed, risen) ↦ absurd (none failed)
+    ]
 
 pub returns-in-Err-perform-clause-ends : goal.returns-in-Err-perform-clause-ends
 returns-in-Err-perform-clause-ends g c =
@@ -64,57 +95,42 @@ returns-in-Err-perform-clause-ends g c =
     let result = c.report-in-Err-perform.result in
     let fault = c.in-Err-perform.fault in
     let report = c.report-in-Err-perform.ensures in
-    let (input, gave, bound, cases) = c.in-Err-perform.ensures.answer in
     ends-performed src out err result (limit_of c.args.job.memory.limit) c.args.job.request.now
     (map (λ file. file.items) c.args.job.secret_files.now) c.args.job.salt.now
-    (task_in c.in-Ok.task) c.in-Ok.ensures.prepared
-    input gave bound c.in-Err-perform.ensures.unread (elim cases [
-      | inl (unread, (unnamed, front)) ↦
-          inl (
-            source-failed src out err result fault unread report.status refl report.line,
-            unnamed,
-            front,
-          )
-      | inr ((other, unfailed), (whole, is)) ↦
-          let done = finishes-refused src out err result fault report.status refl report.line _
-          is in
-          inr (unfailed, whole, done)
-    ])
+    (task_in c.in-Ok.task) c.in-Ok.ensures.prepared (Err fault) c.in-Err-perform.ensures.performs
+    (finishes-refused src out err result fault report.status refl report.line)
 
 pub returns-in-Err-perform-clause-memory_suffices :
     goal.returns-in-Err-perform-clause-memory_suffices
 returns-in-Err-perform-clause-memory_suffices g c = λ memory.
-    let limit = limit_of c.args.job.memory.limit in
-    let task = task_in c.in-Ok.task in
     let status = c.report-in-Err-perform.ensures.status in
-    let (input, gave, bound, cases) = c.in-Err-perform.ensures.answer in
-    elim cases [
-      | inl ((unread, risen), rest) ↦
-          let wrong : DeviceFailed ≡ OutOfMemory =
-          sym (ap status_of unread) ∙ sym status ∙ memory in
-          absurd cc
-      | inr (other, (whole, is)) ↦
-          let alone =
-          (alone-performed limit task (text_of_request c.args.job.request.now input)).status
-          c.in-Err-perform.fault (sym is) in
-          let wrong : Refused ≡ OutOfMemory = sym alone ∙ sym status ∙ memory in
-          absurd cc
+    elim (performed-refused (source g.S.Source c.args.src.now c.perform.new.src)
+    (limit_of c.args.job.memory.limit) (task_in c.in-Ok.task) c.in-Err-perform.fault
+    c.args.job.request.now.string c.in-Err-perform.ensures.performs) [
+      | inl (alone, stay) ↦
+          let wrong : Refused ≡ OutOfMemory = sym alone ∙ sym status ∙ memory in absurd cc
+      | inr (device, risen) ↦
+          let wrong : DeviceFailed ≡ OutOfMemory = sym device ∙ sym status ∙ memory in absurd cc
     ]
 
 pub returns-in-Err-perform-clause-device_failed : goal.returns-in-Err-perform-clause-device_failed
 returns-in-Err-perform-clause-device_failed g c = λ device.
-    let limit = limit_of c.args.job.memory.limit in
-    let task = task_in c.in-Ok.task in
-    let (input, gave, bound, cases) = c.in-Err-perform.ensures.answer in
-    elim cases [
-      | inl ((unread, risen), rest) ↦ inl risen
-      | inr (other, (whole, is)) ↦
-          let alone =
-          (alone-performed limit task (text_of_request c.args.job.request.now input)).status
-          c.in-Err-perform.fault (sym is) in
-          let wrong : Refused ≡ DeviceFailed =
-          sym alone ∙ sym c.report-in-Err-perform.ensures.status ∙ device in
-          absurd cc
+    let status = c.report-in-Err-perform.ensures.status in
+    elim (performed-refused (source g.S.Source c.args.src.now c.perform.new.src)
+    (limit_of c.args.job.memory.limit) (task_in c.in-Ok.task) c.in-Err-perform.fault
+    c.args.job.request.now.string c.in-Err-perform.ensures.performs) [
+      | inl (alone, stay) ↦
+          let wrong : Refused ≡ DeviceFailed = sym alone ∙ sym status ∙ device in absurd cc
+      | inr (failed, risen) ↦ inl risen
+    ]
+
+pub returns-in-Err-perform-clause-none_failed : goal.returns-in-Err-perform-clause-none_failed
+returns-in-Err-perform-clause-none_failed g c = λ none.
+    elim (performed-refused (source g.S.Source c.args.src.now c.perform.new.src)
+    (limit_of c.args.job.memory.limit) (task_in c.in-Ok.task) c.in-Err-perform.fault
+    c.args.job.request.now.string c.in-Err-perform.ensures.performs) [
+      | inl (alone, stay) ↦ (stay, refl)
+      | inr (failed, risen) ↦ absurd (none (c.report-in-Err-perform.ensures.status ∙ failed))
     ]
 
 pub returns-in-Err-clause-full_source : goal.returns-in-Err-clause-full_source
