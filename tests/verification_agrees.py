@@ -43,7 +43,7 @@ HEADLINE = PROGRAM | {
     "crates/vault_text/src/laws.rt": r"\w+",
     "crates/vault_aes/src/laws.rt": r"\w+",
     "crates/vault_cli/src/runs.rt": "run",
-    "crates/vault_cli/src/runs/gathering.rt": "gather",
+    "crates/vault_cli/src/loading.rt": "load",
     "crates/vault_core/src/encryption.rt": "prepare_encrypt_in",
     "crates/vault_core/src/decryption.rt": "prepare_decrypt_in",
     "crates/vault_core/src/rekeying.rt": "prepare_rekey_in",

@@ -4,7 +4,9 @@ pub mod Explained
 pub mod Shown
 pub mod Program
 pub mod Opened
+pub mod Reserved
 pub mod Drive
+pub mod Loaded
 pub mod System
 pub mod Embedding
 pub mod Laws

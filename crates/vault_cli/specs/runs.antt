@@ -1,11 +1,9 @@
 pub mod Ending
 pub mod Found
-pub mod Gathered
 pub mod Outcome
 pub mod Performed
 pub mod ReportLine
 pub mod Reports
-pub mod Reserved
 pub mod Status
 pub mod StoredTask
 pub mod Task

@@ -25,7 +25,9 @@ mod escaping;
 mod explaining;
 pub mod laws;
 mod limits;
+mod loading;
 mod program;
+mod reserving;
 mod runs;
 mod system;
 

@@ -15,7 +15,9 @@ ghost use Rattle.vault_request.specs.Request.{files_of};
 ghost use Rattle.vault_request.specs.Settled.{asked, asked_by};
 
 use crate::explaining::explain;
-use crate::runs::{Gathered, Job, Reserved, Status, gather, report, reserve, run_job};
+use crate::loading::{Loaded, load};
+use crate::reserving::{Reserved, reserve};
+use crate::runs::{Job, Status, report, run_job};
 use clap::ArgMatches;
 use std::alloc::Global;
 use vault_core::Fault;
@@ -118,11 +120,11 @@ fn drive_request<F: FileSystem, S: Source, K: Sink, E: Sink>(
         buffers,
         output,
     } = reserved;
-    let found = match gather(files, request, buffers) {
+    let found = match load(files, request, buffers) {
         Ok(found) => found,
         Err(fault) => return report(fault, err),
     };
-    let Gathered {
+    let Loaded {
         secret_files,
         salt,
         input,

@@ -13,17 +13,13 @@ ghost use Rattle.vault_cli.specs.runs.Performed.{Performs};
 ghost use Rattle.vault_cli.specs.runs.StoredTask.{task_in};
 ghost use Rattle.vault_cli.specs.runs.Task.{HasValidIndex};
 
-mod gathering;
 mod passwords;
 mod report_line;
-mod reserving;
 mod status;
 mod task;
 
-pub(crate) use gathering::{Gathered, gather};
 pub use report_line::report;
 pub(crate) use report_line::write_text;
-pub(crate) use reserving::{Reserved, reserve};
 pub use status::Status;
 use task::{Task, prepare};
 use vault_core::{Fault, Ready};

@@ -1,6 +1,6 @@
 use Rattle.std.proofs.Common.{All, rules}
 use Rattle.vault_cli.specs.Explained.{IsShown}
-use Rattle.vault_cli.proofs.facts.ShownFacts.{text-shown}
+use Rattle.vault_cli.proofs.ShownLemmas.{text-shown}
 use Rattle.vault_cli.proofs.explaining.reject.Goals as goal
 
 pub returns : goal.returns

@@ -1,4 +1,4 @@
-use Rattle.vault_cli.proofs.facts.LawProofs.{encrypt_then_decrypt}
+use Rattle.vault_cli.proofs.theorems.Laws.{encrypt_then_decrypt}
 use Rattle.vault_cli.proofs.laws.encrypt_then_decrypt.Goals as goal
 
 pub returns : goal.returns

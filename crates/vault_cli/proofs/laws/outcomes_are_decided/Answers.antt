@@ -1,4 +1,4 @@
-use Rattle.vault_cli.proofs.facts.LawProofs.{outcomes_are_decided}
+use Rattle.vault_cli.proofs.theorems.Laws.{outcomes_are_decided}
 use Rattle.vault_cli.proofs.laws.outcomes_are_decided.Goals as goal
 
 pub returns : goal.returns

@@ -1,4 +1,4 @@
-use Rattle.vault_cli.proofs.facts.ProgramLawProofs.{encrypt_then_decrypt}
+use Rattle.vault_cli.proofs.theorems.ProgramLaws.{encrypt_then_decrypt}
 use Rattle.vault_cli.proofs.laws.program_encrypts_then_decrypts.Goals as goal
 
 pub returns : goal.returns

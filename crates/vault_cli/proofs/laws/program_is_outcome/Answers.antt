@@ -1,4 +1,4 @@
-use Rattle.vault_cli.proofs.facts.ProgramLawProofs.{program_is_outcome}
+use Rattle.vault_cli.proofs.theorems.ProgramLaws.{program_is_outcome}
 use Rattle.vault_cli.proofs.laws.program_is_outcome.Goals as goal
 
 pub returns : goal.returns

@@ -1,4 +1,4 @@
-use Rattle.vault_cli.proofs.facts.ProgramLawProofs.{rekey_keeps_the_plaintext}
+use Rattle.vault_cli.proofs.theorems.ProgramLaws.{rekey_keeps_the_plaintext}
 use Rattle.vault_cli.proofs.laws.program_keeps_the_plaintext.Goals as goal
 
 pub returns : goal.returns

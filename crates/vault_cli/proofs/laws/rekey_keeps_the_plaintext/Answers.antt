@@ -1,4 +1,4 @@
-use Rattle.vault_cli.proofs.facts.LawProofs.{rekey_keeps_the_plaintext}
+use Rattle.vault_cli.proofs.theorems.Laws.{rekey_keeps_the_plaintext}
 use Rattle.vault_cli.proofs.laws.rekey_keeps_the_plaintext.Goals as goal
 
 pub returns : goal.returns

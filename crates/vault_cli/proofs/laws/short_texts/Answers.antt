@@ -1,4 +1,4 @@
-use Rattle.vault_cli.proofs.facts.LawProofs.{short_texts}
+use Rattle.vault_cli.proofs.theorems.Laws.{short_texts}
 use Rattle.vault_cli.proofs.laws.short_texts.Goals as goal
 
 pub returns : goal.returns

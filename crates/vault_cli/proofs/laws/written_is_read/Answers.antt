@@ -1,4 +1,4 @@
-use Rattle.vault_cli.proofs.facts.ProgramLawProofs.{written_is_read}
+use Rattle.vault_cli.proofs.theorems.ProgramLaws.{written_is_read}
 use Rattle.vault_cli.proofs.laws.written_is_read.Goals as goal
 
 pub returns : goal.returns

@@ -2,8 +2,8 @@ use Rattle.std.proofs.Common.{refl}
 use Rattle.clap.specs.Words.{subcommand_rows_of}
 use Rattle.vault_cli.specs.Call.{sink, source}
 use Rattle.vault_request.specs.Settled.{asked}
-use Rattle.vault_cli.proofs.facts.DriveFacts.{drives-settled, drives-unsettled}
-use Rattle.vault_cli.proofs.facts.runs.EndingFacts.{store_between}
+use Rattle.vault_cli.proofs.DriveLemmas.{drives-settled, drives-unsettled}
+use Rattle.vault_cli.proofs.EndingLemmas.{store_between}
 use Rattle.vault_cli.proofs.program.drive_matches.Goals as goal
 
 pub returns-in-Ok-clause-drives : goal.returns-in-Ok-clause-drives

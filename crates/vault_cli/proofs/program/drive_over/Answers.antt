@@ -5,9 +5,9 @@ use Rattle.clap.specs.Values.{kind_of}
 use Rattle.vault_cli.specs.Call.{sink, source}
 use Rattle.vault_command_line.specs.CommandLine.{vault_app}
 use Rattle.vault_request.specs.Settled.{asked_by}
-use Rattle.vault_cli.proofs.facts.DriveFacts.{drives-no_memory}
-use Rattle.vault_cli.proofs.facts.runs.EndingFacts.{store_between}
-use Rattle.vault_cli.proofs.facts.ExplainedFacts.{explains-memory, explains-one}
+use Rattle.vault_cli.proofs.DriveLemmas.{drives-no_memory}
+use Rattle.vault_cli.proofs.EndingLemmas.{store_between}
+use Rattle.vault_cli.proofs.ExplainedLemmas.{explains-memory, explains-one}
 use Rattle.vault_cli.proofs.program.drive_over.Goals as goal
 
 pub returns-in-Err-clause-answered : goal.returns-in-Err-clause-answered

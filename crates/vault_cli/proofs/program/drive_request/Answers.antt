@@ -1,9 +1,9 @@
 use Rattle.std.proofs.Common.{Ok, Some, ap, map, refl, ◌∙◌}
 use Rattle.vault_cli.specs.Call.{sink, source}
 use Rattle.vault_cli.specs.runs.Status.{status_of}
-use Rattle.vault_cli.proofs.facts.DriveFacts.{drives-file, drives-no_memory, drives-refused}
-use Rattle.vault_cli.proofs.facts.DriveFacts.{drives-stdin}
-use Rattle.vault_cli.proofs.facts.runs.EndingFacts.{store_between}
+use Rattle.vault_cli.proofs.DriveLemmas.{drives-file, drives-no_memory, drives-refused}
+use Rattle.vault_cli.proofs.DriveLemmas.{drives-stdin}
+use Rattle.vault_cli.proofs.EndingLemmas.{store_between}
 use Rattle.vault_cli.proofs.program.drive_request.Goals as goal
 
 pub returns-in-Err-clause-drives : goal.returns-in-Err-clause-drives
@@ -14,15 +14,15 @@ returns-in-Err-clause-drives g c =
     (Some (Ok c.args.request.now)) (c.report.ensures.status ∙ ap status_of c.from.ensures)
     (rw c.from.ensures at c.report.ensures.line)
 
-pub returns-in-Err-gather-clause-drives : goal.returns-in-Err-gather-clause-drives
-returns-in-Err-gather-clause-drives g c =
-    drives-refused (store_between g.F.Sink g.F.FileSystem c.args.files.now c.gather.new.files)
+pub returns-in-Err-load-clause-drives : goal.returns-in-Err-load-clause-drives
+returns-in-Err-load-clause-drives g c =
+    drives-refused (store_between g.F.Sink g.F.FileSystem c.args.files.now c.load.new.files)
     (source g.S.Source c.args.src.now c.args.src.now) (sink g.K.Sink c.args.out.now c.args.out.now)
-    (sink g.E.Sink c.args.err.now c.report-in-Err-gather.new.err) c.report-in-Err-gather.result
-    c.gather.new.files
-    c.in-Err-gather.ensures.unbegun refl refl refl
-    c.args.request.now c.in-Err-gather.fault c.in-Err-gather.ensures.refused
-    c.report-in-Err-gather.ensures.status c.report-in-Err-gather.ensures.line
+    (sink g.E.Sink c.args.err.now c.report-in-Err-load.new.err) c.report-in-Err-load.result
+    c.load.new.files
+    c.in-Err-load.ensures.unbegun refl refl refl
+    c.args.request.now c.in-Err-load.fault c.in-Err-load.ensures.refused
+    c.report-in-Err-load.ensures.status c.report-in-Err-load.ensures.line
 
 pub returns-in-Some-clause-drives : goal.returns-in-Some-clause-drives
 returns-in-Some-clause-drives g c =
@@ -31,12 +31,12 @@ returns-in-Some-clause-drives g c =
     (sink g.K.Sink c.args.out.now c.run_to_output.new.out)
     (sink g.E.Sink c.args.err.now c.run_to_output.new.err) c.run_to_output.result c.args.request.now
     (map (λ file. file.items) c.as_slice-secret_files.result.now) c.as_slice-salt.result.now
-    (rw c.as_slice-secret_files.ensures.value c.in-Ok-gather.ensures.secrets)
-    (rw c.as_slice-salt.ensures.value c.in-Ok-gather.ensures.salt)
-    c.gather.new.files c.in-Ok-gather.ensures.opens
+    (rw c.as_slice-secret_files.ensures.value c.in-Ok-load.ensures.secrets)
+    (rw c.as_slice-salt.ensures.value c.in-Ok-load.ensures.salt)
+    c.load.new.files c.in-Ok-load.ensures.opens
     refl (g.F.FileSystem.opened c.args.files.now)
     (source g.F.Reader.Source c.in-Some.reader c.run_to_output.new.src)
-    (rw c.in-Some.is at c.in-Ok-gather.ensures.input)
+    (rw c.in-Some.is at c.in-Ok-load.ensures.input)
     (g.met.F.Reader.Source.gives_none c.in-Some.reader)
     (g.met.F.FileSystem.front_met c.args.files.now) (g.met.F.FileSystem.break_met c.args.files.now)
     c.run_to_output.ensures.ends
@@ -50,8 +50,8 @@ returns-clause-drives g c =
     (sink g.E.Sink c.args.err.now c.run_to_output-in-None.new.err)
     c.run_to_output-in-None.result c.args.request.now
     (map (λ file. file.items) c.as_slice-secret_files.result.now) c.as_slice-salt.result.now
-    (rw c.as_slice-secret_files.ensures.value c.in-Ok-gather.ensures.secrets)
-    (rw c.as_slice-salt.ensures.value c.in-Ok-gather.ensures.salt)
-    c.gather.new.files c.in-Ok-gather.ensures.opens
-    (g.F.FileSystem.opened c.args.files.now) (rw c.in-None.is at c.in-Ok-gather.ensures.input)
+    (rw c.as_slice-secret_files.ensures.value c.in-Ok-load.ensures.secrets)
+    (rw c.as_slice-salt.ensures.value c.in-Ok-load.ensures.salt)
+    c.load.new.files c.in-Ok-load.ensures.opens
+    (g.F.FileSystem.opened c.args.files.now) (rw c.in-None.is at c.in-Ok-load.ensures.input)
     c.run_to_output-in-None.ensures.ends

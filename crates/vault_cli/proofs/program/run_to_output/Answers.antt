@@ -8,7 +8,7 @@ use Rattle.vault_cli.specs.Call.{sink, source}
 use Rattle.vault_cli.specs.Program.{output_access}
 use Rattle.vault_cli.specs.runs.Ending.{Ends, to_sink}
 use Rattle.vault_cli.specs.runs.Outcome.{input_asked, outcome, outcome_within}
-use Rattle.vault_cli.proofs.facts.runs.EndingFacts.{ends-file, ends-out, store_between}
+use Rattle.vault_cli.proofs.EndingLemmas.{ends-file, ends-out, store_between}
 use Rattle.vault_cli.proofs.program.run_to_output.Goals as goal
 
 pub returns-in-None-clause-ends : goal.returns-in-None-clause-ends

@@ -2,7 +2,7 @@ use Rattle.std.proofs.Common.{◌≡◌, [], Some, true, false, refl, sym, ◌�
 use Rattle.std.specs.Prelude.{IsTrue}
 use Rattle.vault_text.specs.Limits.{limit_of}
 use Rattle.vault_cli.specs.runs.StoredTask.{task_in}
-use Rattle.vault_cli.proofs.facts.runs.TaskFacts.{performed-text}
+use Rattle.vault_cli.proofs.TaskLemmas.{performed-text}
 use Rattle.vault_cli.proofs.runs.perform.Goals as goal
 
 pub returns-in-Some-clause-performs : goal.returns-in-Some-clause-performs

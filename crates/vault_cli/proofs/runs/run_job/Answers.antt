@@ -9,11 +9,13 @@ use Rattle.vault_cli.specs.runs.StoredTask.{task_in}
 use Rattle.vault_cli.specs.declared.runs.status.Status.TheVariants.{DeviceFailed, OutOfMemory}
 use Rattle.vault_cli.specs.declared.runs.status.Status.TheVariants.{Refused, Success}
 use Rattle.vault_cli.specs.runs.Task.{prepared}
-use Rattle.vault_cli.proofs.facts.runs.RefusedAlone.{alone-prepared}
-use Rattle.vault_cli.proofs.facts.runs.RunFacts.{asked-no_string, asked-prepared, ends-performed}
-use Rattle.vault_cli.proofs.facts.runs.RunFacts.{ends-unprepared, fault-fails, finished}
-use Rattle.vault_cli.proofs.facts.runs.RunFacts.{finishes-refused, performed-refused}
-use Rattle.vault_cli.proofs.facts.runs.RunFacts.{performed-unfailed}
+use Rattle.vault_cli.proofs.StatusLemmas.{alone-prepared}
+use Rattle.vault_cli.proofs.OutcomeLemmas.{asked-no_string, asked-prepared}
+use Rattle.vault_cli.proofs.PerformedLemmas.{ends-performed}
+use Rattle.vault_cli.proofs.PerformedLemmas.{ends-unprepared, finished}
+use Rattle.vault_cli.proofs.StatusLemmas.{fault-fails}
+use Rattle.vault_cli.proofs.PerformedLemmas.{finishes-refused, performed-refused}
+use Rattle.vault_cli.proofs.PerformedLemmas.{performed-unfailed}
 use Rattle.vault_cli.proofs.runs.run_job.Goals as goal
 
 pub returns-in-Err-clause-ends : goal.returns-in-Err-clause-ends

@@ -3,8 +3,8 @@ use Rattle.std.proofs.lemmas.List.{length_push}
 use Rattle.std.proofs.lemmas.Result.{err_from_is_err_and}
 use Rattle.std.specs.Prelude.{option_to_list}
 use Rattle.vault_core.specs.Secrets.{Secret}
-use Rattle.vault_cli.proofs.facts.runs.SecretFacts.{label_at, secrets_of-added, secrets_of-all}
-use Rattle.vault_cli.proofs.facts.runs.SecretFacts.{secrets_of-refused, within_all}
+use Rattle.vault_cli.proofs.TaskLemmas.{label_at, secrets_of-added, secrets_of-all}
+use Rattle.vault_cli.proofs.TaskLemmas.{secrets_of-refused, within_all}
 use Rattle.vault_cli.proofs.runs.passwords.secrets_of.Goals as goal
 
 pub returns-in_err-password : goal.returns-in_err-password

@@ -1,6 +1,6 @@
 use Rattle.std.proofs.Common.{◌≡◌, drop, length, map}
 use Rattle.vault_cli.specs.runs.Task.{secrets_of}
-use Rattle.vault_cli.proofs.facts.runs.SecretFacts.{with_front}
+use Rattle.vault_cli.proofs.TaskLemmas.{with_front}
 use Rattle.vault_cli.proofs.runs.passwords.secrets_of.Given as goal
 
 abbrev pub invariant-loop-i : goal.invariant-loop-i

@@ -1,0 +1,130 @@
+-- An ending over one output, told of another.
+use Rattle.std.proofs.Common.{◌≡◌, ℕ, inl, inr, List, [], Option, Some, None, take, ap, subst, ◌∙◌}
+use Rattle.vault_text.specs.declared.sink.Sink.{Ghosts as SinkTerms}
+use Rattle.vault_text.specs.declared.sink.Stage.TheVariants.{Unbegun}
+use Rattle.vault_files.specs.declared.access.Access.{Access}
+use Rattle.vault_files.specs.declared.file_system.FileSystem.{Ghosts as StoreTerms}
+use Rattle.vault_cli.specs.Call.{SinkCall, SourceCall, StoreCall, sink}
+use Rattle.vault_cli.specs.runs.Ending.{Ends, Finishes, IsAnswered, Output, Receives, to_path}
+use Rattle.vault_cli.specs.runs.Ending.{to_sink}
+use Rattle.vault_cli.specs.runs.Outcome.{Outcome}
+use Rattle.vault_cli.specs.runs.Reports.{Says}
+use Rattle.vault_cli.specs.declared.runs.status.Status.{Status}
+
+-- what became of the one output tells what became of the other
+pub record Tells (there here : Output) : Type 0 where
+  pub untouched : there.untouched → here.untouched
+  pub wrote : (bytes : List ℕ) → there.wrote bytes → here.wrote bytes
+  pub finished : there.finished → here.finished
+  pub failed : there.failed → here.failed
+  pub unfailed : there.unfailed → here.unfailed
+
+module _ {E : Type 0} (there here : Output) (tells : Tells there here) (err : SinkCall E)
+    (result : Status) where
+  told-output : (output : Option (List ℕ)) → Receives there output → Receives here output
+  told-output None h = tells.untouched h
+  told-output (Some bytes) h = (tells.wrote bytes h.0, tells.finished h.1)
+
+  told-finishes : (answer : Outcome) → Finishes there err result answer
+      → Finishes here err result answer
+  told-finishes answer (inl a) = inl (record {
+    status = a.status;
+    unfailed = tells.unfailed a.unfailed;
+    output = told-output answer.output a.output;
+    line = a.line;
+  })
+  told-finishes answer (inr w) = inr (record {
+    status = w.status;
+    failed = tells.failed w.failed;
+    output = let (bytes, is, (n, took)) = w.output in
+        (bytes, is, (n, tells.wrote (take n bytes) took));
+    line = w.line;
+  })
+
+  told-ends : {S : Type 0} (src : SourceCall S) (asked : Option ℕ) (answers : List ℕ → Outcome)
+      → Ends there err result src asked answers → Ends here err result src asked answers
+  told-ends src None answers (unread, done) = (unread, told-finishes (answers []) done)
+  told-ends src (Some limit) answers (input, (given, fits, inl (u, short))) = (
+    input,
+    (
+      given,
+      fits,
+      inl (
+        record {
+          status = u.status;
+          failed = u.failed;
+          unfailed = tells.unfailed u.unfailed;
+          output = tells.untouched u.output;
+          line = u.line;
+        },
+        short,
+      ),
+    ),
+  )
+  told-ends src (Some limit) answers (input, (given, fits, inr (all, done))) =
+      (input, (given, fits, inr (all, told-finishes (answers input) done)))
+
+-- what proof files know of a store, as a call over it
+abbrev pub store_between : {F R : Type 0} → SinkTerms F → StoreTerms F R → F → F → StoreCall F R
+store_between output terms old new = record { output = output; terms = terms; old = old; new = new }
+
+-- nothing was written
+module _ {F R K : Type 0} (files : StoreCall F R) (out : SinkCall K)
+    (access : Access) (fresh : files.stage files.old ≡ Unbegun) (same_files : files.new ≡ files.old)
+    (same_out : out.new ≡ out.old) where
+  pub path-untouched : (path : Option (List ℕ)) → (to_path path access files out).untouched
+  path-untouched None = (same_out, same_files)
+  path-untouched (Some path) = (same_out, ap files.stage same_files ∙ fresh, inl same_files)
+
+  pub path-unfailed : (path : Option (List ℕ)) → (to_path path access files out).unfailed
+  path-unfailed None = ap out.failures same_out
+  path-unfailed (Some path) = ap files.failures same_files
+
+  module _ {E : Type 0} (err : SinkCall E) (result : Status) (path : Option (List ℕ)) where
+    pub alone-answered : (answer : Outcome) → answer.output ≡ None → result ≡ answer.status
+        → Says err answer.line
+        → IsAnswered (to_path path access files out) err result answer
+    alone-answered answer none status line = record {
+      status = status;
+      unfailed = path-unfailed path;
+      output = rw none (path-untouched path);
+      line = line;
+    }
+
+module _ {F R K E S : Type 0} (access : Access) (files : StoreCall F R) (out : SinkCall K)
+    (err : SinkCall E) (result : Status) (src : SourceCall S)
+    (asked : Option ℕ) (answers : List ℕ → Outcome) where
+  -- a run whose output is standard output
+  pub ends-out : (path : Option (List ℕ)) → None ≡ path → files.new ≡ files.old
+      → Ends (to_sink out) err result src asked answers
+      → Ends (to_path path access files out) err result src asked answers
+  ends-out path is kept ends =
+      subst
+      (λ (p : Option (List ℕ)). Ends (to_path p access files out) err result src asked answers) is
+      (told-ends (to_sink out) (to_path None access files out) (record {
+        untouched = λ same. (same, kept);
+        wrote = λ bytes took. (took, kept);
+        finished = λ h. h;
+        failed = λ h. h;
+        unfailed = λ h. h;
+      }) err result src asked answers ends)
+
+  -- one whose output is the file at a path that was chosen
+  pub ends-file : (path : Option (List ℕ)) (chosen_path : List ℕ) (chosen : F)
+      → Some chosen_path ≡ path
+      → files.aimed files.old chosen_path access chosen → files.stage chosen ≡ Unbegun
+      → files.failures chosen ≡ files.failures files.old
+      → out.new ≡ out.old
+      → Ends (to_sink (sink files.output chosen files.new)) err result src asked answers
+      → Ends (to_path path access files out) err result src asked answers
+  ends-file path chosen_path chosen is at fresh stay alone ends =
+      subst
+      (λ (p : Option (List ℕ)). Ends (to_path p access files out) err result src asked answers) is
+      (told-ends (to_sink (sink files.output chosen files.new))
+      (to_path (Some chosen_path) access files out) (record {
+        untouched = λ same. (alone, ap files.stage same ∙ fresh, inr (rw same at));
+        wrote = λ bytes took. (alone, (chosen, at, took));
+        finished = λ h. h;
+        failed = λ h. rw stay at h;
+        unfailed = λ h. h ∙ stay;
+      }) err result src asked answers ends)

@@ -1,0 +1,124 @@
+-- How a run ends, by what its task answered.
+use Rattle.std.proofs.Common.{◌≡◌, ◌⊎◌, ℕ, List, Option, Some, None, Result, Ok, Err, inl, inr, sym}
+use Rattle.std.proofs.Common.{ap, subst, ◌∙◌}
+use Rattle.vault_text.specs.Failures.{HasRisen}
+use Rattle.vault_common.specs.declared.fault.Fault.{Fault}
+use Rattle.vault_core.specs.Input.{IsUnreadable}
+use Rattle.vault_core.specs.Ready.{Ready}
+use Rattle.vault_request.specs.Request.{Request}
+use Rattle.vault_cli.specs.Call.{SinkCall, SourceCall}
+use Rattle.vault_cli.specs.runs.Ending.{Ends, Finishes, SourceFails, to_sink}
+use Rattle.vault_cli.specs.runs.ReportLine.{line_of}
+use Rattle.vault_cli.specs.runs.Outcome.{answered, asked_for, input_asked, input_limit}
+use Rattle.vault_cli.specs.runs.Outcome.{outcome_within, ready_by, task_limit}
+use Rattle.vault_cli.specs.runs.Performed.{Performs}
+use Rattle.vault_cli.specs.runs.Reports.{Says}
+use Rattle.vault_cli.specs.runs.Status.{status_of}
+use Rattle.vault_cli.specs.runs.Task.{Task, prepared}
+use Rattle.vault_cli.specs.declared.runs.status.Status.{Status}
+use Rattle.vault_cli.specs.declared.runs.status.Status.TheVariants.{DeviceFailed, Refused, Success}
+use Rattle.vault_cli.proofs.StatusLemmas.{alone-performed}
+use Rattle.vault_cli.proofs.TaskLemmas.{limit-prepared}
+
+module _ {S K E : Type 0} (src : SourceCall S) (out : SinkCall K) (err : SinkCall E)
+    (result : Status) where
+  abbrev FinishesBy : Result Ready Fault → Type 0
+  FinishesBy answer = Finishes (to_sink out) err result (answered answer)
+
+  -- ---- what is ready was written, or was refused
+
+  -- a device that fails is an output that failed
+  pub finished : (ready : Ready) → FinishesBy (Ok ready)
+      → ((result ≡ Success) × (out.failures out.new ≡ out.failures out.old))
+      ⊎ ((result ≡ DeviceFailed) × HasRisen (out.failures out.old) (out.failures out.new))
+  finished ready (inl done) = inl (done.status, done.unfailed)
+  finished ready (inr fails) = inr (fails.status, fails.failed)
+
+  pub finishes-refused : (fault : Fault) → result ≡ status_of fault → out.new ≡ out.old
+      → Says err (line_of fault) → FinishesBy (Err fault)
+  finishes-refused fault status unwritten line = inl (record {
+    status = status;
+    unfailed = ap out.failures unwritten;
+    output = unwritten;
+    line = line;
+  })
+
+  source-failed : (fault : Fault) → IsUnreadable (src.failures src.old) (src.failures src.new) fault
+      → FinishesBy (Err fault) → SourceFails (to_sink out) err result src
+  source-failed fault (unread, risen) (inl done) = record {
+    status = done.status ∙ ap status_of unread;
+    failed = risen;
+    unfailed = done.unfailed;
+    output = done.output;
+    line = rw unread at done.line;
+  }
+  source-failed fault (unread, risen) (inr fails) =
+      let (bytes, none, prefix) = fails.output in absurd cc
+
+  -- ---- on the STRING, or on the input
+
+  module _ (limit : ℕ) (task : Task) where
+    ends-text : (answer : Result Ready Fault) (string : Option (List ℕ))
+        → Performs src limit task answer string → FinishesBy answer
+        → Ends (to_sink out) err result src (asked_for (Ok task) string (task_limit limit task))
+        (λ text. answered (ready_by limit (Ok task) string (Ok text)))
+    ends-text answer (Some string) (unread, is) done = (unread, subst FinishesBy is done)
+    ends-text (Ok ready) None (input, given, fits, (stay, (whole, is))) done =
+        (input, (given, fits, inr ((stay, whole), subst FinishesBy is done)))
+    ends-text (Err fault) None (input, given, fits, inl (unread, (short, none))) done =
+        (input, (given, fits, inl (source-failed fault unread done, short)))
+    ends-text (Err fault) None (input, given, fits, inr ((other, stay), (whole, is))) done =
+        (input, (given, fits, inr ((stay, whole), subst FinishesBy is done)))
+
+  -- a run whose steps 1 to 3 answer so
+  module _ (limit : ℕ) (request : Request) (contents : List (List ℕ)) (salt : List ℕ) where
+    abbrev EndsAfter : Result Task Fault → Type 0
+    EndsAfter prepares =
+        Ends (to_sink out) err result src
+        (asked_for prepares request.string (input_limit limit request.command))
+        (λ input. answered (ready_by limit prepares request.string (Ok input)))
+
+    abbrev EndsWithin : Type 0
+    EndsWithin =
+        Ends (to_sink out) err result src (input_asked limit request contents salt)
+        (outcome_within limit request contents salt)
+
+    ends-after : (prepares : Result Task Fault) → prepared request contents salt ≡ prepares
+        → EndsAfter prepares → EndsWithin
+    unfolding outcome_within
+    ends-after prepares is ends = subst EndsAfter (sym is) ends
+
+    pub ends-performed : (task : Task) → prepared request contents salt ≡ Ok task
+        → (answer : Result Ready Fault) → Performs src limit task answer request.string
+        → FinishesBy answer → EndsWithin
+    ends-performed task found answer performs done =
+        ends-after (Ok task) found
+        (rw (← limit-prepared limit request contents salt task found)
+        (ends-text limit task answer request.string performs done))
+
+    -- steps 1 to 3 refused
+    pub ends-unprepared : (fault : Fault) → prepared request contents salt ≡ Err fault
+        → result ≡ status_of fault → src.new ≡ src.old → out.new ≡ out.old
+        → Says err (line_of fault) → EndsWithin
+    ends-unprepared fault refusal status unread unwritten line =
+        ends-after (Err fault) refusal
+        (unread, finishes-refused fault status unwritten line)
+
+-- a task whose output is ready did not see its source fail
+pub performed-unfailed : {S : Type 0} (src : SourceCall S) (limit : ℕ) (task : Task) (ready : Ready)
+    (string : Option (List ℕ)) → Performs src limit task (Ok ready) string
+    → src.failures src.new ≡ src.failures src.old
+performed-unfailed src limit task ready (Some string) (unread, is) = ap src.failures unread
+performed-unfailed src limit task ready None (input, given, fits, (stay, read)) = stay
+
+-- one that answers a fault refuses alone, or its source failed
+pub performed-refused : {S : Type 0} (src : SourceCall S) (limit : ℕ) (task : Task) (fault : Fault)
+    (string : Option (List ℕ)) → Performs src limit task (Err fault) string
+    → ((status_of fault ≡ Refused) × (src.failures src.new ≡ src.failures src.old))
+    ⊎ ((status_of fault ≡ DeviceFailed) × HasRisen (src.failures src.old) (src.failures src.new))
+performed-refused src limit task fault (Some string) (unread, is) =
+    inl ((alone-performed limit task string).status fault (sym is), ap src.failures unread)
+performed-refused src limit task fault None (input, given, fits, inl ((unread, risen), short)) =
+    inr (ap status_of unread, risen)
+performed-refused src limit task fault None (input, given, fits, inr ((other, stay), (whole, is))) =
+    inl ((alone-performed limit task input).status fault (sym is), stay)

@@ -1,0 +1,240 @@
+-- Tasks: how much input they take, inputs of which a prefix is enough, and the secrets of their
+-- password files.
+use Rattle.std.proofs.Common.{◌≡◌, ℕ, ◌+◌, ◌<◌, ◌≤◌, nat_lt, Bool, true, List, [], ◌∷◌, ◌++◌}
+use Rattle.std.proofs.Common.{length, length-append, inl, inr, sym, ◌∙◌, Some, Result, Ok, Err}
+use Rattle.std.proofs.Common.{refl, arith, rules, tests, map, get_or, drop, Vec, Global, ap, ap₂}
+use Rattle.std.proofs.Common.{append_assoc}
+use Rattle.std.specs.Prelude.{IsTrue, slice_index_or, option_to_list, slice_get}
+use Rattle.std.specs.Option.{option_map}
+use Rattle.std.proofs.lemmas.List.{append-nil, get_or_append_left, drop_more, drop_all, get_or-map}
+use Rattle.std.proofs.lemmas.List.{length-map}
+use Rattle.std.proofs.lemmas.Option.{slice_get-get_or}
+use Rattle.vault_text.specs.Envelope.{read_within}
+use Rattle.vault_text.specs.Limits.{envelope_limit}
+use Rattle.vault_text.specs.Steps.{◌>>=◌}
+use Rattle.vault_common.specs.declared.fault.Fault.{Fault}
+use Rattle.vault_common.specs.declared.fault.Fault.TheVariants.{TooLong}
+use Rattle.vault_core.specs.Decryption.{decryption}
+use Rattle.vault_core.specs.Form.{Form, Envelope, Block}
+use Rattle.vault_core.specs.Input.{IsReadToEndOrPastLimit, UnlessUnreadable}
+use Rattle.vault_core.specs.Ready.{Ready}
+use Rattle.vault_core.specs.Rekeying.{rekeying}
+use Rattle.vault_core.specs.Secrets.{Secret, SecretList}
+use Rattle.vault_request.specs.Request.{Request, SecretFile, files_of}
+use Rattle.vault_request.specs.declared.command_name.CommandName.{CommandName}
+use Rattle.vault_request.specs.declared.command_name.CommandName.TheVariants as command
+use Rattle.vault_cli.specs.runs.Outcome.{input_limit, performed, task_limit}
+use Rattle.vault_cli.specs.runs.Task.{Task, Seal, Open, Reseal, new_secret_in, index_of, prepared}
+use Rattle.vault_cli.specs.runs.Task.{salt_of, seal_of, secret_list_of, task_of, password_in}
+use Rattle.vault_cli.specs.runs.Task.{secret_in, secrets_of}
+use Rattle.vault_core.proofs.EncryptionLemmas.{encryption-too_long}
+
+-- an input that is too long is refused as such
+decryption-too_long : (limit : ℕ) (secrets : SecretList) (input : List ℕ)
+    → nat_lt (envelope_limit limit) (length input) ≡ true
+    → decryption limit secrets input ≡ Err TooLong
+unfolding decryption read_within
+decryption-too_long limit secrets input long = rw long refl
+
+rekeying-too_long : (limit : ℕ) (secrets : SecretList) (new : Secret) (salt input : List ℕ)
+    → nat_lt (envelope_limit limit) (length input) ≡ true
+    → rekeying limit secrets new salt input ≡ Err TooLong
+unfolding rekeying read_within
+rekeying-too_long limit secrets new salt input long = rw long refl
+
+pub performed-too_long : (limit : ℕ) (task : Task) (input : List ℕ)
+    → task_limit limit task < length input → performed limit task input ≡ Err TooLong
+performed-too_long limit (Seal secrets index form salt) input long =
+    encryption-too_long limit secrets index form salt input long
+performed-too_long limit (Open secrets) input long =
+    decryption-too_long limit secrets input (search (rules, tests))
+performed-too_long limit (Reseal secrets new salt) input long =
+    rekeying-too_long limit secrets new salt input (search (rules, tests))
+
+-- how much the task takes that was found
+pub record HasLimit (limit amount : ℕ) (r : Result Task Fault) : Type 0 where
+  pub is : (task : Task) → r ≡ Ok task → task_limit limit task ≡ amount
+
+limit-ok : (limit : ℕ) (task : Task) → HasLimit limit (task_limit limit task) (Ok task)
+limit-ok limit task = record { is = λ other e. let same : task ≡ other = cc in rw same refl }
+
+pub limit-next : {A : Type 0} (limit amount : ℕ) (r : Result A Fault) (f : A → Result Task Fault)
+    → ((x : A) → HasLimit limit amount (f x)) → HasLimit limit amount (r >>= f)
+limit-next limit amount (Ok x) f h = h x
+limit-next limit amount (Err fault) f h = record { is = λ task e. absurd cc }
+
+limit-seal : (limit : ℕ) (request : Request) (secrets : List Secret) (form : Form) (salt : List ℕ)
+    → HasLimit limit limit (seal_of request secrets form salt)
+limit-seal limit request secrets form salt =
+    limit-next limit limit (index_of secrets request.choice) _ (λ index.
+    limit-next limit limit (salt_of request.salt_text salt) _
+    (λ used. limit-ok limit (Seal secrets index form used)))
+
+limit-task : (limit : ℕ) (command : CommandName) (request : Request) (list : SecretList)
+    (last salt : List ℕ)
+    → HasLimit limit (input_limit limit command) (task_of command request list last salt)
+limit-task limit command.Encrypt request list last salt =
+    limit-seal limit request list.secrets Envelope salt
+limit-task limit command.EncryptString request list last salt =
+    limit-seal limit request list.secrets (Block request.name) salt
+limit-task limit command.Decrypt request list last salt = limit-ok limit (Open list)
+limit-task limit command.View request list last salt = limit-ok limit (Open list)
+limit-task limit command.Rekey request list last salt =
+    limit-next limit (envelope_limit limit) (new_secret_in request.new_secret last) _ (λ secret.
+    limit-next limit (envelope_limit limit) (salt_of request.salt_text salt) _
+    (λ used. limit-ok limit (Reseal list secret used)))
+
+-- the task of a request takes as much as its command
+pub limit-prepared : (limit : ℕ) (request : Request) (contents : List (List ℕ)) (salt : List ℕ)
+    (task : Task)
+    → prepared request contents salt ≡ Ok task
+    → task_limit limit task ≡ input_limit limit request.command
+unfolding prepared
+limit-prepared limit request contents salt task e =
+    let last = slice_index_or contents (length request.secrets) [] in
+    (limit-next limit (input_limit limit request.command) (secret_list_of request contents) _
+    (λ list.
+    limit-task limit request.command request list last salt)).is task e
+
+-- a text of which so much was read that no more is taken, or all
+pub performed-front : (limit : ℕ) (task : Task) (ended : Bool) (text front left : List ℕ)
+    → text ≡ front ++ left → (IsTrue ended → left ≡ [])
+    → IsReadToEndOrPastLimit (task_limit limit task) ended front
+    → performed limit task front ≡ performed limit task text
+performed-front limit task ended text front left e last (inl end) =
+    let none = last end in rw (e, none, append-nil) refl
+performed-front limit task ended text front left e last (inr long) =
+    let more : length text ≡ length front + length left = rw e (length-append front left) in
+    let all : performed limit task text ≡ Err TooLong =
+    performed-too_long limit task text (omega (arith, long, more)) in
+    let some : performed limit task front ≡ Err TooLong =
+    performed-too_long limit task front (omega (arith, long)) in
+    some ∙ sym all
+
+-- what was performed on a text in memory, which never fails
+pub performed-text : (limit : ℕ) (task : Task) (result : Result Ready Fault) (ended : Bool)
+    (text front left : List ℕ) (Failed : Type 0)
+    → text ≡ front ++ left → (IsTrue ended → left ≡ [])
+    → UnlessUnreadable 0 0 result Failed
+    (IsReadToEndOrPastLimit (task_limit limit task) ended front
+    × (result ≡ performed limit task front))
+    → result ≡ performed limit task text
+performed-text limit task (Ok ready) ended text front left Failed e last (same, (whole, is)) =
+    is ∙ performed-front limit task ended text front left e last whole
+performed-text limit task (Err fault) ended text front left Failed e last
+    (inl ((is, risen), failed)) = absurd cc
+performed-text limit task (Err fault) ended text front left Failed e last
+    (inr ((other, same), (whole, is))) =
+    is ∙ performed-front limit task ended text front left e last whole
+
+-- ---- the secrets of password files, one file after the other
+
+-- secrets in front of those that are still found
+abbrev pub with_front : List Secret → Result (List Secret) Fault → Result (List Secret) Fault
+with_front front (Ok rest) = Ok (front ++ rest)
+with_front front (Err fault) = Err fault
+
+-- the first file's secret, and those of the other files
+pub secrets_of-first : (file : SecretFile) (files : List SecretFile) (bytes : List ℕ)
+    (contents : List (List ℕ))
+    → secrets_of (file ∷ files) (bytes ∷ contents)
+    ≡ (secret_in file bytes >>= λ secret. secrets_of files contents >>= λ secrets. Ok
+    (secret ∷ secrets))
+unfolding secrets_of
+secrets_of-first file files bytes contents = refl
+
+-- what is read past the end
+abbrev pub no_file : SecretFile
+no_file = record { label = []; path = [] }
+
+-- the secret of the file at the index, and those of the files behind it
+pub secrets_of-more : (files : List SecretFile) (contents : List (List ℕ)) (i : ℕ) (bytes : List ℕ)
+    → i < length files → i < length contents → bytes ≡ get_or contents i bytes
+    → secrets_of (drop i files) (drop i contents)
+    ≡ (secret_in (get_or files i no_file) bytes >>= λ secret. secrets_of (drop (i + 1) files)
+    (drop (i + 1) contents) >>= λ secrets. Ok (secret ∷ secrets))
+secrets_of-more files contents i bytes in_files in_contents read =
+    ap₂ secrets_of (drop_more files i no_file in_files)
+    (drop_more contents i bytes in_contents
+    ∙ ap (λ (b : List ℕ). b ∷ drop (i + 1) contents) (sym read))
+    ∙ secrets_of-first (get_or files i no_file) (drop (i + 1) files) bytes (drop (i + 1) contents)
+
+-- one more secret in front
+pub with_front-more : (front : List Secret) (secret : Secret) (rest : Result (List Secret) Fault)
+    → with_front front (rest >>= λ secrets. Ok (secret ∷ secrets))
+    ≡ with_front (front ++ secret ∷ []) rest
+with_front-more front secret (Ok rest) = ap Ok (sym (append_assoc front (secret ∷ []) rest))
+with_front-more front secret (Err fault) = refl
+
+module _ (files : List SecretFile) (vectors : List (Vec ℕ Global)) (i : ℕ) (vector : Vec ℕ Global)
+  where
+    abbrev contents : List (List ℕ)
+    contents = map (λ v. v.items) vectors
+
+    -- the content of the file at the index
+    read_at : i < length vectors → vector ≡ get_or vectors i vector
+        → vector.items ≡ get_or contents i vector.items
+    read_at inside read =
+        ap (λ (v : Vec ℕ Global). v.items) read
+        ∙ sym (get_or-map (λ (v : Vec ℕ Global). v.items) vectors i vector vector.items inside)
+
+    fits : i < length vectors → i < length contents
+    fits inside = omega (arith, length-map vectors (λ (v : Vec ℕ Global). v.items))
+
+    -- a password file that is refused refuses all
+    pub secrets_of-refused : (front : List Secret) (fault : Fault) → i < length files
+        → i < length vectors → vector ≡ get_or vectors i vector
+        → password_in vector.items ≡ Err fault
+        → with_front front (secrets_of (drop i files) (drop i contents)) ≡ secrets_of files contents
+        → Err fault ≡ secrets_of files contents
+    secrets_of-refused front fault in_files inside read refused e =
+        let at = secrets_of-more files contents i vector.items in_files (fits inside)
+        (read_at inside read) in
+        let none : secrets_of (drop i files) (drop i contents) ≡ Err fault = rw refused at at in
+        sym (ap (with_front front) none) ∙ e
+
+    -- a password file that gives a password adds a secret
+    pub secrets_of-added : (front : List Secret) (label password : List ℕ) → i < length files
+        → i < length vectors → vector ≡ get_or vectors i vector
+        → label ≡ (get_or files i no_file).label
+        → password_in vector.items ≡ Ok password
+        → with_front front (secrets_of (drop i files) (drop i contents)) ≡ secrets_of files contents
+        → with_front (front ++ record { label = label; password = password } ∷ [])
+        (secrets_of (drop (i + 1) files) (drop (i + 1) contents)) ≡ secrets_of files contents
+    secrets_of-added front label password in_files inside read under found e =
+        let at = secrets_of-more files contents i vector.items in_files (fits inside)
+        (read_at inside read) in
+        let some = rw found at at in
+        rw under
+        (sym
+        (with_front-more front
+        (record { label = (get_or files i no_file).label; password = password })
+        (secrets_of (drop (i + 1) files) (drop (i + 1) contents)))
+        ∙ sym (ap (with_front front) some) ∙ e)
+
+-- no file is left
+pub secrets_of-all : (front : List Secret) (files : List SecretFile) (contents : List (List ℕ))
+    (i : ℕ) (all : Result (List Secret) Fault)
+    → length files ≤ i → with_front front (secrets_of (drop i files) (drop i contents)) ≡ all
+    → Ok front ≡ all
+unfolding secrets_of
+secrets_of-all front files contents i all past e =
+    sym (rw (drop_all i files past) (ap Ok (append-nil front))) ∙ e
+
+-- the label of the file at the index, of files behind which others stand
+pub label_at : (files more : List SecretFile) (i : ℕ) (label : List ℕ) → i < length files
+    → option_map (λ file. file.label) (slice_get (files ++ more) i) ≡ Some label
+    → label ≡ (get_or files i no_file).label
+label_at files more i label inside e =
+    let within : i < length (files ++ more) = omega (arith, length-append files more) in
+    let some : Some ((get_or (files ++ more) i no_file).label) ≡ Some label =
+    rw (slice_get-get_or (files ++ more) i no_file within) at e in
+    let found : Some ((get_or files i no_file).label) ≡ Some label =
+    rw (get_or_append_left files more no_file i inside) at some in
+    cc
+
+-- each secret of a list has a content of its own
+pub within_all : (request : Request) (contents i : ℕ) → contents ≡ length (files_of request)
+    → i < length request.secrets → i < contents
+within_all request contents i all inside =
+    omega (arith, length-append request.secrets (option_to_list request.new_secret))

@@ -1,0 +1,67 @@
+//! The memory of a run, which is reserved before any file is opened.
+ghost use Rattle.std.specs.Prelude.{◌≡◌, ◌+◌, ◌≤◌, All, IfOk, vec_capacity, vec_len};
+ghost use Rattle.std.specs.Option.{option_map};
+ghost use Rattle.std.specs.String.{string_bytes};
+ghost use Rattle.vault_core.specs.declared.limits.TheConstants.{PASSWORD_FILE_LIMIT};
+ghost use Rattle.vault_text.specs.declared.limits.TheConstants.{CIPHERTEXT_LIMIT};
+ghost use Rattle.vault_cli.specs.Reserved.{HasRoomFor};
+
+use crate::limits::SEALING_SALT_LENGTH;
+use std::alloc::{AllocError, Global};
+use vault_core::PASSWORD_FILE_LIMIT;
+use vault_request::Request;
+use vault_text::CIPHERTEXT_LIMIT;
+
+/// Memory for what is read of the files of a request: one buffer for each password file, the list
+/// that its contents are put into, and a buffer for the salt.
+#[derive(Drop)]
+pub(crate) struct Buffers {
+    pub unread: Vec<Vec<u8>>,
+    pub contents: Vec<Vec<u8>>,
+    pub salt: Vec<u8>,
+}
+
+/// Memory for the longest text, for the files, and for the path of the output.
+#[derive(Drop)]
+pub(crate) struct Reserved {
+    pub text: Vec<u8>,
+    pub buffers: Buffers,
+    pub output: Option<String>,
+}
+
+/// All memory that a request needs.
+pub(crate) fn reserve(alloc: Global, request: &Request) -> Result<Reserved, AllocError>
+    ensures text { IfOk result (λ reserved. CIPHERTEXT_LIMIT ≤ vec_capacity reserved.text) }
+    ensures buffers { IfOk result (λ reserved. HasRoomFor request.now reserved.buffers) }
+    ensures output { IfOk result (λ reserved.
+        option_map string_bytes reserved.output ≡ request.now.output) }
+{
+    let text = Vec::with_capacity(alloc, CIPHERTEXT_LIMIT)?;
+    let buffers = Buffers {
+        unread: password_buffers(alloc, request.files())?,
+        contents: Vec::with_capacity(alloc, request.files())?,
+        salt: vec![in alloc; 0; SEALING_SALT_LENGTH]?,
+    };
+    let output = match request.output() {
+        Some(path) => Some(String::from_str(alloc, path)?),
+        None => None,
+    };
+    Ok(Reserved {
+        text,
+        buffers,
+        output,
+    })
+}
+
+/// Buffers for so many password files, each for one byte more than is taken.
+fn password_buffers(alloc: Global, count: usize) -> Result<Vec<Vec<u8>>, AllocError>
+    ensures count { IfOk result (λ buffers. vec_len buffers ≡ count) }
+    ensures length { IfOk result (λ buffers.
+        All (λ buffer. vec_len buffer ≡ PASSWORD_FILE_LIMIT + 1) buffers.items) }
+{
+    let mut buffers = Vec::with_capacity(alloc, count)?;
+    while buffers.len() < count {
+        buffers.push(vec![in alloc; 0; PASSWORD_FILE_LIMIT + 1]?)?;
+    }
+    Ok(buffers)
+}
