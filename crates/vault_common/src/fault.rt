@@ -1,10 +1,11 @@
 //! The faults of a run, with their numbers and texts.
-ghost use Rattle.std.specs.Prelude.{◌≡◌};
+ghost use Rattle.std.specs.Prelude.{◌≡◌, ◌≤◌, length};
 ghost use Rattle.vault_common.specs.Fault.{number_of, of_text, text_of};
 ghost use Rattle.vault_common.specs.declared.fault.Fault.TheVariants.{BadLabel as LabelFault};
 ghost use Rattle.vault_common.specs.declared.fault.Fault.TheVariants.{Memory, Read};
 ghost use Rattle.vault_common.specs.declared.fault.Fault.TheVariants.{Write};
 ghost use Rattle.vault_common.specs.declared.fault.Role.TheVariants.{Input};
+ghost use Rattle.vault_common.specs.declared.limits.TheConstants.{FAULT_TEXT_LIMIT};
 
 use std::alloc::{AllocError, AllocFailed};
 use thiserror::Error;
@@ -141,7 +142,8 @@ impl Fault {
 
     /// What the fault's line says behind `ERROR! `.
     pub fn text(self) -> &'static str
-        ensures { result.now ≡ text_of self }
+        ensures text { result.now ≡ text_of self }
+        ensures limit { length result.now ≤ FAULT_TEXT_LIMIT }
     {
         match self {
             Fault::TooLong => "input is longer than the limit",

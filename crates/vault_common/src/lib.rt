@@ -13,4 +13,4 @@ mod limits;
 
 pub use fault::{Fault, Role};
 pub use label_rule::LabelRule;
-pub use limits::SECRET_COUNT_LIMIT;
+pub use limits::{FAULT_TEXT_LIMIT, SECRET_COUNT_LIMIT};

@@ -8,11 +8,15 @@ ghost use Rattle.vault_cli.specs.runs.Reports.{Reports};
 
 use crate::runs::status::{Status, status_of};
 use arrayvec::ArrayVec;
+use vault_common::FAULT_TEXT_LIMIT;
 use vault_core::Fault;
 use vault_text::{Sink, SinkFailed, Stage, put_all};
 
-/// The bytes of the longest line: `ERROR! `, the longest text of a fault, and the line end.
-const LINE_LIMIT: usize = 7 + 62 + 1;
+/// What each line begins with.
+const PREFIX: &[u8; 7] = b"ERROR! ";
+
+/// The bytes of the longest line: the prefix, the longest text of a fault, and the line end.
+const LINE_LIMIT: usize = PREFIX.len() + FAULT_TEXT_LIMIT + 1;
 
 /// Makes `err` take the fault's line, `ERROR! ` and the fault's text, and answers the fault's
 /// status. A failure of `err` changes nothing else.
@@ -30,7 +34,7 @@ fn line_of(fault: Fault) -> ArrayVec<u8, LINE_LIMIT>
     ensures { result.items ≡ line_of fault }
 {
     let mut line = ArrayVec::new();
-    line.try_extend_from_slice(b"ERROR! ").unwrap();
+    line.try_extend_from_slice(PREFIX).unwrap();
     line.try_extend_from_slice(fault.text().as_bytes()).unwrap();
     line.push(b'\n');
     line
