@@ -37,7 +37,7 @@ SUMS := $(LIBRARY)/installed.sha256
 # What compares outcomes is run by pytest, in so many processes; the others are commands in tests/.
 PYTEST ?= /usr/bin/python3 -B -X utf8 -m pytest
 PYTEST_PROCESSES ?= 4
-TESTS := growths_in_memory outcomes fuzz with_valgrind faults growths lint
+TESTS := failed_allocations_in_memory outcomes fuzz with_valgrind faults failed_allocations lint
 
 .DELETE_ON_ERROR:
 .PHONY: all check mutants test fuzz faults bench install replaceable uninstall package lint clean FORCE $(TESTS:%=test-%)
@@ -51,11 +51,11 @@ bin/ansible-vault: $(SOURCES) bin/processor
 		tools/build_program ansible_vault $(if $(CPU),--cpu $(CPU)) -- --version
 	@cp crates/ansible_vault/out/ansible_vault $@
 
-# The program that tests/growths_in_memory runs.
-bin/vault_growths: $(SOURCES)
+# The program that tests/failed_allocations_in_memory runs.
+bin/vault_allocation_failures: $(SOURCES)
 	@mkdir -p bin
-	@tools/progress.py bin/growths.log vault_growths tools/build_program vault_growths -- drive view < /dev/null
-	@cp crates/vault_growths/out/vault_growths $@
+	@tools/progress.py bin/failed_allocations.log vault_allocation_failures tools/build_program vault_allocation_failures -- drive view < /dev/null
+	@cp crates/vault_allocation_failures/out/vault_allocation_failures $@
 
 # Changes where the processor does.
 bin/processor: FORCE
@@ -70,8 +70,8 @@ check: bin/processor
 	@tools/progress.py bin/ci.log all rt ci
 	@$(if $(CPU),,cp crates/ansible_vault/out/ansible_vault bin/ansible-vault)
 	@$(if $(CPU),,touch -r bin/gate-begun bin/ansible-vault)
-	@cp crates/vault_growths/out/vault_growths bin/vault_growths
-	@touch -r bin/gate-begun bin/vault_growths
+	@cp crates/vault_allocation_failures/out/vault_allocation_failures bin/vault_allocation_failures
+	@touch -r bin/gate-begun bin/vault_allocation_failures
 	@$(MAKE) --no-print-directory test
 
 # No part of the gate: the mutants of each crate beside its must-fail edits, before a release.
@@ -91,11 +91,11 @@ test-outcomes: all
 test-fuzz: all
 	tests/fuzz bin/ansible-vault --seed 1 --runs 6000 --seconds 120 --least 200
 
-test-with_valgrind test-faults test-growths: test-%: all
+test-with_valgrind test-faults test-failed_allocations: test-%: all
 	tests/$* bin/ansible-vault
 
-test-growths_in_memory: bin/vault_growths
-	tests/growths_in_memory bin/vault_growths
+test-failed_allocations_in_memory: bin/vault_allocation_failures
+	tests/failed_allocations_in_memory bin/vault_allocation_failures
 
 test-lint:
 	tools/lint

@@ -11,7 +11,7 @@ from lib.paths import PAGE, README, ROOT
 
 FORMATS = (ROOT / "docs" / "formats.md").read_text()
 CRATES = ROOT / "crates"
-FAULTS = (CRATES / "vault_common" / "src" / "fault.rt").read_text()
+FAULTS = (CRATES / "vault_fault" / "src" / "fault.rt").read_text()
 STATUSES = (CRATES / "vault_cli" / "src" / "runs" / "status.rt").read_text()
 
 # The constants whose values stand in each row.
@@ -136,7 +136,7 @@ def unspaced(code: str) -> str:
 
 def test_examples(outcome: Outcome) -> None:
     """Each library's example stands in a test, behind the allocator where it needs one."""
-    tests = (CRATES / "vault_program_cases" / "src" / "examples.rt").read_text()
+    tests = (CRATES / "vault_program_tests" / "src" / "examples.rt").read_text()
     bodies = dict(re.findall(r"^fn of_(\w+)\(.*?\{\n(.*?)^\}", tests, re.MULTILINE | re.DOTALL))
     tested = {
         crate: unspaced(body).removeprefix("letalloc=rt.alloc();").removesuffix("Ok(())")

@@ -33,8 +33,8 @@ class Lack(NamedTuple):
 LACKS = [
     Lack(["with_valgrind", "{program}"], ["valgrind"]),
     Lack(["fuzz", "{program}", "--runs", "1"], ["ansible-vault"]),
-    Lack(["growths", "{program}"], ["cc"]),
-    Lack(["growths_in_memory", "{program}"], ["cc"]),
+    Lack(["failed_allocations", "{program}"], ["cc"]),
+    Lack(["failed_allocations_in_memory", "{program}"], ["cc"]),
     Lack(["with_strace.py"], ["strace"], "parsing"),
     Lack(["with_ansible.py"], ["ansible-vault"], "fixed_salt"),
     Lack(["options_agree.py"], ["zsh", "fish", "mandoc", "groff"], "completions or shown"),

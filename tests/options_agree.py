@@ -23,7 +23,7 @@ SAID = {
     "--vault-password-file": "default",
     "--salt-file": "/dev/urandom by default",
     "--salt": "used twice",
-    "--output": "needed with FILE",
+    "--output": "required if FILE",
 }
 
 # The definitions and the crates that name each option.

@@ -25,7 +25,7 @@ SHOWN = {
     "the contract of drive_over": ("crates/vault_cli/src/program.rt", r"^pub fn drive_over\b.*?(?=^\{)"),
     "main": ("crates/ansible_vault/src/main.rt", r"^fn main\b.*?^\}"),
     "the body of drive": ("crates/vault_cli/src/system.rt", r"(^pub fn drive\b.*?\) -> Status\n).*?(^\{.*?^\})"),
-    "the disk of the runtime": ("crates/vault_files/src/disk/runtime.rt", r"^const OWNER_ONLY.*"),
+    "the system of the runtime": ("crates/vault_files/src/system/runtime.rt", r"^const OWNER_ONLY.*"),
 }
 
 # The calls whose contracts are the headline, by the file that each stands in: those that the program
@@ -48,7 +48,7 @@ HEADLINE = PROGRAM | {
     "crates/vault_core/src/decryption.rt": "prepare_decrypt_in",
     "crates/vault_core/src/rekeying.rt": "prepare_rekey_in",
     "crates/vault_files/src/host.rt": "",
-    "crates/vault_files/src/disk.rt": "",
+    "crates/vault_files/src/system.rt": "",
     "crates/vault_files/src/access.rt": "",
 }
 
@@ -187,7 +187,7 @@ WORDS = re.compile(r"^These words come from the kit:\n\n((?:    .*\n)+)", re.MUL
 def library_code() -> dict[str, str]:
     """The code of the crates that are no tests, by its path."""
     paths = [file.relative_to(ROOT) for file in ROOT.glob("crates/*/src/**/*.rt")]
-    return {str(path): (ROOT / path).read_text() for path in paths if not path.parts[1].endswith("_cases")}
+    return {str(path): (ROOT / path).read_text() for path in paths if not path.parts[1].endswith("_tests")}
 
 
 @cache
@@ -301,8 +301,8 @@ BROKEN = [
     (check_claims, r"\| `ctr_apply`|; `ctr_apply`", "; `ctr_applied`"),
     (check_claims, r"`onto_the_input`|`refused_leaves_outputs`", "`refused_leaves_nothing`"),
     (check_claims, r"`tests/faults`", "`tests/no_faults`"),
-    (check_definitions, r"`opened_of` \(", "`opened_from` ("),
-    (check_definitions, r"^ +\d+ crates/vault_cli/specs/Opened.antt\n", ""),
+    (check_definitions, r"`opened_paths` \(", "`opened_from` ("),
+    (check_definitions, r"^ +\d+ crates/vault_cli/specs/OpenedPaths.antt\n", ""),
     (check_kit_words, r"^    fold f .*\n", ""),
     (check_kit_words, r"^ +\d+ hex/specs/Hex.antt.*\n", ""),
     (check_signs, r", `A ⊎ B`", ""),

@@ -1,5 +1,5 @@
 //! The work that the benchmark of envelopes times: `bench_envelope read N` reads the envelope on
-//! standard input N times, and `bench_envelope write LENGTH N` writes one of so many bytes of
+//! standard input N times, and `bench_envelope write LENGTH N` writes one of LENGTH bytes of
 //! ciphertext N times. Both print how many bytes the last one had: of ciphertext, or of text.
 #![tactic(auto)]
 

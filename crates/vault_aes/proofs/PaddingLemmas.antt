@@ -85,11 +85,11 @@ All-replicate_once value (x ∷ xs) all =
     let tail = All-replicate_once value xs (All-tail (λ (y : ℕ). y ≡ value) x xs all) in
     (λ i. head i ∷ tail i)
 
--- a front and behind it as many bytes as fill up its blocks, each of that count
-padded-from : (front back : List ℕ) (count : ℕ) → count_of front ≡ count
-    → back ≡ replicate count count → padded front ≡ front ++ back
+-- a prefix and after it as many bytes as fill up its blocks, each of that count
+padded-from : (prefix back : List ℕ) (count : ℕ) → count_of prefix ≡ count
+    → back ≡ replicate count count → padded prefix ≡ prefix ++ back
 unfolding padded
-padded-from front back count is filled = rw (is, filled) refl
+padded-from prefix back count is filled = rw (is, filled) refl
 
 -- no other text is one
 pub padded-unique : (plain text : List ℕ) → IsPadded plain text → text ≡ padded plain
@@ -109,27 +109,27 @@ padded-from_tail : (text : List ℕ) (count : ℕ) → 1 ≤ count → count ≤
     → padded (take (length text - count) text) ≡ text
 padded-from_tail text count low high within whole all =
     let n : ℕ = length text - count in
-    let front : length (take n text) ≡ n = length-take-le n text (omega arith) in
+    let prefix : length (take n text) ≡ n = length-take-le n text (omega arith) in
     let back : length (drop n text) ≡ count = length-drop n text ∙ omega arith in
     let filled : drop n text ≡ replicate count count =
     All-replicate_once count (drop n text) all ∙ ap (λ (k : ℕ). replicate k count) back in
-    padded-from (take n text) (drop n text) count (omega (arith, front)) filled
+    padded-from (take n text) (drop n text) count (omega (arith, prefix)) filled
     ∙ take-append-drop n text
 
--- what `pad` leaves at the front
+-- what `pad` leaves at the start
 pub padded-put_mid : (work bytes : List ℕ) (n count : ℕ) → n ≤ length work
     → padded_length n ≤ length work → count ≡ 16 - n % 16
     → bytes ≡ replicate (length (take (n + count - n) (drop n work))) count
     → take (n + count) (put_mid n (n + count - n) work bytes) ≡ padded (take n work)
 padded-put_mid work bytes n count within room is written =
-    let front : length (take n work) ≡ n = length-take-le n work within in
+    let prefix : length (take n work) ≡ n = length-take-le n work within in
     let room_left : length (take (n + count - n) (drop n work)) ≡ count =
     simp (length-take, length-drop) (omega arith) in
     let filled : bytes ≡ replicate count count =
     written ∙ ap (λ (k : ℕ). replicate k count) room_left in
     let long : length bytes ≡ count = ap length filled ∙ length-replicate count count in
     take-put_mid n (n + count - n) work bytes (n + count) (omega (arith, long)) within
-    ∙ sym (padded-from (take n work) bytes count (omega (arith, front)) filled)
+    ∙ sym (padded-from (take n work) bytes count (omega (arith, prefix)) filled)
 
 -- ---- padding that is taken off
 

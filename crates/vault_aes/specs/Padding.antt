@@ -4,7 +4,7 @@ use Rattle.std.specs.Prelude.{map, find, Option}
 use Rattle.std.specs.List.{range_with_len}
 use Rattle.std.specs.Str.{bytes_eq}
 
--- the text is the plaintext and behind it some bytes, 1 to 16 of them, each of the value of their
+-- the text is the plaintext and after it some bytes, 1 to 16 of them, each of the value of their
 -- count, so that there are whole blocks
 abbrev pub IsPadded : List ℕ → List ℕ → Type 0
 IsPadded plaintext text =
@@ -15,12 +15,12 @@ IsPadded plaintext text =
 abbrev pub padded_length : ℕ → ℕ
 padded_length n = n - n % 16 + 16
 
--- the plaintext, of n bytes, and behind it 16 - (n mod 16) bytes, each of that value
+-- the plaintext, of n bytes, and after it 16 - (n mod 16) bytes, each of that value
 unfoldable pub padded : List ℕ → List ℕ
 padded plaintext =
     let count = 16 - length plaintext % 16 in plaintext ++ replicate count count
 
--- what stands before each byte of the text
+-- what comes before each byte of the text
 abbrev pub prefixes : List ℕ → List (List ℕ)
 prefixes text = map (λ n. take n text) (range_with_len 0 (length text))
 

@@ -8,154 +8,155 @@ use Rattle.std.proofs.lemmas.Bool.{false≢true}
 use Rattle.vault_text.specs.Failures.{HasRisen}
 use Rattle.vault_text.specs.declared.limits.TheConstants.{PLAINTEXT_LIMIT}
 use Rattle.vault_text.specs.declared.sink.Stage.TheVariants.{Unbegun}
-use Rattle.vault_files.specs.File.{Answers, Finding}
+use Rattle.vault_files.specs.File.{Answers, FileState}
 use Rattle.vault_files.specs.declared.fault.FileFault.TheVariants.{CannotRead}
-use Rattle.vault_common.specs.declared.fault.Fault.{Fault}
-use Rattle.vault_common.specs.declared.fault.Fault.TheVariants.{Memory, Read}
-use Rattle.vault_common.specs.declared.fault.Role.TheVariants.{Input}
+use Rattle.vault_fault.specs.declared.fault.Fault.{Fault}
+use Rattle.vault_fault.specs.declared.fault.Fault.TheVariants.{Memory, Read}
+use Rattle.vault_fault.specs.declared.fault.Role.TheVariants.{Input}
 use Rattle.vault_cli.specs.Call.{SinkCall, SourceCall, StoreCall, files_from}
-use Rattle.vault_cli.specs.Drive.{AllMet, Drives}
-use Rattle.vault_cli.specs.runs.Ending.{Ends, EndsUnasked, Finishes, Output, to_path}
-use Rattle.vault_cli.specs.runs.Found.{AtPath, asked_paths, fault_in, secret_paths}
-use Rattle.vault_cli.specs.Loaded.{ContentsMet, RefusedBy, SaltMet}
+use Rattle.vault_cli.specs.Drive.{AllFound, Drives}
+use Rattle.vault_cli.specs.runs.Ending.{Ends, EndsUnread, Finishes, Output, to_path}
+use Rattle.vault_cli.specs.runs.FileContents.{AtPath, request_paths, fault_in, secret_paths}
+use Rattle.vault_cli.specs.Loaded.{ContentsFound, RefusedBy, SaltFound}
 use Rattle.vault_cli.specs.runs.ReportLine.{line_of}
-use Rattle.vault_cli.specs.runs.Outcome.{Outcome, answered, asked_for, input_asked, input_limit}
-use Rattle.vault_cli.specs.runs.Outcome.{outcome, outcome_within, ready_by, reported}
-use Rattle.vault_cli.specs.Opened.{opened_of}
-use Rattle.vault_cli.specs.Program.{Files, access_of, answer_to, input_in, input_file_opened}
+use Rattle.vault_cli.specs.runs.Answer.{Answer, answered, input_needed_by, input_needed}
+use Rattle.vault_cli.specs.runs.Answer.{input_limit}
+use Rattle.vault_cli.specs.runs.Answer.{run_answer, run_answer_within, ready_by, reported}
+use Rattle.vault_cli.specs.OpenedPaths.{opened_paths}
+use Rattle.vault_cli.specs.Program.{Files, access_of, answer_to, input_in, can_open_input}
 use Rattle.vault_cli.specs.Program.{output_access, output_path, task_over, unless_file}
 use Rattle.vault_cli.specs.runs.Reports.{Says}
 use Rattle.vault_request.specs.Request.{Request}
 use Rattle.vault_request.specs.Settled.{Settles}
 use Rattle.vault_cli.specs.runs.Status.{status_of}
-use Rattle.vault_cli.specs.runs.Task.{Task, prepared}
+use Rattle.vault_cli.specs.runs.Task.{Task, planned}
 use Rattle.vault_cli.specs.declared.runs.status.Status.{Status}
 use Rattle.vault_cli.specs.declared.runs.status.Status.TheVariants.{OutOfMemory}
 use Rattle.vault_cli.proofs.EndingLemmas.{alone-answered}
-use Rattle.vault_cli.proofs.OpenedLemmas.{opened-all}
+use Rattle.vault_cli.proofs.OpenedPathsLemmas.{opened-all}
 use Rattle.vault_cli.proofs.ProgramLemmas.{opening-broken, opening-read, task-found}
 
 -- no standard input is asked for beside a file
-unless_file-none : (file : Option Finding) → unless_file file None ≡ None
+unless_file-none : (file : Option FileState) → unless_file file None ≡ None
 unless_file-none None = refl
 unless_file-none (Some file) = refl
 
 -- ---- the files of a request
 
-module _ (meets : List ℕ → Finding → Type 0) (request : Request) (contents : List (List ℕ))
+module _ (finds : List ℕ → FileState → Type 0) (request : Request) (contents : List (List ℕ))
     (salt : List ℕ)
-    (read : ContentsMet meets (secret_paths request) (Ok contents))
-    (salted : SaltMet meets request.salt_path (Ok salt)) where
+    (read : ContentsFound finds (secret_paths request) (Ok contents))
+    (salted : SaltFound finds request.salt_path (Ok salt)) where
   -- with an input file that may be found there and can be opened, or none, they prepare what the
   -- request does
-  pub found-with : (input : Option Finding) → AtPath meets request.input input
-      → input_file_opened input ≡ Ok tt
-      → (found : Files) × AllMet meets (Some (Ok request)) found × (found.input ≡ input)
-      × (task_over request found ≡ prepared request contents salt)
-      × (opened_of (Some (Ok request)) found ≡ asked_paths request)
-  found-with input met opening =
-      let (secrets, secrets_met, gave) = read in
-      let (salt_file, salt_met, has_salt) = salted in
+  pub found-with : (input : Option FileState) → AtPath finds request.input input
+      → can_open_input input ≡ Ok tt
+      → (found : Files) × AllFound finds (Some (Ok request)) found × (found.input ≡ input)
+      × (task_over request found ≡ planned request contents salt)
+      × (opened_paths (Some (Ok request)) found ≡ request_paths request)
+  found-with input seen opening =
+      let (secrets, secrets_found, gave) = read in
+      let (salt_file, salt_found, has_salt) = salted in
       let found : Files = record { secrets = secrets; salt = salt_file; input = input } in (
         found,
-        (secrets_met, salt_met, met),
+        (secrets_found, salt_found, seen),
         refl,
         task-found request found contents salt gave has_salt opening,
-        opened-all meets request found contents secrets_met gave salt has_salt,
+        opened-all finds request found contents secrets_found gave salt has_salt,
       )
 
 -- what a reader of a file gave
-module _ {R : Type 0} (meets : List ℕ → Finding → Type 0) (opened : List ℕ → R → Type 0)
+module _ {R : Type 0} (finds : List ℕ → FileState → Type 0) (opened : List ℕ → R → Type 0)
     (reader : SourceCall R) where
-  abbrev pub FrontLaw : Type 0
-  FrontLaw =
+  abbrev pub PrefixLaw : Type 0
+  PrefixLaw =
       (path : List ℕ) (r t : R) (xs : List ℕ) (n : ℕ) → opened path r → reader.gives r xs t
       → length xs ≤ n
       → IsTrue (reader.ended t) ⊎ (length xs ≡ n) → reader.failures t ≡ reader.failures r
-      → Answers (meets path) n (Ok xs)
+      → Answers (finds path) n (Ok xs)
 
   abbrev pub BreakLaw : Type 0
   BreakLaw =
       (path : List ℕ) (r t : R) (xs : List ℕ) (n : ℕ) → opened path r → reader.gives r xs t
       → length xs < n
-      → HasRisen (reader.failures r) (reader.failures t) → Answers (meets path) n (Err CannotRead)
+      → HasRisen (reader.failures r) (reader.failures t) → Answers (finds path) n (Err CannotRead)
 
   -- a file that gives this, for each standard input
-  abbrev InputMet : Option (List ℕ) → ℕ → Result (List ℕ) Fault → Type 0
-  InputMet path n answer =
-      (file : Finding) × AtPath meets path (Some file) × (input_file_opened (Some file) ≡ Ok tt)
+  abbrev InputFound : Option (List ℕ) → ℕ → Result (List ℕ) Fault → Type 0
+  InputFound path n answer =
+      (file : FileState) × AtPath finds path (Some file) × (can_open_input (Some file) ≡ Ok tt)
       × ((stdin : List ℕ) → input_in n (Some file) stdin ≡ answer)
 
-  input-read : FrontLaw → (path : Option (List ℕ)) (t : R) (xs : List ℕ) (n : ℕ)
+  input-read : PrefixLaw → (path : Option (List ℕ)) (t : R) (xs : List ℕ) (n : ℕ)
       → AtPath opened path (Some reader.old)
       → reader.gives reader.old xs t → length xs ≤ n → IsTrue (reader.ended t) ⊎ (length xs ≡ n)
-      → reader.failures t ≡ reader.failures reader.old → InputMet path n (Ok xs)
+      → reader.failures t ≡ reader.failures reader.old → InputFound path n (Ok xs)
   input-read law None t xs n at given fits end unfailed = absurd at
   input-read law (Some path) t xs n at given fits end unfailed =
       let a = law path reader.old t xs n at given fits end unfailed in
       let same : (stdin : List ℕ) → input_in n (Some a.file) stdin ≡ Ok xs =
       λ stdin. ap (result_map_both (λ bytes. bytes) (fault_in Input)) a.same in
-      (a.file, a.met, opening-read a.file n [] xs (same []), same)
+      (a.file, a.found, opening-read a.file n [] xs (same []), same)
 
   input-broken : BreakLaw → (path : Option (List ℕ)) (t : R) (xs : List ℕ) (n : ℕ)
       → AtPath opened path (Some reader.old)
       → reader.gives reader.old xs t → length xs < n
       → HasRisen (reader.failures reader.old) (reader.failures t)
-      → InputMet path n (Err (Read Input))
+      → InputFound path n (Err (Read Input))
   input-broken law None t xs n at given fits risen = absurd at
   input-broken law (Some path) t xs n at given fits risen =
       let a = law path reader.old t xs n at given fits risen in
       let same : (stdin : List ℕ) → input_in n (Some a.file) stdin ≡ Err (Read Input) =
       λ stdin. ap (result_map_both (λ bytes. bytes) (fault_in Input)) a.same in
-      (a.file, a.met, opening-broken a.file n [] (same []), same)
+      (a.file, a.found, opening-broken a.file n [] (same []), same)
 
-unopened : {R : Type 0} (meets : List ℕ → Finding → Type 0) (opened : List ℕ → R → Type 0)
-    (path : Option (List ℕ)) → AtPath opened path None → AtPath meets path None
-unopened meets opened None at = tt
-unopened meets opened (Some path) at = absurd at
+unopened : {R : Type 0} (finds : List ℕ → FileState → Type 0) (opened : List ℕ → R → Type 0)
+    (path : Option (List ℕ)) → AtPath opened path None → AtPath finds path None
+unopened finds opened None at = tt
+unopened finds opened (Some path) at = absurd at
 
 module _ {F R S K E : Type 0} (files : StoreCall F R) (src : SourceCall S) (out : SinkCall K)
     (err : SinkCall E) (result : Status) where
-  abbrev AskedDrives : Option (Result Request Fault) → Type 0
-  AskedDrives asks = Drives files src out err result asks (answer_to asks)
+  abbrev RequestDrives : Option (Result Request Fault) → Type 0
+  RequestDrives requested = Drives files src out err result requested (answer_to requested)
 
   -- ---- what a request sent
 
   module _ (request : Request) (contents : List (List ℕ)) (salt : List ℕ)
-      (read : ContentsMet (files.meets files.old) (secret_paths request) (Ok contents))
-      (salted : SaltMet (files.meets files.old) request.salt_path (Ok salt))
-      (opened : F) (went : files.opens files.old (asked_paths request) opened) where
+      (read : ContentsFound (files.finds files.old) (secret_paths request) (Ok contents))
+      (salted : SaltFound (files.finds files.old) request.salt_path (Ok salt))
+      (opened : F) (went : files.opens files.old (request_paths request) opened) where
     abbrev SentTo : Output
     SentTo = to_path request.output (output_access request.command) (files_from opened files) out
 
     abbrev SentFrom : {T : Type 0} → SourceCall T → Type 0
     SentFrom from =
-        Ends SentTo err result from (input_asked PLAINTEXT_LIMIT request contents salt)
-        (outcome request contents salt)
+        Ends SentTo err result from (input_needed PLAINTEXT_LIMIT request contents salt)
+        (run_answer request contents salt)
 
     -- over this input file and this task
-    abbrev EndsWith : Option Finding → Result Task Fault → Type 0
+    abbrev EndsWith : Option FileState → Result Task Fault → Type 0
     EndsWith input task = Ends SentTo err result src
         (unless_file input
-        (asked_for task request.string (input_limit PLAINTEXT_LIMIT request.command)))
+        (input_needed_by task request.string (input_limit PLAINTEXT_LIMIT request.command)))
         (λ stdin. answered
         (ready_by PLAINTEXT_LIMIT task request.string
         (input_in (input_limit PLAINTEXT_LIMIT request.command + 1) input stdin)))
 
-    drives-with : (input : Option Finding) → AtPath (files.meets files.old) request.input input
-        → input_file_opened input ≡ Ok tt
-        → EndsWith input (prepared request contents salt) → AskedDrives (Some (Ok request))
-    drives-with input input_met opening ends =
-        let (found, met, is, same, all) = found-with (files.meets files.old) request contents salt
-        read salted input input_met opening in
+    drives-with : (input : Option FileState) → AtPath (files.finds files.old) request.input input
+        → can_open_input input ≡ Ok tt
+        → EndsWith input (planned request contents salt) → RequestDrives (Some (Ok request))
+    drives-with input input_found opening ends =
+        let (found, seen, is, same, all) = found-with (files.finds files.old) request contents salt
+        read salted input input_found opening in
         inr (
           found,
-          met,
+          seen,
           (
             opened,
             (
               subst (λ (paths : List (List ℕ)). files.opens files.old paths opened) (sym all) went,
-              subst (λ (file : Option Finding). EndsWith file (task_over request found)) (sym is)
+              subst (λ (file : Option FileState). EndsWith file (task_over request found)) (sym is)
                   (subst (λ (task : Result Task Fault). EndsWith input task) (sym same) ends),
             ),
           ),
@@ -163,49 +164,51 @@ module _ {F R S K E : Type 0} (files : StoreCall F R) (src : SourceCall S) (out 
 
     -- of standard input
     pub drives-stdin : (reads : List ℕ → R → Type 0) → AtPath reads request.input None
-        → SentFrom src → AskedDrives (Some (Ok request))
-    unfolding outcome_within
+        → SentFrom src → RequestDrives (Some (Ok request))
+    unfolding run_answer_within
     drives-stdin reads at ends =
-        drives-with None (unopened (files.meets files.old) reads request.input at) refl ends
+        drives-with None (unopened (files.finds files.old) reads request.input at) refl ends
 
     -- or of a file, for which standard input is left alone
     module _ (kept : src.new ≡ src.old) (reads : List ℕ → R → Type 0) (reader : SourceCall R)
         (at : AtPath reads request.input (Some reader.old))
         (none : reader.gives reader.old [] reader.old)
-        (front_law : FrontLaw (files.meets files.old) reads reader)
-        (break_law : BreakLaw (files.meets files.old) reads reader) where
+        (prefix_law : PrefixLaw (files.finds files.old) reads reader)
+        (break_law : BreakLaw (files.finds files.old) reads reader) where
       -- the file that was found, and the answer to it
       abbrev FileEnds : Result Task Fault → Option (List ℕ) → Type 0
-      FileEnds prepares string =
-          (file : Finding) × AtPath (files.meets files.old) request.input (Some file)
-          × (input_file_opened (Some file) ≡ Ok tt)
+      FileEnds plans string =
+          (file : FileState) × AtPath (files.finds files.old) request.input (Some file)
+          × (can_open_input (Some file) ≡ Ok tt)
           × Finishes SentTo err result
           (answered
-          (ready_by PLAINTEXT_LIMIT prepares string
+          (ready_by PLAINTEXT_LIMIT plans string
           (input_in (input_limit PLAINTEXT_LIMIT request.command + 1) (Some file) [])))
 
       abbrev FileSent : Result Task Fault → Option (List ℕ) → Type 0
-      FileSent prepares string = Ends SentTo err result reader
-          (asked_for prepares string (input_limit PLAINTEXT_LIMIT request.command))
-          (λ input. answered (ready_by PLAINTEXT_LIMIT prepares string (Ok input)))
+      FileSent plans string = Ends SentTo err result reader
+          (input_needed_by plans string (input_limit PLAINTEXT_LIMIT request.command))
+          (λ input. answered (ready_by PLAINTEXT_LIMIT plans string (Ok input)))
 
-      file-ends : (prepares : Result Task Fault) (string : Option (List ℕ))
-          → FileSent prepares string → FileEnds prepares string
+      file-ends : (plans : Result Task Fault) (string : Option (List ℕ))
+          → FileSent plans string → FileEnds plans string
       file-ends (Err fault) string (unread, done) =
-          let (file, met, opening, same) = input-read (files.meets files.old) reads reader front_law
+          let (file, seen, opening, same) = input-read (files.finds files.old) reads reader
+          prefix_law
           request.input reader.old [] 0 at none (omega arith) (inr refl) refl in
-          (file, met, opening, done)
+          (file, seen, opening, done)
       file-ends (Ok task) (Some string) (unread, done) =
-          let (file, met, opening, same) = input-read (files.meets files.old) reads reader front_law
+          let (file, seen, opening, same) = input-read (files.finds files.old) reads reader
+          prefix_law
           request.input reader.old [] 0 at none (omega arith) (inr refl) refl in
-          (file, met, opening, done)
+          (file, seen, opening, done)
       file-ends (Ok task) None (input, (given, fits, inl (u, short))) =
-          let (file, met, opening, same) = input-broken (files.meets files.old) reads reader
+          let (file, seen, opening, same) = input-broken (files.finds files.old) reads reader
           break_law request.input reader.new input
           (input_limit PLAINTEXT_LIMIT request.command + 1) at given (omega (arith, short))
           u.failed in (
             file,
-            met,
+            seen,
             opening,
             subst
                 (λ (text : Result (List ℕ) Fault). Finishes SentTo err result
@@ -216,11 +219,12 @@ module _ {F R S K E : Type 0} (files : StoreCall F R) (src : SourceCall S) (out 
                 { status = u.status; unfailed = u.unfailed; output = u.output; line = u.line })),
           )
       file-ends (Ok task) None (input, (given, fits, inr ((stay, whole), done))) =
-          let (file, met, opening, same) = input-read (files.meets files.old) reads reader front_law
+          let (file, seen, opening, same) = input-read (files.finds files.old) reads reader
+          prefix_law
           request.input reader.new input
           (input_limit PLAINTEXT_LIMIT request.command + 1) at given fits whole stay in (
             file,
-            met,
+            seen,
             opening,
             subst
                 (λ (text : Result (List ℕ) Fault). Finishes SentTo err result
@@ -228,38 +232,40 @@ module _ {F R S K E : Type 0} (files : StoreCall F R) (src : SourceCall S) (out 
                 (sym (same [])) done,
           )
 
-      pub drives-file : SentFrom reader → AskedDrives (Some (Ok request))
-      unfolding outcome_within
+      pub drives-file : SentFrom reader → RequestDrives (Some (Ok request))
+      unfolding run_answer_within
       drives-file sent =
-          let (file, met, opening, ends) = file-ends (prepared request contents salt) request.string
+          let (file, seen, opening, ends) = file-ends (planned request contents salt) request.string
           sent in
-          drives-with (Some file) met opening (kept, ends)
+          drives-with (Some file) seen opening (kept, ends)
 
   -- ---- what was answered before the output was chosen
 
   module _ (opened : F) (fresh : files.stage opened ≡ Unbegun) (same_files : files.new ≡ opened)
       (same_out : out.new ≡ out.old) (kept : src.new ≡ src.old) where
-    answered-alone : (asks : Option (Result Request Fault)) (answer : Outcome)
+    answered-alone : (requested : Option (Result Request Fault)) (answer : Answer)
         → answer.output ≡ None → result ≡ answer.status → Says err answer.line
-        → EndsUnasked (to_path (output_path asks) (access_of asks) (files_from opened files) out)
+        → EndsUnread (to_path (output_path requested) (access_of requested)
+        (files_from opened files) out)
         err result src answer
-    answered-alone asks answer none status line = (
+    answered-alone requested answer none status line = (
       kept,
-      inl (alone-answered (files_from opened files) out (access_of asks) fresh same_files same_out
-          err result (output_path asks) answer none status line),
+      inl (alone-answered (files_from opened files) out (access_of requested) fresh same_files
+          same_out
+          err result (output_path requested) answer none status line),
     )
 
     -- the files refuse it
     pub drives-refused : (request : Request) (fault : Fault)
-        → RefusedBy (files.meets files.old) (λ paths. files.opens files.old paths opened) request
+        → RefusedBy (files.finds files.old) (λ paths. files.opens files.old paths opened) request
         fault
-        → result ≡ status_of fault → Says err (line_of fault) → AskedDrives (Some (Ok request))
-    drives-refused request fault (found, met, refused_so, went) status line =
+        → result ≡ status_of fault → Says err (line_of fault) → RequestDrives (Some (Ok request))
+    drives-refused request fault (found, seen, refused_so, went) status line =
         let to = to_path request.output (output_access request.command)
         (files_from opened files) out in
         inr (
           found,
-          met,
+          seen,
           (
             opened,
             (
@@ -267,7 +273,8 @@ module _ {F R S K E : Type 0} (files : StoreCall F R) (src : SourceCall S) (out 
               subst
                   (λ (task : Result Task Fault). Ends to err result src
                   (unless_file found.input
-                  (asked_for task request.string (input_limit PLAINTEXT_LIMIT request.command)))
+                  (input_needed_by task request.string
+                  (input_limit PLAINTEXT_LIMIT request.command)))
                   (λ stdin. answered (ready_by PLAINTEXT_LIMIT task request.string
                   (input_in (input_limit PLAINTEXT_LIMIT request.command + 1) found.input stdin))))
                   (sym refused_so)
@@ -283,9 +290,9 @@ module _ {F R S K E : Type 0} (files : StoreCall F R) (src : SourceCall S) (out 
   module _ (same_files : files.new ≡ files.old) (same_out : out.new ≡ out.old)
       (kept : src.new ≡ src.old) where
     -- there was no memory
-    pub drives-no_memory : (asks : Option (Result Request Fault)) → result ≡ OutOfMemory
-        → Says err (line_of Memory) → AskedDrives asks
-    drives-no_memory asks status line = inl (
+    pub drives-no_memory : (requested : Option (Result Request Fault)) → result ≡ OutOfMemory
+        → Says err (line_of Memory) → RequestDrives requested
+    drives-no_memory requested status line = inl (
       same_files,
       kept,
       record {
@@ -298,9 +305,9 @@ module _ {F R S K E : Type 0} (files : StoreCall F R) (src : SourceCall S) (out 
 
     -- the options are refused, or there was no memory for the request
     pub drives-unsettled : files.stage files.old ≡ Unbegun → files.opens files.old [] files.old
-        → (asks : Option (Result Request Fault)) (fault : Fault) → is_some asks ≡ true
-        → IfSome asks (λ settled. Settles settled (Err fault))
-        → result ≡ status_of fault → Says err (line_of fault) → AskedDrives asks
+        → (requested : Option (Result Request Fault)) (fault : Fault) → is_some requested ≡ true
+        → IfSome requested (λ settled. Settles settled (Err fault))
+        → result ≡ status_of fault → Says err (line_of fault) → RequestDrives requested
     drives-unsettled fresh unopened None fault is settles status line = absurd (false≢true is)
     drives-unsettled fresh unopened (Some (Ok request)) fault is (inl e) status line = absurd cc
     drives-unsettled fresh unopened (Some (Ok request)) fault is (inr e) status line =
@@ -323,13 +330,14 @@ module _ {F R S K E : Type 0} (files : StoreCall F R) (src : SourceCall S) (out 
 
   -- ---- a request that was settled
 
-  pub drives-settled : (asks : Option (Result Request Fault)) (request : Request)
-      → is_some asks ≡ true
-      → IfSome asks (λ settled. Settles settled (Ok request)) → AskedDrives (Some (Ok request))
-      → AskedDrives asks
+  pub drives-settled : (requested : Option (Result Request Fault)) (request : Request)
+      → is_some requested ≡ true
+      → IfSome requested (λ settled. Settles settled (Ok request))
+      → RequestDrives (Some (Ok request))
+      → RequestDrives requested
   drives-settled None request some settles h = absurd (false≢true some)
   drives-settled (Some (Err fault)) request some settles h = absurd cc
   drives-settled (Some (Ok other)) request some (inl e) h =
       let same : request ≡ other = cc in
-      subst (λ (r : Request). AskedDrives (Some (Ok r))) same h
+      subst (λ (r : Request). RequestDrives (Some (Ok r))) same h
   drives-settled (Some (Ok other)) request some (inr e) h = absurd cc

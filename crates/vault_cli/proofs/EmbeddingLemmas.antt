@@ -11,27 +11,28 @@ use Rattle.vault_text.specs.Sink.{MemSinkState, MemoryTakes, has_begun}
 use Rattle.vault_text.specs.Source as source
 use Rattle.vault_text.specs.declared.sink.Stage.{Stage}
 use Rattle.vault_text.specs.declared.sink.Stage.TheVariants.{Unbegun, Begun, Finished}
-use Rattle.vault_files.specs.File.{Finding}
+use Rattle.vault_files.specs.File.{FileState}
 use Rattle.vault_files.specs.Memory.{IsReaderOf, Logs, ReaderState, StoreOpens, StoreState}
 use Rattle.vault_files.specs.Memory.{StoreTakes, file_at, stands_at}
 use Rattle.vault_files.specs.declared.access.Access.{Access}
-use Rattle.vault_common.specs.declared.fault.Fault.{Fault}
-use Rattle.vault_common.specs.declared.fault.Fault.TheVariants.{Memory, Write}
+use Rattle.vault_fault.specs.declared.fault.Fault.{Fault}
+use Rattle.vault_fault.specs.declared.fault.Fault.TheVariants.{Memory, Write}
 use Rattle.vault_request.specs.Request.{Request}
 use Rattle.vault_cli.specs.Call.{SinkCall, SourceCall, StoreCall}
-use Rattle.vault_cli.specs.Drive.{AllMet, Drives, IsDriven}
-use Rattle.vault_cli.specs.Opened.{opened_of}
-use Rattle.vault_cli.specs.Program.{Files, access_of, answer_to, files_in, output_path, stdin_asked}
+use Rattle.vault_cli.specs.Drive.{AllFound, Drives, IsDriven}
+use Rattle.vault_cli.specs.OpenedPaths.{opened_paths}
+use Rattle.vault_cli.specs.Program.{Files, access_of, answer_to, files_in, output_path}
+use Rattle.vault_cli.specs.Program.{stdin_needed}
 use Rattle.vault_cli.specs.Embedding.{Embeds, HoldsPrefix, Holds, IsCut, IsFinished, IsKept}
-use Rattle.vault_cli.specs.Embedding.{Received, Stands, Taken, Told, change, stands_after}
+use Rattle.vault_cli.specs.Embedding.{Received, Stands, Taken, Reported, change, stands_after}
 use Rattle.vault_cli.specs.runs.Ending.{Ends, Finishes, LacksMemory, Output, Receives, to_path}
 use Rattle.vault_cli.specs.runs.Ending.{to_sink}
 use Rattle.vault_cli.specs.runs.ReportLine.{line_of}
-use Rattle.vault_cli.specs.runs.Outcome.{Outcome}
+use Rattle.vault_cli.specs.runs.Answer.{Answer}
 use Rattle.vault_cli.specs.runs.Reports.{Reports, Says}
 use Rattle.vault_cli.specs.declared.runs.status.Status.{Status}
 use Rattle.vault_cli.specs.declared.runs.status.Status.TheVariants.{OutOfMemory}
-use Rattle.vault_cli.proofs.ProgramLemmas.{IsOfFront, answer-front, drives-in}
+use Rattle.vault_cli.proofs.ProgramLemmas.{IsOfPrefix, answer-prefix, drives-in}
 
 -- calls over a store, a source and a sink in memory
 abbrev pub memory_store : StoreState → StoreState → StoreCall StoreState ReaderState
@@ -39,10 +40,10 @@ memory_store old new = record {
   output =
       record { takes = StoreTakes; stage = λ s. s.output.stage; failures = λ s. s.output.failures };
   terms = record {
-    meets = λ s path file. file ≡ file_at s.entries path;
+    finds = λ s path file. file ≡ file_at s.entries path;
     opened = λ s path reader. IsReaderOf (file_at s.entries path) reader;
     opens = StoreOpens;
-    aimed = λ s path access t. t ≡ record s { aim = Some path };
+    output_set = λ s path access t. t ≡ record s { output_file = Some path };
   };
   old = old;
   new = new;
@@ -72,10 +73,10 @@ reported err new_err line r =
       | inr (_, stayed) ↦ let whole = r.whole stayed in inl (whole.0.0.appended, whole.1)
     ]
 
-told : (err new_err : MemSinkState) (line : List ℕ) → Says (memory_sink err new_err) line
-    → Told (change err new_err) line
-told err new_err [] says = says
-told err new_err (byte ∷ line) says = reported err new_err (byte ∷ line) says
+said : (err new_err : MemSinkState) (line : List ℕ) → Says (memory_sink err new_err) line
+    → Reported (change err new_err) line
+said err new_err [] says = says
+said err new_err (byte ∷ line) says = reported err new_err (byte ∷ line) says
 
 -- an output that was not begun stands at no path
 unbegun-stands : (files : StoreState) (path : List ℕ) → files.output.stage ≡ Unbegun
@@ -83,15 +84,17 @@ unbegun-stands : (files : StoreState) (path : List ℕ) → files.output.stage �
 unbegun-stands files path unbegun = rw unbegun refl
 
 -- and one that was begun stands at the path that was chosen
-written-stands : (files new_files : StoreState) (aim bytes path : List ℕ) → files.output.held ≡ []
-    → StoreTakes (record files { aim = Some aim }) bytes new_files
+written-stands : (files new_files : StoreState) (output_file bytes path : List ℕ)
+    → files.output.held ≡ []
+    → StoreTakes (record files { output_file = Some output_file }) bytes new_files
     → has_begun new_files.output.stage ≡ true
-    → stands_at new_files path ≡ stands_after (file_at files.entries) (Some aim) (Some bytes) path
-written-stands files new_files aim bytes path empty took begun =
+    → stands_at new_files path
+    ≡ stands_after (file_at files.entries) (Some output_file) (Some bytes) path
+written-stands files new_files output_file bytes path empty took begun =
     let held : new_files.output.held ≡ bytes = took.output.appended ∙ ap (λ l. l ++ bytes) empty in
-    rw (begun, took.aim, held, took.entries) refl
+    rw (begun, took.output_file, held, took.entries) refl
 
--- behind opens the files are those before, but for the log
+-- after opens the files are those before, but for the log
 log-behind : (files opened : StoreState) (paths : List (List ℕ))
     → StoreOpens files paths opened
     → (log : Option (List (List ℕ))) × (opened ≡ record files { log = log })
@@ -103,17 +106,17 @@ embeds-memory : (result : Status) (files new_files : StoreState)
     (out new_out err new_err : MemSinkState)
     → files.output.stage ≡ Unbegun → new_files ≡ files
     → LacksMemory (to_sink (memory_sink out new_out)) (memory_sink err new_err) result
-    → (path : Option (List ℕ)) (answer : Outcome)
+    → (path : Option (List ℕ)) (answer : Answer)
     → Embeds result (change files new_files) (change out new_out) (change err new_err) path answer
 embeds-memory result files new_files out new_out err new_err unbegun same memory path answer =
     inr (inl (record {
       status = memory.status;
       stands = λ p. ap (λ (s : StoreState). stands_at s p) same ∙ unbegun-stands files p unbegun;
       output = memory.output;
-      line = told err new_err (line_of Memory) memory.line;
+      line = said err new_err (line_of Memory) memory.line;
     }))
 
--- what is left behind an input that reaches to the end of a text, or to one byte past a limit
+-- what is left after an input that reaches to the end of a text, or to one byte past a limit
 left-behind : (text input left : List ℕ) (limit : ℕ) → text ≡ input ++ left
     → length input ≤ limit + 1 → (left ≡ []) ⊎ (length input ≡ limit + 1)
     → left ≡ drop (limit + 1) text
@@ -126,11 +129,11 @@ module _ (result : Status) (files new_files : StoreState) (log : Option (List (L
     (out new_out err new_err : MemSinkState)
     (unbegun : files.output.stage ≡ Unbegun) (empty : files.output.held ≡ [])
     (access : Access) where
-  -- the files behind the opens
+  -- the files after the opens
   abbrev opened : StoreState
   opened = record files { log = log }
 
-  abbrev StandsSo : (List ℕ → Finding) → Type 0
+  abbrev StandsSo : (List ℕ → FileState) → Type 0
   StandsSo after =
       Stands result (change files new_files) (change out new_out) (change err new_err) after
 
@@ -144,15 +147,15 @@ module _ (result : Status) (files new_files : StoreState) (log : Option (List (L
   kept : (path : Option (List ℕ)) → (OutputAt path).untouched → KeptSo
   kept None (same_out, same) p =
       ap (λ (s : StoreState). stands_at s p) same ∙ unbegun-stands files p unbegun
-  kept (Some aim) (same_out, fresh, inl same) p =
+  kept (Some output_file) (same_out, fresh, inl same) p =
       ap (λ (s : StoreState). stands_at s p) same ∙ unbegun-stands files p unbegun
-  kept (Some aim) (same_out, fresh, inr chosen) p =
+  kept (Some output_file) (same_out, fresh, inr chosen) p =
       unbegun-stands new_files p fresh
       ∙ ap (λ (s : StoreState). file_at s.entries p) chosen
 
   left-alone : (path : Option (List ℕ)) → (OutputAt path).untouched → new_out ≡ out
   left-alone None untouched = untouched.0
-  left-alone (Some aim) untouched = untouched.0
+  left-alone (Some output_file) untouched = untouched.0
 
   received-none : (path : Option (List ℕ)) → new_out ≡ out → Received path None (change out new_out)
   received-none None same = same
@@ -167,10 +170,10 @@ module _ (result : Status) (files new_files : StoreState) (log : Option (List (L
     λ p. ap (λ (s : StoreState). stands_at s p) same ∙ unbegun-stands files p unbegun,
     (took.0.appended, finished),
   )
-  wrote (Some aim) bytes (same_out, (chosen, at, took)) finished =
+  wrote (Some output_file) bytes (same_out, (chosen, at, took)) finished =
       let begun : has_begun new_files.output.stage ≡ true = rw finished refl in
       let into = subst (λ (s : StoreState). StoreTakes s bytes new_files) at took in
-      (λ p. written-stands opened new_files aim bytes p empty into begun, same_out)
+      (λ p. written-stands opened new_files output_file bytes p empty into begun, same_out)
 
   written : (path output : Option (List ℕ))
       → Receives (OutputAt path) output
@@ -184,24 +187,24 @@ module _ (result : Status) (files new_files : StoreState) (log : Option (List (L
       → IsFinished result (change files new_files) (change out new_out) (change err new_err) path
       output
   finishes None output received = tt
-  finishes (Some aim) None received = tt
-  finishes (Some aim) (Some bytes) (took, finished) = finished
+  finishes (Some output_file) None received = tt
+  finishes (Some output_file) (Some bytes) (took, finished) = finished
 
   -- so is a prefix of it, where the output failed
-  cut-at : (aim bytes : List ℕ) (n : ℕ) (stage : Stage) → new_files.output.stage ≡ stage
-      → StoreTakes (record opened { aim = Some aim }) (take n bytes) new_files
+  cut-at : (output_file bytes : List ℕ) (n : ℕ) (stage : Stage) → new_files.output.stage ≡ stage
+      → StoreTakes (record opened { output_file = Some output_file }) (take n bytes) new_files
       → KeptSo
       ⊎ ((m : ℕ) × StandsSo
-      (stands_after (file_at files.entries) (Some aim) (Some (take m bytes))))
-  cut-at aim bytes n Unbegun is took =
+      (stands_after (file_at files.entries) (Some output_file) (Some (take m bytes))))
+  cut-at output_file bytes n Unbegun is took =
       inl (λ p. unbegun-stands new_files p is
       ∙ ap (λ entries. file_at entries p) took.entries)
-  cut-at aim bytes n Begun is took =
+  cut-at output_file bytes n Begun is took =
       let begun : has_begun new_files.output.stage ≡ true = rw is refl in
-      inr (n, λ p. written-stands opened new_files aim (take n bytes) p empty took begun)
-  cut-at aim bytes n Finished is took =
+      inr (n, λ p. written-stands opened new_files output_file (take n bytes) p empty took begun)
+  cut-at output_file bytes n Finished is took =
       let begun : has_begun new_files.output.stage ≡ true = rw is refl in
-      inr (n, λ p. written-stands opened new_files aim (take n bytes) p empty took begun)
+      inr (n, λ p. written-stands opened new_files output_file (take n bytes) p empty took begun)
 
   cut-to : (path : Option (List ℕ)) (bytes : List ℕ) (n : ℕ) → (OutputAt path).failed
       → (OutputAt path).wrote (take n bytes)
@@ -211,20 +214,21 @@ module _ (result : Status) (files new_files : StoreState) (log : Option (List (L
     (failed, (n, took.0.appended)),
     λ p. ap (λ (s : StoreState). stands_at s p) same ∙ unbegun-stands files p unbegun,
   )
-  cut-to (Some aim) bytes n failed (same_out, (chosen, at, took)) =
+  cut-to (Some output_file) bytes n failed (same_out, (chosen, at, took)) =
       let into = subst (λ (s : StoreState). StoreTakes s (take n bytes) new_files) at took in
-      (failed, same_out, cut-at aim bytes n new_files.output.stage refl into)
+      (failed, same_out, cut-at output_file bytes n new_files.output.stage refl into)
 
   -- the log stays
   log-untouched : (path : Option (List ℕ)) → (OutputAt path).untouched → new_files.log ≡ log
   log-untouched None (same_out, same) = ap (λ (s : StoreState). s.log) same
-  log-untouched (Some aim) (same_out, fresh, inl same) = ap (λ (s : StoreState). s.log) same
-  log-untouched (Some aim) (same_out, fresh, inr chosen) = ap (λ (s : StoreState). s.log) chosen
+  log-untouched (Some output_file) (same_out, fresh, inl same) = ap (λ (s : StoreState). s.log) same
+  log-untouched (Some output_file) (same_out, fresh, inr chosen) = ap (λ (s : StoreState). s.log)
+      chosen
 
   log-wrote : (path : Option (List ℕ)) (bytes : List ℕ) → (OutputAt path).wrote bytes
       → new_files.log ≡ log
   log-wrote None bytes (took, same) = ap (λ (s : StoreState). s.log) same
-  log-wrote (Some aim) bytes (same_out, (chosen, at, took)) =
+  log-wrote (Some output_file) bytes (same_out, (chosen, at, took)) =
       took.log ∙ ap (λ (s : StoreState). s.log) at
 
   log-written : (path output : Option (List ℕ))
@@ -233,11 +237,11 @@ module _ (result : Status) (files new_files : StoreState) (log : Option (List (L
   log-written path (Some bytes) (took, finished) = log-wrote path bytes took
 
   module _ (path : Option (List ℕ)) where
-    abbrev EmbedsSo : Outcome → Type 0
+    abbrev EmbedsSo : Answer → Type 0
     EmbedsSo answer =
         Embeds result (change files new_files) (change out new_out) (change err new_err) path answer
 
-    embeds-done : (answer : Outcome)
+    embeds-done : (answer : Answer)
         → Finishes (OutputAt path) (memory_sink err new_err) result answer → EmbedsSo answer
     embeds-done answer (inl done) =
         let (stands, received) = written path answer.output done.output in
@@ -246,25 +250,26 @@ module _ (result : Status) (files new_files : StoreState) (log : Option (List (L
           stands = stands;
           finished = finishes path answer.output done.output;
           output = received;
-          line = told err new_err
+          line = said err new_err
               answer.line done.line;
         })
     embeds-done answer (inr fails) = inr (inr (record {
       status = fails.status;
       cut = let (bytes, is, (n, took)) = fails.output in
           (bytes, is, cut-to path bytes n fails.failed took);
-      line = told err new_err (line_of Write) fails.line;
+      line = said err new_err (line_of Write) fails.line;
     }))
 
-    log-done : (answer : Outcome) → Finishes (OutputAt path) (memory_sink err new_err) result answer
+    log-done : (answer : Answer) → Finishes (OutputAt path) (memory_sink err new_err) result answer
         → new_files.log ≡ log
     log-done answer (inl done) = log-written path answer.output done.output
     log-done answer (inr fails) =
         let (bytes, is, (n, took)) = fails.output in log-wrote path (take n bytes) took
 
-    log-kept : (src new_src : source.MemSourceState) (asked : Option ℕ)
-        (answers : List ℕ → Outcome)
-        → Ends (OutputAt path) (memory_sink err new_err) result (memory_source src new_src) asked
+    log-kept : (src new_src : source.MemSourceState) (requested : Option ℕ)
+        (answers : List ℕ → Answer)
+        → Ends (OutputAt path) (memory_sink err new_err) result (memory_source src new_src)
+        requested
         answers
         → new_files.log ≡ log
     log-kept src new_src None answers (unread, done) = log-done (answers []) done
@@ -274,7 +279,7 @@ module _ (result : Status) (files new_files : StoreState) (log : Option (List (L
         log-done (answers input) done
 
     module _ (src new_src : source.MemSourceState) (not_ended : src.ended ≡ false) where
-      -- nothing is left where the end was told
+      -- nothing is left where the end was reported
       at-end : (input : List ℕ) → source.MemoryGives src input new_src → IsTrue new_src.ended
           → new_src.left ≡ []
       at-end input given =
@@ -282,8 +287,9 @@ module _ (result : Status) (files new_files : StoreState) (log : Option (List (L
           (λ ended. let never : IsTrue false = rw not_ended at ended in absurd (false≢true never))
 
       -- the answer to what was given is the answer to all that was there
-      embeds : (asked : Option ℕ) (answers : List ℕ → Outcome) → IsOfFront asked answers
-          → Ends (OutputAt path) (memory_sink err new_err) result (memory_source src new_src) asked
+      embeds : (requested : Option ℕ) (answers : List ℕ → Answer) → IsOfPrefix requested answers
+          → Ends (OutputAt path) (memory_sink err new_err) result (memory_source src new_src)
+          requested
           answers
           → EmbedsSo (answers src.left)
       embeds None answers same (unread, done) =
@@ -297,10 +303,11 @@ module _ (result : Status) (files new_files : StoreState) (log : Option (List (L
           (embeds-done (answers input) done)
 
       -- so much of the input was taken
-      taken : (asked : Option ℕ) (answers : List ℕ → Outcome)
-          → Ends (OutputAt path) (memory_sink err new_err) result (memory_source src new_src) asked
+      taken : (requested : Option ℕ) (answers : List ℕ → Answer)
+          → Ends (OutputAt path) (memory_sink err new_err) result (memory_source src new_src)
+          requested
           answers
-          → Taken asked (change src new_src)
+          → Taken requested (change src new_src)
       taken None answers (unread, done) = unread
       taken (Some limit) answers (input, (given, fits, inl (failed, short))) =
           absurd (omega (arith, failed.failed))
@@ -316,65 +323,70 @@ module _ (result : Status) (files new_files : StoreState) (log : Option (List (L
 module _ (result : Status) (files new_files : StoreState) (src new_src : source.MemSourceState)
     (out new_out err new_err : MemSinkState)
     (unbegun : files.output.stage ≡ Unbegun) (empty : files.output.held ≡ [])
-    (not_ended : src.ended ≡ false) (asks : Option (Result Request Fault)) where
+    (not_ended : src.ended ≡ false) (requested : Option (Result Request Fault)) where
   abbrev DrivesSo : Type 0
   DrivesSo =
       Drives (memory_store files new_files) (memory_source src new_src) (memory_sink out new_out)
-      (memory_sink err new_err) result asks (answer_to asks)
+      (memory_sink err new_err) result requested (answer_to requested)
 
   abbrev found : Files
-  found = files_in (file_at files.entries) asks
+  found = files_in (file_at files.entries) requested
 
-  -- behind a log of the paths that were opened
+  -- after a log of the paths that were opened
   abbrev EndsBehind : Option (List (List ℕ)) → Type 0
   EndsBehind log =
-      Ends (to_path (output_path asks) (access_of asks)
+      Ends (to_path (output_path requested) (access_of requested)
       (memory_store (record files { log = log }) new_files) (memory_sink out new_out))
-      (memory_sink err new_err) result (memory_source src new_src) (stdin_asked asks found)
-      (answer_to asks found)
+      (memory_sink err new_err) result (memory_source src new_src) (stdin_needed requested found)
+      (answer_to requested found)
 
-  ends-behind : (met : Files) → AllMet (λ path file. file ≡ file_at files.entries path) asks met
+  ends-behind : (seen : Files)
+      → AllFound (λ path file. file ≡ file_at files.entries path) requested seen
       → (opened : StoreState)
       → IsDriven (memory_store files new_files) (memory_source src new_src)
-      (memory_sink out new_out) (memory_sink err new_err) result asks (answer_to asks) met opened
-      → (log : Option (List (List ℕ))) × Logs files.log (opened_of asks found) log
+      (memory_sink out new_out) (memory_sink err new_err) result requested (answer_to requested)
+      seen opened
+      → (log : Option (List (List ℕ))) × Logs files.log (opened_paths requested found) log
       × EndsBehind log
-  ends-behind met all_met opened driven =
+  ends-behind seen all_found opened driven =
       let (went, ends) = drives-in (memory_store files new_files) (memory_source src new_src)
-      (memory_sink out new_out) (memory_sink err new_err) result (file_at files.entries) opened asks
-      met all_met driven in
-      let (log, same, logged) = log-behind files opened (opened_of asks found) went in
+      (memory_sink out new_out) (memory_sink err new_err) result (file_at files.entries) opened
+      requested
+      seen all_found driven in
+      let (log, same, logged) = log-behind files opened (opened_paths requested found) went in
       (log, logged, rw same at ends)
 
   -- it is embedded as the answer to all of its input
   pub drives-embeds : DrivesSo
       → Embeds result (change files new_files) (change out new_out) (change err new_err)
-      (output_path asks) (answer_to asks found src.left)
+      (output_path requested) (answer_to requested found src.left)
   drives-embeds (inl (same, unread, memory)) =
       embeds-memory result files new_files out new_out err new_err unbegun same memory
-      (output_path asks) (answer_to asks found src.left)
-  drives-embeds (inr (met, all_met, (opened, driven))) =
-      let (log, logged, ends) = ends-behind met all_met opened driven in
-      embeds result files new_files log out new_out err new_err unbegun empty (access_of asks)
-      (output_path asks) src new_src not_ended (stdin_asked asks found) (answer_to asks found)
-      (answer-front asks found) ends
+      (output_path requested) (answer_to requested found src.left)
+  drives-embeds (inr (seen, all_found, (opened, driven))) =
+      let (log, logged, ends) = ends-behind seen all_found opened driven in
+      embeds result files new_files log out new_out err new_err unbegun empty (access_of requested)
+      (output_path requested) src new_src not_ended (stdin_needed requested found)
+      (answer_to requested found)
+      (answer-prefix requested found) ends
 
   -- so much of its input was taken
   pub drives-taken : DrivesSo → result ≢ OutOfMemory
-      → Taken (stdin_asked asks found) (change src new_src)
+      → Taken (stdin_needed requested found) (change src new_src)
   drives-taken (inl (same, unread, memory)) fits = absurd (fits memory.status)
-  drives-taken (inr (met, all_met, (opened, driven))) fits =
-      let (log, logged, ends) = ends-behind met all_met opened driven in
-      taken result files new_files log out new_out err new_err unbegun empty (access_of asks)
-      (output_path asks) src new_src not_ended (stdin_asked asks found) (answer_to asks found) ends
+  drives-taken (inr (seen, all_found, (opened, driven))) fits =
+      let (log, logged, ends) = ends-behind seen all_found opened driven in
+      taken result files new_files log out new_out err new_err unbegun empty (access_of requested)
+      (output_path requested) src new_src not_ended (stdin_needed requested found)
+      (answer_to requested found) ends
 
   -- these paths were opened
   pub drives-logged : DrivesSo → result ≢ OutOfMemory
-      → Logs files.log (opened_of asks found) new_files.log
+      → Logs files.log (opened_paths requested found) new_files.log
   drives-logged (inl (same, unread, memory)) fits = absurd (fits memory.status)
-  drives-logged (inr (met, all_met, (opened, driven))) fits =
-      let (log, logged, ends) = ends-behind met all_met opened driven in
+  drives-logged (inr (seen, all_found, (opened, driven))) fits =
+      let (log, logged, ends) = ends-behind seen all_found opened driven in
       let stays = log-kept result files new_files log out new_out err new_err unbegun empty
-      (access_of asks) (output_path asks) src new_src (stdin_asked asks found)
-      (answer_to asks found) ends in
+      (access_of requested) (output_path requested) src new_src (stdin_needed requested found)
+      (answer_to requested found) ends in
       rw stays logged

@@ -7,44 +7,46 @@ use Rattle.vault_files.specs.declared.file_system.FileSystem.{Ghosts as StoreTer
 use Rattle.vault_cli.specs.Call.{SinkCall, SourceCall, StoreCall, sink}
 use Rattle.vault_cli.specs.runs.Ending.{Ends, Finishes, IsAnswered, Output, Receives, to_path}
 use Rattle.vault_cli.specs.runs.Ending.{to_sink}
-use Rattle.vault_cli.specs.runs.Outcome.{Outcome}
+use Rattle.vault_cli.specs.runs.Answer.{Answer}
 use Rattle.vault_cli.specs.runs.Reports.{Says}
 use Rattle.vault_cli.specs.declared.runs.status.Status.{Status}
 
 -- what became of the one output tells what became of the other
-pub record Tells (there here : Output) : Type 0 where
+pub record CarriesOver (there here : Output) : Type 0 where
   pub untouched : there.untouched → here.untouched
   pub wrote : (bytes : List ℕ) → there.wrote bytes → here.wrote bytes
   pub finished : there.finished → here.finished
   pub failed : there.failed → here.failed
   pub unfailed : there.unfailed → here.unfailed
 
-module _ {E : Type 0} (there here : Output) (tells : Tells there here) (err : SinkCall E)
+module _ {E : Type 0} (there here : Output) (carries_over : CarriesOver there here)
+    (err : SinkCall E)
     (result : Status) where
-  told-output : (output : Option (List ℕ)) → Receives there output → Receives here output
-  told-output None h = tells.untouched h
-  told-output (Some bytes) h = (tells.wrote bytes h.0, tells.finished h.1)
+  reported-output : (output : Option (List ℕ)) → Receives there output → Receives here output
+  reported-output None h = carries_over.untouched h
+  reported-output (Some bytes) h = (carries_over.wrote bytes h.0, carries_over.finished h.1)
 
-  told-finishes : (answer : Outcome) → Finishes there err result answer
+  reported-finishes : (answer : Answer) → Finishes there err result answer
       → Finishes here err result answer
-  told-finishes answer (inl a) = inl (record {
+  reported-finishes answer (inl a) = inl (record {
     status = a.status;
-    unfailed = tells.unfailed a.unfailed;
-    output = told-output answer.output a.output;
+    unfailed = carries_over.unfailed a.unfailed;
+    output = reported-output answer.output a.output;
     line = a.line;
   })
-  told-finishes answer (inr w) = inr (record {
+  reported-finishes answer (inr w) = inr (record {
     status = w.status;
-    failed = tells.failed w.failed;
+    failed = carries_over.failed w.failed;
     output = let (bytes, is, (n, took)) = w.output in
-        (bytes, is, (n, tells.wrote (take n bytes) took));
+        (bytes, is, (n, carries_over.wrote (take n bytes) took));
     line = w.line;
   })
 
-  told-ends : {S : Type 0} (src : SourceCall S) (asked : Option ℕ) (answers : List ℕ → Outcome)
-      → Ends there err result src asked answers → Ends here err result src asked answers
-  told-ends src None answers (unread, done) = (unread, told-finishes (answers []) done)
-  told-ends src (Some limit) answers (input, (given, fits, inl (u, short))) = (
+  reported-ends : {S : Type 0} (src : SourceCall S) (requested : Option ℕ)
+      (answers : List ℕ → Answer)
+      → Ends there err result src requested answers → Ends here err result src requested answers
+  reported-ends src None answers (unread, done) = (unread, reported-finishes (answers []) done)
+  reported-ends src (Some limit) answers (input, (given, fits, inl (u, short))) = (
     input,
     (
       given,
@@ -53,16 +55,16 @@ module _ {E : Type 0} (there here : Output) (tells : Tells there here) (err : Si
         record {
           status = u.status;
           failed = u.failed;
-          unfailed = tells.unfailed u.unfailed;
-          output = tells.untouched u.output;
+          unfailed = carries_over.unfailed u.unfailed;
+          output = carries_over.untouched u.output;
           line = u.line;
         },
         short,
       ),
     ),
   )
-  told-ends src (Some limit) answers (input, (given, fits, inr (all, done))) =
-      (input, (given, fits, inr (all, told-finishes (answers input) done)))
+  reported-ends src (Some limit) answers (input, (given, fits, inr (all, done))) =
+      (input, (given, fits, inr (all, reported-finishes (answers input) done)))
 
 -- what proof files know of a store, as a call over it
 abbrev pub store_between : {F R : Type 0} → SinkTerms F → StoreTerms F R → F → F → StoreCall F R
@@ -81,7 +83,7 @@ module _ {F R K : Type 0} (files : StoreCall F R) (out : SinkCall K)
   path-unfailed (Some path) = ap files.failures same_files
 
   module _ {E : Type 0} (err : SinkCall E) (result : Status) (path : Option (List ℕ)) where
-    pub alone-answered : (answer : Outcome) → answer.output ≡ None → result ≡ answer.status
+    pub alone-answered : (answer : Answer) → answer.output ≡ None → result ≡ answer.status
         → Says err answer.line
         → IsAnswered (to_path path access files out) err result answer
     alone-answered answer none status line = record {
@@ -93,38 +95,40 @@ module _ {F R K : Type 0} (files : StoreCall F R) (out : SinkCall K)
 
 module _ {F R K E S : Type 0} (access : Access) (files : StoreCall F R) (out : SinkCall K)
     (err : SinkCall E) (result : Status) (src : SourceCall S)
-    (asked : Option ℕ) (answers : List ℕ → Outcome) where
+    (requested : Option ℕ) (answers : List ℕ → Answer) where
   -- a run whose output is standard output
   pub ends-out : (path : Option (List ℕ)) → None ≡ path → files.new ≡ files.old
-      → Ends (to_sink out) err result src asked answers
-      → Ends (to_path path access files out) err result src asked answers
+      → Ends (to_sink out) err result src requested answers
+      → Ends (to_path path access files out) err result src requested answers
   ends-out path is kept ends =
       subst
-      (λ (p : Option (List ℕ)). Ends (to_path p access files out) err result src asked answers) is
-      (told-ends (to_sink out) (to_path None access files out) (record {
+      (λ (p : Option (List ℕ)). Ends (to_path p access files out) err result src requested answers)
+      is
+      (reported-ends (to_sink out) (to_path None access files out) (record {
         untouched = λ same. (same, kept);
         wrote = λ bytes took. (took, kept);
         finished = λ h. h;
         failed = λ h. h;
         unfailed = λ h. h;
-      }) err result src asked answers ends)
+      }) err result src requested answers ends)
 
   -- one whose output is the file at a path that was chosen
   pub ends-file : (path : Option (List ℕ)) (chosen_path : List ℕ) (chosen : F)
       → Some chosen_path ≡ path
-      → files.aimed files.old chosen_path access chosen → files.stage chosen ≡ Unbegun
+      → files.output_set files.old chosen_path access chosen → files.stage chosen ≡ Unbegun
       → files.failures chosen ≡ files.failures files.old
       → out.new ≡ out.old
-      → Ends (to_sink (sink files.output chosen files.new)) err result src asked answers
-      → Ends (to_path path access files out) err result src asked answers
+      → Ends (to_sink (sink files.output chosen files.new)) err result src requested answers
+      → Ends (to_path path access files out) err result src requested answers
   ends-file path chosen_path chosen is at fresh stay alone ends =
       subst
-      (λ (p : Option (List ℕ)). Ends (to_path p access files out) err result src asked answers) is
-      (told-ends (to_sink (sink files.output chosen files.new))
+      (λ (p : Option (List ℕ)). Ends (to_path p access files out) err result src requested answers)
+      is
+      (reported-ends (to_sink (sink files.output chosen files.new))
       (to_path (Some chosen_path) access files out) (record {
         untouched = λ same. (alone, ap files.stage same ∙ fresh, inr (rw same at));
         wrote = λ bytes took. (alone, (chosen, at, took));
         finished = λ h. h;
         failed = λ h. rw stay at h;
         unfailed = λ h. h ∙ stay;
-      }) err result src asked answers ends)
+      }) err result src requested answers ends)

@@ -9,8 +9,8 @@ use Rattle.std.specs.Result.{result_map_both}
 use Rattle.vault_text.specs.Label.{is_label}
 use Rattle.vault_text.specs.Steps.{◌>>=◌}
 use Rattle.vault_text.specs.declared.limits.TheConstants.{SALT_LIMIT}
-use Rattle.vault_common.specs.declared.fault.Fault.{Fault}
-use Rattle.vault_common.specs.declared.fault.Fault.TheVariants.{SaltShort}
+use Rattle.vault_fault.specs.declared.fault.Fault.{Fault}
+use Rattle.vault_fault.specs.declared.fault.Fault.TheVariants.{SaltShort}
 use Rattle.vault_core.specs.Choice.{chosen_index, of_choice}
 use Rattle.vault_core.specs.Form.{Form, Envelope, Block}
 use Rattle.vault_core.specs.Laws.{IsBytes}
@@ -20,12 +20,12 @@ use Rattle.vault_request.specs.Laws.{IsRequest}
 use Rattle.vault_request.specs.Request.{IsSaltText, Request, SecretFile}
 use Rattle.vault_request.specs.declared.command_name.CommandName.{CommandName}
 use Rattle.vault_request.specs.declared.command_name.CommandName.TheVariants as command
-use Rattle.vault_cli.specs.runs.Outcome.{answered, text_of_request}
-use Rattle.vault_cli.specs.runs.Task.{Task, Seal, Open, Reseal, new_secret_in, password_in}
-use Rattle.vault_cli.specs.runs.Task.{index_of, prepared, salt_of, seal_of, secret_in, secrets_of}
+use Rattle.vault_cli.specs.runs.Answer.{answered, text_of_request}
+use Rattle.vault_cli.specs.runs.Task.{Task, Seal, Unseal, Reseal, new_secret_in, password_in}
+use Rattle.vault_cli.specs.runs.Task.{index_of, planned, salt_of, seal_of, secret_in, secrets_of}
 use Rattle.vault_cli.specs.runs.Task.{secret_list_of, task_of}
 use Rattle.vault_cli.specs.declared.limits.TheConstants.{SEALING_SALT_LENGTH}
-use Rattle.vault_core.proofs.ByteLemmas.{take-bytes}
+use Rattle.vault_core.proofs.SealingByteLemmas.{take-bytes}
 use Rattle.vault_core.proofs.ChoiceLemmas.{IfOk-within}
 
 -- an outcome with an output is an answer
@@ -42,7 +42,7 @@ pub record IsSalt (salt : List ℕ) : Type 0 where
 -- what seals has a label, and a salt
 abbrev pub IsSound : Task → Type 0
 IsSound (Seal list index form salt) = (is_label (secret_at index list).label ≡ true) × IsSalt salt
-IsSound (Open secrets) = Unit {0}
+IsSound (Unseal secrets) = Unit {0}
 IsSound (Reseal secrets new salt) = (is_label new.label ≡ true) × IsSalt salt
 
 -- what holds of each answer
@@ -101,13 +101,13 @@ keeps-secrets (file ∷ files) (bytes ∷ contents) (label, labels) =
     (keeps-secrets files contents labels) (λ secrets h.
     keeps-ok AreLabelled _ (first, h)))
 
-labels-front : (files more : List SecretFile)
+labels-prefix : (files more : List SecretFile)
     → AllByRecursion (λ file. is_label file.label ≡ true) (files ++ more)
     → AllByRecursion (λ file. is_label file.label ≡ true) files
     × AllByRecursion (λ file. is_label file.label ≡ true) more
-labels-front [] more h = (tt, h)
-labels-front (file ∷ files) more (label, labels) =
-    let parts = labels-front files more labels in
+labels-prefix [] more h = (tt, h)
+labels-prefix (file ∷ files) more (label, labels) =
+    let parts = labels-prefix files more labels in
     ((label, parts.0), parts.1)
 
 label-at : (secrets : List Secret) (index : ℕ) → AreLabelled secrets → index < length secrets
@@ -149,19 +149,19 @@ module _ (request : Request) (known : IsRequest request) (salt : List ℕ)
   keeps-task command.Encrypt list last labels new = keeps-seal list.secrets Envelope labels
   keeps-task command.EncryptString list last labels new =
       keeps-seal list.secrets (Block request.name) labels
-  keeps-task command.Decrypt list last labels new = keeps-ok IsSound (Open list) tt
-  keeps-task command.View list last labels new = keeps-ok IsSound (Open list) tt
+  keeps-task command.Decrypt list last labels new = keeps-ok IsSound (Unseal list) tt
+  keeps-task command.View list last labels new = keeps-ok IsSound (Unseal list) tt
   keeps-task command.Rekey list last labels new =
       keeps-next IsLabelled IsSound (new_secret_in request.new_secret last) _ new (λ secret label.
       keeps-next IsSalt IsSound (salt_of request.salt_text salt) _ keeps-used
       (λ used is. keeps-ok IsSound (Reseal list secret used) (label, is)))
 
   -- what is prepared of it is sound
-  pub sound-prepared : (contents : List (List ℕ)) (task : Task)
-      → prepared request contents salt ≡ Ok task → IsSound task
-  unfolding prepared
-  sound-prepared contents task e =
-      let parts = labels-front request.secrets (option_to_list request.new_secret) known.labels in
+  pub sound-planned : (contents : List (List ℕ)) (task : Task)
+      → planned request contents salt ≡ Ok task → IsSound task
+  unfolding planned
+  sound-planned contents task e =
+      let parts = labels-prefix request.secrets (option_to_list request.new_secret) known.labels in
       let last = slice_index_or contents (length request.secrets) [] in
       (keeps-next (λ list. AreLabelled list.secrets) IsSound (secret_list_of request contents) _
       (keeps-next AreLabelled (λ list. AreLabelled list.secrets)

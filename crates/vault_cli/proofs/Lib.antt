@@ -3,11 +3,11 @@ pub mod DriveLemmas
 pub mod EmbeddingLemmas
 pub mod EndingLemmas
 pub mod ExplainedLemmas
-pub mod FoundLemmas
+pub mod FileContentsLemmas
 pub mod LawsLemmas
 pub mod LoadedLemmas
-pub mod OpenedLemmas
-pub mod OutcomeLemmas
+pub mod OpenedPathsLemmas
+pub mod AnswerLemmas
 pub mod PerformedLemmas
 pub mod ProgramLemmas
 pub mod ProgramSamples

@@ -2,23 +2,23 @@
 use Rattle.std.proofs.Common.{◌≡◌, ◌⊎◌, ℕ, List, Option, Some, None, Result, Ok, Err, inl, inr, sym}
 use Rattle.std.proofs.Common.{ap, subst, ◌∙◌}
 use Rattle.vault_text.specs.Failures.{HasRisen}
-use Rattle.vault_common.specs.declared.fault.Fault.{Fault}
+use Rattle.vault_fault.specs.declared.fault.Fault.{Fault}
 use Rattle.vault_core.specs.Input.{IsUnreadable}
 use Rattle.vault_core.specs.Ready.{Ready}
 use Rattle.vault_request.specs.Request.{Request}
 use Rattle.vault_cli.specs.Call.{SinkCall, SourceCall}
 use Rattle.vault_cli.specs.runs.Ending.{Ends, Finishes, SourceFails, to_sink}
 use Rattle.vault_cli.specs.runs.ReportLine.{line_of}
-use Rattle.vault_cli.specs.runs.Outcome.{answered, asked_for, input_asked, input_limit}
-use Rattle.vault_cli.specs.runs.Outcome.{outcome_within, ready_by, task_limit}
+use Rattle.vault_cli.specs.runs.Answer.{answered, input_needed_by, input_needed, input_limit}
+use Rattle.vault_cli.specs.runs.Answer.{run_answer_within, ready_by, task_limit}
 use Rattle.vault_cli.specs.runs.Performed.{Performs}
 use Rattle.vault_cli.specs.runs.Reports.{Says}
 use Rattle.vault_cli.specs.runs.Status.{status_of}
-use Rattle.vault_cli.specs.runs.Task.{Task, prepared}
+use Rattle.vault_cli.specs.runs.Task.{Task, planned}
 use Rattle.vault_cli.specs.declared.runs.status.Status.{Status}
 use Rattle.vault_cli.specs.declared.runs.status.Status.TheVariants.{DeviceFailed, Refused, Success}
 use Rattle.vault_cli.proofs.StatusLemmas.{alone-performed}
-use Rattle.vault_cli.proofs.TaskLemmas.{limit-prepared}
+use Rattle.vault_cli.proofs.TaskLemmas.{limit-planned}
 
 module _ {S K E : Type 0} (src : SourceCall S) (out : SinkCall K) (err : SinkCall E)
     (result : Status) where
@@ -60,7 +60,8 @@ module _ {S K E : Type 0} (src : SourceCall S) (out : SinkCall K) (err : SinkCal
   module _ (limit : ℕ) (task : Task) where
     ends-text : (answer : Result Ready Fault) (string : Option (List ℕ))
         → Performs src limit task answer string → FinishesBy answer
-        → Ends (to_sink out) err result src (asked_for (Ok task) string (task_limit limit task))
+        → Ends (to_sink out) err result src
+        (input_needed_by (Ok task) string (task_limit limit task))
         (λ text. answered (ready_by limit (Ok task) string (Ok text)))
     ends-text answer (Some string) (unread, is) done = (unread, subst FinishesBy is done)
     ends-text (Ok ready) None (input, given, fits, (stay, (whole, is))) done =
@@ -73,34 +74,34 @@ module _ {S K E : Type 0} (src : SourceCall S) (out : SinkCall K) (err : SinkCal
   -- a run whose steps 1 to 3 answer so
   module _ (limit : ℕ) (request : Request) (contents : List (List ℕ)) (salt : List ℕ) where
     abbrev EndsAfter : Result Task Fault → Type 0
-    EndsAfter prepares =
+    EndsAfter plans =
         Ends (to_sink out) err result src
-        (asked_for prepares request.string (input_limit limit request.command))
-        (λ input. answered (ready_by limit prepares request.string (Ok input)))
+        (input_needed_by plans request.string (input_limit limit request.command))
+        (λ input. answered (ready_by limit plans request.string (Ok input)))
 
     abbrev EndsWithin : Type 0
     EndsWithin =
-        Ends (to_sink out) err result src (input_asked limit request contents salt)
-        (outcome_within limit request contents salt)
+        Ends (to_sink out) err result src (input_needed limit request contents salt)
+        (run_answer_within limit request contents salt)
 
-    ends-after : (prepares : Result Task Fault) → prepared request contents salt ≡ prepares
-        → EndsAfter prepares → EndsWithin
-    unfolding outcome_within
-    ends-after prepares is ends = subst EndsAfter (sym is) ends
+    ends-after : (plans : Result Task Fault) → planned request contents salt ≡ plans
+        → EndsAfter plans → EndsWithin
+    unfolding run_answer_within
+    ends-after plans is ends = subst EndsAfter (sym is) ends
 
-    pub ends-performed : (task : Task) → prepared request contents salt ≡ Ok task
+    pub ends-performed : (task : Task) → planned request contents salt ≡ Ok task
         → (answer : Result Ready Fault) → Performs src limit task answer request.string
         → FinishesBy answer → EndsWithin
     ends-performed task found answer performs done =
         ends-after (Ok task) found
-        (rw (← limit-prepared limit request contents salt task found)
+        (rw (← limit-planned limit request contents salt task found)
         (ends-text limit task answer request.string performs done))
 
     -- steps 1 to 3 refused
-    pub ends-unprepared : (fault : Fault) → prepared request contents salt ≡ Err fault
+    pub ends-unplanned : (fault : Fault) → planned request contents salt ≡ Err fault
         → result ≡ status_of fault → src.new ≡ src.old → out.new ≡ out.old
         → Says err (line_of fault) → EndsWithin
-    ends-unprepared fault refusal status unread unwritten line =
+    ends-unplanned fault refusal status unread unwritten line =
         ends-after (Err fault) refusal
         (unread, finishes-refused fault status unwritten line)
 

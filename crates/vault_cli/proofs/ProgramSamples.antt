@@ -7,26 +7,26 @@ use Rattle.vault_core.specs.Choice.{chosen_index}
 use Rattle.vault_core.specs.Decryption.{decryption}
 use Rattle.vault_core.specs.Encryption.{encryption}
 use Rattle.vault_core.specs.Password.{password_of}
-use Rattle.vault_common.specs.declared.fault.Fault.TheVariants.{AlreadyVault, CannotOpen, NotVault}
-use Rattle.vault_common.specs.declared.fault.Fault.TheVariants.{Read, SaltShort}
-use Rattle.vault_common.specs.declared.fault.Role.TheVariants.{Input, Salt, Secret}
-use Rattle.vault_files.specs.File.{Finding}
-use Rattle.vault_files.specs.File.Finding.{Missing, Whole, Broken}
+use Rattle.vault_fault.specs.declared.fault.Fault.TheVariants.{AlreadyVault, CannotOpen, NotVault}
+use Rattle.vault_fault.specs.declared.fault.Fault.TheVariants.{Read, SaltShort}
+use Rattle.vault_fault.specs.declared.fault.Role.TheVariants.{Input, Salt, Secret}
+use Rattle.vault_files.specs.File.{FileState}
+use Rattle.vault_files.specs.File.FileState.{Missing, Whole, Broken}
 use Rattle.vault_command_line.specs.CommandLine.{vault_app}
-use Rattle.vault_cli.specs.runs.Found.{contents_of}
-use Rattle.vault_cli.specs.runs.Outcome.{Outcome, reported}
-use Rattle.vault_request.specs.Settled.{asked_by}
+use Rattle.vault_cli.specs.runs.FileContents.{contents_of}
+use Rattle.vault_cli.specs.runs.Answer.{Answer, reported}
+use Rattle.vault_request.specs.Settled.{requested_by}
 use Rattle.vault_cli.specs.Program.{output_path, program, task_over}
 use Rattle.vault_request.specs.Refusal.{refusal}
-use Rattle.vault_cli.specs.runs.Task.{prepared, secrets_of}
+use Rattle.vault_cli.specs.runs.Task.{planned, secrets_of}
 
--- what is answered to the arguments behind the program's name
-abbrev answer : List Text → List Finding → Option Finding → Option Finding → List ℕ → Outcome
+-- what is answered to the arguments after the program's name
+abbrev answer : List Text → List FileState → Option FileState → Option FileState → List ℕ → Answer
 answer words secrets salt input stdin =
     program (codes "ansible-vault" ∷ words)
     (record { secrets = secrets; salt = salt; input = input }) stdin
 
-abbrev password : Finding
+abbrev password : FileState
 password = Whole (codes "password")
 
 -- neither the password file nor the input is there
@@ -64,7 +64,7 @@ broken_input : answer
     ∷ codes "--output=-" ∷ codes "f" ∷ [])
     (password ∷ password ∷ []) None (Some (Broken (codes "$ANSIBLE_VAULT"))) []
     ≡ reported (Read Input)
-unfolding clap_on_literals vault_app refusal task_over contents_of prepared secrets_of password_of
+unfolding clap_on_literals vault_app refusal task_over contents_of planned secrets_of password_of
 broken_input = refl
 
 -- the salt is short
@@ -72,7 +72,7 @@ short_salt : answer
     (codes "encrypt_string" ∷ codes "--vault-id=p" ∷ codes "--salt-file=s" ∷ codes "text" ∷ [])
     (password ∷ []) (Some (Whole (replicate 31 0))) None []
     ≡ reported SaltShort
-unfolding clap_on_literals vault_app refusal task_over contents_of prepared secrets_of password_of
+unfolding clap_on_literals vault_app refusal task_over contents_of planned secrets_of password_of
     chosen_index
 short_salt = refl
 
@@ -80,7 +80,7 @@ short_salt = refl
 already_sealed : answer (codes "encrypt" ∷ codes "--vault-id=p" ∷ codes "--salt=abc" ∷ [])
     (password ∷ []) None None (codes "$ANSIBLE_VAULT;1.1;AES256")
     ≡ reported AlreadyVault
-unfolding clap_on_literals vault_app refusal task_over contents_of prepared secrets_of password_of
+unfolding clap_on_literals vault_app refusal task_over contents_of planned secrets_of password_of
     chosen_index encryption
 already_sealed = refl
 
@@ -88,19 +88,19 @@ already_sealed = refl
 no_envelope : answer (codes "view" ∷ codes "--vault-id=p" ∷ codes "f" ∷ []) (password ∷ []) None
     (Some (Whole (codes "text"))) []
     ≡ reported NotVault
-unfolding clap_on_literals vault_app refusal task_over contents_of prepared secrets_of password_of
+unfolding clap_on_literals vault_app refusal task_over contents_of planned secrets_of password_of
     decryption read_within
 no_envelope = refl
 
 -- the output goes to its path, and `-` is standard output
 chosen_path : output_path
-    (asked_by (codes "ansible-vault" ∷ codes "decrypt" ∷ codes "--output=o" ∷ codes "f" ∷ []))
+    (requested_by (codes "ansible-vault" ∷ codes "decrypt" ∷ codes "--output=o" ∷ codes "f" ∷ []))
     ≡ Some (codes "o")
 unfolding clap_on_literals vault_app refusal
 chosen_path = refl
 
 dash : output_path
-    (asked_by (codes "ansible-vault" ∷ codes "decrypt" ∷ codes "--output=-" ∷ codes "f" ∷ []))
+    (requested_by (codes "ansible-vault" ∷ codes "decrypt" ∷ codes "--output=-" ∷ codes "f" ∷ []))
     ≡ None
 unfolding clap_on_literals vault_app refusal
 dash = refl

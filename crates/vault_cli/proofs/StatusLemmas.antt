@@ -8,20 +8,20 @@ use Rattle.vault_text.specs.Envelope.{Payload, read_within}
 use Rattle.vault_text.specs.declared.fault.TextFault.{TextFault}
 use Rattle.vault_text.specs.declared.fault.TextFault.TheVariants as text
 use Rattle.vault_text.specs.Steps.{◌>>=◌}
-use Rattle.vault_common.specs.Fault.{of_text}
-use Rattle.vault_common.specs.declared.fault.Fault.{Fault}
-use Rattle.vault_common.specs.declared.fault.Fault.TheVariants.{AlreadyVault, BadPadding}
-use Rattle.vault_common.specs.declared.fault.Fault.TheVariants.{EmptyString, NeedNewSecret}
-use Rattle.vault_common.specs.declared.fault.Fault.TheVariants.{NoSecretFits, SaltShort}
-use Rattle.vault_common.specs.declared.fault.Fault.TheVariants.{SecretEmpty, TooLong, CannotOpen}
-use Rattle.vault_common.specs.declared.fault.Fault.TheVariants.{Memory, Read, Write}
-use Rattle.vault_core.specs.Agreement.{agrees}
+use Rattle.vault_fault.specs.Fault.{of_text}
+use Rattle.vault_fault.specs.declared.fault.Fault.{Fault}
+use Rattle.vault_fault.specs.declared.fault.Fault.TheVariants.{AlreadyVault, BadPadding}
+use Rattle.vault_fault.specs.declared.fault.Fault.TheVariants.{EmptyString, NeedNewSecret}
+use Rattle.vault_fault.specs.declared.fault.Fault.TheVariants.{NoSecretFits, SaltShort}
+use Rattle.vault_fault.specs.declared.fault.Fault.TheVariants.{SecretEmpty, TooLong, CannotOpen}
+use Rattle.vault_fault.specs.declared.fault.Fault.TheVariants.{Memory, Read, Write}
+use Rattle.vault_core.specs.TriedSecrets.{matches}
 use Rattle.vault_core.specs.Choice.{chosen_index, of_choice}
 use Rattle.vault_core.specs.Decryption.{decryption, payload_of}
 use Rattle.vault_core.specs.Encryption.{encryption, is_vault}
 use Rattle.vault_core.specs.Password.{of_secret, password_of}
 use Rattle.vault_core.specs.Form.{Form, Envelope, Block, is_block}
-use Rattle.vault_core.specs.Opening.{opening, plaintext_of}
+use Rattle.vault_core.specs.Unsealing.{unsealing, plaintext_of}
 use Rattle.vault_core.specs.Ready.{Ready}
 use Rattle.vault_core.specs.Rekeying.{rekeying, resealing}
 use Rattle.vault_core.specs.Secrets.{Secret, SecretList, tried_order}
@@ -32,10 +32,10 @@ use Rattle.vault_core.specs.declared.password.SecretFault.TheVariants as secret
 use Rattle.vault_request.specs.Request.{Request, SecretFile}
 use Rattle.vault_request.specs.declared.command_name.CommandName.{CommandName}
 use Rattle.vault_request.specs.declared.command_name.CommandName.TheVariants as command
-use Rattle.vault_cli.specs.runs.Outcome.{performed}
+use Rattle.vault_cli.specs.runs.Answer.{performed}
 use Rattle.vault_cli.specs.runs.Status.{status_of}
-use Rattle.vault_cli.specs.runs.Task.{Task, Seal, Open, Reseal, new_secret_in, password_in}
-use Rattle.vault_cli.specs.runs.Task.{index_of, prepared, salt_of, seal_of, secret_in, secrets_of}
+use Rattle.vault_cli.specs.runs.Task.{Task, Seal, Unseal, Reseal, new_secret_in, password_in}
+use Rattle.vault_cli.specs.runs.Task.{index_of, planned, salt_of, seal_of, secret_in, secrets_of}
 use Rattle.vault_cli.specs.runs.Task.{secret_list_of, task_of}
 use Rattle.vault_cli.specs.declared.limits.TheConstants.{SEALING_SALT_LENGTH}
 use Rattle.vault_cli.specs.declared.runs.status.Status.TheVariants.{Refused, Success}
@@ -94,11 +94,11 @@ unless : {A : Type 0} (b : Bool) (fault : Fault) (r : Result A Fault) → status
 unless true fault r e h = alone-err fault e
 unless false fault r e h = h
 
-opens : (secrets : SecretList) (payload : Payload) → IsRefusedAlone (opening secrets payload)
-unfolding opening
+opens : (secrets : SecretList) (payload : Payload) → IsRefusedAlone (unsealing secrets payload)
+unfolding unsealing
 opens secrets payload =
     next {A = Secret} {B = Ready}
-    (ok_or (find (agrees payload) (tried_order secrets payload.label)) NoSecretFits) _
+    (ok_or (find (matches payload) (tried_order secrets payload.label)) NoSecretFits) _
     (absent _ NoSecretFits refl)
     (λ secret. next {A = List ℕ} {B = Ready} (ok_or (plaintext_of payload secret) BadPadding) _
     (absent _ BadPadding refl) (λ plain. alone-ok _))
@@ -124,7 +124,7 @@ rekeys : (limit : ℕ) (secrets : SecretList) (new : Secret) (salt input : List 
 unfolding rekeying resealing
 rekeys limit secrets new salt input =
     next (payload_of limit input) _ (reads limit input)
-    (λ payload. next (opening secrets payload) _ (opens secrets payload)
+    (λ payload. next (unsealing secrets payload) _ (opens secrets payload)
     (λ opened. unless (is_vault opened.output) AlreadyVault _ refl (alone-ok _)))
 
 -- steps 4 and 5
@@ -132,7 +132,7 @@ pub alone-performed : (limit : ℕ) (task : Task) (input : List ℕ)
     → IsRefusedAlone (performed limit task input)
 alone-performed limit (Seal secrets index form salt) input =
     encrypts limit secrets index form salt input
-alone-performed limit (Open secrets) input = decrypts limit secrets input
+alone-performed limit (Unseal secrets) input = decrypts limit secrets input
 alone-performed limit (Reseal secrets new salt) input = rekeys limit secrets new salt input
 
 alone-password : (bytes : List ℕ) → IsRefusedAlone (password_in bytes)
@@ -180,10 +180,10 @@ alone-task command.Rekey request list last salt =
     (λ used. alone-ok _))
 
 -- steps 1 to 3
-pub alone-prepared : (request : Request) (contents : List (List ℕ)) (salt : List ℕ)
-    → IsRefusedAlone (prepared request contents salt)
-unfolding prepared
-alone-prepared request contents salt =
+pub alone-planned : (request : Request) (contents : List (List ℕ)) (salt : List ℕ)
+    → IsRefusedAlone (planned request contents salt)
+unfolding planned
+alone-planned request contents salt =
     let last = slice_index_or contents (length request.secrets) [] in
     next (secret_list_of request contents) _
     (next (secrets_of request.secrets contents) _ (alone-secrets request.secrets contents)

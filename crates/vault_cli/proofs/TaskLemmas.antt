@@ -12,8 +12,8 @@ use Rattle.std.proofs.lemmas.Option.{slice_get-get_or}
 use Rattle.vault_text.specs.Envelope.{read_within}
 use Rattle.vault_text.specs.Limits.{envelope_limit}
 use Rattle.vault_text.specs.Steps.{◌>>=◌}
-use Rattle.vault_common.specs.declared.fault.Fault.{Fault}
-use Rattle.vault_common.specs.declared.fault.Fault.TheVariants.{TooLong}
+use Rattle.vault_fault.specs.declared.fault.Fault.{Fault}
+use Rattle.vault_fault.specs.declared.fault.Fault.TheVariants.{TooLong}
 use Rattle.vault_core.specs.Decryption.{decryption}
 use Rattle.vault_core.specs.Form.{Form, Envelope, Block}
 use Rattle.vault_core.specs.Input.{IsReadToEndOrPastLimit, UnlessUnreadable}
@@ -23,8 +23,8 @@ use Rattle.vault_core.specs.Secrets.{Secret, SecretList}
 use Rattle.vault_request.specs.Request.{Request, SecretFile, files_of}
 use Rattle.vault_request.specs.declared.command_name.CommandName.{CommandName}
 use Rattle.vault_request.specs.declared.command_name.CommandName.TheVariants as command
-use Rattle.vault_cli.specs.runs.Outcome.{input_limit, performed, task_limit}
-use Rattle.vault_cli.specs.runs.Task.{Task, Seal, Open, Reseal, new_secret_in, index_of, prepared}
+use Rattle.vault_cli.specs.runs.Answer.{input_limit, performed, task_limit}
+use Rattle.vault_cli.specs.runs.Task.{Task, Seal, Unseal, Reseal, new_secret_in, index_of, planned}
 use Rattle.vault_cli.specs.runs.Task.{salt_of, seal_of, secret_list_of, task_of, password_in}
 use Rattle.vault_cli.specs.runs.Task.{secret_in, secrets_of}
 use Rattle.vault_core.proofs.EncryptionLemmas.{encryption-too_long}
@@ -46,7 +46,7 @@ pub performed-too_long : (limit : ℕ) (task : Task) (input : List ℕ)
     → task_limit limit task < length input → performed limit task input ≡ Err TooLong
 performed-too_long limit (Seal secrets index form salt) input long =
     encryption-too_long limit secrets index form salt input long
-performed-too_long limit (Open secrets) input long =
+performed-too_long limit (Unseal secrets) input long =
     decryption-too_long limit secrets input (search (rules, tests))
 performed-too_long limit (Reseal secrets new salt) input long =
     rekeying-too_long limit secrets new salt input (search (rules, tests))
@@ -77,62 +77,62 @@ limit-task limit command.Encrypt request list last salt =
     limit-seal limit request list.secrets Envelope salt
 limit-task limit command.EncryptString request list last salt =
     limit-seal limit request list.secrets (Block request.name) salt
-limit-task limit command.Decrypt request list last salt = limit-ok limit (Open list)
-limit-task limit command.View request list last salt = limit-ok limit (Open list)
+limit-task limit command.Decrypt request list last salt = limit-ok limit (Unseal list)
+limit-task limit command.View request list last salt = limit-ok limit (Unseal list)
 limit-task limit command.Rekey request list last salt =
     limit-next limit (envelope_limit limit) (new_secret_in request.new_secret last) _ (λ secret.
     limit-next limit (envelope_limit limit) (salt_of request.salt_text salt) _
     (λ used. limit-ok limit (Reseal list secret used)))
 
 -- the task of a request takes as much as its command
-pub limit-prepared : (limit : ℕ) (request : Request) (contents : List (List ℕ)) (salt : List ℕ)
+pub limit-planned : (limit : ℕ) (request : Request) (contents : List (List ℕ)) (salt : List ℕ)
     (task : Task)
-    → prepared request contents salt ≡ Ok task
+    → planned request contents salt ≡ Ok task
     → task_limit limit task ≡ input_limit limit request.command
-unfolding prepared
-limit-prepared limit request contents salt task e =
+unfolding planned
+limit-planned limit request contents salt task e =
     let last = slice_index_or contents (length request.secrets) [] in
     (limit-next limit (input_limit limit request.command) (secret_list_of request contents) _
     (λ list.
     limit-task limit request.command request list last salt)).is task e
 
 -- a text of which so much was read that no more is taken, or all
-pub performed-front : (limit : ℕ) (task : Task) (ended : Bool) (text front left : List ℕ)
-    → text ≡ front ++ left → (IsTrue ended → left ≡ [])
-    → IsReadToEndOrPastLimit (task_limit limit task) ended front
-    → performed limit task front ≡ performed limit task text
-performed-front limit task ended text front left e last (inl end) =
+pub performed-prefix : (limit : ℕ) (task : Task) (ended : Bool) (text prefix left : List ℕ)
+    → text ≡ prefix ++ left → (IsTrue ended → left ≡ [])
+    → IsReadToEndOrPastLimit (task_limit limit task) ended prefix
+    → performed limit task prefix ≡ performed limit task text
+performed-prefix limit task ended text prefix left e last (inl end) =
     let none = last end in rw (e, none, append-nil) refl
-performed-front limit task ended text front left e last (inr long) =
-    let more : length text ≡ length front + length left = rw e (length-append front left) in
+performed-prefix limit task ended text prefix left e last (inr long) =
+    let more : length text ≡ length prefix + length left = rw e (length-append prefix left) in
     let all : performed limit task text ≡ Err TooLong =
     performed-too_long limit task text (omega (arith, long, more)) in
-    let some : performed limit task front ≡ Err TooLong =
-    performed-too_long limit task front (omega (arith, long)) in
+    let some : performed limit task prefix ≡ Err TooLong =
+    performed-too_long limit task prefix (omega (arith, long)) in
     some ∙ sym all
 
 -- what was performed on a text in memory, which never fails
 pub performed-text : (limit : ℕ) (task : Task) (result : Result Ready Fault) (ended : Bool)
-    (text front left : List ℕ) (Failed : Type 0)
-    → text ≡ front ++ left → (IsTrue ended → left ≡ [])
+    (text prefix left : List ℕ) (Failed : Type 0)
+    → text ≡ prefix ++ left → (IsTrue ended → left ≡ [])
     → UnlessUnreadable 0 0 result Failed
-    (IsReadToEndOrPastLimit (task_limit limit task) ended front
-    × (result ≡ performed limit task front))
+    (IsReadToEndOrPastLimit (task_limit limit task) ended prefix
+    × (result ≡ performed limit task prefix))
     → result ≡ performed limit task text
-performed-text limit task (Ok ready) ended text front left Failed e last (same, (whole, is)) =
-    is ∙ performed-front limit task ended text front left e last whole
-performed-text limit task (Err fault) ended text front left Failed e last
+performed-text limit task (Ok ready) ended text prefix left Failed e last (same, (whole, is)) =
+    is ∙ performed-prefix limit task ended text prefix left e last whole
+performed-text limit task (Err fault) ended text prefix left Failed e last
     (inl ((is, risen), failed)) = absurd cc
-performed-text limit task (Err fault) ended text front left Failed e last
+performed-text limit task (Err fault) ended text prefix left Failed e last
     (inr ((other, same), (whole, is))) =
-    is ∙ performed-front limit task ended text front left e last whole
+    is ∙ performed-prefix limit task ended text prefix left e last whole
 
 -- ---- the secrets of password files, one file after the other
 
--- secrets in front of those that are still found
-abbrev pub with_front : List Secret → Result (List Secret) Fault → Result (List Secret) Fault
-with_front front (Ok rest) = Ok (front ++ rest)
-with_front front (Err fault) = Err fault
+-- secrets before those that are still found
+abbrev pub with_prefix : List Secret → Result (List Secret) Fault → Result (List Secret) Fault
+with_prefix prefix (Ok rest) = Ok (prefix ++ rest)
+with_prefix prefix (Err fault) = Err fault
 
 -- the first file's secret, and those of the other files
 pub secrets_of-first : (file : SecretFile) (files : List SecretFile) (bytes : List ℕ)
@@ -147,7 +147,7 @@ secrets_of-first file files bytes contents = refl
 abbrev pub no_file : SecretFile
 no_file = record { label = []; path = [] }
 
--- the secret of the file at the index, and those of the files behind it
+-- the secret of the file at the index, and those of the files after it
 pub secrets_of-more : (files : List SecretFile) (contents : List (List ℕ)) (i : ℕ) (bytes : List ℕ)
     → i < length files → i < length contents → bytes ≡ get_or contents i bytes
     → secrets_of (drop i files) (drop i contents)
@@ -159,12 +159,12 @@ secrets_of-more files contents i bytes in_files in_contents read =
     ∙ ap (λ (b : List ℕ). b ∷ drop (i + 1) contents) (sym read))
     ∙ secrets_of-first (get_or files i no_file) (drop (i + 1) files) bytes (drop (i + 1) contents)
 
--- one more secret in front
-pub with_front-more : (front : List Secret) (secret : Secret) (rest : Result (List Secret) Fault)
-    → with_front front (rest >>= λ secrets. Ok (secret ∷ secrets))
-    ≡ with_front (front ++ secret ∷ []) rest
-with_front-more front secret (Ok rest) = ap Ok (sym (append_assoc front (secret ∷ []) rest))
-with_front-more front secret (Err fault) = refl
+-- one more secret before them
+pub with_prefix-more : (prefix : List Secret) (secret : Secret) (rest : Result (List Secret) Fault)
+    → with_prefix prefix (rest >>= λ secrets. Ok (secret ∷ secrets))
+    ≡ with_prefix (prefix ++ secret ∷ []) rest
+with_prefix-more prefix secret (Ok rest) = ap Ok (sym (append_assoc prefix (secret ∷ []) rest))
+with_prefix-more prefix secret (Err fault) = refl
 
 module _ (files : List SecretFile) (vectors : List (Vec ℕ Global)) (i : ℕ) (vector : Vec ℕ Global)
   where
@@ -182,46 +182,48 @@ module _ (files : List SecretFile) (vectors : List (Vec ℕ Global)) (i : ℕ) (
     fits inside = omega (arith, length-map vectors (λ (v : Vec ℕ Global). v.items))
 
     -- a password file that is refused refuses all
-    pub secrets_of-refused : (front : List Secret) (fault : Fault) → i < length files
+    pub secrets_of-refused : (prefix : List Secret) (fault : Fault) → i < length files
         → i < length vectors → vector ≡ get_or vectors i vector
         → password_in vector.items ≡ Err fault
-        → with_front front (secrets_of (drop i files) (drop i contents)) ≡ secrets_of files contents
+        → with_prefix prefix (secrets_of (drop i files) (drop i contents))
+        ≡ secrets_of files contents
         → Err fault ≡ secrets_of files contents
-    secrets_of-refused front fault in_files inside read refused e =
+    secrets_of-refused prefix fault in_files inside read refused e =
         let at = secrets_of-more files contents i vector.items in_files (fits inside)
         (read_at inside read) in
         let none : secrets_of (drop i files) (drop i contents) ≡ Err fault = rw refused at at in
-        sym (ap (with_front front) none) ∙ e
+        sym (ap (with_prefix prefix) none) ∙ e
 
     -- a password file that gives a password adds a secret
-    pub secrets_of-added : (front : List Secret) (label password : List ℕ) → i < length files
+    pub secrets_of-added : (prefix : List Secret) (label password : List ℕ) → i < length files
         → i < length vectors → vector ≡ get_or vectors i vector
         → label ≡ (get_or files i no_file).label
         → password_in vector.items ≡ Ok password
-        → with_front front (secrets_of (drop i files) (drop i contents)) ≡ secrets_of files contents
-        → with_front (front ++ record { label = label; password = password } ∷ [])
+        → with_prefix prefix (secrets_of (drop i files) (drop i contents))
+        ≡ secrets_of files contents
+        → with_prefix (prefix ++ record { label = label; password = password } ∷ [])
         (secrets_of (drop (i + 1) files) (drop (i + 1) contents)) ≡ secrets_of files contents
-    secrets_of-added front label password in_files inside read under found e =
+    secrets_of-added prefix label password in_files inside read under found e =
         let at = secrets_of-more files contents i vector.items in_files (fits inside)
         (read_at inside read) in
         let some = rw found at at in
         rw under
         (sym
-        (with_front-more front
+        (with_prefix-more prefix
         (record { label = (get_or files i no_file).label; password = password })
         (secrets_of (drop (i + 1) files) (drop (i + 1) contents)))
-        ∙ sym (ap (with_front front) some) ∙ e)
+        ∙ sym (ap (with_prefix prefix) some) ∙ e)
 
 -- no file is left
-pub secrets_of-all : (front : List Secret) (files : List SecretFile) (contents : List (List ℕ))
+pub secrets_of-all : (prefix : List Secret) (files : List SecretFile) (contents : List (List ℕ))
     (i : ℕ) (all : Result (List Secret) Fault)
-    → length files ≤ i → with_front front (secrets_of (drop i files) (drop i contents)) ≡ all
-    → Ok front ≡ all
+    → length files ≤ i → with_prefix prefix (secrets_of (drop i files) (drop i contents)) ≡ all
+    → Ok prefix ≡ all
 unfolding secrets_of
-secrets_of-all front files contents i all past e =
-    sym (rw (drop_all i files past) (ap Ok (append-nil front))) ∙ e
+secrets_of-all prefix files contents i all past e =
+    sym (rw (drop_all i files past) (ap Ok (append-nil prefix))) ∙ e
 
--- the label of the file at the index, of files behind which others stand
+-- the label of the file at the index, of files after which others stand
 pub label_at : (files more : List SecretFile) (i : ℕ) (label : List ℕ) → i < length files
     → option_map (λ file. file.label) (slice_get (files ++ more) i) ≡ Some label
     → label ≡ (get_or files i no_file).label

@@ -3,7 +3,7 @@ use Rattle.std.specs.Prelude.{ℕ, List}
 use Rattle.vault_text.specs.declared.sink.Sink.{Ghosts as SinkTerms}
 use Rattle.vault_text.specs.declared.sink.Stage.{Stage}
 use Rattle.vault_text.specs.declared.source.Source.{Ghosts as SourceTerms}
-use Rattle.vault_files.specs.File.{Finding}
+use Rattle.vault_files.specs.File.{FileState}
 use Rattle.vault_files.specs.declared.access.Access.{Access}
 use Rattle.vault_files.specs.declared.file_system.FileSystem.{Ghosts as StoreTerms}
 
@@ -44,10 +44,10 @@ StoreMembers F R = record {
   takes : F → List ℕ → F → Type 0;
   stage : F → Stage;
   failures : F → ℕ;
-  meets : F → List ℕ → Finding → Type 0;
+  finds : F → List ℕ → FileState → Type 0;
   opened : F → List ℕ → R → Type 0;
   opens : F → List (List ℕ) → F → Type 0;
-  aimed : F → List ℕ → Access → F → Type 0;
+  output_set : F → List ℕ → Access → F → Type 0;
 }
 
 -- one over a store, from what a clause knows of it
@@ -55,10 +55,10 @@ abbrev pub store : {F R : Type 0} → StoreMembers F R → F → F → StoreCall
 store members old new = record {
   output = record { takes = members.takes; stage = members.stage; failures = members.failures };
   terms = record {
-    meets = members.meets;
+    finds = members.finds;
     opened = members.opened;
     opens = members.opens;
-    aimed = members.aimed;
+    output_set = members.output_set;
   };
   old = old;
   new = new;

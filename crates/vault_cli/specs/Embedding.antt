@@ -6,20 +6,20 @@ use Rattle.vault_text.specs.Failures.{HasRisen}
 use Rattle.vault_text.specs.Sink.{MemSinkState}
 use Rattle.vault_text.specs.Source as source
 use Rattle.vault_text.specs.declared.sink.Stage.TheVariants.{Finished}
-use Rattle.vault_files.specs.File.{Finding}
-use Rattle.vault_files.specs.File.Finding.{Whole}
-use Rattle.vault_files.specs.Memory.{StoreState, file_at, is_aimed_at, stands_at}
-use Rattle.vault_common.specs.declared.fault.Fault.TheVariants.{Memory, Write}
-use Rattle.vault_request.specs.Settled.{asked_by}
+use Rattle.vault_files.specs.File.{FileState}
+use Rattle.vault_files.specs.File.FileState.{Whole}
+use Rattle.vault_files.specs.Memory.{StoreState, file_at, is_output_at, stands_at}
+use Rattle.vault_fault.specs.declared.fault.Fault.TheVariants.{Memory, Write}
+use Rattle.vault_request.specs.Settled.{requested_by}
 use Rattle.vault_cli.specs.Program.{Files, files_in}
 use Rattle.vault_cli.specs.runs.ReportLine.{line_of}
-use Rattle.vault_cli.specs.runs.Outcome.{Outcome}
+use Rattle.vault_cli.specs.runs.Answer.{Answer}
 use Rattle.vault_cli.specs.declared.runs.status.Status.{Status}
 use Rattle.vault_cli.specs.declared.runs.status.Status.TheVariants.{DeviceFailed, OutOfMemory}
 
--- the files that stand at the paths of arguments
+-- the files at the paths of arguments
 abbrev pub found_by : StoreState → List Text → Files
-found_by files words = files_in (file_at files.entries) (asked_by words)
+found_by files words = files_in (file_at files.entries) (requested_by words)
 
 -- what was in memory before a call, and what is after it
 pub record Change (T : Type 0) : Type 0 where
@@ -30,20 +30,20 @@ pub record Change (T : Type 0) : Type 0 where
 abbrev pub change : {T : Type 0} → T → T → Change T
 change old new = record { old = old; new = new }
 
--- a sink holds these bytes behind what it held, and was finished
+-- a sink holds these bytes after what it held, and was finished
 abbrev pub Holds : Change MemSinkState → List ℕ → Type 0
 Holds sink bytes = (sink.new.held ≡ sink.old.held ++ bytes) × (sink.new.stage ≡ Finished)
 
--- a growth was refused: it holds the first of them
+-- an allocation failed: it holds the first of them
 abbrev pub HoldsPrefix : Change MemSinkState → List ℕ → Type 0
 HoldsPrefix sink bytes =
     HasRisen sink.old.failures sink.new.failures
     × ((n : ℕ) × (sink.new.held ≡ sink.old.held ++ take n bytes))
 
 -- a line, or nothing to say, for which the sink is left alone
-abbrev pub Told : Change MemSinkState → List ℕ → Type 0
-Told err [] = err.new ≡ err.old
-Told err (byte ∷ line) = Holds err (byte ∷ line) ⊎ HoldsPrefix err (byte ∷ line)
+abbrev pub Reported : Change MemSinkState → List ℕ → Type 0
+Reported err [] = err.new ≡ err.old
+Reported err (byte ∷ line) = Holds err (byte ∷ line) ⊎ HoldsPrefix err (byte ∷ line)
 
 -- standard output, where the output goes to a path or there, and there is one or none
 abbrev pub Received : Option (List ℕ) → Option (List ℕ) → Change MemSinkState → Type 0
@@ -57,16 +57,17 @@ abbrev pub Taken : Option ℕ → Change source.MemSourceState → Type 0
 Taken None src = src.new ≡ src.old
 Taken (Some limit) src = src.new.left ≡ drop (limit + 1) src.old.left
 
--- what stands at a path, where the output goes to a path or to standard output, and there is one or
+-- what is at a path, where the output goes to a path or to standard output, and there is one or
 -- none
-abbrev pub stands_after : (List ℕ → Finding) → Option (List ℕ) → Option (List ℕ) → List ℕ → Finding
-stands_after before aim None path = before path
-stands_after before aim (Some bytes) path =
-    if is_aimed_at aim path then Whole bytes else before path
+abbrev pub stands_after : (List ℕ → FileState) → Option (List ℕ) → Option (List ℕ) → List ℕ
+    → FileState
+stands_after before output_file None path = before path
+stands_after before output_file (Some bytes) path =
+    if is_output_at output_file path then Whole bytes else before path
 
 module _ (result : Status) (files : Change StoreState) (out err : Change MemSinkState) where
-  -- at each path stands this
-  abbrev pub Stands : (List ℕ → Finding) → Type 0
+  -- this is at each path
+  abbrev pub Stands : (List ℕ → FileState) → Type 0
   Stands after = (path : List ℕ) → stands_at files.new path ≡ after path
 
   -- what stood at each path still does
@@ -75,39 +76,39 @@ module _ (result : Status) (files : Change StoreState) (out err : Change MemSink
 
   -- the file at the path of an output was finished, where there is one of both
   abbrev pub IsFinished : Option (List ℕ) → Option (List ℕ) → Type 0
-  IsFinished aim output =
-      IfSome aim (λ _. IfSome output (λ _. files.new.output.stage ≡ Finished))
+  IsFinished output_file output =
+      IfSome output_file (λ _. IfSome output (λ _. files.new.output.stage ≡ Finished))
 
   -- it ended with the answer, whose output goes to a path or to standard output
-  pub record EndsAs (aim : Option (List ℕ)) (answer : Outcome) : Type 0 where
+  pub record EndsAs (output_file : Option (List ℕ)) (answer : Answer) : Type 0 where
     pub status : result ≡ answer.status
-    pub stands : Stands (stands_after (file_at files.old.entries) aim answer.output)
-    pub finished : IsFinished aim answer.output
-    pub output : Received aim answer.output out
-    pub line : Told err answer.line
+    pub stands : Stands (stands_after (file_at files.old.entries) output_file answer.output)
+    pub finished : IsFinished output_file answer.output
+    pub output : Received output_file answer.output out
+    pub line : Reported err answer.line
 
   -- there was no memory to work in
   pub record RunsOut : Type 0 where
     pub status : result ≡ OutOfMemory
     pub stands : IsKept
     pub output : out.new ≡ out.old
-    pub line : Told err (line_of Memory)
+    pub line : Reported err (line_of Memory)
 
-  -- a growth of the output was refused: the first of these bytes were written, or it was not begun
+  -- an allocation of the output failed: the first of these bytes were written, or it was not begun
   abbrev pub IsCut : Option (List ℕ) → List ℕ → Type 0
   IsCut None bytes = HoldsPrefix out bytes × IsKept
-  IsCut (Some aim) bytes =
+  IsCut (Some output_file) bytes =
       HasRisen files.old.output.failures files.new.output.failures × (out.new ≡ out.old)
       × (IsKept
       ⊎ ((n : ℕ)
-      × Stands (stands_after (file_at files.old.entries) (Some aim) (Some (take n bytes)))))
+      × Stands (stands_after (file_at files.old.entries) (Some output_file) (Some (take n bytes)))))
 
   -- it ended with so much of the answer
-  pub record EndsShort (aim : Option (List ℕ)) (answer : Outcome) : Type 0 where
+  pub record EndsShort (output_file : Option (List ℕ)) (answer : Answer) : Type 0 where
     pub status : result ≡ DeviceFailed
-    pub cut : (bytes : List ℕ) × (answer.output ≡ Some bytes) × IsCut aim bytes
-    pub line : Told err (line_of Write)
+    pub cut : (bytes : List ℕ) × (answer.output ≡ Some bytes) × IsCut output_file bytes
+    pub line : Reported err (line_of Write)
 
   -- one of the three
-  abbrev pub Embeds : Option (List ℕ) → Outcome → Type 0
-  Embeds aim answer = EndsAs aim answer ⊎ (RunsOut ⊎ EndsShort aim answer)
+  abbrev pub Embeds : Option (List ℕ) → Answer → Type 0
+  Embeds output_file answer = EndsAs output_file answer ⊎ (RunsOut ⊎ EndsShort output_file answer)

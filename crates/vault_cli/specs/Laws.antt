@@ -5,43 +5,43 @@ use Rattle.std.specs.Prelude.{Ok}
 use Rattle.vault_core.specs.Form.{Envelope}
 use Rattle.vault_core.specs.Laws.{IsBytes, IsTriedFirst}
 use Rattle.vault_core.specs.Secrets.{Secret, SecretList, secret_at}
-use Rattle.vault_common.specs.declared.label_rule.LabelRule.{LabelRule}
-use Rattle.vault_cli.specs.runs.Outcome.{outcome_within, room_limit, text_of_request}
+use Rattle.vault_fault.specs.declared.label_rule.LabelRule.{LabelRule}
+use Rattle.vault_cli.specs.runs.Answer.{run_answer_within, room_limit, text_of_request}
 use Rattle.vault_request.specs.Laws.{IsRequest}
 use Rattle.vault_request.specs.Request.{Request}
-use Rattle.vault_cli.specs.runs.Task.{Seal, Open, Reseal, prepared}
+use Rattle.vault_cli.specs.runs.Task.{Seal, Unseal, Reseal, planned}
 use Rattle.vault_request.specs.declared.command_name.CommandName.TheVariants.{Encrypt, Decrypt}
 use Rattle.vault_request.specs.declared.command_name.CommandName.TheVariants.{View, Rekey}
 use Rattle.vault_cli.specs.declared.runs.status.Status.TheVariants.{Refused, Success}
 
--- an outcome is a success, or a refusal: it tells of no device, and of no want of memory
-abbrev pub OutcomesAreDecided : Type 0
-OutcomesAreDecided =
+-- an answer is a success, or a refusal: it reports no failed device and no lack of memory
+abbrev pub AnswersAreDecided : Type 0
+AnswersAreDecided =
     (limit : ℕ) (request : Request) (contents : List (List ℕ)) (salt input : List ℕ)
-    → ((outcome_within limit request contents salt input).status ≡ Success)
-    ⊎ ((outcome_within limit request contents salt input).status ≡ Refused)
+    → ((run_answer_within limit request contents salt input).status ≡ Success)
+    ⊎ ((run_answer_within limit request contents salt input).status ≡ Refused)
 
 -- a request of `decrypt` or `view` whose password files give these secrets
-pub record OpensWith (request : Request) (contents : List (List ℕ)) (salt : List ℕ)
+pub record UnsealsWith (request : Request) (contents : List (List ℕ)) (salt : List ℕ)
     (secrets : SecretList) : Type 0 where
   pub settled : IsRequest request
   pub command : (request.command ≡ Decrypt) ⊎ (request.command ≡ View)
-  pub found : prepared request contents salt ≡ Ok (Open secrets)
+  pub found : planned request contents salt ≡ Ok (Unseal secrets)
 
 -- what `encrypt` wrote with a secret, `decrypt` and `view` give back where the first secret that
 -- they try has its password
 abbrev pub EncryptThenDecrypt : Type 0
 EncryptThenDecrypt =
-    (limit : ℕ) (encrypting opening : Request) (contents other_contents : List (List ℕ))
+    (limit : ℕ) (encrypting decrypting : Request) (contents other_contents : List (List ℕ))
     (salt other_salt input envelope : List ℕ)
     (list : List Secret) (index : ℕ) (used : List ℕ) (secrets : SecretList)
     → IsRequest encrypting → encrypting.command ≡ Encrypt
     → IfSome encrypting.salt_text IsBytes → IsBytes salt → IsBytes input
-    → prepared encrypting contents salt ≡ Ok (Seal list index Envelope used)
-    → (outcome_within limit encrypting contents salt input).output ≡ Some envelope
-    → OpensWith opening other_contents other_salt secrets
+    → planned encrypting contents salt ≡ Ok (Seal list index Envelope used)
+    → (run_answer_within limit encrypting contents salt input).output ≡ Some envelope
+    → UnsealsWith decrypting other_contents other_salt secrets
     → IsTriedFirst secrets (secret_at index list)
-    → outcome_within limit opening other_contents other_salt envelope
+    → run_answer_within limit decrypting other_contents other_salt envelope
     ≡ record { output = Some input; line = []; status = Success }
 
 -- what `rekey` wrote, `decrypt` and `view` open with the new secret alone, under either rule, to
@@ -54,12 +54,12 @@ RekeyKeepsThePlaintext =
     (secrets : SecretList) (new : Secret) (used : List ℕ) (rule : LabelRule)
     → IsRequest rekeying → rekeying.command ≡ Rekey
     → IfSome rekeying.salt_text IsBytes → IsBytes salt
-    → prepared rekeying contents salt ≡ Ok (Reseal secrets new used)
-    → (outcome_within limit rekeying contents salt input).output ≡ Some envelope
-    → OpensWith before old_contents old_salt secrets
-    → OpensWith after new_contents new_salt (record { secrets = new ∷ []; rule = rule })
-    → outcome_within limit after new_contents new_salt envelope
-    ≡ outcome_within limit before old_contents old_salt input
+    → planned rekeying contents salt ≡ Ok (Reseal secrets new used)
+    → (run_answer_within limit rekeying contents salt input).output ≡ Some envelope
+    → UnsealsWith before old_contents old_salt secrets
+    → UnsealsWith after new_contents new_salt (record { secrets = new ∷ []; rule = rule })
+    → run_answer_within limit after new_contents new_salt envelope
+    ≡ run_answer_within limit before old_contents old_salt input
 
 -- a text that has room wherever so much plaintext does gets one outcome under that limit and under
 -- every larger one
@@ -67,5 +67,5 @@ abbrev pub ShortTexts : Type 0
 ShortTexts =
     (smaller larger : ℕ) (request : Request) (contents : List (List ℕ)) (salt input : List ℕ)
     → length (text_of_request request input) ≤ room_limit smaller request.command → smaller ≤ larger
-    → outcome_within larger request contents salt input
-    ≡ outcome_within smaller request contents salt input
+    → run_answer_within larger request contents salt input
+    ≡ run_answer_within smaller request contents salt input

@@ -3,7 +3,7 @@ pub mod Call
 pub mod Explained
 pub mod Shown
 pub mod Program
-pub mod Opened
+pub mod OpenedPaths
 pub mod Reserved
 pub mod Drive
 pub mod Loaded

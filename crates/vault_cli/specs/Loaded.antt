@@ -1,39 +1,40 @@
--- What loading the files of a request answers, of files that may be met at its paths.
+-- What loading the files of a request answers, of files that may be found at its paths.
 use Rattle.std.specs.Prelude.{◌≡◌, ℕ, List, Option, Some, Result, Ok, Err}
-use Rattle.vault_common.specs.declared.fault.Fault.{Fault}
-use Rattle.vault_common.specs.declared.fault.Role.{Role}
-use Rattle.vault_files.specs.File.{Finding, Met}
-use Rattle.vault_cli.specs.Drive.{AllMet}
-use Rattle.vault_cli.specs.runs.Found.{AtPath, contents_of, front_in}
-use Rattle.vault_cli.specs.Opened.{opened_of, secrets_opened}
+use Rattle.vault_fault.specs.declared.fault.Fault.{Fault}
+use Rattle.vault_fault.specs.declared.fault.Role.{Role}
+use Rattle.vault_files.specs.File.{FileState, Found}
+use Rattle.vault_cli.specs.Drive.{AllFound}
+use Rattle.vault_cli.specs.runs.FileContents.{AtPath, contents_of, prefix_in}
+use Rattle.vault_cli.specs.OpenedPaths.{opened_paths, opened_secrets}
 use Rattle.vault_cli.specs.Program.{Files, salt_in, task_over}
 use Rattle.vault_request.specs.Request.{Request}
 
--- a file that may be met gives this answer
-abbrev pub FrontMet : (Finding → Type 0) → Role → ℕ → Result (List ℕ) Fault → Type 0
-FrontMet meets role limit answer =
-    (file : Finding) × meets file × (front_in role limit file ≡ answer)
+-- a file that may be found gives this answer
+abbrev pub PrefixFound : (FileState → Type 0) → Role → ℕ → Result (List ℕ) Fault → Type 0
+PrefixFound finds role limit answer =
+    (file : FileState) × finds file × (prefix_in role limit file ≡ answer)
 
--- password files that may be met at the paths give this answer
-abbrev pub ContentsMet : (List ℕ → Finding → Type 0)
+-- password files that may be found at the paths give this answer
+abbrev pub ContentsFound : (List ℕ → FileState → Type 0)
     → List (List ℕ) → Result (List (List ℕ)) Fault → Type 0
-ContentsMet meets paths answer =
-    (files : List Finding) × Met meets paths files × (contents_of files ≡ answer)
+ContentsFound finds paths answer =
+    (files : List FileState) × Found finds paths files × (contents_of files ≡ answer)
 
--- the salt file that may be met at a path, where there is one, gives this answer
-abbrev pub SaltMet : (List ℕ → Finding → Type 0) → Option (List ℕ) → Result (List ℕ) Fault → Type 0
-SaltMet meets path answer =
-    (file : Option Finding) × AtPath meets path file × (salt_in file ≡ answer)
+-- the salt file that may be found at a path, where there is one, gives this answer
+abbrev pub SaltFound : (List ℕ → FileState → Type 0) → Option (List ℕ) → Result (List ℕ) Fault
+    → Type 0
+SaltFound finds path answer =
+    (file : Option FileState) × AtPath finds path file × (salt_in file ≡ answer)
 
--- password files that may be met at the paths refuse, and the paths up to the first that does were
--- opened
-abbrev pub SecretsRefuse : (List ℕ → Finding → Type 0) → (List (List ℕ) → Type 0)
+-- password files that may be found at the paths refuse, and the paths up to the first that does
+-- were opened
+abbrev pub SecretsRefuse : (List ℕ → FileState → Type 0) → (List (List ℕ) → Type 0)
     → List (List ℕ) → Fault → Type 0
-SecretsRefuse meets opens paths fault = (files : List Finding) × Met meets paths files
-    × (contents_of files ≡ Err fault) × opens (secrets_opened paths files)
+SecretsRefuse finds opens paths fault = (files : List FileState) × Found finds paths files
+    × (contents_of files ≡ Err fault) × opens (opened_secrets paths files)
 
--- so do files that may be met at the paths of a request
-abbrev pub RefusedBy : (List ℕ → Finding → Type 0) → (List (List ℕ) → Type 0)
+-- so do files that may be found at the paths of a request
+abbrev pub RefusedBy : (List ℕ → FileState → Type 0) → (List (List ℕ) → Type 0)
     → Request → Fault → Type 0
-RefusedBy meets opens request fault = (files : Files) × AllMet meets (Some (Ok request)) files
-    × (task_over request files ≡ Err fault) × opens (opened_of (Some (Ok request)) files)
+RefusedBy finds opens request fault = (files : Files) × AllFound finds (Some (Ok request)) files
+    × (task_over request files ≡ Err fault) × opens (opened_paths (Some (Ok request)) files)

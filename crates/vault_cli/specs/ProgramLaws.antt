@@ -1,25 +1,25 @@
 -- Laws of the program: from the arguments of one run to those of another, from file to file.
 use Rattle.std.specs.Prelude.{◌≡◌, ℕ, List, [], ◌∷◌, Option, Some, None, IfSome, Ok}
 use Rattle.clap.specs.Words.{Text}
-use Rattle.vault_files.specs.File.{Finding}
-use Rattle.vault_files.specs.File.Finding.{Whole}
+use Rattle.vault_files.specs.File.{FileState}
+use Rattle.vault_files.specs.File.FileState.{Whole}
 use Rattle.vault_core.specs.Form.{Envelope}
 use Rattle.vault_core.specs.Laws.{IsBytes, IsTriedFirst}
 use Rattle.vault_core.specs.Secrets.{Secret, SecretList, secret_at}
-use Rattle.vault_common.specs.declared.label_rule.LabelRule.{LabelRule}
+use Rattle.vault_fault.specs.declared.label_rule.LabelRule.{LabelRule}
 use Rattle.vault_cli.specs.Embedding.{stands_after}
-use Rattle.vault_cli.specs.runs.Found.{contents_of}
-use Rattle.vault_cli.specs.Laws.{OpensWith}
-use Rattle.vault_cli.specs.runs.Outcome.{Outcome, outcome}
-use Rattle.vault_request.specs.Settled.{asked_by}
+use Rattle.vault_cli.specs.runs.FileContents.{contents_of}
+use Rattle.vault_cli.specs.Laws.{UnsealsWith}
+use Rattle.vault_cli.specs.runs.Answer.{Answer, run_answer}
+use Rattle.vault_request.specs.Settled.{requested_by}
 use Rattle.vault_cli.specs.Program.{Files, files_in, output_path, program, salt_in}
 use Rattle.vault_request.specs.Request.{Request}
-use Rattle.vault_cli.specs.runs.Task.{Seal, Reseal, prepared}
+use Rattle.vault_cli.specs.runs.Task.{Seal, Reseal, planned}
 use Rattle.vault_request.specs.declared.command_name.CommandName.TheVariants.{Encrypt, Rekey}
 use Rattle.vault_cli.specs.declared.runs.status.Status.TheVariants.{Success}
 
 -- the input is a file that can be read to its end, or else standard input
-abbrev pub IsInput : Option Finding → List ℕ → List ℕ → Type 0
+abbrev pub IsInput : Option FileState → List ℕ → List ℕ → Type 0
 IsInput None stdin input = stdin ≡ input
 IsInput (Some file) stdin input = file ≡ Whole input
 
@@ -33,44 +33,44 @@ pub record Run : Type 0 where
   pub contents : List (List ℕ)
   pub salt : List ℕ
   pub input : List ℕ
-  pub asks : asked_by words ≡ Some (Ok request)
+  pub requested : requested_by words ≡ Some (Ok request)
   pub secrets : contents_of files.secrets ≡ Ok contents
   pub salted : salt_in files.salt ≡ Ok salt
   pub fed : IsInput files.input stdin input
 
 -- what the program answers to it
-abbrev pub answer : Run → Outcome
+abbrev pub answer : Run → Answer
 answer run = program run.words run.files run.stdin
 
 -- that is the outcome of its request
-abbrev pub ProgramIsOutcome : Type 0
-ProgramIsOutcome = (run : Run) → answer run ≡ outcome run.request run.contents run.salt run.input
+abbrev pub ProgramIsRun : Type 0
+ProgramIsRun = (run : Run) → answer run ≡ run_answer run.request run.contents run.salt run.input
 
 -- what one run wrote to a path, another reads whose FILE is that path
 abbrev pub WrittenIsRead : Type 0
 WrittenIsRead =
-    (before : List ℕ → Finding) (writing reading : List Text) (bytes path : List ℕ)
+    (before : List ℕ → FileState) (writing reading : List Text) (bytes path : List ℕ)
     (request : Request)
-    → output_path (asked_by writing) ≡ Some path
-    → asked_by reading ≡ Some (Ok request) → request.input ≡ Some path
-    → (files_in (stands_after before (output_path (asked_by writing)) (Some bytes))
-    (asked_by reading)).input ≡ Some (Whole bytes)
+    → output_path (requested_by writing) ≡ Some path
+    → requested_by reading ≡ Some (Ok request) → request.input ≡ Some path
+    → (files_in (stands_after before (output_path (requested_by writing)) (Some bytes))
+    (requested_by reading)).input ≡ Some (Whole bytes)
 
 -- what `encrypt` wrote with a secret, `decrypt` and `view` give back where the first secret that
 -- they try has its password
 abbrev pub ProgramEncryptsThenDecrypts : Type 0
 ProgramEncryptsThenDecrypts =
-    (encrypting opening : Run)
+    (encrypting decrypting : Run)
     (list : List Secret) (index : ℕ) (used : List ℕ) (secrets : SecretList)
     → encrypting.request.command ≡ Encrypt
     → IfSome encrypting.request.salt_text IsBytes
     → IsBytes encrypting.salt → IsBytes encrypting.input
-    → prepared encrypting.request encrypting.contents encrypting.salt
+    → planned encrypting.request encrypting.contents encrypting.salt
     ≡ Ok (Seal list index Envelope used)
-    → (answer encrypting).output ≡ Some opening.input
-    → OpensWith opening.request opening.contents opening.salt secrets
+    → (answer encrypting).output ≡ Some decrypting.input
+    → UnsealsWith decrypting.request decrypting.contents decrypting.salt secrets
     → IsTriedFirst secrets (secret_at index list)
-    → answer opening ≡ record { output = Some encrypting.input; line = []; status = Success }
+    → answer decrypting ≡ record { output = Some encrypting.input; line = []; status = Success }
 
 -- what `rekey` wrote, `decrypt` and `view` open with the new secret alone, under either rule, to
 -- what they gave before with the old secrets under the rule of `rekey`
@@ -80,9 +80,9 @@ ProgramKeepsThePlaintext =
     (secrets : SecretList) (new : Secret) (used : List ℕ) (rule : LabelRule)
     → rekeying.request.command ≡ Rekey
     → IfSome rekeying.request.salt_text IsBytes → IsBytes rekeying.salt
-    → prepared rekeying.request rekeying.contents rekeying.salt ≡ Ok (Reseal secrets new used)
+    → planned rekeying.request rekeying.contents rekeying.salt ≡ Ok (Reseal secrets new used)
     → before.input ≡ rekeying.input → (answer rekeying).output ≡ Some after.input
-    → OpensWith before.request before.contents before.salt secrets
-    → OpensWith after.request after.contents after.salt
+    → UnsealsWith before.request before.contents before.salt secrets
+    → UnsealsWith after.request after.contents after.salt
     (record { secrets = new ∷ []; rule = rule })
     → answer after ≡ answer before

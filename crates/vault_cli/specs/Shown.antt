@@ -3,7 +3,7 @@ use Rattle.std.specs.Prelude.{ℕ, ◌/◌, ◌%◌, ◌==◌, ◌&&◌, ◌||�
 use Rattle.std.specs.Prelude.{[], ◌∷◌, ◌++◌, slice_index, codes}
 use Rattle.vault_request.specs.Refusal.{is_control}
 
--- whether a byte, behind 194, ends a control character past ASCII
+-- whether a byte, after 194, ends a control character past ASCII
 abbrev pub ends_control : ℕ → Bool
 ends_control byte = nat_lt 127 byte && nat_lt byte 160
 
@@ -26,7 +26,7 @@ abbrev pub shown_between : ℕ → ℕ → ℕ → List ℕ
 shown_between before byte after =
     if is_escaped before byte after then escape byte else byte ∷ []
 
--- what is shown of a text behind a byte; 0 stands for no byte
+-- what is shown of a text after a byte; 0 stands for no byte
 abbrev pub shown_behind : ℕ → List ℕ → List ℕ
 shown_behind before [] = []
 shown_behind before (byte ∷ rest) =

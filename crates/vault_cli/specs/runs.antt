@@ -1,6 +1,6 @@
 pub mod Ending
-pub mod Found
-pub mod Outcome
+pub mod FileContents
+pub mod Answer
 pub mod Performed
 pub mod ReportLine
 pub mod Reports

@@ -7,9 +7,9 @@ ghost use Rattle.vault_cli.specs.Call.{sink};
 ghost use Rattle.vault_command_line.specs.CommandLine.{vault_app};
 ghost use Rattle.vault_cli.specs.Embedding.{Embeds, Taken, change, found_by};
 ghost use Rattle.vault_cli.specs.Explained.{ExplainsOneOf};
-ghost use Rattle.vault_cli.specs.Opened.{opened_of};
-ghost use Rattle.vault_request.specs.Settled.{asked_by};
-ghost use Rattle.vault_cli.specs.Program.{output_path, program, stdin_asked};
+ghost use Rattle.vault_cli.specs.OpenedPaths.{opened_paths};
+ghost use Rattle.vault_request.specs.Settled.{requested_by};
+ghost use Rattle.vault_cli.specs.Program.{output_path, program, stdin_needed};
 
 use crate::program::drive_over;
 use crate::runs::Status;
@@ -18,7 +18,7 @@ use vault_files::MemFiles;
 use vault_text::{MemSink, MemSource, Sink, Stage};
 
 /// All that the program does, as `drive_over`, over files, an input and sinks in memory. The files
-/// that it finds are those that stand at the paths of its arguments, so that arguments, files and
+/// that it finds are those at the paths of its arguments, so that arguments, files and
 /// input determine its answer. `MemFiles::content` and `MemSink::bytes` tell what is held
 /// afterwards, and `MemFiles::log` which paths were opened.
 pub fn drive_in_memory(
@@ -35,28 +35,28 @@ pub fn drive_in_memory(
     requires out_unbegun { out.old.stage ≡ Stage.Unbegun }
     requires err_unbegun { err.old.stage ≡ Stage.Unbegun }
 
-    // Arguments that parse are answered as the program says, unless a growth is refused.
+    // Arguments that parse are answered as the program says, unless an allocation fails.
     ensures answered { let texts = map string_bytes words.now in
         let answer = program texts (found_by files.old texts) src.old.left in
         fault_of vault_app texts ≡ []
         → Embeds result (change files.old files.new) (change out.old out.new)
-        (change err.old err.new) (output_path (asked_by texts)) answer }
+        (change err.old err.new) (output_path (requested_by texts)) answer }
     ensures taken { let texts = map string_bytes words.now in
-        let limit = stdin_asked (asked_by texts) (found_by files.old texts) in
+        let limit = stdin_needed (requested_by texts) (found_by files.old texts) in
         fault_of vault_app texts ≡ [] → result ≢ Status.OutOfMemory
         → Taken limit (change src.old src.new) }
     ensures opened { let texts = map string_bytes words.now in
-        let paths = opened_of (asked_by texts) (found_by files.old texts) in
+        let paths = opened_paths (requested_by texts) (found_by files.old texts) in
         fault_of vault_app texts ≡ [] → result ≢ Status.OutOfMemory
         → Logs files.old.log paths files.new.log }
     ensures memory { result ≡ Status.OutOfMemory
         → (files.new ≡ files.old) × (src.new ≡ src.old) }
 
-    // Others are explained, and neither a file nor the input is asked for.
+    // Others are explained, and neither a file nor the input is touched.
     ensures explained { let kinds = fault_of vault_app (map string_bytes words.now) in
         kinds ≢ [] → ExplainsOneOf (sink ⟦<MemSink as Sink>⟧ out.old out.new)
         (sink ⟦<MemSink as Sink>⟧ err.old err.new) result kinds }
-    ensures unasked { fault_of vault_app (map string_bytes words.now) ≢ []
+    ensures untouched { fault_of vault_app (map string_bytes words.now) ≢ []
         → (files.new ≡ files.old) × (src.new ≡ src.old) }
 {
     drive_over(files, alloc, words, src, out, err)

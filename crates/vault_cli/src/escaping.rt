@@ -47,7 +47,7 @@ fn is_escaped(before: u8, byte: u8, after: u8) -> bool
     }
 }
 
-/// Whether a byte, behind `0xc2`, ends a control character.
+/// Whether a byte, after `0xc2`, ends a control character.
 fn ends_control(byte: u8) -> bool
     ensures { result ≡ ends_control byte }
 {

@@ -3,7 +3,7 @@ ghost use Rattle.std.specs.Prelude.{◌≡◌, ◌≢◌, ◌⊎◌, ℕ, List, 
 ghost use Rattle.std.specs.IoError.{error_kind};
 ghost use Rattle.std.specs.declared.io.ErrorKind.TheVariants.{OutOfMemory};
 ghost use Rattle.clap.specs.Values.{kind_of};
-ghost use Rattle.vault_common.specs.declared.fault.Fault.TheVariants.{Memory};
+ghost use Rattle.vault_fault.specs.declared.fault.Fault.TheVariants.{Memory};
 ghost use Rattle.vault_cli.specs.Call.{sink};
 ghost use Rattle.vault_cli.specs.Explained.{Explains, IsShown};
 ghost use Rattle.vault_cli.specs.runs.ReportLine.{line_of, not_text_line};

@@ -1,16 +1,16 @@
 //! Laws of the outcomes and of the program, each the contract of a function that does nothing, or
 //! only names the laws that it rests on.
-ghost use Rattle.vault_cli.specs.Laws.{EncryptThenDecrypt, OutcomesAreDecided};
+ghost use Rattle.vault_cli.specs.Laws.{EncryptThenDecrypt, AnswersAreDecided};
 ghost use Rattle.vault_cli.specs.Laws.{RekeyKeepsThePlaintext, ShortTexts};
-ghost use Rattle.vault_cli.specs.ProgramLaws.{ProgramEncryptsThenDecrypts, ProgramIsOutcome};
+ghost use Rattle.vault_cli.specs.ProgramLaws.{ProgramEncryptsThenDecrypts, ProgramIsRun};
 ghost use Rattle.vault_cli.specs.ProgramLaws.{ProgramKeepsThePlaintext, WrittenIsRead};
 
 use vault_request::laws::settled_requests;
 
-/// The outcome of a run is a success or a refusal: what else `run` answers tells of its source or
+/// The answer of a run is a success or a refusal: what else `run` answers tells of its source or
 /// its output, and what else `drive_over` answers of these, of its files, or of its memory.
-pub fn outcomes_are_decided()
-    ensures { OutcomesAreDecided }
+pub fn answers_are_decided()
+    ensures { AnswersAreDecided }
 {}
 
 /// Decrypting what was encrypted gives the input.
@@ -36,8 +36,8 @@ pub fn short_texts()
 }
 
 /// On files that can be read the program answers with the outcome.
-pub fn program_is_outcome()
-    ensures { ProgramIsOutcome }
+pub fn program_is_run()
+    ensures { ProgramIsRun }
 {}
 
 /// What one run wrote to a path, another reads there.

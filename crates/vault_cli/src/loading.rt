@@ -2,11 +2,11 @@
 ghost use Rattle.std.specs.Prelude.{◌≡◌, ◌≢◌, ◌+◌, ◌≤◌, [], ◌∷◌, All, length, map};
 ghost use Rattle.std.specs.Prelude.{option_to_list, Ok, Err, IfOk, IfErr, OnOk};
 ghost use Rattle.std.specs.Prelude.{vec_capacity, vec_len};
-ghost use Rattle.vault_files.specs.File.Finding.{Missing};
-ghost use Rattle.vault_common.specs.declared.fault.Fault.TheVariants.{CannotOpen, Memory};
-ghost use Rattle.vault_common.specs.declared.fault.Role.TheVariants.{Input};
-ghost use Rattle.vault_cli.specs.runs.Found.{AtPath, asked_paths, fault_in, secret_paths};
-ghost use Rattle.vault_cli.specs.Loaded.{ContentsMet, FrontMet, SaltMet};
+ghost use Rattle.vault_files.specs.File.FileState.{Missing};
+ghost use Rattle.vault_fault.specs.declared.fault.Fault.TheVariants.{CannotOpen, Memory};
+ghost use Rattle.vault_fault.specs.declared.fault.Role.TheVariants.{Input};
+ghost use Rattle.vault_cli.specs.runs.FileContents.{AtPath, request_paths, fault_in, secret_paths};
+ghost use Rattle.vault_cli.specs.Loaded.{ContentsFound, PrefixFound, SaltFound};
 ghost use Rattle.vault_cli.specs.Loaded.{RefusedBy, SecretsRefuse};
 ghost use Rattle.vault_cli.specs.Reserved.{HasRoomFor};
 ghost use Rattle.vault_core.specs.declared.limits.TheConstants.{PASSWORD_FILE_LIMIT};
@@ -15,7 +15,7 @@ ghost use Rattle.vault_request.specs.Request.{files_of};
 
 use crate::reserving::Buffers;
 use vault_core::{Fault, Role};
-use vault_files::{FileFault, FileSystem, read_front};
+use vault_files::{FileFault, FileSystem, read_prefix};
 use vault_request::Request;
 use vault_text::{Source, Stage};
 
@@ -40,15 +40,15 @@ pub(crate) fn load<F: FileSystem>(
     ensures count { IfOk result (λ found.
         vec_len found.secret_files ≡ length (files_of request.now)) }
     ensures secrets { IfOk result (λ found.
-        ContentsMet (F.meets files.old) (secret_paths request.now)
+        ContentsFound (F.finds files.old) (secret_paths request.now)
         (Ok (map (λ file. file.items) found.secret_files.items))) }
     ensures salt { IfOk result (λ found.
-        SaltMet (F.meets files.old) request.now.salt_path (Ok found.salt.items)) }
+        SaltFound (F.finds files.old) request.now.salt_path (Ok found.salt.items)) }
     ensures input { IfOk result (λ found.
         AtPath (F.opened files.old) request.now.input found.input) }
-    ensures opens { OnOk result (F.opens files.old (asked_paths request.now) files.new) }
+    ensures opens { OnOk result (F.opens files.old (request_paths request.now) files.new) }
     ensures refused { IfErr result (λ fault.
-        RefusedBy (F.meets files.old) (λ paths. F.opens files.old paths files.new)
+        RefusedBy (F.finds files.old) (λ paths. F.opens files.old paths files.new)
         request.now fault) }
     ensures memory_suffices { IfErr result (λ fault. fault ≢ Memory) }
     ensures unbegun { F.stage files.new ≡ Stage.Unbegun }
@@ -79,7 +79,7 @@ fn fault_in(role: Role, fault: FileFault) -> Fault
 }
 
 /// The first bytes of a file, as many as `buf` holds.
-fn front_of<F: FileSystem>(
+fn prefix_of<F: FileSystem>(
     files: &mut F,
     role: Role,
     path: &str,
@@ -88,12 +88,12 @@ fn front_of<F: FileSystem>(
     requires { F.stage files.old ≡ Stage.Unbegun }
     ensures opens { F.opens files.old (path.now ∷ []) files.new }
     ensures read { IfOk result (λ bytes.
-        FrontMet (F.meets files.old path.now) role (vec_len buf) (Ok bytes.items)) }
+        PrefixFound (F.finds files.old path.now) role (vec_len buf) (Ok bytes.items)) }
     ensures refused { IfErr result (λ fault.
-        FrontMet (F.meets files.old path.now) role (vec_len buf) (Err fault)) }
+        PrefixFound (F.finds files.old path.now) role (vec_len buf) (Err fault)) }
     ensures memory_suffices { IfErr result (λ fault. fault ≢ Memory) }
 {
-    match read_front(files, path, buf.as_mut_slice()) {
+    match read_prefix(files, path, buf.as_mut_slice()) {
         Ok(n) => {
             buf.truncate(n);
             Ok(buf)
@@ -116,18 +116,18 @@ fn read_secret_files<F: FileSystem>(
     requires room { length (files_of request.now) ≤ vec_capacity contents }
     ensures count { IfOk result (λ contents. vec_len contents ≡ length (files_of request.now)) }
     ensures read { IfOk result (λ contents.
-        ContentsMet (F.meets files.old) (secret_paths request.now)
+        ContentsFound (F.finds files.old) (secret_paths request.now)
         (Ok (map (λ file. file.items) contents.items))) }
     ensures opens { OnOk result (F.opens files.old (secret_paths request.now) files.new) }
     ensures refused { IfErr result (λ fault.
-        SecretsRefuse (F.meets files.old) (λ paths. F.opens files.old paths files.new)
+        SecretsRefuse (F.finds files.old) (λ paths. F.opens files.old paths files.new)
         (secret_paths request.now) fault) }
     ensures memory_suffices { IfErr result (λ fault. fault ≢ Memory) }
     ensures unbegun { F.stage files.new ≡ Stage.Unbegun }
 {
     for i in 0..request.files() {
         let buf = unread.pop().unwrap();
-        let bytes = front_of(files, Role::Secret, request.path(i), buf)?;
+        let bytes = prefix_of(files, Role::Secret, request.path(i), buf)?;
         contents.push(bytes).unwrap();
     }
     Ok(contents)
@@ -143,13 +143,13 @@ fn read_salt<F: FileSystem>(
     requires length { vec_len buf ≡ SEALING_SALT_LENGTH }
     ensures opens { F.opens files.old (option_to_list request.now.salt_path) files.new }
     ensures read { IfOk result (λ salt.
-        SaltMet (F.meets files.old) request.now.salt_path (Ok salt.items)) }
+        SaltFound (F.finds files.old) request.now.salt_path (Ok salt.items)) }
     ensures refused { IfErr result (λ fault.
-        SaltMet (F.meets files.old) request.now.salt_path (Err fault)) }
+        SaltFound (F.finds files.old) request.now.salt_path (Err fault)) }
     ensures memory_suffices { IfErr result (λ fault. fault ≢ Memory) }
 {
     match request.salt_path() {
-        Some(path) => front_of(files, Role::Salt, path, buf),
+        Some(path) => prefix_of(files, Role::Salt, path, buf),
         None => {
             buf.clear();
             Ok(buf)
@@ -164,7 +164,7 @@ fn open_input<F: FileSystem>(files: &mut F, request: &Request) -> Result<Option<
     ensures opened { IfOk result (λ input. AtPath (F.opened files.old) request.now.input input) }
     ensures fault { IfErr result (λ fault. fault ≡ CannotOpen Input) }
     ensures missing { IfErr result (λ _.
-        AtPath (F.meets files.old) request.now.input (Some Missing)) }
+        AtPath (F.finds files.old) request.now.input (Some Missing)) }
 {
     let Some(path) = request.input() else {
         return Ok(None);

@@ -9,10 +9,10 @@ ghost use Rattle.vault_command_line.specs.CommandLine.{vault_app};
 ghost use Rattle.vault_cli.specs.Drive.{Drives};
 ghost use Rattle.vault_cli.specs.runs.Ending.{Ends, to_path};
 ghost use Rattle.vault_cli.specs.Explained.{ExplainsOneOf};
-ghost use Rattle.vault_cli.specs.runs.Outcome.{input_asked, outcome};
+ghost use Rattle.vault_cli.specs.runs.Answer.{input_needed, run_answer};
 ghost use Rattle.vault_cli.specs.Program.{answer_to, output_access, program};
 ghost use Rattle.vault_request.specs.Request.{files_of};
-ghost use Rattle.vault_request.specs.Settled.{asked, asked_by};
+ghost use Rattle.vault_request.specs.Settled.{requested, requested_by};
 
 use crate::explaining::explain;
 use crate::loading::{Loaded, load};
@@ -46,17 +46,17 @@ pub fn drive_over<F: FileSystem, S: Source, K: Sink, E: Sink>(
         fault_of vault_app texts ≡ []
         → Drives (store F.FileSystem files.old files.new) (source S.Source src.old src.new)
         (sink K.Sink out.old out.new) (sink E.Sink err.old err.new) result
-        (asked_by texts) (program texts) }
+        (requested_by texts) (program texts) }
 
     // Out of memory comes before any file is opened, and before the input is read.
     ensures memory { result ≡ Status.OutOfMemory
         → (files.new ≡ files.old) × (src.new ≡ src.old) }
 
-    // Others are explained, and neither a file nor the input is asked for.
+    // Others are explained, and neither a file nor the input is touched.
     ensures explained { let kinds = fault_of vault_app (map string_bytes words.now) in
         kinds ≢ [] → ExplainsOneOf (sink K.Sink out.old out.new) (sink E.Sink err.old err.new)
         result kinds }
-    ensures unasked { fault_of vault_app (map string_bytes words.now) ≢ []
+    ensures untouched { fault_of vault_app (map string_bytes words.now) ≢ []
         → (files.new ≡ files.old) × (src.new ≡ src.old) }
 {
     match parse(alloc, words) {
@@ -74,14 +74,14 @@ fn drive_matches<F: FileSystem, S: Source, K: Sink, E: Sink>(
     out: &mut K,
     err: &mut E,
 ) -> Status
-    requires asks { is_some (asked (subcommand_rows_of matches.now)) ≡ true }
+    requires requested { is_some (requested (subcommand_rows_of matches.now)) ≡ true }
     requires files_unbegun { F.stage files.old ≡ Stage.Unbegun }
     requires out_unbegun { K.stage out.old ≡ Stage.Unbegun }
     requires err_unbegun { E.stage err.old ≡ Stage.Unbegun }
-    ensures drives { let asked = asked (subcommand_rows_of matches.now) in
+    ensures drives { let requested = requested (subcommand_rows_of matches.now) in
         Drives (store F.FileSystem files.old files.new) (source S.Source src.old src.new)
         (sink K.Sink out.old out.new) (sink E.Sink err.old err.new) result
-        asked (answer_to asked) }
+        requested (answer_to requested) }
     ensures memory { result ≡ Status.OutOfMemory
         → (files.new ≡ files.old) × (src.new ≡ src.old) }
 {
@@ -104,10 +104,10 @@ fn drive_request<F: FileSystem, S: Source, K: Sink, E: Sink>(
     requires files_unbegun { F.stage files.old ≡ Stage.Unbegun }
     requires out_unbegun { K.stage out.old ≡ Stage.Unbegun }
     requires err_unbegun { E.stage err.old ≡ Stage.Unbegun }
-    ensures drives { let asked = Some (Ok request.now) in
+    ensures drives { let requested = Some (Ok request.now) in
         Drives (store F.FileSystem files.old files.new) (source S.Source src.old src.new)
         (sink K.Sink out.old out.new) (sink E.Sink err.old err.new) result
-        asked (answer_to asked) }
+        requested (answer_to requested) }
     ensures memory { result ≡ Status.OutOfMemory
         → (files.new ≡ files.old) × (src.new ≡ src.old) }
 {
@@ -167,19 +167,19 @@ fn run_to_output<F: FileSystem, S: Source, K: Sink, E: Sink>(
         let out = sink K.Sink out.old out.new in
         Ends (to_path request.output (output_access request.command) files out)
         (sink E.Sink err.old err.new) result (source S.Source src.old src.new)
-        (input_asked PLAINTEXT_LIMIT request contents salt) (outcome request contents salt) }
+        (input_needed PLAINTEXT_LIMIT request contents salt) (run_answer request contents salt) }
     ensures memory_suffices { result ≢ Status.OutOfMemory }
 {
     match output {
         Some(path) => {
-            files.aim(path, output_access(job.request.command()));
+            files.set_output(path, output_access(job.request.command()));
             run_job(job, src, files, err)
         }
         None => run_job(job, src, out, err),
     }
 }
 
-/// Who may read an output that stands there already: plaintext is for its owner.
+/// Who may read an output that exists already: plaintext is for its owner.
 fn output_access(command: CommandName) -> Access
     ensures { result ≡ output_access command }
 {

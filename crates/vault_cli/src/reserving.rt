@@ -53,7 +53,7 @@ pub(crate) fn reserve(alloc: Global, request: &Request) -> Result<Reserved, Allo
     })
 }
 
-/// Buffers for so many password files, each for one byte more than is taken.
+/// Buffers for this many password files, each for one byte more than is taken.
 fn password_buffers(alloc: Global, count: usize) -> Result<Vec<Vec<u8>>, AllocError>
     ensures count { IfOk result (λ buffers. vec_len buffers ≡ count) }
     ensures length { IfOk result (λ buffers.

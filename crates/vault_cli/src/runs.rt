@@ -3,12 +3,12 @@ ghost use Rattle.std.specs.Prelude.{◌≡◌, ◌≢◌, ◌⊎◌, [], true, f
 ghost use Rattle.std.specs.Prelude.{is_some, length, map};
 ghost use Rattle.vault_text.specs.Failures.{HasRisen, IsLast};
 ghost use Rattle.vault_text.specs.Limits.{IsWorkLength, limit_of};
-ghost use Rattle.vault_common.specs.declared.fault.Fault.TheVariants.{Read};
-ghost use Rattle.vault_common.specs.declared.fault.Role.TheVariants.{Input};
+ghost use Rattle.vault_fault.specs.declared.fault.Fault.TheVariants.{Read};
+ghost use Rattle.vault_fault.specs.declared.fault.Role.TheVariants.{Input};
 ghost use Rattle.vault_request.specs.Request.{files_of};
 ghost use Rattle.vault_cli.specs.Call.{sink, source};
 ghost use Rattle.vault_cli.specs.runs.Ending.{Ends, Finishes, to_sink};
-ghost use Rattle.vault_cli.specs.runs.Outcome.{answered, input_asked, outcome_within};
+ghost use Rattle.vault_cli.specs.runs.Answer.{answered, input_needed, run_answer_within};
 ghost use Rattle.vault_cli.specs.runs.Performed.{Performs};
 ghost use Rattle.vault_cli.specs.runs.StoredTask.{task_in};
 ghost use Rattle.vault_cli.specs.runs.Task.{HasValidIndex};
@@ -21,7 +21,7 @@ mod task;
 pub use report_line::report;
 pub(crate) use report_line::write_text;
 pub use status::Status;
-use task::{Task, prepare};
+use task::{Task, plan};
 use vault_core::{Fault, Ready};
 use vault_request::Request;
 use vault_text::{MemSource, Sink, Source, Stage, TextMemory};
@@ -75,7 +75,7 @@ fn deliver<K: Sink, E: Sink>(ready: Ready<'_>, out: &mut K, err: &mut E) -> Stat
 /// for commands that seal and have no salt text. `work`, of 16 bytes to `CIPHERTEXT_LIMIT`, is
 /// where the input is read, opened and sealed: 16 bytes less of plaintext are taken; after a
 /// refusal it holds any bytes. `out` is begun only where the whole output is known to be right. On
-/// success `err` is not asked, and a failure of `err` changes nothing else.
+/// success `err` is not called, and a failure of `err` changes nothing else.
 pub fn run<'r, S: Source, K: Sink, E: Sink>(
     request: &'r Request,
     secret_files: &'r [Vec<u8>],
@@ -95,8 +95,8 @@ pub fn run<'r, S: Source, K: Sink, E: Sink>(
     ensures ends { let contents = map (λ file. file.items) secret_files.now in
         let limit = limit_of (length work.old) in
         Ends (to_sink (sink K.Sink out.old out.new)) (sink E.Sink err.old err.new) result
-        (source S.Source src.old src.new) (input_asked limit request.now contents salt.now)
-        (outcome_within limit request.now contents salt.now) }
+        (source S.Source src.old src.new) (input_needed limit request.now contents salt.now)
+        (run_answer_within limit request.now contents salt.now) }
     ensures device_failed { result ≡ Status.DeviceFailed
         → HasRisen (S.failures src.old) (S.failures src.new)
         ⊎ HasRisen (K.failures out.old) (K.failures out.new) }
@@ -104,14 +104,14 @@ pub fn run<'r, S: Source, K: Sink, E: Sink>(
         → (S.failures src.new ≡ S.failures src.old) × (K.failures out.new ≡ K.failures out.old) }
     ensures memory_suffices { result ≢ Status.OutOfMemory }
 
-    // At the last count each call of a device fails, which a run tells that needs it.
+    // At the full count each call of a device fails, which a run tells that needs it.
     ensures full_source { let contents = map (λ file. file.items) secret_files.now in
         let limit = limit_of (length work.old) in
-        is_some (input_asked limit request.now contents salt.now) ≡ true
+        is_some (input_needed limit request.now contents salt.now) ≡ true
         → IsLast (S.failures src.old) → result ≡ Status.DeviceFailed }
     ensures full_output { IsLast (K.failures out.old) → result ≢ Status.Success }
 {
-    let memory = TextMemory::lent(work);
+    let memory = TextMemory::borrowed(work);
     let job = Job {
         request,
         secret_files,
@@ -138,8 +138,8 @@ pub(crate) fn run_job<S: Source, K: Sink, E: Sink>(
         let salt = job.entry.salt.now in
         let limit = limit_of job.entry.memory.limit in
         Ends (to_sink (sink K.Sink out.old out.new)) (sink E.Sink err.old err.new) result
-        (source S.Source src.old src.new) (input_asked limit request contents salt)
-        (outcome_within limit request contents salt) }
+        (source S.Source src.old src.new) (input_needed limit request contents salt)
+        (run_answer_within limit request contents salt) }
     ensures device_failed { result ≡ Status.DeviceFailed
         → HasRisen (S.failures src.old) (S.failures src.new)
         ⊎ HasRisen (K.failures out.old) (K.failures out.new) }
@@ -149,7 +149,7 @@ pub(crate) fn run_job<S: Source, K: Sink, E: Sink>(
     ensures full_source { let request = job.entry.request.now in
         let contents = map (λ file. file.items) job.entry.secret_files.now in
         let limit = limit_of job.entry.memory.limit in
-        is_some (input_asked limit request contents job.entry.salt.now) ≡ true
+        is_some (input_needed limit request contents job.entry.salt.now) ≡ true
         → IsLast (S.failures src.old) → result ≡ Status.DeviceFailed }
     ensures full_output { IsLast (K.failures out.old) → result ≢ Status.Success }
 {
@@ -159,7 +159,7 @@ pub(crate) fn run_job<S: Source, K: Sink, E: Sink>(
         salt,
         memory,
     } = job;
-    let task = match prepare(request, secret_files, salt) {
+    let task = match plan(request, secret_files, salt) {
         Ok(task) => task,
         Err(fault) => return report(fault, err),
     };

@@ -6,7 +6,7 @@ ghost use Rattle.vault_files.specs.Host.{new_host};
 ghost use Rattle.vault_command_line.specs.CommandLine.{vault_app};
 ghost use Rattle.vault_cli.specs.Program.{program};
 ghost use Rattle.vault_cli.specs.System.{MayDrive, MayExplain, new_sink, new_source};
-ghost use Rattle.vault_request.specs.Settled.{asked_by};
+ghost use Rattle.vault_request.specs.Settled.{requested_by};
 
 use crate::program::drive_over;
 use crate::runs::Status;
@@ -32,7 +32,7 @@ pub fn drive<'a, F: Files, R: Read + Drop, O: Write + Drop, E: Write + Drop>(
         → MayDrive ⟦<HostFiles<&'a F> as FileSystem>⟧ ⟦<ReadSource<R> as Source>⟧
         ⟦<WriteSink<O> as Sink>⟧ ⟦<WriteSink<E> as Sink>⟧ (new_host rt.entry)
         (new_source (R.remaining stdin)) (new_sink (O.contents stdout))
-        (new_sink (E.contents stderr)) result (asked_by texts) (program texts) }
+        (new_sink (E.contents stderr)) result (requested_by texts) (program texts) }
     ensures explained { let kinds = fault_of vault_app (map string_bytes words.now) in
         kinds ≢ [] → MayExplain ⟦<WriteSink<O> as Sink>⟧ ⟦<WriteSink<E> as Sink>⟧
         (new_sink (O.contents stdout)) (new_sink (E.contents stderr)) result kinds }

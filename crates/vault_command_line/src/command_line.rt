@@ -32,7 +32,7 @@ pub fn command<'a>(alloc: Global) -> Result<Command<'a>, AllocError>
 fn top<'a>(alloc: Global) -> Result<Command<'a>, AllocError>
     ensures { IfOk result (λ command. IsCommand command (record { top = top_shape; subs = [] })) }
 {
-    let about = "Keeps text files of playbooks under passwords";
+    let about = "Encrypts and decrypts Ansible Vault files";
     let command = Command::new(alloc, "ansible-vault")
         .about(about)
         .version(VERSION)

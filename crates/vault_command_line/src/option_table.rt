@@ -1,6 +1,6 @@
 //! The table of options: the name of each, the name of its value, and its help.
 
-/// What stands in the table for an option, or for an argument that belongs to none.
+/// The entry of an option in the table, or of an argument that belongs to no option.
 #[derive(Clone, Copy)]
 pub struct OptionEntry {
     /// The name, without the dashes before it.
@@ -14,7 +14,8 @@ pub struct OptionEntry {
 pub const VAULT_ID: OptionEntry = OptionEntry {
     name: "vault-id",
     value_name: "[LABEL@]PATH",
-    help: "A password file, with the label of its secret, by default `default`; may be repeated",
+    help: "A password file and, before @, the label of its secret (default: `default`); may be \
+        repeated",
 };
 
 pub const VAULT_PASSWORD_FILE: OptionEntry = OptionEntry {
@@ -26,14 +27,14 @@ pub const VAULT_PASSWORD_FILE: OptionEntry = OptionEntry {
 pub const ENCRYPT_VAULT_ID: OptionEntry = OptionEntry {
     name: "encrypt-vault-id",
     value_name: "LABEL",
-    help: "The label of the secret to encrypt with; by default that of the only one given",
+    help: "The label of the secret to encrypt with; required if several secrets are given",
 };
 
 pub const REQUIRE_ID_MATCH: OptionEntry = OptionEntry {
     name: "require-id-match",
     value_name: "",
-    help: "Try only the secrets with the label of the encrypted file; by default the others are \
-        tried after them",
+    help: "Try only the secrets that have the label of the encrypted file; by default they are \
+        only tried first",
 };
 
 pub const NEW_VAULT_ID: OptionEntry = OptionEntry {
@@ -78,8 +79,8 @@ pub const STDIN_NAME: OptionEntry = OptionEntry {
 pub const OUTPUT: OptionEntry = OptionEntry {
     name: "output",
     value_name: "PATH",
-    help: "The file to write, or - for standard output; needed with FILE, else standard output is \
-        the default",
+    help: "The file to write, or - for standard output, which is the default; required if FILE is \
+        given",
 };
 
 pub const FILE: OptionEntry = OptionEntry {

@@ -5,16 +5,17 @@ use Rattle.std.specs.Prelude.{find}
 use Rattle.vault_text.specs.Envelope.{Payload}
 use Rattle.vault_text.specs.declared.fault.TextFault.{TextFault}
 use Rattle.vault_text.specs.declared.fault.TextFault.TheVariants as text
-use Rattle.vault_core.specs.Agreement.{agrees, tries}
+use Rattle.vault_core.specs.TriedSecrets.{matches, tries}
 use Rattle.vault_core.specs.Decryption.{decryption, decryption_derivations, payload_of}
-use Rattle.vault_common.specs.Fault.{of_text}
+use Rattle.vault_fault.specs.Fault.{of_text}
 use Rattle.vault_core.specs.Input.{UnlessUnreadable}
-use Rattle.vault_core.specs.Opening.{opening, plaintext_of}
+use Rattle.vault_core.specs.Unsealing.{unsealing, plaintext_of}
 use Rattle.vault_core.specs.Secrets.{Secret, SecretList, tried_order}
-use Rattle.vault_common.specs.declared.fault.Fault.{Fault}
-use Rattle.vault_common.specs.declared.fault.Fault.TheVariants.{BadPadding, NoSecretFits, Read}
-use Rattle.vault_common.specs.declared.fault.Role.TheVariants.{Input}
-use Rattle.vault_core.proofs.OpeningLemmas.{opening-bad_padding, opening-no_secret, opening-plain}
+use Rattle.vault_fault.specs.declared.fault.Fault.{Fault}
+use Rattle.vault_fault.specs.declared.fault.Fault.TheVariants.{BadPadding, NoSecretFits, Read}
+use Rattle.vault_fault.specs.declared.fault.Role.TheVariants.{Input}
+use Rattle.vault_core.proofs.UnsealingLemmas.{unsealing-bad_padding, unsealing-no_secret}
+use Rattle.vault_core.proofs.UnsealingLemmas.{unsealing-plain}
 
 pub of_text-is_no_read : (fault : TextFault) → of_text fault ≢ Read Input
 of_text-is_no_read text.TooLong h = cc
@@ -28,29 +29,29 @@ of_text-is_no_read text.BadPayload h = cc
 of_text-is_no_read text.CipherTooLong h = cc
 
 module _ (secrets : SecretList) (payload : Payload) (fault : Fault)
-    (refused : opening secrets payload ≡ Err fault) where
-  after_agreement : (secret : Secret)
-      → find (agrees payload) (tried_order secrets payload.label) ≡ Some secret
+    (refused : unsealing secrets payload ≡ Err fault) where
+  after_match : (secret : Secret)
+      → find (matches payload) (tried_order secrets payload.label) ≡ Some secret
       → (plain : Option (List ℕ)) → plaintext_of payload secret ≡ plain
       → fault ≡ BadPadding
-  after_agreement secret found None e =
-      let same = sym refused ∙ opening-bad_padding secrets payload secret found e in cc
-  after_agreement secret found (Some plain) e =
-      let other = sym refused ∙ opening-plain secrets payload secret plain found e in cc
+  after_match secret found None e =
+      let same = sym refused ∙ unsealing-bad_padding secrets payload secret found e in cc
+  after_match secret found (Some plain) e =
+      let other = sym refused ∙ unsealing-plain secrets payload secret plain found e in cc
 
   cases : (found : Option Secret)
-      → find (agrees payload) (tried_order secrets payload.label) ≡ found
+      → find (matches payload) (tried_order secrets payload.label) ≡ found
       → (fault ≡ NoSecretFits) ⊎ (fault ≡ BadPadding)
   cases None e =
-      let same = sym refused ∙ opening-no_secret secrets payload e in
+      let same = sym refused ∙ unsealing-no_secret secrets payload e in
       let fits : fault ≡ NoSecretFits = cc in
       inl fits
   cases (Some secret) e =
-      inr (after_agreement secret e (plaintext_of payload secret) refl)
+      inr (after_match secret e (plaintext_of payload secret) refl)
 
-  pub opening-is_no_read : fault ≢ Read Input
-  opening-is_no_read read =
-      elim (cases (find (agrees payload) (tried_order secrets payload.label)) refl) [
+  pub unsealing-is_no_read : fault ≢ Read Input
+  unsealing-is_no_read read =
+      elim (cases (find (matches payload) (tried_order secrets payload.label)) refl) [
         | inl none ↦ let same = sym none ∙ read in cc
         | inr wrong ↦ let same = sym wrong ∙ read in cc
       ]
@@ -76,7 +77,7 @@ module _ (limit : ℕ) (secrets : SecretList) (input : List ℕ) where
 
   -- the input is an envelope
   pub decryption-Ok : (payload : Payload) → Ok payload ≡ payload_of limit input
-      → decryption limit secrets input ≡ opening secrets payload
+      → decryption limit secrets input ≡ unsealing secrets payload
   unfolding decryption
   decryption-Ok payload h = rw (← h) refl
 

@@ -8,10 +8,10 @@ use Rattle.vault_core.specs.Form.{Form, is_block}
 use Rattle.vault_core.specs.Input.{fits}
 use Rattle.vault_core.specs.Sealing.{sealed, text_in}
 use Rattle.vault_core.specs.Secrets.{Secret, secret_at}
-use Rattle.vault_common.specs.declared.fault.Fault.{Fault}
-use Rattle.vault_common.specs.declared.fault.Fault.TheVariants.{TooLong, EmptyString}
-use Rattle.vault_common.specs.declared.fault.Fault.TheVariants.{AlreadyVault, Read}
-use Rattle.vault_common.specs.declared.fault.Role.TheVariants.{Input}
+use Rattle.vault_fault.specs.declared.fault.Fault.{Fault}
+use Rattle.vault_fault.specs.declared.fault.Fault.TheVariants.{TooLong, EmptyString}
+use Rattle.vault_fault.specs.declared.fault.Fault.TheVariants.{AlreadyVault, Read}
+use Rattle.vault_fault.specs.declared.fault.Role.TheVariants.{Input}
 
 -- a plaintext of n bytes that is no empty string
 pub no_empty_string : (form : Form) (input : List ℕ) (n : ℕ) (has : Bool) → has ≡ is_block form

@@ -1,10 +1,10 @@
-pub mod AgreementLemmas
-pub mod AgreementTagLemmas
+pub mod TriedSecretsLemmas
+pub mod TriedSecretsTagLemmas
 pub mod ChoiceLemmas
 pub mod DecryptionLemmas
 pub mod EncryptionLemmas
-pub mod OpeningLemmas
-pub mod OpeningPlaintextLemmas
+pub mod UnsealingLemmas
+pub mod UnsealingPlaintextLemmas
 pub mod RekeyingLemmas
 pub mod SealingByteLemmas
 pub mod SealingLemmas

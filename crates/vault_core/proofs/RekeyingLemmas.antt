@@ -6,15 +6,15 @@ use Rattle.vault_text.specs.Envelope.{Payload}
 use Rattle.vault_core.specs.Decryption.{payload_of}
 use Rattle.vault_core.specs.Encryption.{is_vault}
 use Rattle.vault_core.specs.Form.{Envelope}
-use Rattle.vault_core.specs.Opening.{opening}
+use Rattle.vault_core.specs.Unsealing.{unsealing}
 use Rattle.vault_core.specs.Ready.{Ready}
 use Rattle.vault_core.specs.Rekeying.{rekeying, resealing}
 use Rattle.vault_core.specs.Sealing.{sealed, text_in}
 use Rattle.vault_core.specs.Secrets.{Secret, SecretList}
-use Rattle.vault_common.specs.declared.fault.Fault.{Fault}
-use Rattle.vault_common.specs.declared.fault.Fault.TheVariants.{AlreadyVault, Read}
-use Rattle.vault_common.specs.declared.fault.Role.TheVariants.{Input}
-use Rattle.vault_core.proofs.DecryptionLemmas.{opening-is_no_read}
+use Rattle.vault_fault.specs.declared.fault.Fault.{Fault}
+use Rattle.vault_fault.specs.declared.fault.Fault.TheVariants.{AlreadyVault, Read}
+use Rattle.vault_fault.specs.declared.fault.Role.TheVariants.{Input}
+use Rattle.vault_core.proofs.DecryptionLemmas.{unsealing-is_no_read}
 
 module _ (limit : ℕ) (secrets : SecretList) (new : Secret) (salt input : List ℕ) where
   pub rekeying-no_payload : (fault : Fault) → Err fault ≡ payload_of limit input
@@ -28,43 +28,43 @@ module _ (limit : ℕ) (secrets : SecretList) (new : Secret) (salt input : List 
   rekeying-payload payload h = rw (← h) refl
 
 module _ (secrets : SecretList) (new : Secret) (salt : List ℕ) (payload : Payload) where
-  pub resealing-Err : (fault : Fault) → Err fault ≡ opening secrets payload
+  pub resealing-Err : (fault : Fault) → Err fault ≡ unsealing secrets payload
       → resealing secrets new salt payload ≡ Err fault
   unfolding resealing
   resealing-Err fault h = rw (← h) refl
 
-  pub resealing-vault : (opened : Ready) → Ok opened ≡ opening secrets payload
-      → is_vault opened.output ≡ true
+  pub resealing-vault : (unsealed : Ready) → Ok unsealed ≡ unsealing secrets payload
+      → is_vault unsealed.output ≡ true
       → resealing secrets new salt payload ≡ Err AlreadyVault
   unfolding resealing
-  resealing-vault opened h vault = rw (← h, vault) refl
+  resealing-vault unsealed h vault = rw (← h, vault) refl
 
-  pub resealing-sealed : (opened : Ready) → Ok opened ≡ opening secrets payload
-      → is_vault opened.output ≡ false
+  pub resealing-sealed : (unsealed : Ready) → Ok unsealed ≡ unsealing secrets payload
+      → is_vault unsealed.output ≡ false
       → resealing secrets new salt payload
       ≡ Ok (record {
-        output = text_in Envelope (sealed new salt opened.output);
-        tried = opened.tried;
+        output = text_in Envelope (sealed new salt unsealed.output);
+        tried = unsealed.tried;
       })
   unfolding resealing
-  resealing-sealed opened h plain = rw (← h, plain) refl
+  resealing-sealed unsealed h plain = rw (← h, plain) refl
 
 module _ (secrets : SecretList) (new : Secret) (salt : List ℕ) (payload : Payload) (fault : Fault)
     (refused : resealing secrets new salt payload ≡ Err fault) where
   pub resealing-is_no_read : fault ≢ Read Input
-  resealing-is_no_read read = by_opened (opening secrets payload) refl
+  resealing-is_no_read read = by_unsealed (unsealing secrets payload) refl
     where
-      by_opened : (answer : Result Ready Fault) → opening secrets payload ≡ answer → ⊥
-      by_opened (Err other) known =
+      by_unsealed : (answer : Result Ready Fault) → unsealing secrets payload ≡ answer → ⊥
+      by_unsealed (Err other) known =
           let same = sym (resealing-Err secrets new salt payload other (sym known)) ∙ refused in
-          opening-is_no_read secrets payload other known cc
-      by_opened (Ok opened) known = elim (cases_Bool (is_vault opened.output)) [
+          unsealing-is_no_read secrets payload other known cc
+      by_unsealed (Ok unsealed) known = elim (cases_Bool (is_vault unsealed.output)) [
         | inl vault ↦
             let same =
-            sym (resealing-vault secrets new salt payload opened (sym known) vault) ∙ refused in
+            sym (resealing-vault secrets new salt payload unsealed (sym known) vault) ∙ refused in
             cc
         | inr plain ↦
             let other =
-            sym (resealing-sealed secrets new salt payload opened (sym known) plain) ∙ refused in
+            sym (resealing-sealed secrets new salt payload unsealed (sym known) plain) ∙ refused in
             cc
       ]

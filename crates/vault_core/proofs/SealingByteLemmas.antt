@@ -34,7 +34,7 @@ bit_xor-byte a b = xor_lt 8 a b
 
 -- ---- the cipher of AES
 
--- the four entries of a column, and what is said of those behind it
+-- the four entries of a column, and what is said of those after it
 column-bytes : {Rest : Type 0} (f : ℕ → ℕ → ℕ) → ((r c : ℕ) → f r c < 256) → (c : ℕ) → Rest
     → (f 0 c < 256) × ((f 1 c < 256) × ((f 2 c < 256) × ((f 3 c < 256) × Rest)))
 column-bytes f h c rest = (h 0 c, (h 1 c, (h 2 c, (h 3 c, rest))))

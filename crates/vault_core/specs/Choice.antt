@@ -1,8 +1,8 @@
 -- Which of the secrets encrypts.
 use Rattle.std.specs.Prelude.{ℕ, List, [], ◌∷◌, position, Option, Some, None, Result, Ok, Err}
 use Rattle.std.specs.Option.{ok_or}
-use Rattle.vault_common.specs.declared.fault.Fault.{Fault}
-use Rattle.vault_common.specs.declared.fault.Fault.TheVariants as fault
+use Rattle.vault_fault.specs.declared.fault.Fault.{Fault}
+use Rattle.vault_fault.specs.declared.fault.Fault.TheVariants as fault
 use Rattle.vault_core.specs.Secrets.{Secret, has_label}
 use Rattle.vault_core.specs.declared.choice.ChoiceFault.{ChoiceFault}
 use Rattle.vault_core.specs.declared.choice.ChoiceFault.TheVariants.{NoEncryptSecret}

@@ -3,12 +3,12 @@ use Rattle.std.specs.Prelude.{ℕ, List, Result, Ok, Err}
 use Rattle.std.specs.Result.{result_map_both}
 use Rattle.vault_text.specs.Envelope.{Payload, read_within}
 use Rattle.vault_text.specs.Steps.{◌>>=◌}
-use Rattle.vault_core.specs.Agreement.{tries}
-use Rattle.vault_common.specs.Fault.{of_text}
-use Rattle.vault_core.specs.Opening.{opening}
+use Rattle.vault_core.specs.TriedSecrets.{tries}
+use Rattle.vault_fault.specs.Fault.{of_text}
+use Rattle.vault_core.specs.Unsealing.{unsealing}
 use Rattle.vault_core.specs.Ready.{Ready}
 use Rattle.vault_core.specs.Secrets.{SecretList, tried_order}
-use Rattle.vault_common.specs.declared.fault.Fault.{Fault}
+use Rattle.vault_fault.specs.declared.fault.Fault.{Fault}
 
 -- the payload of the input, or the fault that refuses it
 abbrev pub payload_of : ℕ → List ℕ → Result Payload Fault
@@ -18,7 +18,7 @@ payload_of limit input = result_map_both (λ payload. payload) of_text (read_wit
 unfoldable pub decryption : ℕ → SecretList → List ℕ → Result Ready Fault
 decryption limit secrets input = do
   payload ← payload_of limit input
-  opening secrets payload
+  unsealing secrets payload
 
 -- how many keys are derived for a payload: one for each secret that is tried
 abbrev pub derivations_on : SecretList → Result Payload Fault → ℕ

@@ -7,8 +7,8 @@ use Rattle.vault_core.specs.Form.{Form, is_block}
 use Rattle.vault_core.specs.Ready.{Ready}
 use Rattle.vault_core.specs.Sealing.{sealed, text_in}
 use Rattle.vault_core.specs.Secrets.{Secret, secret_at}
-use Rattle.vault_common.specs.declared.fault.Fault.{Fault}
-use Rattle.vault_common.specs.declared.fault.Fault.TheVariants.{TooLong, EmptyString, AlreadyVault}
+use Rattle.vault_fault.specs.declared.fault.Fault.{Fault}
+use Rattle.vault_fault.specs.declared.fault.Fault.TheVariants.{TooLong, EmptyString, AlreadyVault}
 
 -- the plaintext begins as every vault does
 abbrev pub is_vault : List ℕ → Bool

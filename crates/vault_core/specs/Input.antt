@@ -3,11 +3,11 @@ use Rattle.std.specs.Prelude.{◌≡◌, ◌≢◌, ℕ, ◌+◌, ◌≤◌, ◌
 use Rattle.std.specs.Prelude.{List, length, Result, Ok, Err}
 use Rattle.vault_text.specs.Failures.{HasRisen}
 use Rattle.vault_text.specs.declared.source.Source.{Ghosts as SourceTerms}
-use Rattle.vault_common.specs.declared.fault.Fault.{Fault}
-use Rattle.vault_common.specs.declared.fault.Fault.TheVariants.{Read, TooLong}
-use Rattle.vault_common.specs.declared.fault.Role.TheVariants.{Input}
+use Rattle.vault_fault.specs.declared.fault.Fault.{Fault}
+use Rattle.vault_fault.specs.declared.fault.Fault.TheVariants.{Read, TooLong}
+use Rattle.vault_fault.specs.declared.fault.Role.TheVariants.{Input}
 
--- the end was told, or one byte more than the limit was given
+-- the end was reported, or one byte more than the limit was given
 abbrev pub IsReadToEndOrPastLimit : ℕ → Bool → List ℕ → Type 0
 IsReadToEndOrPastLimit limit ended input = IsTrue ended ⊎ (length input ≡ limit + 1)
 

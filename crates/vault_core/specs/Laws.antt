@@ -6,14 +6,14 @@ use Rattle.vault_text.specs.declared.limits.TheConstants.{SALT_LIMIT}
 use Rattle.vault_core.specs.Decryption.{decryption, payload_of}
 use Rattle.vault_core.specs.Encryption.{encryption}
 use Rattle.vault_core.specs.Form.{Form, Envelope}
-use Rattle.vault_core.specs.Opening.{opening}
+use Rattle.vault_core.specs.Unsealing.{unsealing}
 use Rattle.vault_aes.specs.Padding.{padded_length}
 use Rattle.vault_core.specs.Ready.{Ready}
 use Rattle.vault_core.specs.Rekeying.{rekeying}
 use Rattle.vault_core.specs.Sealing.{sealed, text_in}
 use Rattle.vault_core.specs.Secrets.{Secret, SecretList, secret_at, tried_order}
 use Rattle.vault_text.specs.Limits.{ciphertext_limit}
-use Rattle.vault_common.specs.declared.label_rule.LabelRule.{LabelRule}
+use Rattle.vault_fault.specs.declared.label_rule.LabelRule.{LabelRule}
 
 -- the first secret that is tried for a label has the password
 abbrev pub IsTriedFirst : SecretList → Secret → Type 0
@@ -25,7 +25,7 @@ IsTriedFirst secrets sealing =
 abbrev pub SealedOpens : Type 0
 SealedOpens =
     (secrets : SecretList) (sealing : Secret) (salt plain : List ℕ) → IsTriedFirst secrets sealing
-    → opening secrets (sealed sealing salt plain) ≡ Ok (record { output = plain; tried = 1 })
+    → unsealing secrets (sealed sealing salt plain) ≡ Ok (record { output = plain; tried = 1 })
 
 -- what was sealed and written as an envelope is read, where its ciphertext is not too long
 abbrev pub SealedReadsBack : Type 0

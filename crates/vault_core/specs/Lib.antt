@@ -1,11 +1,11 @@
-pub mod Agreement
+pub mod TriedSecrets
 pub mod Choice
 pub mod Decryption
 pub mod Encryption
 pub mod Form
 pub mod Input
 pub mod Laws
-pub mod Opening
+pub mod Unsealing
 pub mod Output
 pub mod Password
 pub mod Ready

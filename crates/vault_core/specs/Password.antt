@@ -2,8 +2,8 @@
 use Rattle.std.specs.Prelude.{ℕ, ◌==◌, ◌≤◌, nat_eq, nat_lt, if◌then◌else◌, List, length, codes}
 use Rattle.std.specs.Prelude.{Result, Ok, Err}
 use Rattle.std.specs.List.{starts_with}
-use Rattle.vault_common.specs.declared.fault.Fault.{Fault}
-use Rattle.vault_common.specs.declared.fault.Fault.TheVariants as fault
+use Rattle.vault_fault.specs.declared.fault.Fault.{Fault}
+use Rattle.vault_fault.specs.declared.fault.Fault.TheVariants as fault
 use Rattle.vault_text.specs.Header.{marker}
 use Rattle.vault_text.specs.Whitespace.{strip}
 use Rattle.vault_core.specs.declared.limits.TheConstants.{PASSWORD_FILE_LIMIT}

@@ -5,22 +5,22 @@ use Rattle.vault_text.specs.Steps.{◌>>=◌}
 use Rattle.vault_core.specs.Decryption.{payload_of}
 use Rattle.vault_core.specs.Encryption.{is_vault}
 use Rattle.vault_core.specs.Form.{Envelope}
-use Rattle.vault_core.specs.Opening.{opening}
+use Rattle.vault_core.specs.Unsealing.{unsealing}
 use Rattle.vault_core.specs.Ready.{Ready}
 use Rattle.vault_core.specs.Sealing.{sealed, text_in}
 use Rattle.vault_core.specs.Secrets.{Secret, SecretList}
-use Rattle.vault_common.specs.declared.fault.Fault.{Fault}
-use Rattle.vault_common.specs.declared.fault.Fault.TheVariants.{AlreadyVault}
+use Rattle.vault_fault.specs.declared.fault.Fault.{Fault}
+use Rattle.vault_fault.specs.declared.fault.Fault.TheVariants.{AlreadyVault}
 
 -- the plaintext of the payload in an envelope under the new secret and the new salt, or the first
 -- fault
 unfoldable pub resealing : SecretList → Secret → List ℕ → Payload → Result Ready Fault
 resealing secrets new salt payload = do
-  opened ← opening secrets payload
-  if is_vault opened.output then Err AlreadyVault
+  unsealed ← unsealing secrets payload
+  if is_vault unsealed.output then Err AlreadyVault
       else Ok (record {
-        output = text_in Envelope (sealed new salt opened.output);
-        tried = opened.tried;
+        output = text_in Envelope (sealed new salt unsealed.output);
+        tried = unsealed.tried;
       })
 
 -- the envelope in the input with its plaintext under the new secret, or the first fault

@@ -12,7 +12,7 @@ use Rattle.vault_text.specs.Written.{written}
 use Rattle.vault_core.specs.Form.{Form, Envelope, Block}
 use Rattle.vault_aes.specs.Padding.{padded}
 use Rattle.vault_core.specs.Secrets.{Secret}
-use Rattle.vault_common.specs.declared.fault.Fault.{Fault}
+use Rattle.vault_fault.specs.declared.fault.Fault.{Fault}
 
 -- the plaintext padded (RFC 5652, section 6.3) and enciphered (SP 800-38A, section 6.5)
 abbrev pub enciphered_by : Keys → List ℕ → List ℕ

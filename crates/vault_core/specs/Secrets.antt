@@ -1,8 +1,8 @@
 -- Secrets, and the order in which they are tried.
 use Rattle.std.specs.Prelude.{ℕ, not, Bool, List, [], ◌++◌, filter, slice_index_or}
 use Rattle.std.specs.Str.{bytes_eq}
-use Rattle.vault_common.specs.declared.label_rule.LabelRule.{LabelRule}
-use Rattle.vault_common.specs.declared.label_rule.LabelRule.TheVariants.{Hint, Required}
+use Rattle.vault_fault.specs.declared.label_rule.LabelRule.{LabelRule}
+use Rattle.vault_fault.specs.declared.label_rule.LabelRule.TheVariants.{Hint, Required}
 
 -- a password under a label
 pub record Secret : Type 0 where
@@ -22,14 +22,14 @@ secret_at index secrets = slice_index_or secrets index (record { label = []; pas
 abbrev pub has_label : List ℕ → Secret → Bool
 has_label label secret = bytes_eq secret.label label
 
--- the secrets that are tried behind those with the label: the others where the label is a hint,
+-- the secrets that are tried after those with the label: the others where the label is a hint,
 -- none where it is required
 abbrev pub tried_behind : LabelRule → List ℕ → List Secret → List Secret
 tried_behind Hint label secrets = filter (λ secret. not (has_label label secret)) secrets
 tried_behind Required label secrets = []
 
 -- the secrets with an envelope's label, in the order of the list, and then those that are tried
--- behind them, in the order of the list too
+-- after them, in the order of the list too
 unfoldable pub tried_order : SecretList → List ℕ → List Secret
 tried_order list label =
     filter (has_label label) list.secrets ++ tried_behind list.rule label list.secrets

@@ -6,7 +6,7 @@ ghost use Rattle.vault_core.specs.Secrets.{has_label};
 
 use crate::secret::Secret;
 use thiserror::Error;
-use vault_common::Fault;
+use vault_fault::Fault;
 use vault_text::Label;
 
 /// Why no secret is chosen to encrypt with.

@@ -1,29 +1,29 @@
 //! Decrypting a vault.
 ghost use Rattle.std.specs.Prelude.{◌≡◌, ◌+◌, ◌<◌, ◌^◌, [], Err, length};
-ghost use Rattle.vault_common.specs.declared.fault.Fault.TheVariants.{Read};
-ghost use Rattle.vault_common.specs.declared.fault.Role.TheVariants.{Input};
-ghost use Rattle.vault_core.specs.Agreement.{tries};
+ghost use Rattle.vault_fault.specs.declared.fault.Fault.TheVariants.{Read};
+ghost use Rattle.vault_fault.specs.declared.fault.Role.TheVariants.{Input};
+ghost use Rattle.vault_core.specs.TriedSecrets.{tries};
 ghost use Rattle.vault_core.specs.Decryption.{decryption, decryption_derivations};
 ghost use Rattle.vault_core.specs.Input.{ReadsThenAnswers};
-ghost use Rattle.vault_core.specs.Opening.{opening};
+ghost use Rattle.vault_core.specs.Unsealing.{unsealing};
 ghost use Rattle.vault_core.specs.Secrets.{tried_order};
 ghost use Rattle.vault_text.specs.Failures.{IsLast};
 ghost use Rattle.vault_text.specs.Limits.{IsWorkLength, envelope_limit, limit_of};
 
 use crate::input::read_payload;
-use crate::opening::open;
 use crate::ready::Ready;
 use crate::secrets::Secrets;
-use vault_common::Fault;
+use crate::unsealing::unseal;
+use vault_fault::Fault;
 use vault_kdf::Meter;
 use vault_text::{Payload, Source, TextMemory};
 
-/// Reads an envelope and opens it with the first of the secrets, in the tried order, that agrees
+/// Reads an envelope and opens it with the first of the secrets, in the tried order, that matches
 /// with its tag.
 ///
 /// All of it happens in `work`, of 16 bytes to `CIPHERTEXT_LIMIT`: an envelope is taken whose
 /// ciphertext fits there. The input is read to its end, or to one byte more than is taken, also
-/// where a fault was met before. Faults come in the order of their numbers, but for
+/// where a fault was found before. Faults come in the order of their numbers, but for
 /// [`Fault::Read`], which comes first: those of the envelope, then [`Fault::NoSecretFits`], then
 /// [`Fault::BadPadding`]. After one `work` holds any bytes.
 pub fn prepare_decrypt<'a, S: Source>(
@@ -41,7 +41,7 @@ pub fn prepare_decrypt<'a, S: Source>(
         × (meter.new ≡ meter.old + decryption_derivations limit secrets.now input)) }
     ensures full { IsLast (S.failures src.old) → result ≡ Err (Read Input) }
 {
-    prepare_decrypt_in(src, TextMemory::lent(work), secrets, meter)
+    prepare_decrypt_in(src, TextMemory::borrowed(work), secrets, meter)
 }
 
 /// Does what `prepare_decrypt` does, in memory that holds no text.
@@ -72,9 +72,9 @@ fn decrypt_payload<'a>(
     meter: &mut Meter,
 ) -> Result<Ready<'a>, Fault>
     requires countable { meter.old < 2 ^ 62 }
-    ensures answer { result ≡ opening secrets.now payload.entry }
+    ensures answer { result ≡ unsealing secrets.now payload.entry }
     ensures counted { meter.new
         ≡ meter.old + tries payload.entry (tried_order secrets.now payload.entry.label) }
 {
-    Ok(Ready::plain(open(payload, secrets, meter)?))
+    Ok(Ready::plain(unseal(payload, secrets, meter)?))
 }

@@ -1,7 +1,7 @@
 //! Encrypting a plaintext.
 ghost use Rattle.std.specs.Prelude.{◌≡◌, ℕ, ◌+◌, ◌<◌, ◌≤◌, ◌^◌, [], Err, length};
-ghost use Rattle.vault_common.specs.declared.fault.Fault.TheVariants.{Read};
-ghost use Rattle.vault_common.specs.declared.fault.Role.TheVariants.{Input};
+ghost use Rattle.vault_fault.specs.declared.fault.Fault.TheVariants.{Read};
+ghost use Rattle.vault_fault.specs.declared.fault.Role.TheVariants.{Input};
 ghost use Rattle.vault_core.specs.Encryption.{encryption, is_vault};
 ghost use Rattle.vault_core.specs.Form.{form_of};
 ghost use Rattle.vault_core.specs.Input.{ReadsThenAnswers};
@@ -15,7 +15,7 @@ use crate::input::read_plaintext;
 use crate::ready::Ready;
 use crate::sealing::seal;
 use crate::secrets::Secrets;
-use vault_common::Fault;
+use vault_fault::Fault;
 use vault_kdf::Meter;
 use vault_text::{MARKER, PADDING_LIMIT, Salt, Source, TextMemory};
 
@@ -46,7 +46,7 @@ pub fn prepare_encrypt<'a, S: Source>(
 {
     prepare_encrypt_in(
         src,
-        TextMemory::lent(work),
+        TextMemory::borrowed(work),
         secrets,
         choice,
         form,
@@ -80,7 +80,7 @@ pub fn prepare_encrypt_in<'a, S: Source>(
     encrypt_plaintext(memory, secrets, choice, form, salt, meter)
 }
 
-/// Seals the plaintext that the memory holds, in which a whole block of padding has room behind it;
+/// Seals the plaintext that the memory holds, in which a whole block of padding has room after it;
 /// no other limit is looked at.
 fn encrypt_plaintext<'a>(
     memory: TextMemory<'a>,

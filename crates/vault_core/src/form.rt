@@ -7,7 +7,7 @@ ghost use Rattle.vault_core.specs.Form.{form_of, is_block};
 pub enum Form<'a> {
     /// An envelope, format 1.1 or 1.2.
     Envelope,
-    /// The envelope as a YAML block, for a variable of the name if there is one that is not empty.
+    /// The envelope as a YAML block for a variable, or without a name if it is absent or empty.
     Block(Option<&'a str>),
 }
 

@@ -1,15 +1,15 @@
 //! Reading the input of a call.
 ghost use Rattle.std.specs.Prelude.{◌≡◌, ℕ, ◌+◌, ◌-◌, ◌<◌, ◌≤◌, ◌↔◌, List, [], ◌++◌, length};
 ghost use Rattle.std.specs.Prelude.{IsTrue, IsErr, IfOk, OnErr, Err, MatchResult};
-ghost use Rattle.vault_text.specs.EnvelopeReader.{StandsFor};
+ghost use Rattle.vault_text.specs.EnvelopeReader.{HasRead};
 ghost use Rattle.vault_text.specs.Failures.{CountsFailure, IsLast};
 ghost use Rattle.vault_core.specs.Decryption.{payload_of};
 ghost use Rattle.vault_core.specs.Input.{IsReadToEndOrPastLimit, UnlessUnreadable, fits};
 ghost use Rattle.vault_text.specs.Limits.{IsWorkLength, envelope_limit, limit_of};
-ghost use Rattle.vault_common.specs.declared.fault.Fault.TheVariants.{Read};
-ghost use Rattle.vault_common.specs.declared.fault.Role.TheVariants.{Input};
+ghost use Rattle.vault_fault.specs.declared.fault.Fault.TheVariants.{Read};
+ghost use Rattle.vault_fault.specs.declared.fault.Role.TheVariants.{Input};
 
-use vault_common::Fault;
+use vault_fault::Fault;
 use vault_text::{EnvelopeReader, PADDING_LIMIT, Payload, Source, SourceFailed, TextMemory};
 
 /// How many bytes a source is asked for at once.
@@ -94,8 +94,8 @@ fn feed_input<S: Source>(src: &mut S, reader: &mut EnvelopeReader) -> Result<(),
         × (length input ≤ limit + 1)
         × MatchResult result (λ _. IsReadToEndOrPastLimit limit (S.ended src.new) input)
         (λ _. length input ≤ limit)
-        × ((before : List ℕ) → StandsFor reader.old before
-        → StandsFor reader.new (before ++ input)) }
+        × ((before : List ℕ) → HasRead reader.old before
+        → HasRead reader.new (before ++ input)) }
     ensures failed { CountsFailure (S.failures src.old) (S.failures src.new) result }
     ensures full { IsLast (S.failures src.old) → IsErr result }
 {

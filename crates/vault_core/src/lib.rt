@@ -17,7 +17,6 @@
 //! ```
 #![tactic(auto)]
 
-mod agreement;
 mod choice;
 mod decryption;
 mod encryption;
@@ -25,13 +24,14 @@ mod form;
 mod input;
 pub mod laws;
 mod limits;
-mod opening;
 mod password;
 mod ready;
 mod rekeying;
 mod sealing;
 mod secret;
 mod secrets;
+mod tried_secrets;
+mod unsealing;
 
 pub use choice::ChoiceFault;
 pub use decryption::{prepare_decrypt, prepare_decrypt_in};
@@ -43,4 +43,4 @@ pub use ready::{Ready, WriteFault};
 pub use rekeying::{prepare_rekey, prepare_rekey_in};
 pub use secret::SealingSecret;
 pub use secrets::{ListFault, Secrets};
-pub use vault_common::{Fault, LabelRule, Role, SECRET_COUNT_LIMIT};
+pub use vault_fault::{Fault, LabelRule, Role, SECRET_COUNT_LIMIT};

@@ -4,7 +4,7 @@ ghost use Rattle.vault_core.specs.Password.{IsPassword, of_secret, password_of};
 
 use crate::limits::PASSWORD_FILE_LIMIT;
 use thiserror::Error;
-use vault_common::Fault;
+use vault_fault::Fault;
 use vault_text::{MARKER, strip};
 
 const SCRIPT_MARKER: &[u8; 2] = b"#!";

@@ -1,17 +1,17 @@
 //! Output that is ready to be written.
 ghost use Rattle.std.specs.Prelude.{◌≡◌, ◌≢◌, ℕ, take, IsErr, OnOk, OnErr};
 ghost use Rattle.vault_text.specs.Failures.{CountsFailure, IsLast};
-ghost use Rattle.vault_common.specs.declared.fault.Fault.TheVariants.{Write};
+ghost use Rattle.vault_fault.specs.declared.fault.Fault.TheVariants.{Write};
 ghost use Rattle.vault_core.specs.Form.{form_of};
 ghost use Rattle.vault_core.specs.Output.{output_bytes};
 ghost use Rattle.vault_core.specs.Sealing.{text_in};
 
 use crate::form::Form;
-use crate::opening::Opened;
 use crate::sealing::Sealed;
+use crate::unsealing::Unsealed;
 use std::marker::Model;
 use thiserror::Error;
-use vault_common::Fault;
+use vault_fault::Fault;
 use vault_text::{Sink, SinkFailed, Stage, put_all, write_block, write_envelope};
 
 /// Why output was not written whole.
@@ -71,7 +71,7 @@ impl<'a> Output<'a> {
     }
 }
 
-/// Output whose text lies in the memory that a call was lent. A vault is spelled only as it is
+/// Output whose text lies in the memory that a call borrowed. A vault is spelled only as it is
 /// written.
 #[derive(Drop)]
 pub struct Ready<'a> {
@@ -91,10 +91,10 @@ impl<'a> Model for Ready<'a> {
 
 impl<'a> Ready<'a> {
     /// Plaintext that is written as it is.
-    pub(crate) fn plain(opened: Opened<'a>) -> Self
-        ensures { result ≡ opened.entry }
+    pub(crate) fn plain(unsealed: Unsealed<'a>) -> Self
+        ensures { result ≡ unsealed.entry }
     {
-        let Opened { padded, len, tried } = opened;
+        let Unsealed { padded, len, tried } = unsealed;
         Ready {
             output: Output::Plain(&padded[..len]),
             tried,
@@ -112,8 +112,8 @@ impl<'a> Ready<'a> {
         }
     }
 
-    /// The position in the tried order, counted from 1, of the secret that agreed; 0 where none was
-    /// tried.
+    /// The position in the tried order, counted from 1, of the secret that matched; 0 where none
+    /// was tried.
     pub fn tried(&self) -> usize
         ensures { result ≡ self.now.tried }
     {

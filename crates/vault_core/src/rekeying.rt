@@ -1,8 +1,8 @@
 //! Giving a vault a new secret.
 ghost use Rattle.std.specs.Prelude.{◌≡◌, ◌+◌, ◌<◌, ◌^◌, [], Err, length};
-ghost use Rattle.vault_common.specs.declared.fault.Fault.TheVariants.{Read};
-ghost use Rattle.vault_common.specs.declared.fault.Role.TheVariants.{Input};
-ghost use Rattle.vault_core.specs.Agreement.{tries};
+ghost use Rattle.vault_fault.specs.declared.fault.Fault.TheVariants.{Read};
+ghost use Rattle.vault_fault.specs.declared.fault.Role.TheVariants.{Input};
+ghost use Rattle.vault_core.specs.TriedSecrets.{tries};
 ghost use Rattle.vault_core.specs.Decryption.{decryption_derivations};
 ghost use Rattle.vault_core.specs.Input.{ReadsThenAnswers};
 ghost use Rattle.vault_core.specs.Rekeying.{rekeying, resealing};
@@ -14,12 +14,12 @@ ghost use Rattle.vault_text.specs.Limits.{IsWorkLength, envelope_limit, limit_of
 use crate::encryption::is_vault;
 use crate::form::Form;
 use crate::input::read_payload;
-use crate::opening::{Opened, open};
 use crate::ready::Ready;
 use crate::sealing::seal;
 use crate::secret::SealingSecret;
 use crate::secrets::Secrets;
-use vault_common::Fault;
+use crate::unsealing::{Unsealed, unseal};
+use vault_fault::Fault;
 use vault_kdf::Meter;
 use vault_text::{Label, Payload, Salt, Source, TextMemory};
 
@@ -53,7 +53,7 @@ pub fn prepare_rekey<'a, S: Source>(
         label: new,
         password,
     };
-    prepare_rekey_in(src, TextMemory::lent(work), secrets, &new, salt, meter)
+    prepare_rekey_in(src, TextMemory::borrowed(work), secrets, &new, salt, meter)
 }
 
 /// Does what `prepare_rekey` does, in memory that holds no text.
@@ -94,7 +94,7 @@ fn rekey_payload<'a>(
         ≡ meter.old + tries payload.entry (tried_order secrets.now payload.entry.label)
         + sealing_derivations result }
 {
-    let Opened { padded, len, tried } = open(payload, secrets, meter)?;
+    let Unsealed { padded, len, tried } = unseal(payload, secrets, meter)?;
     if is_vault(&padded[..len]) {
         return Err(Fault::AlreadyVault);
     }

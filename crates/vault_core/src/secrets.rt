@@ -4,15 +4,15 @@ ghost use Rattle.std.specs.Prelude.{OnOk, OnErr};
 ghost use Rattle.std.specs.Option.{option_copied};
 ghost use Rattle.vault_core.specs.Choice.{chosen_index};
 ghost use Rattle.vault_core.specs.Password.{IsPassword};
-ghost use Rattle.vault_common.specs.declared.fault.Fault.TheVariants.{TooManySecrets};
-ghost use Rattle.vault_common.specs.declared.label_rule.LabelRule.TheVariants.{Hint};
+ghost use Rattle.vault_fault.specs.declared.fault.Fault.TheVariants.{TooManySecrets};
+ghost use Rattle.vault_fault.specs.declared.label_rule.LabelRule.TheVariants.{Hint};
 
 use crate::choice::{ChoiceFault, chosen_index};
 use crate::secret::Secret;
 use arrayvec::ArrayVec;
 use std::marker::Model;
 use thiserror::Error;
-use vault_common::{Fault, LabelRule, SECRET_COUNT_LIMIT};
+use vault_fault::{Fault, LabelRule, SECRET_COUNT_LIMIT};
 use vault_text::Label;
 
 /// Why a list takes no further secret.

@@ -1,1 +1,1 @@
-pub mod HostFacts
+pub mod HostLemmas

@@ -1,31 +1,37 @@
--- The files of a program over a disk: one output, and what is asked of the disk for it.
+-- The files of a program over a disk: one output, and the calls of the system that it takes.
 use Rattle.std.specs.Prelude.{◌≡◌, ℕ, ◌+◌, ◌≤◌, true, List, [], ◌∷◌, ◌++◌, take}
 use Rattle.std.specs.Prelude.{Option, Some, None, is_some}
 use Rattle.vault_text.specs.declared.sink.Stage.{Stage}
 use Rattle.vault_text.specs.declared.sink.Stage.TheVariants.{Unbegun, Begun, Finished}
-use Rattle.vault_files.specs.Disk.{OpenCalls, SystemCall}
-use Rattle.vault_files.specs.Disk.SystemCall.{Create, Restrict, Write, Sync, Failed}
+use Rattle.vault_files.specs.System.{OpenCalls, SystemCall}
+use Rattle.vault_files.specs.System.SystemCall.{Create, ChmodOwnerOnly, Write, Sync, Failed}
 use Rattle.vault_files.specs.declared.access.Access.{Access}
 use Rattle.vault_files.specs.declared.access.Access.TheVariants.{Kept, OwnerOnly}
 
 -- the disk, the path of the output where one was chosen, who may read it, how far its use has come,
 -- and its failures
-pub record HostState (Disk : Type 0) : Type 0 where
-  pub disk : Disk
-  pub aim : Option (List ℕ)
+pub record HostState (System : Type 0) : Type 0 where
+  pub system : System
+  pub output_file : Option (List ℕ)
   pub access : Access
   pub stage : Stage
   pub failures : ℕ
 
 -- files whose output was not chosen yet
-abbrev pub new_host : {Disk : Type 0} → Disk → HostState Disk
-new_host disk = record { disk = disk; aim = None; access = Kept; stage = Unbegun; failures = 0 }
+abbrev pub new_host : {System : Type 0} → System → HostState System
+new_host system = record {
+  system = system;
+  output_file = None;
+  access = Kept;
+  stage = Unbegun;
+  failures = 0;
+}
 
 -- what begins an output, before its first byte
 abbrev pub beginning : Option (List ℕ) → Access → List SystemCall
 beginning None access = []
 beginning (Some path) Kept = Create path ∷ []
-beginning (Some path) OwnerOnly = Create path ∷ Restrict ∷ []
+beginning (Some path) OwnerOnly = Create path ∷ ChmodOwnerOnly ∷ []
 
 -- the calls that bring an output with this beginning from one stage to another, while it takes
 -- bytes; so often it failed: a call did, or a write took nothing
@@ -55,25 +61,25 @@ pub data OutputCalls (first : List SystemCall) : Stage → List SystemCall → L
       → OutputCalls first Begun calls bytes failed t
       → OutputCalls first Begun (Sync ∷ Failed ∷ calls) bytes (failed + 1) t
 
-module _ {Disk : Type 0} (asks : Disk → List SystemCall → Disk → Type 0) where
+module _ {System : Type 0} (executes : System → List SystemCall → System → Type 0) where
   -- between two states the output took these bytes: the disk was asked for nothing else, each call
   -- that failed counts, and, where a path was chosen, nothing else does; all else stayed
-  pub record HostTakes (old : HostState Disk) (bytes : List ℕ) (new : HostState Disk)
+  pub record HostTakes (old : HostState System) (bytes : List ℕ) (new : HostState System)
       : Type 0 where
     pub calls : List SystemCall
     pub failed : ℕ
-    pub asked : asks old.disk calls new.disk
+    pub executed : executes old.system calls new.system
     pub are_of_output :
-        OutputCalls (beginning old.aim old.access) old.stage calls bytes failed new.stage
+        OutputCalls (beginning old.output_file old.access) old.stage calls bytes failed new.stage
     pub failures : old.failures + failed ≤ new.failures
-    pub no_other_failure : is_some old.aim ≡ true → new.failures ≡ old.failures + failed
-    pub aim : new.aim ≡ old.aim
+    pub no_other_failure : is_some old.output_file ≡ true → new.failures ≡ old.failures + failed
+    pub output_file : new.output_file ≡ old.output_file
     pub access : new.access ≡ old.access
 
   -- between two states the disk was asked to open these paths, in this order, and all else stayed
-  pub record HostOpens (old : HostState Disk) (paths : List (List ℕ)) (new : HostState Disk)
+  pub record HostOpens (old : HostState System) (paths : List (List ℕ)) (new : HostState System)
       : Type 0 where
     pub calls : List SystemCall
-    pub asked : asks old.disk calls new.disk
+    pub executed : executes old.system calls new.system
     pub are_opens : OpenCalls paths calls
-    pub rest : new ≡ record old { disk = new.disk }
+    pub rest : new ≡ record old { system = new.system }

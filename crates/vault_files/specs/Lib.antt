@@ -1,10 +1,10 @@
 pub mod File
 pub mod Memory
-pub mod Disk
+pub mod System
 pub mod Host
-pub mod HostLaws
+pub mod HostProofs
 pub mod HostReaders
-pub mod SinkLaws
-pub mod SourceLaws
-pub mod FileSystemLaws
-pub mod HostReaderLaws
+pub mod SinkProofs
+pub mod SourceProofs
+pub mod FileSystemProofs
+pub mod HostReaderProofs

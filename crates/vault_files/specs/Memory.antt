@@ -4,21 +4,21 @@ use Rattle.std.specs.Prelude.{true, false, IsTrue, List, [], ◌∷◌, ◌++◌
 use Rattle.std.specs.Str.{bytes_eq}
 use Rattle.vault_text.specs.Sink.{MemSinkState, Takes, has_begun, state_of}
 use Rattle.vault_text.specs.declared.sink.Stage.TheVariants.{Unbegun}
-use Rattle.vault_files.specs.File.{Finding}
-use Rattle.vault_files.specs.File.Finding.{Missing, Whole, Broken}
+use Rattle.vault_files.specs.File.{FileState}
+use Rattle.vault_files.specs.File.FileState.{Missing, Whole, Broken}
 
 -- a file in memory, under its path
 pub record Entry : Type 0 where
   pub path : List ℕ
-  pub file : Finding
+  pub file : FileState
 
 -- the first file under a path
-abbrev pub file_at : List Entry → List ℕ → Finding
+abbrev pub file_at : List Entry → List ℕ → FileState
 file_at [] path = Missing
 file_at (entry ∷ entries) path =
     if bytes_eq entry.path path then entry.file else file_at entries path
 
--- a reader of a file: the bytes left, whether the file breaks behind them, whether its end was
+-- a reader of a file: the bytes left, whether the file breaks after them, whether its end was
 -- told, and its failures
 pub record ReaderState : Type 0 where
   pub left : List ℕ
@@ -26,12 +26,12 @@ pub record ReaderState : Type 0 where
   pub ended : Bool
   pub failures : ℕ
 
--- a reader that was not asked yet
+-- a reader that was not read yet
 abbrev pub new_reader : List ℕ → Bool → ReaderState
 new_reader bytes breaks = record { left = bytes; breaks = breaks; ended = false; failures = 0 }
 
--- a reader that stands at the front of a file
-abbrev pub IsReaderOf : Finding → ReaderState → Type 0
+-- a reader that is at the start of a file
+abbrev pub IsReaderOf : FileState → ReaderState → Type 0
 IsReaderOf Missing reader = ⊥
 IsReaderOf (Whole bytes) reader = reader ≡ new_reader bytes false
 IsReaderOf (Broken bytes) reader = reader ≡ new_reader bytes true
@@ -57,7 +57,7 @@ pub record Reads (old : ReaderState) (given : List ℕ) (new : ReaderState) : Ty
 -- paths that were opened, in their order, unless there was no memory to log one of them
 pub record StoreState : Type 0 where
   pub entries : List Entry
-  pub aim : Option (List ℕ)
+  pub output_file : Option (List ℕ)
   pub output : MemSinkState
   pub log : Option (List (List ℕ))
 
@@ -65,10 +65,10 @@ pub record StoreState : Type 0 where
 pub record StoreTakes (old : StoreState) (taken : List ℕ) (new : StoreState) : Type 0 where
   pub output : Takes (state_of old.output) taken (state_of new.output)
   pub entries : new.entries ≡ old.entries
-  pub aim : new.aim ≡ old.aim
+  pub output_file : new.output_file ≡ old.output_file
   pub log : new.log ≡ old.log
 
--- these paths stand behind a log; it is lost where there was no memory for one of them
+-- these paths come after a log; it is lost where there was no memory for one of them
 abbrev pub Logs : Option (List (List ℕ)) → List (List ℕ) → Option (List (List ℕ)) → Type 0
 Logs old paths None = Unit {0}
 Logs None paths (Some new) = ⊥
@@ -83,24 +83,25 @@ pub record StoreOpens (old : StoreState) (paths : List (List ℕ)) (new : StoreS
 abbrev pub new_store : List Entry → StoreState
 new_store entries = record {
   entries = entries;
-  aim = None;
+  output_file = None;
   output = record { held = []; stage = Unbegun; failures = 0; step = 2 ^ 64 - 1 };
   log = Some [];
 }
 
 -- whether the path is the one that was chosen for the output
-abbrev pub is_aimed_at : Option (List ℕ) → List ℕ → Bool
-is_aimed_at None path = false
-is_aimed_at (Some aim) path = bytes_eq aim path
+abbrev pub is_output_at : Option (List ℕ) → List ℕ → Bool
+is_output_at None path = false
+is_output_at (Some output_file) path = bytes_eq output_file path
 
--- what stands at a path: the output, once it was begun there, else the file that stood there before
-abbrev pub stands_at : StoreState → List ℕ → Finding
+-- what is at a path: the output, once it was begun there, else the file that was there before
+abbrev pub stands_at : StoreState → List ℕ → FileState
 stands_at store path =
-    if has_begun store.output.stage && is_aimed_at store.aim path then Whole store.output.held
+    if has_begun store.output.stage && is_output_at store.output_file path then Whole
+    store.output.held
     else file_at store.entries path
 
 -- the bytes of a file, up to where it breaks
-abbrev pub bytes_of : Finding → Option (List ℕ)
+abbrev pub bytes_of : FileState → Option (List ℕ)
 bytes_of Missing = None
 bytes_of (Whole bytes) = Some bytes
 bytes_of (Broken bytes) = Some bytes

@@ -1,4 +1,4 @@
-/// Who may read and write an output that stands there already. One that is created is its owner's
+/// Who may read and write an output that exists already. One that is created is its owner's
 /// alone in either case.
 #[derive(Clone, Copy, Debug, PartialEq, Eq)]
 pub enum Access {

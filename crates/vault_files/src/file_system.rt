@@ -4,24 +4,24 @@ ghost use Rattle.std.specs.Prelude.{length, take};
 ghost use Rattle.std.specs.Prelude.{Ok, Err, IfOk, IfErr};
 ghost use Rattle.std.specs.String.{string_bytes};
 ghost use Rattle.vault_text.specs.Failures.{HasRisen};
-ghost use Rattle.vault_files.specs.File.{Answers, Finding};
-ghost use Rattle.vault_files.specs.File.Finding.{Missing};
+ghost use Rattle.vault_files.specs.File.{Answers, FileState};
+ghost use Rattle.vault_files.specs.File.FileState.{Missing};
 ghost use Rattle.vault_files.specs.declared.fault.FileFault.TheVariants.{CannotRead};
 
 use crate::access::Access;
 use crate::fault::FileFault;
 use vault_text::{Sink, Source, SourceFailed, Stage, fill_up};
 
-/// Where a program finds its files. As a sink it is one file of its own, the output, which `aim`
-/// chooses and `begin` creates, or cuts to nothing where it is there already.
+/// Where a program finds its files. As a sink it is one file of its own, the output, which
+/// `set_output` chooses and `begin` creates, or truncates if it exists.
 pub trait FileSystem: Sink {
     ghost use Rattle.vault_files.specs.declared.access.Access.{Access};
     ghost use Rattle.vault_text.specs.declared.sink.Stage.{Stage};
 
     type Reader: Source + Drop;
 
-    // What may be met at a path.
-    ghost meets: { Self → List ℕ → Finding → Type 0 };
+    // What may be found at a path.
+    ghost finds: { Self → List ℕ → FileState → Type 0 };
 
     // What was opened at a path.
     ghost opened: { Self → List ℕ → Self.Reader → Type 0 };
@@ -30,7 +30,7 @@ pub trait FileSystem: Sink {
     ghost opens: { Self → List (List ℕ) → Self → Type 0 };
 
     // The same files, the output at this path, for those who may read it.
-    ghost aimed: { Self → List ℕ → Access → Self → Type 0 };
+    ghost output_set: { Self → List ℕ → Access → Self → Type 0 };
 
     /// Opens a file for reading, before the output is begun. It answers `CannotOpen` where that
     /// fails, whatever the reason.
@@ -39,12 +39,12 @@ pub trait FileSystem: Sink {
         ensures opens { opens self.old (path.now ∷ []) self.new }
         ensures opened { IfOk result (λ reader. opened self.old path.now reader) }
         ensures fault { IfErr result (λ fault. fault ≡ FileFault.CannotOpen) }
-        ensures missing { IfErr result (λ _. meets self.old path.now Missing) };
+        ensures missing { IfErr result (λ _. finds self.old path.now Missing) };
 
     /// Chooses the path of the output, and who may read it. Nothing is created yet.
-    fn aim(&mut self, path: String, access: Access)
+    fn set_output(&mut self, path: String, access: Access)
         requires { Self.stage self.old ≡ Stage.Unbegun }
-        ensures aimed { aimed self.old (string_bytes path) access self.new }
+        ensures output_set { output_set self.old (string_bytes path) access self.new }
         ensures unbegun { Self.stage self.new ≡ Stage.Unbegun }
         ensures failures { Self.failures self.new ≡ Self.failures self.old };
 
@@ -59,34 +59,34 @@ pub trait FileSystem: Sink {
     ghost opens_failures: { (s t : Self) (paths : List (List ℕ))
         → opens s paths t → Self.failures t ≡ Self.failures s };
 
-    // What may be met behind opens could be met before them.
-    ghost opens_meets: { (s t : Self) (paths : List (List ℕ)) (path : List ℕ) (file : Finding)
-        → opens s paths t → meets t path file → meets s path file };
+    // What may be found after opens could be found before them.
+    ghost opens_finds: { (s t : Self) (paths : List (List ℕ)) (path : List ℕ) (file : FileState)
+        → opens s paths t → finds t path file → finds s path file };
 
-    // What was opened behind them could be opened before.
+    // What was opened after them could be opened before.
     ghost opens_opened: { (s t : Self) (paths : List (List ℕ)) (path : List ℕ) (r : Self.Reader)
         → opens s paths t → opened t path r → opened s path r };
 
-    // Something may be met at each path.
-    ghost meets_some: { (s : Self) (path : List ℕ) → (file : Finding) × meets s path file };
+    // Something may be found at each path.
+    ghost finds_some: { (s : Self) (path : List ℕ) → (file : FileState) × finds s path file };
 
-    // What a reader gave to its end, or up to a limit, without a failure, is the front of a file
-    // that may be met.
-    ghost front_met: { (s : Self) (path : List ℕ) (r t : Self.Reader) (xs : List ℕ) (n : ℕ)
+    // What a reader gave to its end, or up to a limit, without a failure, is a prefix of a file
+    // that may be found.
+    ghost prefix_found: { (s : Self) (path : List ℕ) (r t : Self.Reader) (xs : List ℕ) (n : ℕ)
         → opened s path r → Self.Reader.gives r xs t → length xs ≤ n
         → IsTrue (Self.Reader.ended t) ⊎ (length xs ≡ n)
-        → Self.Reader.failures t ≡ Self.Reader.failures r → Answers (meets s path) n (Ok xs) };
+        → Self.Reader.failures t ≡ Self.Reader.failures r → Answers (finds s path) n (Ok xs) };
 
     // Where it failed before that, such a file breaks there.
-    ghost break_met: { (s : Self) (path : List ℕ) (r t : Self.Reader) (xs : List ℕ) (n : ℕ)
+    ghost break_found: { (s : Self) (path : List ℕ) (r t : Self.Reader) (xs : List ℕ) (n : ℕ)
         → opened s path r → Self.Reader.gives r xs t → length xs < n
         → HasRisen (Self.Reader.failures r) (Self.Reader.failures t)
-        → Answers (meets s path) n (Err CannotRead) };
+        → Answers (finds s path) n (Err CannotRead) };
 }
 
-/// Reads the front of a file, and answers how many bytes stand at the front of `buf`: fewer than it
+/// Reads a prefix of a file, and answers how many bytes are at the start of `buf`: fewer than it
 /// holds only where the file has no more. After a refusal `buf` holds any bytes.
-pub fn read_front<F: FileSystem>(
+pub fn read_prefix<F: FileSystem>(
     files: &mut F,
     path: &str,
     buf: &mut [u8],
@@ -94,10 +94,10 @@ pub fn read_front<F: FileSystem>(
     requires { F.stage files.old ≡ Stage.Unbegun }
     ensures opens { F.opens files.old (path.now ∷ []) files.new }
     ensures bound { IfOk result (λ n. n ≤ length buf.new) }
-    ensures front { IfOk result (λ n.
-        Answers (F.meets files.old path.now) (length buf.new) (Ok (take n buf.new))) }
+    ensures prefix { IfOk result (λ n.
+        Answers (F.finds files.old path.now) (length buf.new) (Ok (take n buf.new))) }
     ensures refused { IfErr result (λ fault.
-        Answers (F.meets files.old path.now) (length buf.new) (Err fault)) }
+        Answers (F.finds files.old path.now) (length buf.new) (Err fault)) }
 {
     let mut reader = files.open(path)?;
     match fill_up(&mut reader, buf) {

@@ -1,11 +1,11 @@
 ghost use Rattle.std.specs.Prelude.{◌≡◌, ℕ, ◌++◌, [], ◌∷◌, Some, MatchOption, take};
-ghost use Rattle.vault_files.specs.Disk.SystemCall.{Failed};
+ghost use Rattle.vault_files.specs.System.SystemCall.{Failed};
 ghost use Rattle.vault_files.specs.Host.{beginning, new_host};
 
 use crate::access::Access;
-use crate::disk::Disk;
 use crate::fault::FileFault;
 use crate::file_system::FileSystem;
+use crate::system::System;
 use std::marker::Model;
 use vault_text::{FailureCount, ReadSource, Sink, SinkFailed, Stage};
 
@@ -13,16 +13,16 @@ use vault_text::{FailureCount, ReadSource, Sink, SinkFailed, Stage};
 /// then made its owner's alone, and where that fails, so does `begin`. It is synced when it is
 /// finished. What a file holds is what the disk's reader has left.
 #[derive(Drop)]
-pub struct HostFiles<D: Disk> {
-    disk: D,
-    aim: Option<String>,
+pub struct HostFiles<D: System> {
+    system: D,
+    output_file: Option<String>,
     access: Access,
     output: Option<D::Writer>,
     stage: Stage,
     failures: FailureCount,
 }
 
-impl<D: Disk> Model for HostFiles<D> {
+impl<D: System> Model for HostFiles<D> {
     ghost use Rattle.std.specs.Prelude.{◌≡◌, is_some};
     ghost use Rattle.std.specs.Option.{option_map};
     ghost use Rattle.std.specs.String.{string_bytes};
@@ -32,8 +32,8 @@ impl<D: Disk> Model for HostFiles<D> {
     ghost Value = { HostState D };
 
     ghost view = { λ s. record {
-      disk = s.disk;
-      aim = option_map string_bytes s.aim;
+      system = s.system;
+      output_file = option_map string_bytes s.output_file;
       access = s.access;
       stage = s.stage;
       failures = s.failures;
@@ -42,14 +42,14 @@ impl<D: Disk> Model for HostFiles<D> {
     ghost invariant = { λ s. has_begun s.stage ≡ is_some s.output };
 }
 
-impl<D: Disk> HostFiles<D> {
+impl<D: System> HostFiles<D> {
     /// Files whose output was not chosen yet.
-    pub fn new(disk: D) -> Self
-        ensures { result ≡ new_host disk }
+    pub fn new(system: D) -> Self
+        ensures { result ≡ new_host system }
     {
         HostFiles {
-            disk,
-            aim: None,
+            system,
+            output_file: None,
             access: Access::Kept,
             output: None,
             stage: Stage::Unbegun,
@@ -59,46 +59,45 @@ impl<D: Disk> HostFiles<D> {
 
     /// The disk, with what an output has left on it.
     pub fn into_disk(self) -> D
-        ensures { result ≡ self.disk }
+        ensures { result ≡ self.system }
     {
-        self.disk
+        self.system
     }
 }
 
-/// Creates the file that is to be written, or cuts it to nothing where it is there already; None
-/// where that fails.
-fn create<D: Disk>(disk: &mut D, path: &str, access: Access) -> Option<D::Writer>
+/// Creates the file that is to be written, or truncates it if it exists; None if that fails.
+fn create<D: System>(system: &mut D, path: &str, access: Access) -> Option<D::Writer>
     ensures { MatchOption result
-        ((n : ℕ) × D.asks disk.old
-        (take n (beginning (Some path.now) access) ++ Failed ∷ []) disk.new)
-        (λ file. D.asks disk.old (beginning (Some path.now) access) disk.new) }
+        ((n : ℕ) × D.executes system.old
+        (take n (beginning (Some path.now) access) ++ Failed ∷ []) system.new)
+        (λ file. D.executes system.old (beginning (Some path.now) access) system.new) }
 {
-    let Ok(file) = disk.create(path) else {
+    let Ok(file) = system.create(path) else {
         return None;
     };
     match access {
         Access::Kept => Some(file),
-        Access::OwnerOnly => match disk.restrict(&file) {
+        Access::OwnerOnly => match system.chmod_owner_only(&file) {
             Ok(()) => Some(file),
             Err(_) => None,
         },
     }
 }
 
-impl<D: Disk> Sink for HostFiles<D> {
+impl<D: System> Sink for HostFiles<D> {
     ghost use Rattle.std.proofs.Common.{arith};
     ghost use Rattle.vault_files.specs.Host.{HostTakes};
-    ghost use Rattle.vault_files.specs.HostLaws.{HostTakes-none, HostTakes-more};
+    ghost use Rattle.vault_files.specs.HostProofs.{HostTakes-none, HostTakes-more};
 
-    ghost takes = { HostTakes D.asks };
+    ghost takes = { HostTakes D.executes };
 
     ghost stage = { λ s. s.stage };
 
     ghost failures = { λ s. s.failures };
 
-    ghost takes_none = { HostTakes-none D.asks D.asks_none };
+    ghost takes_none = { HostTakes-none D.executes D.executes_none };
 
-    ghost takes_more = { HostTakes-more D.asks D.asks_more };
+    ghost takes_more = { HostTakes-more D.executes D.executes_more };
 
     ghost failures_stay = { λ s t xs g. Prim.omega (arith, g.failures) };
 
@@ -106,8 +105,8 @@ impl<D: Disk> Sink for HostFiles<D> {
         if self.failures.is_last() {
             return Err(SinkFailed);
         }
-        let created = match &self.aim {
-            Some(path) => create(&mut self.disk, path.as_str(), self.access),
+        let created = match &self.output_file {
+            Some(path) => create(&mut self.system, path.as_str(), self.access),
             None => None,
         };
         match created {
@@ -128,7 +127,7 @@ impl<D: Disk> Sink for HostFiles<D> {
             return Err(SinkFailed);
         }
         let written = match &mut self.output {
-            Some(file) => self.disk.write(file, bytes),
+            Some(file) => self.system.write(file, bytes),
             None => Ok(0),
         };
         match written {
@@ -145,7 +144,7 @@ impl<D: Disk> Sink for HostFiles<D> {
             return Err(SinkFailed);
         }
         let synced = match &self.output {
-            Some(file) => self.disk.sync(file).is_ok(),
+            Some(file) => self.system.sync(file).is_ok(),
             None => false,
         };
         if !synced {
@@ -157,53 +156,54 @@ impl<D: Disk> Sink for HostFiles<D> {
     }
 }
 
-impl<D: Disk> FileSystem for HostFiles<D> {
+impl<D: System> FileSystem for HostFiles<D> {
     ghost use Rattle.std.specs.Prelude.{◌≡◌, refl, Some};
     ghost use Rattle.vault_files.specs.Host.{HostOpens};
-    ghost use Rattle.vault_files.specs.HostLaws.{HostOpens-none, HostOpens-more};
-    ghost use Rattle.vault_files.specs.HostReaderLaws.{HostMeets-back, HostMeets-some};
-    ghost use Rattle.vault_files.specs.HostReaderLaws.{HostOpened-back, host-break, host-front};
-    ghost use Rattle.vault_files.specs.HostReaders.{HostMeets, HostOpened};
+    ghost use Rattle.vault_files.specs.HostProofs.{HostOpens-none, HostOpens-more};
+    ghost use Rattle.vault_files.specs.HostReaderProofs.{HostFinds-back, HostFinds-some};
+    ghost use Rattle.vault_files.specs.HostReaderProofs.{HostOpened-back, host-break, host-prefix};
+    ghost use Rattle.vault_files.specs.HostReaders.{HostFinds, HostOpened};
 
     type Reader = ReadSource<D::Reader>;
 
-    ghost meets = { HostMeets D.finds D.Reader.remaining };
+    ghost finds = { HostFinds D.reader_at D.Reader.remaining };
 
-    ghost opened = { HostOpened D.finds D.Reader.remaining };
+    ghost opened = { HostOpened D.reader_at D.Reader.remaining };
 
-    ghost opens = { HostOpens D.asks };
+    ghost opens = { HostOpens D.executes };
 
-    ghost aimed = { λ s path access t. t ≡ record s { aim = Some path; access = access } };
+    ghost output_set = { λ s path access t. t
+        ≡ record s { output_file = Some path; access = access } };
 
-    ghost opens_none = { HostOpens-none D.asks D.asks_none };
+    ghost opens_none = { HostOpens-none D.executes D.executes_none };
 
-    ghost opens_more = { HostOpens-more D.asks D.asks_more };
+    ghost opens_more = { HostOpens-more D.executes D.executes_more };
 
     ghost opens_stage = { λ s t paths opens. rw opens.rest refl };
 
     ghost opens_failures = { λ s t paths opens. rw opens.rest refl };
 
-    ghost opens_meets = { HostMeets-back D.finds D.Reader.remaining D.asks D.opens_find };
+    ghost opens_finds = { HostFinds-back D.reader_at D.Reader.remaining D.executes D.opens_give };
 
-    ghost opens_opened = { HostOpened-back D.finds D.Reader.remaining D.asks D.opens_find };
+    ghost opens_opened = { HostOpened-back D.reader_at D.Reader.remaining D.executes D.opens_give };
 
-    ghost meets_some = { HostMeets-some D.finds D.Reader.remaining D.finds_some };
+    ghost finds_some = { HostFinds-some D.reader_at D.Reader.remaining D.reader_some };
 
-    ghost front_met = { λ s path r t xs n opened gives fits end unfailed.
-        host-front D.finds D.Reader.remaining s path r t xs n opened gives fits end };
+    ghost prefix_found = { λ s path r t xs n opened gives fits end unfailed.
+        host-prefix D.reader_at D.Reader.remaining s path r t xs n opened gives fits end };
 
-    ghost break_met = { λ s path r t xs n opened gives short risen.
-        host-break D.finds D.Reader.remaining s path r t xs n opened gives short };
+    ghost break_found = { λ s path r t xs n opened gives short risen.
+        host-break D.reader_at D.Reader.remaining s path r t xs n opened gives short };
 
     fn open(&mut self, path: &str) -> Result<ReadSource<D::Reader>, FileFault> {
-        match self.disk.open(path) {
+        match self.system.open(path) {
             Ok(file) => Ok(ReadSource::new(file)),
             Err(_) => Err(FileFault::CannotOpen),
         }
     }
 
-    fn aim(&mut self, path: String, access: Access) {
-        self.aim = Some(path);
+    fn set_output(&mut self, path: String, access: Access) {
+        self.output_file = Some(path);
         self.access = access;
     }
 }

@@ -3,7 +3,7 @@
 //! ```rust
 //! let entries = [MemFile::whole("one", b"first\n")];
 //! let mut files = MemFiles::new(alloc, &entries);
-//! files.aim(String::from_str(alloc, "two")?, Access::OwnerOnly);
+//! files.set_output(String::from_str(alloc, "two")?, Access::OwnerOnly);
 //! files.begin()?;
 //! put_all(&mut files, b"second\n")?;
 //! files.finish()?;
@@ -13,15 +13,15 @@
 #![tactic(auto)]
 
 mod access;
-mod disk;
 mod fault;
 mod file_system;
 mod host;
 mod memory;
+mod system;
 
 pub use access::Access;
-pub use disk::Disk;
 pub use fault::FileFault;
-pub use file_system::{FileSystem, read_front};
+pub use file_system::{FileSystem, read_prefix};
 pub use host::HostFiles;
 pub use memory::{MemFile, MemFileReader, MemFiles};
+pub use system::System;

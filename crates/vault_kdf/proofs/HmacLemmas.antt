@@ -26,10 +26,10 @@ unfolding padded_key
 padded_key_long key digest long is_digest =
     rw (shortened_key_long key long, length-sha256 key, is_digest) refl
 
-pub padded_key_short : (key front : List ℕ) → length key ≤ 64 → front ≡ key
-    → front ++ drop (length key) (replicate 64 0) ≡ padded_key key
+pub padded_key_short : (key prefix : List ℕ) → length key ≤ 64 → prefix ≡ key
+    → prefix ++ drop (length key) (replicate 64 0) ≡ padded_key key
 unfolding padded_key
-padded_key_short key front short is_key =
+padded_key_short key prefix short is_key =
     rw (shortened_key_short key short, drop-replicate {X = ℕ} (length key) 64 0, is_key) refl
 
 pub length-hmac : (key message : List ℕ) → length (hmac key message) ≡ 32

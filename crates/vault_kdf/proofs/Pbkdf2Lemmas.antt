@@ -133,7 +133,7 @@ pub HasBlocks_none : (password salt : List ℕ) (c : ℕ) (out : List ℕ)
 unfolding blocks
 HasBlocks_none password salt c out = sym (take_all (length out) [] (omega arith))
 
--- a front of a list that ends past its first part
+-- a prefix of a list that ends past its first part
 take_past : (n m k : ℕ) (xs ys : List ℕ) → length xs ≡ m → n ≡ m + k
     → take n (xs ++ ys) ≡ xs ++ take k ys
 take_past n m k xs ys len is_n =
@@ -170,7 +170,7 @@ HasBlocks_more password salt c out next written i end some so_far within is_next
     let joined : concat (blocks password salt c (i + 1)) ≡ before ++ next =
     rw is_next (concat-blocks_more password salt c i) in
     let starts : i * 32 < length out = omega arith in
-    let front : take (i * 32) out ≡ before = so_far ∙ take_all (length out) before (omega arith) in
+    let prefix : take (i * 32) out ≡ before = so_far ∙ take_all (length out) before (omega arith) in
     let len_written : length written ≡ end - i * 32 =
     ap length is_written ∙ length-take-le (end - i * 32) next (omega arith) in
     let len_rest : length rest ≡ length out - end =
@@ -193,7 +193,7 @@ HasBlocks_more password salt c out next written i end some so_far within is_next
     take_past ((i + 1) * 32) (i * 32) 32 before (written ++ rest) len_before (omega arith) in
     let filled : take ((i + 1) * 32) (put_mid (i * 32) (end - i * 32) out written)
     ≡ before ++ take left next =
-    rw (front, past, part) refl in
+    rw (prefix, past, part) refl in
     let wanted : take (length out) (before ++ next) ≡ before ++ take left next =
     take_past (length out) (i * 32) left before next len_before (omega arith) in
     filled ∙ sym (rw (len_out, joined) wanted)

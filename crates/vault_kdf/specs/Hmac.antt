@@ -26,6 +26,6 @@ unfoldable pub hmac : List ℕ → List ℕ → List ℕ
 hmac key message = sha256 (outer_key key ++ sha256 (inner_key key ++ message))
 
 -- the state stands for the key and for the message as far as it was given
-unfoldable pub StandsFor : Hmac → List ℕ → List ℕ → Type 0
-StandsFor state key message =
+unfoldable pub HasRead : Hmac → List ℕ → List ℕ → Type 0
+HasRead state key message =
     Holds256 state.inner (inner_key key ++ message) × Holds256 state.outer (outer_key key)

@@ -35,11 +35,11 @@ pub struct Hmac {
 }
 
 impl Hmac {
-    ghost use Rattle.vault_kdf.specs.Hmac.{StandsFor};
+    ghost use Rattle.vault_kdf.specs.Hmac.{HasRead};
 
     /// A key of any length, and no message yet.
     pub fn new(key: &[u8]) -> Hmac
-        ensures { StandsFor result key.now [] }
+        ensures { HasRead result key.now [] }
     {
         let block = padded_key(key);
         Hmac {
@@ -50,15 +50,15 @@ impl Hmac {
 
     /// Adds a piece, of any length, to the end of the message.
     pub fn update(&mut self, piece: &[u8])
-        ensures { (key message : List ℕ) → StandsFor self.old key message
-            → StandsFor self.new key (message ++ piece.now) }
+        ensures { (key message : List ℕ) → HasRead self.old key message
+            → HasRead self.new key (message ++ piece.now) }
     {
         self.inner.update(piece);
     }
 
     /// The tag of the message: 32 bytes.
     pub fn finish(self) -> [u8; DIGEST_LEN]
-        ensures { (key message : List ℕ) → StandsFor self key message → result ≡ hmac key message }
+        ensures { (key message : List ℕ) → HasRead self key message → result ≡ hmac key message }
     {
         let Hmac { inner, outer } = self;
         outer.chain_update(inner.finalize()).finalize()
@@ -67,7 +67,7 @@ impl Hmac {
     /// The tag of the message and a last piece. Each hasher is cloned where it is fed, and fed in
     /// place: a clone of both at once, or `chain_update`, moves them more often.
     pub(crate) fn mac_of(&self, last: &[u8]) -> [u8; DIGEST_LEN]
-        ensures { (key message : List ℕ) → StandsFor self.now key message
+        ensures { (key message : List ℕ) → HasRead self.now key message
             → result ≡ hmac key (message ++ last.now) }
     {
         let mut inner = self.inner.clone().unwrap();

@@ -1,7 +1,7 @@
 //! PBKDF2 (RFC 8018, section 5.2).
 ghost use Rattle.std.specs.Prelude.{◌≡◌, ℕ, List, [], ◌≤◌, length};
 ghost use Rattle.vault_kdf.specs.Pbkdf2.{block, pbkdf2};
-ghost use Rattle.vault_kdf.specs.Hmac.{StandsFor};
+ghost use Rattle.vault_kdf.specs.Hmac.{HasRead};
 
 use crate::hmac_sha256::{DIGEST_LEN, Hmac};
 use crate::xor::xor;
@@ -10,7 +10,7 @@ use crate::xor::xor;
 /// password and no message, so that the password is hashed once for all blocks and iterates.
 fn block(keyed: &Hmac, salt: &[u8], rounds: u32, index: u32) -> [u8; DIGEST_LEN]
     requires { 1 ≤ rounds }
-    ensures { (password : List ℕ) → StandsFor keyed.now password []
+    ensures { (password : List ℕ) → HasRead keyed.now password []
         → result ≡ block password salt.now rounds index }
 {
     let mut first = keyed.clone().unwrap();

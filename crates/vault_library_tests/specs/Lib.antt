@@ -1,2 +1,2 @@
 pub mod OnePassword
-pub mod OnePasswordLaws
+pub mod OnePasswordProofs

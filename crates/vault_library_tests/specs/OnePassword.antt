@@ -21,6 +21,6 @@ pub record Takes (old : OnePassword) (taken : List ℕ) (new : OnePassword) : Ty
   pub output : MemoryTakes old.output taken new.output
   pub password : new.password ≡ old.password
 
--- a reader that was not asked yet
+-- a reader that was not read yet
 abbrev pub new_reader : List ℕ → MemSourceState
 new_reader bytes = record { left = bytes; ended = false; step = 4096 }

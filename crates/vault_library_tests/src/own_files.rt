@@ -44,7 +44,7 @@ impl<'a> OnePassword<'a> {
 
 impl<'a> Sink for OnePassword<'a> {
     ghost use Rattle.vault_library_tests.specs.OnePassword.{Takes};
-    ghost use Rattle.vault_library_tests.specs.OnePasswordLaws.{Takes-none, Takes-more};
+    ghost use Rattle.vault_library_tests.specs.OnePasswordProofs.{Takes-none, Takes-more};
 
     ghost takes = { Takes };
 
@@ -73,19 +73,19 @@ impl<'a> Sink for OnePassword<'a> {
 
 impl<'a> FileSystem for OnePassword<'a> {
     ghost use Rattle.std.specs.Prelude.{◌≡◌, refl};
-    ghost use Rattle.vault_files.specs.File.Finding.{Whole};
+    ghost use Rattle.vault_files.specs.File.FileState.{Whole};
     ghost use Rattle.vault_library_tests.specs.OnePassword.{new_reader};
-    ghost use Rattle.vault_library_tests.specs.OnePasswordLaws.{front-met, break-met, same};
+    ghost use Rattle.vault_library_tests.specs.OnePasswordProofs.{prefix-found, break-found, same};
 
     type Reader = MemSource<'a>;
 
-    ghost meets = { λ s path file. file ≡ Whole s.password };
+    ghost finds = { λ s path file. file ≡ Whole s.password };
 
     ghost opened = { λ s path reader. reader ≡ new_reader s.password };
 
     ghost opens = { λ s paths t. t ≡ s };
 
-    ghost aimed = { λ s path access t. t ≡ s };
+    ghost output_set = { λ s path access t. t ≡ s };
 
     ghost opens_none = { λ s. refl };
 
@@ -95,22 +95,22 @@ impl<'a> FileSystem for OnePassword<'a> {
 
     ghost opens_failures = { λ s t paths opens. rw opens refl };
 
-    ghost opens_meets = { λ s t paths path file opens met. rw opens at met };
+    ghost opens_finds = { λ s t paths path file opens found. rw opens at found };
 
     ghost opens_opened = { λ s t paths path reader opens opened. rw opens at opened };
 
-    ghost meets_some = { λ s path. (Whole s.password, refl) };
+    ghost finds_some = { λ s path. (Whole s.password, refl) };
 
-    ghost front_met = { λ s path r t xs n opened gives fits end unfailed.
-        front-met s.password r t xs n opened gives fits end };
+    ghost prefix_found = { λ s path r t xs n opened gives fits end unfailed.
+        prefix-found s.password r t xs n opened gives fits end };
 
-    ghost break_met = { λ s path r t xs n opened gives short risen. break-met risen };
+    ghost break_found = { λ s path r t xs n opened gives short risen. break-found risen };
 
     fn open(&mut self, _path: &str) -> Result<MemSource<'a>, FileFault> {
         Ok(MemSource::new(self.password, 4_096))
     }
 
-    fn aim(&mut self, _path: String, _access: Access) {}
+    fn set_output(&mut self, _path: String, _access: Access) {}
 }
 
 /// Runs `ansible-vault decrypt` over these files, to which the plaintext goes.

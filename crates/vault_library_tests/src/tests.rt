@@ -2,7 +2,7 @@
 use crate::{OnePassword, decrypt, decrypt_with, encrypt, encrypt_variable, rekey};
 use std::test::Fail;
 use vault_cli::{Fault, MemSink, Status};
-use vault_made::{block, envelope};
+use vault_test_data::{block, envelope};
 use vault_text::Salt;
 
 const SALT: &[u8; 32] = &[7; 32];

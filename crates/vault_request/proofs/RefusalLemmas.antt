@@ -5,9 +5,9 @@ use Rattle.std.proofs.lemmas.Bool.{cases_Bool}
 use Rattle.std.proofs.lemmas.List.{length-append, length-map}
 use Rattle.std.specs.Option.{option_map, option_or}
 use Rattle.std.specs.Prelude.{IfSome, is_some}
-use Rattle.vault_common.specs.declared.fault.Fault.{Fault}
-use Rattle.vault_common.specs.declared.fault.Fault.TheVariants.{BadSalt, TooManySecrets}
-use Rattle.vault_common.specs.declared.limits.TheConstants.{SECRET_COUNT_LIMIT}
+use Rattle.vault_fault.specs.declared.fault.Fault.{Fault}
+use Rattle.vault_fault.specs.declared.fault.Fault.TheVariants.{BadSalt, TooManySecrets}
+use Rattle.vault_fault.specs.declared.limits.TheConstants.{SECRET_COUNT_LIMIT}
 use Rattle.vault_request.specs.CommandName.{rekeys}
 use Rattle.vault_request.specs.Options.{Options}
 use Rattle.vault_request.specs.Refusal.{label_fault, count_fault, mismatch_fault, name_fault}

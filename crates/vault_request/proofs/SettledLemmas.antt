@@ -3,10 +3,10 @@ use Rattle.std.proofs.Common.{◌≡◌, ℕ, List, [], map, Option, Some, None,
 use Rattle.std.specs.Option.{option_map}
 use Rattle.std.specs.Prelude.{codes, IfSome, is_some}
 use Rattle.clap.specs.Walk.{Row, Text}
-use Rattle.vault_common.specs.declared.fault.Fault.{Fault}
+use Rattle.vault_fault.specs.declared.fault.Fault.{Fault}
 use Rattle.vault_request.specs.Options.{options_of, values_of}
 use Rattle.vault_request.specs.Request.{Request}
-use Rattle.vault_request.specs.Settled.{Settles, asked, command_in, settled}
+use Rattle.vault_request.specs.Settled.{Settles, requested, command_in, settled}
 use Rattle.vault_request.specs.declared.command_name.CommandName.{CommandName}
 use denote.Ref.{Bor}
 
@@ -30,8 +30,8 @@ pub with_values : (command : CommandName) (rows : List Row) (ids paths : List (L
 with_values command rows ids paths e f = rw (e, f) refl
 
 -- what a parse asks for that names this command, with these values under its options
-pub asked_given : (parse : Option (Text × List Row)) (rows : List Row) (command : CommandName)
+pub requested_given : (parse : Option (Text × List Row)) (rows : List Row) (command : CommandName)
     (answer : Result Request Fault)
     → Some (command, rows) ≡ command_in parse → Settles (settled command rows) answer
-    → IfSome (asked parse) (λ settled. Settles settled answer)
-asked_given parse rows command answer e h = rw (← e) h
+    → IfSome (requested parse) (λ settled. Settles settled answer)
+requested_given parse rows command answer e h = rw (← e) h

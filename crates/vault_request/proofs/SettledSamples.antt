@@ -4,24 +4,24 @@ use Rattle.std.proofs.Common.{codes, refl}
 use Rattle.clap.specs.Words.{Text, subcommand_of}
 use Rattle.clap.proofs.OnLiterals.{clap_on_literals}
 use Rattle.vault_text.specs.Label.{default_label}
-use Rattle.vault_common.specs.declared.fault.Fault.{Fault}
-use Rattle.vault_common.specs.declared.fault.Fault.TheVariants.{BadLabel, BadName, BadSalt}
-use Rattle.vault_common.specs.declared.fault.Fault.TheVariants.{NameMismatch, NeedNewSecret}
-use Rattle.vault_common.specs.declared.fault.Fault.TheVariants.{OutputNeeded, PromptSource}
-use Rattle.vault_common.specs.declared.fault.Fault.TheVariants.{SaltChoice, TooManySecrets}
-use Rattle.vault_common.specs.declared.label_rule.LabelRule.TheVariants.{Hint, Required}
+use Rattle.vault_fault.specs.declared.fault.Fault.{Fault}
+use Rattle.vault_fault.specs.declared.fault.Fault.TheVariants.{BadLabel, BadName, BadSalt}
+use Rattle.vault_fault.specs.declared.fault.Fault.TheVariants.{NameMismatch, NeedNewSecret}
+use Rattle.vault_fault.specs.declared.fault.Fault.TheVariants.{OutputNeeded, PromptSource}
+use Rattle.vault_fault.specs.declared.fault.Fault.TheVariants.{SaltChoice, TooManySecrets}
+use Rattle.vault_fault.specs.declared.label_rule.LabelRule.TheVariants.{Hint, Required}
 use Rattle.vault_command_line.specs.CommandLine.{vault_app}
 use Rattle.vault_request.specs.Refusal.{refusal}
 use Rattle.vault_request.specs.Request.{Request}
-use Rattle.vault_request.specs.Settled.{asked}
+use Rattle.vault_request.specs.Settled.{requested}
 use Rattle.vault_request.specs.declared.command_name.CommandName.{CommandName}
 use Rattle.vault_request.specs.declared.command_name.CommandName.TheVariants.{Encrypt, Decrypt}
 use Rattle.vault_request.specs.declared.command_name.CommandName.TheVariants.{View, Rekey}
 use Rattle.vault_request.specs.declared.command_name.CommandName.TheVariants.{EncryptString}
 
--- what the arguments behind the program's name settle
+-- what the arguments after the program's name settle
 abbrev answer : List Text → Option (Result Request Fault)
-answer words = asked (subcommand_of vault_app (codes "ansible-vault" ∷ words))
+answer words = requested (subcommand_of vault_app (codes "ansible-vault" ∷ words))
 
 abbrev refused : Fault → Option (Result Request Fault)
 refused fault = Some (Err fault)

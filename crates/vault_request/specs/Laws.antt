@@ -6,14 +6,14 @@ use Rattle.clap.specs.Words.{Text, fault_of}
 use Rattle.vault_text.specs.Label.{is_label}
 use Rattle.vault_command_line.specs.CommandLine.{vault_app}
 use Rattle.vault_request.specs.Request.{IsSettled, Request, files_of}
-use Rattle.vault_request.specs.Settled.{asked_by, settled}
+use Rattle.vault_request.specs.Settled.{requested_by, settled}
 use Rattle.vault_request.specs.declared.command_name.CommandName.{CommandName}
 use Rattle.vault_request.specs.declared.command_name.CommandName.TheVariants.{EncryptString}
 
 -- arguments without a fault name a command, so that each command line asks for something, or is
 -- explained
 abbrev pub WordsNameACommand : Type 0
-WordsNameACommand = (words : List Text) → fault_of vault_app words ≡ [] → asked_by words ≢ None
+WordsNameACommand = (words : List Text) → fault_of vault_app words ≡ [] → requested_by words ≢ None
 
 -- what a request that was settled is: its labels are labels, and only `encrypt_string` has a STRING
 pub record IsRequest (request : Request) : Type 0 where

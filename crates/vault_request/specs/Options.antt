@@ -3,8 +3,8 @@ use Rattle.std.specs.Prelude.{◌&&◌, ℕ, not, Bool, false, if◌then◌else�
 use Rattle.std.specs.Prelude.{Option, Some, None}
 use Rattle.std.specs.Str.{bytes_eq}
 use Rattle.clap.specs.Walk.{Row, all_of, first_of}
-use Rattle.vault_common.specs.declared.label_rule.LabelRule.{LabelRule}
-use Rattle.vault_common.specs.declared.label_rule.LabelRule.TheVariants.{Hint, Required}
+use Rattle.vault_fault.specs.declared.label_rule.LabelRule.{LabelRule}
+use Rattle.vault_fault.specs.declared.label_rule.LabelRule.TheVariants.{Hint, Required}
 use Rattle.vault_request.specs.CommandName.{encrypts, has_output, rekeys, seals, takes_string}
 use Rattle.vault_request.specs.declared.command_name.CommandName.{CommandName}
 
@@ -52,7 +52,7 @@ abbrev pub rule_of : CommandName → List Row → LabelRule
 rule_of command rows =
     if not (encrypts command) && is_given (codes "require-id-match") rows then Required else Hint
 
--- what stands under each option
+-- what is given under each option
 abbrev pub options_of : CommandName → List Row → Options
 options_of command rows = record {
   command = command;

@@ -3,12 +3,12 @@ use Rattle.std.specs.Prelude.{◌+◌, ◌==◌, ◌&&◌, ◌||◌, ℕ, nat_lt
 use Rattle.std.specs.Prelude.{◌∷◌, length, Option, Some, None, is_some}
 use Rattle.std.specs.List.{list_any}
 use Rattle.vault_text.specs.Label.{is_label}
-use Rattle.vault_common.specs.declared.fault.Fault.{Fault}
-use Rattle.vault_common.specs.declared.fault.Fault.TheVariants.{BadLabel, BadName, BadSalt}
-use Rattle.vault_common.specs.declared.fault.Fault.TheVariants.{NameMismatch, NeedNewSecret}
-use Rattle.vault_common.specs.declared.fault.Fault.TheVariants.{OutputNeeded, SaltChoice}
-use Rattle.vault_common.specs.declared.fault.Fault.TheVariants.{TooManySecrets}
-use Rattle.vault_common.specs.declared.limits.TheConstants.{SECRET_COUNT_LIMIT}
+use Rattle.vault_fault.specs.declared.fault.Fault.{Fault}
+use Rattle.vault_fault.specs.declared.fault.Fault.TheVariants.{BadLabel, BadName, BadSalt}
+use Rattle.vault_fault.specs.declared.fault.Fault.TheVariants.{NameMismatch, NeedNewSecret}
+use Rattle.vault_fault.specs.declared.fault.Fault.TheVariants.{OutputNeeded, SaltChoice}
+use Rattle.vault_fault.specs.declared.fault.Fault.TheVariants.{TooManySecrets}
+use Rattle.vault_fault.specs.declared.limits.TheConstants.{SECRET_COUNT_LIMIT}
 use Rattle.vault_request.specs.CommandName.{has_output, rekeys}
 use Rattle.vault_request.specs.Options.{Options}
 use Rattle.vault_request.specs.VaultId.{fault_of_id, first_fault, or_later}

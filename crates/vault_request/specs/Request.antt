@@ -2,8 +2,8 @@
 use Rattle.std.specs.Prelude.{◌≡◌, ◌≤◌, ℕ, List, ◌++◌, length, Option, option_to_list, is_some}
 use Rattle.std.specs.Prelude.{IfSome}
 use Rattle.vault_request.specs.CommandName.{rekeys}
-use Rattle.vault_common.specs.declared.limits.TheConstants.{SECRET_COUNT_LIMIT}
-use Rattle.vault_common.specs.declared.label_rule.LabelRule.{LabelRule}
+use Rattle.vault_fault.specs.declared.limits.TheConstants.{SECRET_COUNT_LIMIT}
+use Rattle.vault_fault.specs.declared.label_rule.LabelRule.{LabelRule}
 use Rattle.vault_request.specs.declared.limits.TheConstants.{SALT_TEXT_LIMIT}
 use Rattle.vault_request.specs.declared.command_name.CommandName.{CommandName}
 

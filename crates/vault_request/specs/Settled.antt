@@ -5,8 +5,8 @@ use Rattle.std.specs.Option.{option_map, option_or}
 use Rattle.clap.specs.Walk.{Row, Text}
 use Rattle.clap.specs.Words.{subcommand_of}
 use Rattle.vault_text.specs.Label.{default_label}
-use Rattle.vault_common.specs.declared.fault.Fault.{Fault}
-use Rattle.vault_common.specs.declared.fault.Fault.TheVariants.{Memory}
+use Rattle.vault_fault.specs.declared.fault.Fault.{Fault}
+use Rattle.vault_fault.specs.declared.fault.Fault.TheVariants.{Memory}
 use Rattle.vault_command_line.specs.CommandLine.{vault_app}
 use Rattle.vault_request.specs.CommandName.{command_of, rekeys, seals}
 use Rattle.vault_request.specs.Options.{Options, not_dash, options_of}
@@ -75,12 +75,12 @@ command_in parse =
     (λ given. option_map (λ command. (command, given.1)) (command_of given.0)) parse
 
 -- what a parse asks for, where it names a command
-abbrev pub asked : Option (Text × List Row) → Option (Result Request Fault)
-asked parse = option_map (λ found. settled found.0 found.1) (command_in parse)
+abbrev pub requested : Option (Text × List Row) → Option (Result Request Fault)
+requested parse = option_map (λ found. settled found.0 found.1) (command_in parse)
 
 -- the request of arguments, or the fault of their options, where they name a command
-abbrev pub asked_by : List Text → Option (Result Request Fault)
-asked_by words = asked (subcommand_of vault_app words)
+abbrev pub requested_by : List Text → Option (Result Request Fault)
+requested_by words = requested (subcommand_of vault_app words)
 
 -- what `settle` answers: what is settled, or Memory where that is a request
 abbrev pub Settles : Result Request Fault → Result Request Fault → Type 0

@@ -5,8 +5,8 @@ use Rattle.std.specs.List.{before_first, after_first, position_or_len}
 use Rattle.std.specs.Str.{bytes_eq}
 use Rattle.vault_text.specs.Header.{named_label}
 use Rattle.vault_text.specs.Label.{is_label}
-use Rattle.vault_common.specs.declared.fault.Fault.{Fault}
-use Rattle.vault_common.specs.declared.fault.Fault.TheVariants.{BadLabel, PromptSource}
+use Rattle.vault_fault.specs.declared.fault.Fault.{Fault}
+use Rattle.vault_fault.specs.declared.fault.Fault.TheVariants.{BadLabel, PromptSource}
 
 -- `@`
 abbrev pub is_at_sign : ℕ → Bool
@@ -16,15 +16,15 @@ is_at_sign b = b == 64
 abbrev pub has_at_sign : List ℕ → Bool
 has_at_sign id = nat_lt (position_or_len is_at_sign id) (length id)
 
--- what stands before the first `@`
+-- what comes before the first `@`
 abbrev pub label_part : List ℕ → List ℕ
 label_part id = if has_at_sign id then before_first is_at_sign id else []
 
--- what stands behind it, or all where there is none
+-- what comes after it, or all where there is none
 abbrev pub source_of_id : List ℕ → List ℕ
 source_of_id id = if has_at_sign id then after_first is_at_sign id else id
 
--- the label `default` where nothing stands before an `@`, or where there is none
+-- the label `default` where nothing comes before an `@`, or where there is none
 abbrev pub label_of_id : List ℕ → List ℕ
 label_of_id id = named_label (label_part id)
 

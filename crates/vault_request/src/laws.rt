@@ -6,8 +6,8 @@ pub fn words_name_a_command()
     ensures { WordsNameACommand }
 {}
 
-/// What settles a request makes one whose labels are labels, and which has a STRING only where its
-/// command takes one.
+/// Every request that `settle` builds has valid labels, and has a STRING only if its command takes
+/// one.
 pub fn settled_requests()
     ensures { SettledRequests }
 {}

@@ -8,7 +8,7 @@ use crate::command_name::CommandName;
 use clap::ArgMatches;
 use std::marker::Model;
 use vault_command_line::option_table as table;
-use vault_common::LabelRule;
+use vault_fault::LabelRule;
 
 /// What a command was given, where it has the option.
 #[derive(Drop)]

@@ -3,12 +3,12 @@ ghost use Rattle.std.specs.Prelude.{◌≡◌, IfErr, IfOk, is_some, map, true};
 ghost use Rattle.std.specs.String.{string_bytes};
 ghost use Rattle.clap.specs.Words.{FailsBy, app_of, fault_of, subcommand_of, subcommand_rows_of};
 ghost use Rattle.vault_command_line.specs.CommandLine.{vault_app};
-ghost use Rattle.vault_common.specs.declared.fault.Fault.TheVariants.{Memory};
-ghost use Rattle.vault_request.specs.Settled.{asked};
+ghost use Rattle.vault_fault.specs.declared.fault.Fault.TheVariants.{Memory};
+ghost use Rattle.vault_request.specs.Settled.{requested};
 
 use clap::{ArgMatches, Command, Error};
 use std::alloc::Global;
-use vault_common::Fault;
+use vault_fault::Fault;
 
 /// The command line's description, to be parsed by `clap`.
 pub fn command<'a>(alloc: Global) -> Result<Command<'a>, Fault>
@@ -25,7 +25,8 @@ pub fn parse<'a>(alloc: Global, words: &'a [String]) -> Result<ArgMatches<'a>, E
     ensures matches { IfOk result (λ matches.
         subcommand_rows_of matches ≡ subcommand_of vault_app (map string_bytes words.now)) }
     ensures kinds { FailsBy (fault_of vault_app (map string_bytes words.now)) result }
-    ensures asks { IfOk result (λ matches. is_some (asked (subcommand_rows_of matches)) ≡ true) }
+    ensures requested { IfOk result
+        (λ matches. is_some (requested (subcommand_rows_of matches)) ≡ true) }
 {
     vault_command_line::command(alloc)?.try_get_matches_from(words)
 }

@@ -11,7 +11,7 @@ ghost use Rattle.vault_request.specs.Settled.{file_of_id, new_secret_of};
 use crate::limits::SALT_TEXT_LIMIT;
 use crate::options::Options;
 use crate::vault_id::{self, SecretPath, SecretPaths};
-use vault_common::{Fault, SECRET_COUNT_LIMIT};
+use vault_fault::{Fault, SECRET_COUNT_LIMIT};
 use vault_text::Label;
 
 /// What was read of options that are not refused.

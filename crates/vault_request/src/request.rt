@@ -1,13 +1,13 @@
 //! What a command line asks for.
 ghost use Rattle.std.specs.Prelude.{◌≡◌, ◌+◌, ◌<◌, ◌≤◌, Some, IfSome, is_some, length, slice_get};
 ghost use Rattle.std.specs.Option.{option_copied, option_map};
-ghost use Rattle.vault_common.specs.declared.limits.TheConstants.{SECRET_COUNT_LIMIT};
+ghost use Rattle.vault_fault.specs.declared.limits.TheConstants.{SECRET_COUNT_LIMIT};
 ghost use Rattle.vault_request.specs.CommandName.{rekeys, seals};
 ghost use Rattle.vault_request.specs.Request.{IsSaltText, files_of};
 
 use crate::command_name::CommandName;
 use std::marker::Model;
-use vault_common::LabelRule;
+use vault_fault::LabelRule;
 use vault_text::Label;
 
 /// A password file, and the label of its secret.

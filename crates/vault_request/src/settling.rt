@@ -5,10 +5,10 @@ ghost use Rattle.std.specs.Option.{option_copied, option_map};
 ghost use Rattle.std.specs.String.{string_bytes};
 ghost use Rattle.clap.specs.Words.{found_of, rows_of, subcommand_rows_of};
 ghost use Rattle.vault_request.specs.Refusal.{refusal};
-ghost use Rattle.vault_request.specs.Settled.{Settles, asked, command_in, file_of_id};
+ghost use Rattle.vault_request.specs.Settled.{Settles, requested, command_in, file_of_id};
 ghost use Rattle.vault_request.specs.Settled.{new_secret_of, plain_file, request_of};
 ghost use Rattle.vault_request.specs.Settled.{salt_path_of, settled_by};
-ghost use Rattle.vault_common.specs.declared.fault.Fault.TheVariants.{Memory};
+ghost use Rattle.vault_fault.specs.declared.fault.Fault.TheVariants.{Memory};
 
 use crate::command_name::CommandName;
 use crate::options::{Options, not_dash};
@@ -18,7 +18,7 @@ use crate::vault_id::SecretPath;
 use clap::ArgMatches;
 use std::alloc::{AllocError, Global};
 use vault_command_line::option_table::{VAULT_ID, VAULT_PASSWORD_FILE};
-use vault_common::Fault;
+use vault_fault::Fault;
 
 const DEFAULT_SALT_FILE: &str = "/dev/urandom";
 
@@ -79,7 +79,7 @@ fn copied(alloc: Global, text: Option<&str>) -> Result<Option<String>, AllocErro
     }
 }
 
-fn secrets_of(
+fn secret_files_of(
     alloc: Global,
     labelled: &[SecretPath<'_>],
     paths: &[&str],
@@ -136,7 +136,7 @@ fn request_of(
     let labelled = checked.labelled.as_slice();
     Ok(Request {
         command: options.command,
-        secrets: secrets_of(alloc, labelled, options.password_files)?,
+        secrets: secret_files_of(alloc, labelled, options.password_files)?,
         new_secret: new_file_of(alloc, checked.new_secret.as_ref())?,
         choice: checked.choice,
         name: copied(alloc, options.name.or(options.stdin_name))?,
@@ -149,7 +149,7 @@ fn request_of(
     })
 }
 
-/// What the options settle: all is checked before the first growth.
+/// What the options settle: all is checked before the first allocation.
 fn settled_by(alloc: Global, options: &Options<'_, '_>) -> Result<Request, Fault>
     ensures { Settles (settled_by options.now) result }
 {
@@ -157,11 +157,11 @@ fn settled_by(alloc: Global, options: &Options<'_, '_>) -> Result<Request, Fault
     request_of(alloc, options, checked)
 }
 
-/// The request that the matches of a command, as `parse` gives them, settle, or the first fault of
-/// its options.
+/// Builds the request from the matches of `parse`, or returns the first fault of the options.
 pub fn settle(alloc: Global, matches: &ArgMatches<'_>) -> Result<Request, Fault>
-    requires { is_some (asked (subcommand_rows_of matches.now)) ≡ true }
-    ensures { IfSome (asked (subcommand_rows_of matches.now)) (λ settled. Settles settled result) }
+    requires { is_some (requested (subcommand_rows_of matches.now)) ≡ true }
+    ensures { IfSome (requested (subcommand_rows_of matches.now))
+        (λ settled. Settles settled result) }
 {
     let (command, given) = command_in(matches).unwrap();
     let ids = given.get_strs(VAULT_ID.name).unwrap_or(&[]);

@@ -1,16 +1,16 @@
 //! The values of `--vault-id`: a source, or a label, `@` and a source.
 ghost use Rattle.std.specs.Prelude.{◌≡◌, ◌≤◌, IfOk, length, map};
 ghost use Rattle.std.specs.Result.{result_err};
-ghost use Rattle.vault_common.specs.declared.limits.TheConstants.{SECRET_COUNT_LIMIT};
+ghost use Rattle.vault_fault.specs.declared.limits.TheConstants.{SECRET_COUNT_LIMIT};
 ghost use Rattle.vault_request.specs.Settled.{file_of_id, plain_file};
 ghost use Rattle.vault_request.specs.VaultId.{fault_of_id, first_fault, label_part, source_of_id};
 
 use arrayvec::ArrayVec;
 use std::marker::Model;
-use vault_common::{Fault, SECRET_COUNT_LIMIT};
+use vault_fault::{Fault, SECRET_COUNT_LIMIT};
 use vault_text::Label;
 
-/// The path of a password file, which stands on the command line, and the label of its secret.
+/// The path of a password file as the command line has it, and the label of its secret.
 #[derive(Drop)]
 pub(crate) struct SecretPath<'a> {
     pub label: Label,

@@ -1,4 +1,4 @@
--- The first line of a block, and what stands before the body of an envelope.
+-- The first line of a block, and what comes before the body of an envelope.
 use Rattle.std.proofs.Common.{◌≡◌, ◌%◌, ◌⊎◌, ℕ, List, [], ◌∷◌, ◌++◌, length}
 use Rattle.std.proofs.Common.{sym, ap, ◌∙◌, append_assoc, Option, unwrap_or}
 use Rattle.hex.specs.Hex.{encode_lower}
@@ -19,7 +19,7 @@ block-parts name start label salt tag cipher first =
     sym (append_assoc (unwrap_or name []) start lines)
     ∙ ap (λ (line : List ℕ). line ++ lines) first
 
--- what begins a text, the header line, the first lines of the body, and the lines behind them
+-- what begins a text, the header line, the first lines of the body, and the lines after them
 lines-parts : (start indentation label salt tag cipher inner rest : List ℕ)
     → inner ++ encode_lower rest ≡ inner_text salt tag cipher
     → (length inner ≡ 600) ⊎ (rest ≡ [])
@@ -37,7 +37,7 @@ lines-parts start indentation label salt tag cipher inner rest all full =
     ∙ append_assoc start header (hexadecimal_lines indentation (inner_text salt tag cipher))
     ∙ ap (λ (text : List ℕ). start ++ text) (text_of_lines-cons indentation _ _)
 
--- what stands before the first batch of ciphertext, that batch, and the batches behind it
+-- what comes before the first batch of ciphertext, that batch, and the batches after it
 pub batches-parts : (start indentation label salt tag cipher inner left batch rest : List ℕ)
     → inner ++ encode_lower left ≡ inner_text salt tag cipher
     → (length inner ≡ 600) ⊎ (left ≡ [])

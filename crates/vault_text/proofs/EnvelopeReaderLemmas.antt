@@ -13,7 +13,7 @@ use Rattle.std.proofs.lemmas.List.Elements.{filter-append}
 use Rattle.vault_text.specs.Envelope.{body, read_body, read_head, read_inner, read_within}
 use Rattle.vault_text.specs.Envelope.{without_line_ends}
 use Rattle.vault_text.specs.EnvelopeReader.{BodyHas, BodyState, IsKept, LineHas, LineState}
-use Rattle.vault_text.specs.EnvelopeReader.{ReaderState, StandsFor}
+use Rattle.vault_text.specs.EnvelopeReader.{ReaderState, HasRead}
 use Rattle.vault_text.specs.Header.{Header, header_line, is_line_end, marker, read_header}
 use Rattle.vault_text.specs.Hexadecimal.{DecoderState, Decodes, new_decoder, unhex_on, unhex}
 use Rattle.vault_text.specs.InnerReader.{InnerHas, InnerState}
@@ -39,7 +39,7 @@ pub IsKept-more : (kept bytes line : List ℕ) (n : ℕ)
     → IsKept kept line → IsKept (kept ++ take n bytes) (line ++ bytes)
 IsKept-more kept bytes line n count has =
     let size = length-append kept (take n bytes) in
-    let front_size = length-take n bytes in
+    let prefix_size = length-take n bytes in
     elim has.enough [
       | inl long ↦
           let none : n ≡ 0 = omega (arith, long, count) in
@@ -56,7 +56,7 @@ IsKept-more kept bytes line n count has =
                 (sym (append_assoc kept (take n bytes) (drop n bytes)
                 ∙ ap (λ xs. kept ++ xs) (take-append-drop n bytes)));
             enough = elim (cases_lt n (length bytes)) [
-              | inl short ↦ inl (omega (arith, short, size, front_size, count))
+              | inl short ↦ inl (omega (arith, short, size, prefix_size, count))
               | inr past ↦ inr (drop_all n bytes past)
             ];
           }
@@ -85,7 +85,7 @@ pub LineHas-more : (old new : LineState) (input text line : List ℕ) → old.ha
     → LineHas old input
     → LineHas new (input ++ text)
     × (body (input ++ text) ≡ body input ++ without_line_ends (drop (length line) text))
-LineHas-more old new input text line goes_on front ended taken has =
+LineHas-more old new input text line goes_on start ended taken has =
     let past : length input ≤ length (header_line input) =
     let test = sym goes_on ∙ has.ended in grind (arith, nat_tests) in
     let whole = header_line-whole input past in
@@ -96,13 +96,13 @@ LineHas-more old new input text line goes_on front ended taken has =
     ≡ nat_lt (length (input ++ header_line text)) (length (input ++ text)) =
     grind (arith, nat_tests) in (
       record {
-        kept = rw (on, ← front) (rw whole at (taken (header_line input) has.kept));
-        ended = rw on (ended ∙ rw front test);
+        kept = rw (on, ← start) (rw whole at (taken (header_line input) has.kept));
+        ended = rw on (ended ∙ rw start test);
       },
       rw (
         on,
         line_size,
-        front,
+        start,
         ← drop-drop (length (header_line text)) (length input) (input ++ text),
         drop_at input text (length input) refl,
         whole,
@@ -115,15 +115,15 @@ abbrev head_of : List ℕ → Result Header TextFault
 head_of line = if not (starts_with nat_eq line marker) then Err NotVault else read_header line
 
 -- once a line is too long, the rest of it changes nothing
-head_of-long : (front more : List ℕ) → HEADER_LIMIT < length front
-    → head_of front ≡ head_of (front ++ more)
+head_of-long : (start more : List ℕ) → HEADER_LIMIT < length start
+    → head_of start ≡ head_of (start ++ more)
 unfolding read_header
-head_of-long front more long =
-    let starts_alike : starts_with nat_eq (front ++ more) marker ≡ starts_with nat_eq front marker =
-    rw (take-append-le (length marker) front more (omega arith)) refl in
-    let is_long : nat_lt HEADER_LIMIT (length front) ≡ true = grind (arith, nat_tests) in
-    let size = length-append front more in
-    let still_long : nat_lt HEADER_LIMIT (length (front ++ more)) ≡ true =
+head_of-long start more long =
+    let starts_alike : starts_with nat_eq (start ++ more) marker ≡ starts_with nat_eq start marker =
+    rw (take-append-le (length marker) start more (omega arith)) refl in
+    let is_long : nat_lt HEADER_LIMIT (length start) ≡ true = grind (arith, nat_tests) in
+    let size = length-append start more in
+    let still_long : nat_lt HEADER_LIMIT (length (start ++ more)) ≡ true =
     grind (arith, nat_tests) in
     rw (starts_alike, is_long, still_long) refl
 
@@ -169,21 +169,21 @@ module _ (limit : ℕ) (label digits : List ℕ) (state : BodyState)
 
 -- ---- the whole envelope
 
-pub StandsFor-nothing : (limit : ℕ) (line : LineState) (state : BodyState) → LineHas line []
+pub HasRead-nothing : (limit : ℕ) (line : LineState) (state : BodyState) → LineHas line []
     → BodyHas (ciphertext_limit limit) state []
-    → StandsFor (record { limit = limit; fed = 0; line = line; body = state }) []
-StandsFor-nothing limit line state has_line has_body =
+    → HasRead (record { limit = limit; fed = 0; line = line; body = state }) []
+HasRead-nothing limit line state has_line has_body =
     record { no_more = omega arith; exact = λ within. refl; line = has_line; body = has_body }
 
 -- a reader that took a piece stands for what it stood for, and the piece
-pub StandsFor-piece : (old new : ReaderState) (input piece text : List ℕ)
+pub HasRead-piece : (old new : ReaderState) (input piece text : List ℕ)
     → old.limit ≤ PLAINTEXT_LIMIT
     → new.limit ≡ old.limit → new.fed ≡ min (old.fed + length piece) (2 ^ 64 - 1)
     → LineHas new.line (input ++ piece)
     → body (input ++ piece) ≡ body input ++ without_line_ends text
     → ((limit : ℕ) → TakesPiece (BodyHas limit) old.body (without_line_ends text) new.body)
-    → StandsFor old input → StandsFor new (input ++ piece)
-StandsFor-piece old new input piece text bound same_limit fed line digits taken stands =
+    → HasRead old input → HasRead new (input ++ piece)
+HasRead-piece old new input piece text bound same_limit fed line digits taken stands =
     let size = length-append input piece in
     let before = stands.no_more in
     record {
@@ -197,7 +197,7 @@ StandsFor-piece old new input piece text bound same_limit fed line digits taken 
     }
 
 -- an input that is too long
-pub read-long : (reader : ReaderState) (input : List ℕ) → StandsFor reader input
+pub read-long : (reader : ReaderState) (input : List ℕ) → HasRead reader input
     → envelope_limit reader.limit < reader.fed → Err TooLong ≡ read_within reader.limit input
 unfolding read_within
 read-long reader input stands long =
@@ -207,7 +207,7 @@ read-long reader input stands long =
     rw test refl
 
 -- any other
-pub read-short : (reader : ReaderState) (input : List ℕ) → StandsFor reader input
+pub read-short : (reader : ReaderState) (input : List ℕ) → HasRead reader input
     → reader.fed ≤ envelope_limit reader.limit
     → (read_head input >>= (λ header. read_body reader.limit header.label (body input)))
     ≡ read_within reader.limit input
@@ -274,7 +274,7 @@ without_line_ends-digits digits bytes spelled =
 
 -- ---- the body
 
--- the front of a text, which spells bytes
+-- the prefix of a text, which spells bytes
 pub TakesUpTo-whole_line : (limit : ℕ) (old new : BodyState) (text line rest bytes : List ℕ)
     → unhex line ≡ Some bytes
     → TakesPiece (BodyHas limit) old line new → line ++ rest ≡ text

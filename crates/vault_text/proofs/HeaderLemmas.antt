@@ -61,7 +61,7 @@ header_line-whole text past =
 
 -- ---- a text without line ends, run by run
 
--- the front of a text up to its first line end are digits of the body
+-- the prefix of a text up to its first line end are digits of the body
 pub without_line_ends-run : (text : List ℕ) (n : ℕ)
     → without_line_ends text ≡ header_line (take n text)
     ++ without_line_ends (drop (length (header_line (take n text))) text)
@@ -76,7 +76,7 @@ without_line_ends-run (b ∷ text) (suc n) =
           (ap (λ rest. b ∷ rest) (without_line_ends-run text n))
     ]
 
--- ---- the front of a text
+-- ---- the prefix of a text
 
 -- a text begins with bytes that are no line ends where its first line does
 pub starts_with-header_line : (needle text : List ℕ)

@@ -25,7 +25,7 @@ found_value : (digit : ℕ) (value : Option ℕ) (out : List ℕ) (r : Result (U
 found_value digit (Some v) out r answered = rw (answered.0, answered.1) (ap Some (sym (zero-add v)))
 found_value digit None out r answered = rw answered refl
 
--- what decoding of a digit behind a zero answers, and leaves in its room
+-- what decoding of a digit after a zero answers, and leaves in its room
 pub digit-answered : (digit : ℕ) (out : List ℕ) (r : Result (Unit {0}) FromHexError)
     → MatchResult (decode_sized (48 ∷ digit ∷ []) 1) (λ bytes. (r ≡ Ok tt) × (out ≡ bytes))
     (λ e. r ≡ Err e)
@@ -57,18 +57,18 @@ abbrev pub found_if : Bool → List ℕ → Option (List ℕ)
 found_if is_good bytes = if is_good then Some bytes else None
 
 -- a pair more
-values_next : (is_good : Bool) (front : List ℕ) (high low : Option ℕ)
+values_next : (is_good : Bool) (prefix : List ℕ) (high low : Option ℕ)
     → IfSome high (λ value. value < 16) → IfSome low (λ value. value < 16)
     → found_if (is_good && (is_some high && is_some low))
-    (front ++ bit_or (unwrap_or high 0 * 16 % 256) (unwrap_or low 0) ∷ [])
-    ≡ both_found (found_if is_good front) (cons_found (pair_found high low) (Some []))
-values_next true front (Some h) (Some l) high low =
+    (prefix ++ bit_or (unwrap_or high 0 * 16 % 256) (unwrap_or low 0) ∷ [])
+    ≡ both_found (found_if is_good prefix) (cons_found (pair_found high low) (Some []))
+values_next true prefix (Some h) (Some l) high low =
     let fits : h * 16 % 256 ≡ h * 16 = omega arith in
     let byte : bit_or (h * 16) l ≡ h * 16 + l = or_shifted h 4 l low in
     rw (fits, byte) refl
-values_next true front (Some h) None high low = refl
-values_next true front None low high small = refl
-values_next false front high low p q = refl
+values_next true prefix (Some h) None high low = refl
+values_next true prefix None low high small = refl
+values_next false prefix high low p q = refl
 
 take-pair : (pairs : List ℕ) (place : ℕ) → 2 * place + 1 < length pairs
     → take (2 * (place + 1)) pairs

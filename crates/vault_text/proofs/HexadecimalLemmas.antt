@@ -98,7 +98,7 @@ cons_found-both_found (Some b) (Some xs) None = refl
 cons_found-both_found (Some b) None ys = refl
 cons_found-both_found None xs ys = refl
 
--- a text behind whole pairs
+-- a text after whole pairs
 pub spelled_bytes-append : (pairs more : List ℕ) → length pairs % 2 ≡ 0
     → spelled_bytes (pairs ++ more) ≡ both_found (spelled_bytes pairs) (spelled_bytes more)
 spelled_bytes-append [] more even = sym (option_map-nil (spelled_bytes more))
@@ -234,7 +234,7 @@ complete-is_new decoder complete = parts decoder.high decoder.is_bad complete
     parts (Some digit) true complete = cc
     parts (Some digit) false complete = let none = unhex-spelled_bytes (digit ∷ []) in cc
 
--- behind a bad digit, or one that waits, whole pairs spell nothing
+-- after a bad digit, or one that waits, whole pairs spell nothing
 pub unhex_on-incomplete : (decoder : DecoderState) (pairs : List ℕ) → unhex_on decoder [] ≡ None
     → length pairs % 2 ≡ 0 → unhex_on decoder pairs ≡ None
 unhex_on-incomplete decoder pairs incomplete even = parts decoder.high decoder.is_bad incomplete

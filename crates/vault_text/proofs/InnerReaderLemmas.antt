@@ -28,7 +28,7 @@ PartHas-nothing limit = record {
   whole = λ e. (refl, omega arith);
 }
 
--- the bytes that the digits complete have room behind those of the part
+-- the bytes that the digits complete have room after those of the part
 pub PartHas-fits : (limit room : ℕ) (bytes digits out text : List ℕ) (old new : DecoderState)
     (is_long : Bool)
     → Decodes old digits out new

@@ -34,7 +34,7 @@ slice_split-whole p line place e past =
     (λ k d inside.
     not_true (p (get_or line k d)) (prefix_len_passes (λ x. not (p x)) line k d (omega arith)))
 
--- a text is what stands before the first such byte, the byte, and what stands behind it
+-- a text is what comes before the first such byte, the byte, and what comes after it
 pub byte_found : (byte : ℕ) (text : List ℕ) (place : ℕ)
     → place ≡ position_or_len (λ b. b == byte) text → place < length text
     → text ≡ take place text ++ byte ∷ drop (place + 1) text
@@ -45,18 +45,18 @@ byte_found byte text place e inside =
     rw e (rw found at (split_at_first (λ b. b == byte) text 0 inside_text))
 
 -- none stands before the first
-pub before_first-clean_front : (p : ℕ → Bool) (text : List ℕ)
+pub before_first-clean_prefix : (p : ℕ → Bool) (text : List ℕ)
     → list_all (λ b. not (p b)) (before_first p text) ≡ true
-before_first-clean_front p [] = refl
-before_first-clean_front p (x ∷ rest) =
+before_first-clean_prefix p [] = refl
+before_first-clean_prefix p (x ∷ rest) =
     elim (cases_Bool (p x)) [
       | inl found ↦ rw found refl
       | inr other ↦
           let step : 1 + position_or_len p rest ≡ suc (position_or_len p rest) = omega arith in
-          rw (other, step, other) (before_first-clean_front p rest)
+          rw (other, step, other) (before_first-clean_prefix p rest)
     ]
 
--- the first place at which a test passes, behind elements that do not pass it
+-- the first place at which a test passes, after elements that do not pass it
 pub position_or_len-clean : (p : ℕ → Bool) (xs : List ℕ) (y : ℕ) (ys : List ℕ)
     → list_all (λ b. not (p b)) xs ≡ true → p y ≡ true
     → position_or_len p (xs ++ y ∷ ys) ≡ length xs

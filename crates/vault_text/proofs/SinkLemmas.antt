@@ -26,9 +26,9 @@ pub prefix_first : {A S : Type 0} (takes : S → List A → S → Type 0) (s t :
     (xs ys whole : List A)
     → xs ++ ys ≡ whole → (n : ℕ) × takes s (take n xs) t → (n : ℕ) × takes s (take n whole) t
 prefix_first takes s t xs ys whole e (n, p) =
-    let front : take (min n (length xs)) (xs ++ ys) ≡ take n xs =
+    let prefix : take (min n (length xs)) (xs ++ ys) ≡ take n xs =
     take-append-le (min n (length xs)) xs ys (omega arith) ∙ take_min n xs in
-    (min n (length xs), rw (← e) (rw front p))
+    (min n (length xs), rw (← e) (rw prefix p))
 
 -- the first text and a prefix of the second
 pub prefix_second : {A S : Type 0} (takes : S → List A → S → Type 0)

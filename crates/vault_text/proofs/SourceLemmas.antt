@@ -6,19 +6,19 @@ use Rattle.std.proofs.lemmas.List.{length-take-le, take-append-le, take-take}
 use borrow.Rule.Slice.PartMut.{put_mid, post_of}
 use Rattle.vault_text.proofs.SinkLemmas.{taken_none}
 
--- the front of a buffer whose part from `filled` on was written
+-- the prefix of a buffer whose part from `filled` on was written
 pub take-written : (filled n k : ℕ) (old part : List ℕ) → filled ≤ length old → n ≤ length part
     → take (filled + n) (put_mid filled k old part) ≡ take filled old ++ take n part
 take-written filled n k old part inside fits =
     let len : length (take filled old) ≡ filled = length-take-le filled old inside in
-    let front : take (length (take filled old) + n)
+    let prefix : take (length (take filled old) + n)
     (take filled old ++ (part ++ post_of filled k old))
     ≡ take filled old ++ take n (part ++ post_of filled k old) =
     take-append-add (take filled old) (part ++ post_of filled k old) n in
-    rw len at front ∙ ap (λ (rest : List ℕ). take filled old ++ rest)
+    rw len at prefix ∙ ap (λ (rest : List ℕ). take filled old ++ rest)
     (take-append-le n part (post_of filled k old) fits)
 
--- the front of such a buffer, where nothing more was read
+-- the prefix of such a buffer, where nothing more was read
 pub take-unwritten : (filled k : ℕ) (old part : List ℕ) → filled ≤ length old
     → take filled (put_mid filled k old part) ≡ take filled old
 take-unwritten filled k old part inside =
@@ -42,7 +42,7 @@ length-written filled old part inside len =
       length-take (length old - filled) (drop filled old),
     )
 
--- what a source has given stands at the front of the buffer, where it then gave nothing more
+-- what a source has given is at the start of the buffer, where it then gave nothing more
 pub given_none : {S : Type 0} (gives : S → List ℕ → S → Type 0)
     → ((s t u : S) (xs ys : List ℕ) → gives s xs t → gives t ys u → gives s (xs ++ ys) u)
     → (s t u : S) (filled n k : ℕ) (old part : List ℕ) → filled ≤ length old → n ≡ 0
@@ -52,7 +52,7 @@ given_none gives more s t u filled n k old part inside none p q =
     rw (take-unwritten filled k old part inside)
     (taken_none gives more s t u (take filled old) p (rw none at q))
 
--- what a source gives next stands behind what it has given
+-- what a source gives next comes after what it has given
 pub given_next : {S : Type 0} (gives : S → List ℕ → S → Type 0)
     → ((s t u : S) (xs ys : List ℕ) → gives s xs t → gives t ys u → gives s (xs ++ ys) u)
     → (s t u : S) (filled n k : ℕ) (old part : List ℕ) → filled ≤ length old → n ≤ length part

@@ -53,7 +53,7 @@ pub body_lines-nil : body_lines [] ≡ []
 unfolding body_lines
 body_lines-nil = refl
 
--- the first line, and the lines of the digits behind it
+-- the first line, and the lines of the digits after it
 pub body_lines-step : (digits : List ℕ) → 0 < length digits
     → body_lines digits ≡ take 80 digits ∷ body_lines (drop 80 digits)
 unfolding body_lines
@@ -72,7 +72,7 @@ body_lines-step digits some =
     first
     ∙ ap (λ (lines : List (List ℕ)). take 80 digits ∷ lines) later)
 
--- the lines of whole lines, and of the digits behind them
+-- the lines of whole lines, and of the digits after them
 body_lines-whole : (lines : ℕ) (xs ys : List ℕ) → length xs ≡ 80 * lines
     → body_lines (xs ++ ys) ≡ body_lines xs ++ body_lines ys
 body_lines-whole zero [] ys len = rw body_lines-nil refl
@@ -81,11 +81,11 @@ body_lines-whole (suc lines) xs ys len =
     let both = length-append xs ys in
     let rest : length (drop 80 xs) ≡ 80 * lines = omega (arith, length-drop 80 xs) in
     let all = body_lines-step (xs ++ ys) (omega arith) in
-    let front = body_lines-step xs (omega arith) in
+    let prefix = body_lines-step xs (omega arith) in
     let digits : take 80 (xs ++ ys) ≡ take 80 xs = take-append-le 80 xs ys (omega arith) in
     let later : drop 80 (xs ++ ys) ≡ drop 80 xs ++ ys = drop-append-le 80 xs ys (omega arith) in
     let ih = body_lines-whole lines (drop 80 xs) ys rest in
-    all ∙ rw (digits, later, ih, front) refl
+    all ∙ rw (digits, later, ih, prefix) refl
 
 -- digits of at most one line
 pub body_lines-one : (digits : List ℕ) → 0 < length digits → length digits ≤ 80
@@ -117,7 +117,7 @@ pub body_text-nil : (indentation : List ℕ) → text_of_lines indentation (body
 unfolding body_lines text_of_lines
 body_text-nil indentation = refl
 
--- the first line of a text, and the lines behind it
+-- the first line of a text, and the lines after it
 pub body_text-step : (indentation digits : List ℕ) → 0 < length digits
     → text_of_lines indentation (body_lines digits)
     ≡ (indentation ++ take 80 digits ++ 10 ∷ [])
@@ -125,7 +125,7 @@ pub body_text-step : (indentation digits : List ℕ) → 0 < length digits
 body_text-step indentation digits some =
     rw (body_lines-step digits some, ← text_of_lines-cons, text_of_lines-one) refl
 
--- the text of whole lines of digits, and of the digits behind them
+-- the text of whole lines of digits, and of the digits after them
 pub body_text-append : (indentation xs ys : List ℕ) → length xs % 80 ≡ 0
     → text_of_lines indentation (body_lines xs) ++ text_of_lines indentation (body_lines ys)
     ≡ text_of_lines indentation (body_lines (xs ++ ys))
@@ -158,7 +158,7 @@ pub body_text-next : (indentation bytes : List ℕ) (line start end : ℕ) → s
     ++ (indentation ++ encode_lower (take (end - start) (drop start bytes)) ++ 10 ∷ [])
     ≡ hexadecimal_lines indentation (take ((line + 1) * 40) bytes)
 body_text-next indentation bytes line start end at inside until =
-    let front = length-encode_lower (take start bytes) in
+    let prefix = length-encode_lower (take start bytes) in
     let before = length-take-le start bytes (omega arith) in
     let piece = take (end - start) (drop start bytes) in
     let left = length-drop start bytes in
@@ -201,15 +201,15 @@ length-inner_text salt tag cipher =
     omega arith
 
 -- a part of the ciphertext, and what follows it
-pub inner_text-split : (salt tag cipher gathered inner front rest : List ℕ)
-    → gathered ≡ inner_text salt tag [] → inner ≡ gathered ++ encode_lower front
-    → front ++ rest ≡ cipher
+pub inner_text-split : (salt tag cipher loaded inner prefix rest : List ℕ)
+    → loaded ≡ inner_text salt tag [] → inner ≡ loaded ++ encode_lower prefix
+    → prefix ++ rest ≡ cipher
     → inner ++ encode_lower rest ≡ inner_text salt tag cipher
-inner_text-split salt tag cipher gathered inner front rest start spells both =
+inner_text-split salt tag cipher loaded inner prefix rest start spells both =
     rw (spells, start)
-    (append_assoc (inner_text salt tag []) (encode_lower front) (encode_lower rest))
+    (append_assoc (inner_text salt tag []) (encode_lower prefix) (encode_lower rest))
     ∙ ap (λ (text : List ℕ). inner_text salt tag [] ++ text)
-    (sym (encode_lower-append front rest) ∙ ap encode_lower both)
+    (sym (encode_lower-append prefix rest) ∙ ap encode_lower both)
     ∙ inner_text-append salt tag cipher
 
 -- the text of a body whose first lines spell the inner text as far as the rest of the ciphertext
@@ -254,7 +254,7 @@ pub cipher_text-next : (indentation cipher : List ℕ) (done end : ℕ) → done
     ++ hexadecimal_lines indentation (encode_lower (take (end - done) (drop done cipher)))
     ≡ hexadecimal_lines indentation (encode_lower (take end cipher))
 cipher_text-next indentation cipher done end inside whole forward =
-    let front = length-take-le done cipher inside in
+    let prefix = length-take-le done cipher inside in
     let to : done + (end - done) ≡ end = omega arith in
     cipher_text-append indentation (take done cipher) (take (end - done) (drop done cipher))
     (omega arith)
@@ -267,7 +267,7 @@ pub cipher_text-rest : (indentation cipher : List ℕ) (end : ℕ) → end ≤ l
     ++ hexadecimal_lines indentation (encode_lower (drop end cipher))
     ≡ hexadecimal_lines indentation (encode_lower cipher)
 cipher_text-rest indentation cipher end inside whole =
-    let front = length-take-le end cipher inside in
+    let prefix = length-take-le end cipher inside in
     cipher_text-append indentation (take end cipher) (drop end cipher) (omega arith)
     ∙ ap (λ (bytes : List ℕ). hexadecimal_lines indentation (encode_lower bytes))
     (take-append-drop end cipher)

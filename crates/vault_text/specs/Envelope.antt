@@ -1,5 +1,5 @@
 -- The envelope of a vault, formats 1.1 and 1.2: a header line, and a body that spells the inner
--- text. It is read in nine steps, of which the first that fails tells the fault.
+-- text. It is read in nine steps, of which the first that fails gives the fault.
 use Rattle.std.specs.Prelude.{ℕ, nat_lt, nat_eq, not, if◌then◌else◌, List, length, drop, filter}
 use Rattle.std.specs.Prelude.{Result, Ok, Err}
 use Rattle.std.specs.List.{starts_with}

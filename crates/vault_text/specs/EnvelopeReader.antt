@@ -7,7 +7,7 @@ use Rattle.vault_text.specs.InnerReader.{InnerHas, InnerState}
 use Rattle.vault_text.specs.Limits.{ciphertext_limit, envelope_limit}
 use Rattle.vault_text.specs.declared.limits.TheConstants.{HEADER_LIMIT}
 
--- the header line, as much of it as is kept, and whether its end was met
+-- the header line, as much of it as is kept, and whether its end was found
 pub record LineState : Type 0 where
   pub kept : List ℕ
   pub has_ended : Bool
@@ -44,7 +44,7 @@ pub record ReaderState : Type 0 where
 
 -- the reader was given this input: the count is right as far as the limit, and it keeps the header
 -- line and the body
-pub record StandsFor (reader : ReaderState) (input : List ℕ) : Type 0 where
+pub record HasRead (reader : ReaderState) (input : List ℕ) : Type 0 where
   pub no_more : reader.fed ≤ length input
   pub exact : reader.fed ≤ envelope_limit reader.limit → reader.fed ≡ length input
   pub line : LineHas reader.line input

@@ -1,7 +1,7 @@
 -- How a contract counts the failures of a source or a sink.
 use Rattle.std.specs.Prelude.{◌≡◌, ℕ, ◌+◌, ◌-◌, ◌^◌, ◌≤◌, min, Result, Ok, Err}
 
--- the last number of 64 bits, at which a count of failures stops
+-- `u64::MAX`, at which a count of failures saturates
 abbrev pub last_count : ℕ
 last_count = 2 ^ 64 - 1
 

@@ -24,7 +24,7 @@ pub record DecoderState : Type 0 where
 abbrev pub new_decoder : DecoderState
 new_decoder = record { high = None; is_bad = false }
 
--- the bytes that a text spells where it goes on behind what a decoder has taken
+-- the bytes that a text spells where it goes on after what a decoder has taken
 abbrev pub unhex_on : DecoderState → List ℕ → Option (List ℕ)
 unhex_on decoder text = if decoder.is_bad then None else unhex (option_to_list decoder.high ++ text)
 

@@ -31,13 +31,13 @@ pub record InnerState : Type 0 where
   pub tag : PartState
   pub cipher : PartState
 
--- the part behind a part; the ciphertext is the last
+-- the part after a part; the ciphertext is the last
 abbrev pub next_part : Part → Part
 next_part Salt = Tag
 next_part Tag = Cipher
 next_part Cipher = Cipher
 
--- no LF stands in the text
+-- the text has no LF
 abbrev pub IsOneLine : List ℕ → Type 0
 IsOneLine text = list_all (λ b. not (is_line_feed b)) text ≡ true
 
@@ -47,7 +47,7 @@ MayHave Salt digits = IsOneLine digits
 MayHave Tag digits = IsOneLine digits
 MayHave Cipher digits = ⊤
 
--- the text is cut at its LF as far as the part that comes next; the parts behind it are empty
+-- the text is cut at its LF as far as the part that comes next; the parts after it are empty
 abbrev pub IsCut : Part → List ℕ → Parts → Type 0
 IsCut Salt text parts =
     (text ≡ parts.salt) × IsOneLine parts.salt × (parts.tag ≡ []) × (parts.cipher ≡ [])

@@ -10,10 +10,10 @@ ciphertext_limit limit = limit + PADDING_LIMIT
 abbrev pub envelope_limit : ℕ → ℕ
 envelope_limit limit = 6 * limit + 8192
 
--- lent memory may be shorter than the longest ciphertext
+-- borrowed memory may be shorter than the longest ciphertext
 abbrev pub IsWorkLength : ℕ → Type 0
 IsWorkLength length = (PADDING_LIMIT ≤ length) × (length ≤ CIPHERTEXT_LIMIT)
 
--- how much plaintext lent memory of this length has room for, once it is padded
+-- how much plaintext borrowed memory of this length has room for, once it is padded
 abbrev pub limit_of : ℕ → ℕ
 limit_of length = length - PADDING_LIMIT

@@ -18,7 +18,7 @@ Appends-more (Some a) None c xs ys p q = absurd p
 Appends-more (Some a) (Some b) None xs ys p q = absurd q
 Appends-more (Some a) (Some b) (Some c) xs ys p q = rw (q, p) (append_assoc a xs ys)
 
--- a sink that was not asked took nothing
+-- a sink that was not called took nothing
 pub Takes-none : (s : SinkState) → Takes s [] s
 Takes-none s = record { appended = Appends-none s.held; failures_stay = omega arith }
 

@@ -4,12 +4,12 @@ use Rattle.std.specs.Prelude.{Result, Ok, Err}
 use Rattle.std.specs.Io.KnownBytes.{Consumes, IsAtEnd}
 use Rattle.vault_text.specs.Failures.{FailingState}
 
--- the bytes that a call gave, of a buffer that it filled from the front
+-- the bytes that a call gave, of a buffer that it filled from the start
 abbrev pub given : {E : Type 0} → Result ℕ E → List ℕ → List ℕ
 given (Ok n) buffer = take n buffer
 given (Err e) buffer = []
 
--- a source: the bytes that it has left, where they are known, whether it told its end, and its
+-- a source: the bytes that it has left, where they are known, whether it reported its end, and its
 -- failures
 pub record SourceState : Type 0 where
   pub left : Option (List ℕ)
@@ -23,8 +23,8 @@ pub record Gives (old : SourceState) (given : List ℕ) (new : SourceState) : Ty
   pub end_is_real : (IsTrue old.ended → IsAtEnd old.left) → IsTrue new.ended → IsAtEnd new.left
   pub failures_stay : old.failures ≤ new.failures
 
--- a source over memory, which never fails: its bytes left, whether it told its end, and how many
--- bytes it gives per call at most
+-- a source over memory, which never fails: its bytes left, whether it reported its end, and how
+-- many bytes it gives per call at most
 pub record MemSourceState : Type 0 where
   pub left : List ℕ
   pub ended : Bool

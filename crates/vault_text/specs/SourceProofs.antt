@@ -17,7 +17,7 @@ Consumes-more (Some a) None c xs ys p q = absurd p
 Consumes-more (Some a) (Some b) None xs ys p q = absurd q
 Consumes-more (Some a) (Some b) (Some c) xs ys p q = rw (p, q) (sym (append_assoc xs ys c))
 
--- a source that was not asked gave nothing
+-- a source that was not called gave nothing
 pub Gives-none : (s : SourceState) → Gives s [] s
 Gives-none s = record {
   consumed = Consumes-none s.left;

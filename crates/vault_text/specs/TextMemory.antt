@@ -1,7 +1,7 @@
 -- The memory that holds a text while it is read and worked on.
 use Rattle.std.specs.Prelude.{◌≡◌, ℕ, ◌≤◌, List, length, take, vec_capacity}
 use Rattle.vault_text.specs.declared.text_memory.Place.{Place}
-use Rattle.vault_text.specs.declared.text_memory.Place.TheVariants.{Lent, Reserved}
+use Rattle.vault_text.specs.declared.text_memory.Place.TheVariants.{Borrowed, Reserved}
 
 -- the text so far, and how many bytes it may have
 pub record MemoryText : Type 0 where
@@ -10,11 +10,11 @@ pub record MemoryText : Type 0 where
 
 -- the text
 abbrev pub bytes_of : Place → List ℕ
-bytes_of (Lent memory filled) = take filled memory.now
+bytes_of (Borrowed memory filled) = take filled memory.now
 bytes_of (Reserved memory) = memory.now.items
 
--- the text may grow to so many bytes where it lies
+-- the text may grow to this many bytes where it lies
 abbrev pub HasRoom : Place → ℕ → Type 0
-HasRoom (Lent memory filled) limit = (limit ≡ length memory.now) × (filled ≤ limit)
+HasRoom (Borrowed memory filled) limit = (limit ≡ length memory.now) × (filled ≤ limit)
 HasRoom (Reserved memory) limit =
     (limit ≤ vec_capacity memory.now) × (length memory.now.items ≤ limit)

@@ -39,11 +39,11 @@ abbrev pub written_lines : List ℕ → List ℕ → List ℕ → List ℕ → L
 written_lines label salt tag cipher =
     written_header label ∷ body_lines (encode_lower (inner_text salt tag cipher))
 
--- lines behind an indentation, each ended by LF
+-- lines after an indentation, each ended by LF
 unfoldable pub text_of_lines : List ℕ → List (List ℕ) → List ℕ
 text_of_lines indentation lines = flat_map (λ line. indentation ++ line ++ 10 ∷ []) lines
 
--- bytes in hexadecimal, on lines behind an indentation
+-- bytes in hexadecimal, on lines after an indentation
 abbrev pub hexadecimal_lines : List ℕ → List ℕ → List ℕ
 hexadecimal_lines indentation bytes = text_of_lines indentation (body_lines (encode_lower bytes))
 

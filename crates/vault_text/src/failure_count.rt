@@ -3,7 +3,7 @@ ghost use Rattle.vault_text.specs.Failures.{HasRisen, IsLast, last_count};
 
 use std::marker::Model;
 
-/// How many calls of a source or a sink failed. It stops at the last number of 64 bits.
+/// How many calls of a source or a sink failed. It saturates at `u64::MAX`.
 #[derive(Drop)]
 pub struct FailureCount {
     count: u64,

@@ -1,4 +1,4 @@
-//! The header line of an envelope: `$ANSIBLE_VAULT;1.1;AES256`, or format 1.2 with a label behind
+//! The header line of an envelope: `$ANSIBLE_VAULT;1.1;AES256`, or format 1.2 with a label after
 //! one more semicolon.
 ghost use Rattle.std.specs.Prelude.{◌≡◌, ◌==◌, ◌≤◌, [], ◌∷◌, ◌++◌, length, nat_le, is_some};
 ghost use Rattle.std.specs.Prelude.{IfSome, IfNone};
@@ -87,7 +87,7 @@ pub(crate) fn position_of(bytes: &[u8], byte: u8) -> usize
     place
 }
 
-/// What stands before the first such byte, and behind it where there is one.
+/// What comes before the first such byte, and after it where there is one.
 pub(crate) fn split_at_byte(bytes: &[u8], byte: u8) -> (&[u8], Option<&[u8]>)
     ensures before { result.0.now ≡ before_first (λ b. b == byte) bytes.now }
     ensures found { IfSome result.1 (λ rest. bytes.now ≡ result.0.now ++ byte ∷ rest.now) }

@@ -30,7 +30,7 @@ fn digit_value(digit: u8) -> Option<u8>
 }
 
 /// Decodes pairs of digits, each to a byte, and answers whether all were digits. Where one was not,
-/// the bytes mean nothing. Nothing branches on a digit, which no processor could foretell.
+/// the bytes mean nothing. There is no branch on a digit, which would be mispredicted.
 fn decode_pairs(pairs: &[u8], bytes: &mut [u8]) -> bool
     requires { length pairs.now ≡ 2 * length bytes.old }
     ensures { unhex pairs.now ≡ (if result then Some bytes.new else None) }
@@ -126,7 +126,7 @@ impl HexDecoder {
         }
     }
 
-    /// Decodes the bytes that these digits complete, to the front of `bytes`, and answers how many.
+    /// Decodes the bytes that these digits complete, to the start of `bytes`, and answers how many.
     /// Once a digit was bad, the bytes mean nothing.
     pub(crate) fn decode(&mut self, digits: &[u8], bytes: &mut [u8]) -> usize
         requires { byte_count self.old digits.now ≤ length bytes.old }

@@ -68,7 +68,7 @@ impl<'a> Payload<'a> {
         self.cipher
     }
 
-    /// The ciphertext, where it lies in the memory that the reader was lent.
+    /// The ciphertext, where it lies in the memory that the reader borrowed.
     pub fn into_body(self) -> &'a mut [u8]
         ensures { result.now ≡ self.entry.cipher }
     {

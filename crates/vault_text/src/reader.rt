@@ -2,7 +2,7 @@
 //! parts of the inner text that these spell. Each layer takes what the one above hands it.
 ghost use Rattle.std.specs.Prelude.{◌≡◌, ◌≤◌, ℕ, List, [], ◌++◌, length};
 ghost use Rattle.vault_text.specs.Envelope.{read_within};
-ghost use Rattle.vault_text.specs.EnvelopeReader.{StandsFor};
+ghost use Rattle.vault_text.specs.EnvelopeReader.{HasRead};
 ghost use Rattle.vault_text.specs.Limits.{IsWorkLength, envelope_limit, limit_of};
 ghost use Rattle.vault_text.specs.declared.limits.TheConstants.{ENVELOPE_LIMIT};
 
@@ -27,14 +27,14 @@ const RUN_LIMIT: usize = LINE_BYTES;
 /// How many bytes of a part of the inner text that many digits can complete.
 const PART_LIMIT: usize = RUN_LIMIT / 2;
 
-/// Reads an envelope that comes in pieces of any length. Faults are told at the end alone, since
-/// one that comes earlier in the order may still follow. The ciphertext lies in the memory that
-/// the reader is lent; of the rest of the input it keeps no more than its type has room for.
+/// Reads an envelope that comes in pieces of any length. Only `finish` reports a fault, since one
+/// that comes earlier in the order may still be found. The ciphertext lies in the memory
+/// that the reader borrows; of the rest of the input it keeps no more than its type has room for.
 #[derive(Drop)]
 pub struct EnvelopeReader<'a> {
     /// The limit of the plaintext.
     limit: usize,
-    /// How many bytes were given, or the last number of 64 bits.
+    /// How many bytes were read so far; it saturates at `usize::MAX`.
     fed: usize,
     line: HeaderLine,
     body: BodyReader<'a>,
@@ -53,14 +53,14 @@ impl<'a> Model for EnvelopeReader<'a> {
 }
 
 impl<'a> EnvelopeReader<'a> {
-    /// A reader that writes the ciphertext to `work`. Of `work`, all but `PADDING_LIMIT` bytes is
-    /// the limit of the plaintext, from which those of the ciphertext and of the input follow.
+    /// A reader that writes the ciphertext to `work`. Plaintext may have up to `work.len() - 16`
+    /// bytes, ciphertext up to `work.len()`, and the input up to `input_limit()`.
     pub fn new(work: &'a mut [u8]) -> Self
         requires { IsWorkLength (length work.old) }
         ensures limit { result.limit ≡ limit_of (length work.old) }
-        ensures nothing { StandsFor result [] }
+        ensures nothing { HasRead result [] }
     {
-        EnvelopeReader::in_memory(TextMemory::lent(work))
+        EnvelopeReader::in_memory(TextMemory::borrowed(work))
     }
 
     /// A reader that puts the ciphertext into memory that holds no text. Its limits follow from
@@ -69,7 +69,7 @@ impl<'a> EnvelopeReader<'a> {
         requires empty { memory.bytes ≡ [] }
         requires room { IsWorkLength memory.limit }
         ensures limit { result.limit ≡ limit_of memory.entry.limit }
-        ensures nothing { StandsFor result [] }
+        ensures nothing { HasRead result [] }
     {
         EnvelopeReader {
             limit: memory.room() - PADDING_LIMIT,
@@ -91,7 +91,7 @@ impl<'a> EnvelopeReader<'a> {
     pub fn feed(&mut self, piece: &[u8])
         ensures limit { self.new.limit ≡ self.old.limit }
         ensures taken { (input : List ℕ) →
-            StandsFor self.old input → StandsFor self.new (input ++ piece.now) }
+            HasRead self.old input → HasRead self.new (input ++ piece.now) }
     {
         self.fed = self.fed.saturating_add(piece.len());
         let rest = self.line.extend(piece);
@@ -103,7 +103,7 @@ impl<'a> EnvelopeReader<'a> {
     /// where the ciphertext does not fit in the memory.
     pub fn finish(self) -> Result<Payload<'a>, TextFault>
         ensures { (input : List ℕ) →
-            StandsFor self.entry input → result ≡ read_within self.entry.limit input }
+            HasRead self.entry input → result ≡ read_within self.entry.limit input }
     {
         let EnvelopeReader {
             limit,

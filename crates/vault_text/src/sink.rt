@@ -38,7 +38,7 @@ pub trait Sink {
 
     ghost stage: { Self → Stage };
 
-    // How many calls failed; it stops at the last number of 64 bits.
+    // How many calls failed; it saturates at `u64::MAX`.
     ghost failures: { Self → ℕ };
 
     /// Opens the sink.

@@ -23,13 +23,13 @@ pub trait Source {
     // The bytes given between two states.
     ghost gives: { Self → List ℕ → Self → Type 0 };
 
-    // Whether the end was told.
+    // Whether the end was reported.
     ghost ended: { Self → Bool };
 
-    // How many calls failed; it stops at the last number of 64 bits.
+    // How many calls failed; it saturates at `u64::MAX`.
     ghost failures: { Self → ℕ };
 
-    /// Gives the next bytes at the front of `buf` and answers how many: 0 means the end, after
+    /// Gives the next bytes at the start of `buf` and answers how many: 0 means the end, after
     /// which each call answers 0 or fails. A failed call gives none.
     fn fill(&mut self, buf: &mut [u8]) -> Result<usize, SourceFailed>
         requires { 0 < length buf.old }
@@ -50,7 +50,7 @@ pub trait Source {
     ghost failures_stay: { (s t : Self) (xs : List ℕ) → gives s xs t → failures s ≤ failures t };
 }
 
-/// Reads until the end or until `buf` is full, and answers how many bytes stand at its front. An
+/// Reads until the end or until `buf` is full, and answers how many bytes are at its start. An
 /// empty `buf` asks nothing. After a failure `buf` holds any bytes.
 pub fn fill_up<S: Source>(source: &mut S, buf: &mut [u8]) -> Result<usize, SourceFailed>
     ensures empty { length buf.old ≡ 0 → (result ≡ Ok 0) × (source.new ≡ source.old) }

@@ -3,18 +3,18 @@ ghost use Rattle.std.specs.Prelude.{◌≡◌, ◌+◌, ◌≤◌, ◌++◌, [],
 
 use std::marker::Model;
 
-/// Where the text lies, at the front.
+/// Where the text lies, at the start.
 #[derive(Drop)]
 pub(crate) enum Place<'a> {
-    /// In a slice, so many bytes of which are the text.
-    Lent(&'a mut [u8], usize),
+    /// In a slice, of which this many bytes are the text.
+    Borrowed(&'a mut [u8], usize),
     /// In a vector, all of which is the text.
     Reserved(&'a mut Vec<u8>),
 }
 
-/// Memory for one text, which grows at its end up to a limit and never asks for more memory. A lent
-/// slice was touched as a whole when it was made; of a vector's capacity no more is touched than
-/// the text takes.
+/// Memory for one text, which grows at its end up to a limit and never asks for more memory. A
+/// borrowed slice was touched as a whole when it was made; of a vector's capacity no more is
+/// touched than the text takes.
 #[derive(Drop)]
 pub struct TextMemory<'a> {
     place: Place<'a>,
@@ -33,12 +33,12 @@ impl<'a> Model for TextMemory<'a> {
 
 impl<'a> TextMemory<'a> {
     /// The whole slice, with no text in it.
-    pub fn lent(memory: &'a mut [u8]) -> Self
+    pub fn borrowed(memory: &'a mut [u8]) -> Self
         ensures { result ≡ record { bytes = []; limit = length memory.old } }
     {
         let limit = memory.len();
         TextMemory {
-            place: Place::Lent(memory, 0),
+            place: Place::Borrowed(memory, 0),
             limit,
         }
     }
@@ -60,19 +60,19 @@ impl<'a> TextMemory<'a> {
         ensures { length self.now.bytes + result ≡ self.now.limit }
     {
         match &self.place {
-            Place::Lent(_, filled) => self.limit - *filled,
+            Place::Borrowed(_, filled) => self.limit - *filled,
             Place::Reserved(memory) => self.limit - memory.len(),
         }
     }
 
-    /// Puts bytes behind the text.
+    /// Puts bytes after the text.
     pub fn put(&mut self, bytes: &[u8])
         requires { length self.old.bytes + length bytes.now ≤ self.old.limit }
         ensures { self.new
             ≡ record { bytes = self.old.bytes ++ bytes.now; limit = self.old.limit } }
     {
         match &mut self.place {
-            Place::Lent(memory, filled) => {
+            Place::Borrowed(memory, filled) => {
                 let end = *filled + bytes.len();
                 memory[*filled..end].copy_from_slice(bytes);
                 *filled = end;
@@ -91,12 +91,12 @@ impl<'a> TextMemory<'a> {
     {
         let TextMemory { place, limit: _ } = self;
         match place {
-            Place::Lent(memory, filled) => &mut memory[..filled],
+            Place::Borrowed(memory, filled) => &mut memory[..filled],
             Place::Reserved(memory) => memory.as_mut_slice(),
         }
     }
 
-    /// The text, where it lies, and behind it so many bytes more, of any value.
+    /// The text, where it lies, followed by `spare` further bytes of unspecified value.
     pub fn into_bytes_and_spare(self, spare: usize) -> &'a mut [u8]
         requires { length self.bytes + spare ≤ self.limit }
         ensures bytes { take (length self.entry.bytes) result.now ≡ self.entry.bytes }
@@ -104,7 +104,7 @@ impl<'a> TextMemory<'a> {
     {
         let TextMemory { place, limit: _ } = self;
         match place {
-            Place::Lent(memory, filled) => &mut memory[..filled + spare],
+            Place::Borrowed(memory, filled) => &mut memory[..filled + spare],
             Place::Reserved(memory) => {
                 // It stays within the capacity.
                 let _ = memory.resize(memory.len() + spare, 0);

@@ -27,7 +27,7 @@ struct Parts<'a> {
     ciphertext: &'a [u8],
 }
 
-/// What stands before each line of an envelope in a block.
+/// What comes before each line of an envelope in a block.
 const BLOCK_INDENTATION: &[u8; INDENTATION_LIMIT] = b"          ";
 
 /// Writes an envelope of format 1.1 for the label `default`, and of format 1.2 for any other. After
@@ -58,7 +58,7 @@ pub fn write_envelope<K: Sink>(
     put_lines(sink, &[], &[], &parts)
 }
 
-/// Writes an envelope as a YAML block, for a variable of the name if there is one that is not
+/// Writes an envelope as a YAML block for the variable `name`, or without a name if it is absent or
 /// empty. After a failure the sink has taken a prefix of it.
 pub fn write_block<K: Sink>(
     sink: &mut K,
@@ -112,7 +112,7 @@ fn block_start(name: &str) -> &[u8]
     }
 }
 
-/// Writes what begins a text, and the lines of an envelope behind an indentation. The header line
+/// Writes what begins a text, and the lines of an envelope after an indentation. The header line
 /// goes out with the first lines of the body, so that a reader that leaves after it breaks nothing.
 fn put_lines<K: Sink>(
     sink: &mut K,

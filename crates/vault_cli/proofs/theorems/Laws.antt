@@ -8,28 +8,29 @@ use Rattle.vault_core.specs.Form.{Envelope}
 use Rattle.vault_core.specs.Laws.{EncryptedDecrypts, RekeyedDecrypts, ShortInputs}
 use Rattle.vault_core.specs.Rekeying.{rekeying}
 use Rattle.vault_core.specs.Secrets.{Secret, SecretList}
-use Rattle.vault_common.specs.declared.fault.Fault.{Fault}
-use Rattle.vault_cli.specs.Laws.{EncryptThenDecrypt, OpensWith, OutcomesAreDecided}
+use Rattle.vault_fault.specs.declared.fault.Fault.{Fault}
+use Rattle.vault_cli.specs.Laws.{EncryptThenDecrypt, UnsealsWith, AnswersAreDecided}
 use Rattle.vault_cli.specs.Laws.{RekeyKeepsThePlaintext, ShortTexts}
-use Rattle.vault_cli.specs.runs.Outcome.{Outcome, answered, input_limit, outcome_within, performed}
-use Rattle.vault_cli.specs.runs.Outcome.{ready_by, room_limit, task_limit, text_of_request}
+use Rattle.vault_cli.specs.runs.Answer.{Answer, answered, input_limit, run_answer_within, performed}
+use Rattle.vault_cli.specs.runs.Answer.{ready_by, room_limit, task_limit, text_of_request}
 use Rattle.vault_request.specs.Request.{Request}
-use Rattle.vault_cli.specs.runs.Task.{Task, Seal, Open, Reseal, prepared}
-use Rattle.vault_common.specs.declared.label_rule.LabelRule.TheVariants.{Hint}
+use Rattle.vault_cli.specs.runs.Task.{Task, Seal, Unseal, Reseal, planned}
+use Rattle.vault_fault.specs.declared.label_rule.LabelRule.TheVariants.{Hint}
 use Rattle.vault_request.specs.declared.command_name.CommandName.{CommandName}
 use Rattle.vault_request.specs.declared.command_name.CommandName.TheVariants as command
-use Rattle.vault_cli.proofs.LawsLemmas.{answered-some, sound-prepared, text-input}
-use Rattle.vault_cli.proofs.OutcomeLemmas.{outcome-performed, ready-text}
+use Rattle.vault_cli.proofs.LawsLemmas.{answered-some, sound-planned, text-input}
+use Rattle.vault_cli.proofs.AnswerLemmas.{run_answer-performed, ready-text}
 use Rattle.vault_cli.specs.declared.runs.status.Status.TheVariants.{Refused, Success}
 use Rattle.vault_core.specs.Ready.{Ready}
 use Rattle.vault_cli.proofs.StatusLemmas.{IsRefusedAlone, alone-err, alone-performed}
-use Rattle.vault_cli.proofs.StatusLemmas.{alone-prepared}
-use Rattle.vault_cli.proofs.TaskLemmas.{limit-prepared}
+use Rattle.vault_cli.proofs.StatusLemmas.{alone-planned}
+use Rattle.vault_cli.proofs.TaskLemmas.{limit-planned}
 
 -- what a request that opens answers
 opened : (limit : ℕ) (request : Request) (contents : List (List ℕ)) (salt input : List ℕ)
-    (secrets : SecretList) → OpensWith request contents salt secrets
-    → outcome_within limit request contents salt input ≡ answered (decryption limit secrets input)
+    (secrets : SecretList) → UnsealsWith request contents salt secrets
+    → run_answer_within limit request contents salt input
+    ≡ answered (decryption limit secrets input)
 opened limit request contents salt input secrets opens =
     let other : request.command ≢ command.EncryptString = λ string. elim opens.command [
       | inl decrypt ↦
@@ -37,27 +38,28 @@ opened limit request contents salt input secrets opens =
       | inr view ↦ let wrong : command.View ≡ command.EncryptString = sym view ∙ string in absurd cc
     ] in
     let text = text-input request input opens.settled other in
-    outcome-performed request contents salt limit input (Open secrets) opens.found
+    run_answer-performed request contents salt limit input (Unseal secrets) opens.found
     ∙ ap (λ t. answered (decryption limit secrets t)) text
 
 pub encrypt_then_decrypt : EncryptedDecrypts → EncryptThenDecrypt
-encrypt_then_decrypt law limit encrypting opening contents other_contents salt other_salt input
+encrypt_then_decrypt law limit encrypting decrypting contents other_contents salt other_salt input
     envelope list index used secrets known encrypts text_bytes salt_bytes input_bytes sealed written
     opens first =
     let other : encrypting.command ≢ command.EncryptString =
     λ string. let wrong : command.Encrypt ≡ command.EncryptString =
     sym encrypts ∙ string in absurd cc in
     let text = text-input encrypting input known other in
-    let (label, used_salt) = sound-prepared encrypting known salt text_bytes salt_bytes contents
+    let (label, used_salt) = sound-planned encrypting known salt text_bytes salt_bytes contents
     (Seal list index Envelope used) sealed in
-    let out = outcome-performed encrypting contents salt limit input (Seal list index Envelope used)
+    let out = run_answer-performed encrypting contents salt limit input
+    (Seal list index Envelope used)
     sealed in
     let (ready, is, same) = answered-some
     (encryption limit list index Envelope used (text_of_request encrypting input)) envelope
-    (sym (ap (λ (o : Outcome). o.output) out) ∙ written) in
+    (sym (ap (λ (o : Answer). o.output) out) ∙ written) in
     let plain = law limit list index used input ready label used_salt.bytes used_salt.limit
     input_bytes (sym (ap (encryption limit list index Envelope used) text) ∙ is) secrets first in
-    opened limit opening other_contents other_salt envelope secrets opens
+    opened limit decrypting other_contents other_salt envelope secrets opens
     ∙ ap answered (rw same at plain)
 
 pub rekey_keeps_the_plaintext : RekeyedDecrypts → RekeyKeepsThePlaintext
@@ -68,13 +70,13 @@ rekey_keeps_the_plaintext law limit rekeying before after contents old_contents 
     λ string. let wrong : command.Rekey ≡ command.EncryptString =
     sym rekeys ∙ string in absurd cc in
     let text = text-input rekeying input known other in
-    let (label, used_salt) = sound-prepared rekeying known salt text_bytes salt_bytes contents
+    let (label, used_salt) = sound-planned rekeying known salt text_bytes salt_bytes contents
     (Reseal secrets new used) found in
-    let out = outcome-performed rekeying contents salt limit input (Reseal secrets new used)
+    let out = run_answer-performed rekeying contents salt limit input (Reseal secrets new used)
     found in
     let (ready, is, same) = answered-some
     (performed limit (Reseal secrets new used) (text_of_request rekeying input)) envelope
-    (sym (ap (λ (o : Outcome). o.output) out) ∙ written) in
+    (sym (ap (λ (o : Answer). o.output) out) ∙ written) in
     let (plain, was, opens_to) = law limit secrets new used input ready label used_salt.bytes
     used_salt.limit (sym (ap (performed limit (Reseal secrets new used)) text) ∙ is) in
     opened limit after new_contents new_salt envelope (record { secrets = new ∷ []; rule = rule })
@@ -101,7 +103,7 @@ envelope-room limit text command.Rekey short = short
 -- how long a text may be that a task has room for wherever so much plaintext does
 abbrev task_room : ℕ → Task → ℕ
 task_room limit (Seal secrets index form salt) = limit
-task_room limit (Open secrets) = 4 * limit
+task_room limit (Unseal secrets) = 4 * limit
 task_room limit (Reseal secrets new salt) = 4 * limit
 
 -- a text that has room under both limits
@@ -110,7 +112,7 @@ module _ (law : ShortInputs) (smaller larger : ℕ) (text : List ℕ) (more : sm
       → performed larger task text ≡ performed smaller task text
   short-performed (Seal secrets index form salt) short =
       (law smaller larger text more secrets index form no_secrets no_secret salt).0 short
-  short-performed (Open secrets) short =
+  short-performed (Unseal secrets) short =
       ((law smaller larger text more [] 0 Envelope secrets no_secret []).1 short).0
   short-performed (Reseal secrets new salt) short =
       ((law smaller larger text more [] 0 Envelope secrets new salt).1 short).1
@@ -129,7 +131,7 @@ module _ (law : ShortInputs) (smaller larger : ℕ) (text : List ℕ) (more : sm
       sealed-short command.Decrypt same short = absurd (omega (arith, same))
       sealed-short command.View same short = absurd (omega (arith, same))
       sealed-short command.Rekey same short = absurd (omega (arith, same))
-  room-of_task (Open secrets) name same short = envelope-room smaller text name short
+  room-of_task (Unseal secrets) name same short = envelope-room smaller text name short
   room-of_task (Reseal secrets new salt) name same short = envelope-room smaller text name short
 
 short-tasks : (larger smaller : ℕ) (string : Option (List ℕ)) (input : List ℕ)
@@ -143,18 +145,18 @@ short-tasks larger smaller string input (Ok task) h =
 short-tasks larger smaller string input (Err fault) h = refl
 
 pub short_texts : ShortInputs → ShortTexts
-unfolding outcome_within
+unfolding run_answer_within
 short_texts law smaller larger request contents salt input short more =
     let text = text_of_request request input in
     ap answered
-    (short-tasks larger smaller request.string input (prepared request contents salt) (λ task found.
+    (short-tasks larger smaller request.string input (planned request contents salt) (λ task found.
     short-performed law smaller larger text more task
     (room-of_task law smaller larger text more task request.command
-    (limit-prepared smaller request contents salt task found) short)))
+    (limit-planned smaller request contents salt task found) short)))
 
 -- what is refused is refused with status 1
-ready-alone : (limit : ℕ) (prepares : Result Task Fault) (string : Option (List ℕ)) (input : List ℕ)
-    → IsRefusedAlone prepares → IsRefusedAlone (ready_by limit prepares string (Ok input))
+ready-alone : (limit : ℕ) (plans : Result Task Fault) (string : Option (List ℕ)) (input : List ℕ)
+    → IsRefusedAlone plans → IsRefusedAlone (ready_by limit plans string (Ok input))
 ready-alone limit (Err fault) string input alone = alone-err fault (alone.status fault refl)
 ready-alone limit (Ok task) None input alone = alone-performed limit task input
 ready-alone limit (Ok task) (Some string) input alone = alone-performed limit task string
@@ -164,9 +166,9 @@ decided : (ready : Result Ready Fault) → IsRefusedAlone ready
 decided (Ok ready) alone = inl refl
 decided (Err fault) alone = inr (alone.status fault refl)
 
-pub outcomes_are_decided : OutcomesAreDecided
-unfolding outcome_within
-outcomes_are_decided limit request contents salt input =
-    decided (ready_by limit (prepared request contents salt) request.string (Ok input))
-    (ready-alone limit (prepared request contents salt) request.string input
-    (alone-prepared request contents salt))
+pub answers_are_decided : AnswersAreDecided
+unfolding run_answer_within
+answers_are_decided limit request contents salt input =
+    decided (ready_by limit (planned request contents salt) request.string (Ok input))
+    (ready-alone limit (planned request contents salt) request.string input
+    (alone-planned request contents salt))

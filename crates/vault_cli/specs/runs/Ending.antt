@@ -4,11 +4,11 @@ use Rattle.vault_text.specs.Failures.{HasRisen}
 use Rattle.vault_text.specs.declared.sink.Stage.TheVariants.{Finished, Unbegun}
 use Rattle.vault_files.specs.declared.access.Access.{Access}
 use Rattle.vault_core.specs.Input.{IsReadToEndOrPastLimit}
-use Rattle.vault_common.specs.declared.fault.Fault.TheVariants.{Memory, Read, Write}
-use Rattle.vault_common.specs.declared.fault.Role.TheVariants.{Input}
+use Rattle.vault_fault.specs.declared.fault.Fault.TheVariants.{Memory, Read, Write}
+use Rattle.vault_fault.specs.declared.fault.Role.TheVariants.{Input}
 use Rattle.vault_cli.specs.Call.{SinkCall, SourceCall, StoreCall}
 use Rattle.vault_cli.specs.runs.ReportLine.{line_of}
-use Rattle.vault_cli.specs.runs.Outcome.{Outcome}
+use Rattle.vault_cli.specs.runs.Answer.{Answer}
 use Rattle.vault_cli.specs.runs.Reports.{Says}
 use Rattle.vault_cli.specs.declared.runs.status.Status.{Status}
 use Rattle.vault_cli.specs.declared.runs.status.Status.TheVariants.{DeviceFailed, OutOfMemory}
@@ -45,9 +45,9 @@ to_path None access files out = record {
 }
 to_path {F = F} (Some path) access files out = record {
   untouched = (out.new ≡ out.old) × (files.stage files.new ≡ Unbegun)
-      × ((files.new ≡ files.old) ⊎ files.aimed files.old path access files.new);
+      × ((files.new ≡ files.old) ⊎ files.output_set files.old path access files.new);
   wrote = λ bytes. (out.new ≡ out.old)
-      × ((chosen : F) × files.aimed files.old path access chosen
+      × ((chosen : F) × files.output_set files.old path access chosen
       × files.takes chosen bytes files.new);
   finished = files.stage files.new ≡ Finished;
   failed = HasRisen (files.failures files.old) (files.failures files.new);
@@ -61,14 +61,14 @@ Receives out (Some bytes) = out.wrote bytes × out.finished
 
 module _ {E : Type 0} (out : Output) (err : SinkCall E) (result : Status) where
   -- it answered: status, output and line are the answer's
-  pub record IsAnswered (answer : Outcome) : Type 0 where
+  pub record IsAnswered (answer : Answer) : Type 0 where
     pub status : result ≡ answer.status
     pub unfailed : out.unfailed
     pub output : Receives out answer.output
     pub line : Says err answer.line
 
   -- the output failed: it has taken a prefix of the answer's
-  pub record OutputFails (answer : Outcome) : Type 0 where
+  pub record OutputFails (answer : Answer) : Type 0 where
     pub status : result ≡ DeviceFailed
     pub failed : out.failed
     pub output : (bytes : List ℕ) × (answer.output ≡ Some bytes)
@@ -76,7 +76,7 @@ module _ {E : Type 0} (out : Output) (err : SinkCall E) (result : Status) where
     pub line : Says err (line_of Write)
 
   -- one of the two
-  abbrev pub Finishes : Outcome → Type 0
+  abbrev pub Finishes : Answer → Type 0
   Finishes answer = IsAnswered answer ⊎ OutputFails answer
 
   -- the source failed, which only a run may tell that asked it
@@ -102,17 +102,17 @@ module _ {E : Type 0} (out : Output) (err : SinkCall E) (result : Status) where
         × IsReadToEndOrPastLimit limit (src.ended src.new) input
 
     -- the source was left alone; so it did not fail
-    abbrev pub EndsUnasked : Outcome → Type 0
-    EndsUnasked answer = (src.new ≡ src.old) × Finishes answer
+    abbrev pub EndsUnread : Answer → Type 0
+    EndsUnread answer = (src.new ≡ src.old) × Finishes answer
 
     -- it was asked for an input up to the limit and one byte, and gave this; where it failed, no
     -- byte past the limit
-    abbrev pub EndsAsked : ℕ → List ℕ → Outcome → Type 0
-    EndsAsked limit input answer =
+    abbrev pub EndsHavingRead : ℕ → List ℕ → Answer → Type 0
+    EndsHavingRead limit input answer =
         src.gives src.old input src.new × (length input ≤ limit + 1)
         × ((SourceFails src × (length input ≤ limit)) ⊎ (IsRead limit input × Finishes answer))
 
-    -- so much of the source was asked for, or none, and the answer is that to what it gave
-    abbrev pub Ends : Option ℕ → (List ℕ → Outcome) → Type 0
-    Ends None answers = EndsUnasked (answers [])
-    Ends (Some limit) answers = (input : List ℕ) × EndsAsked limit input (answers input)
+    -- this much of the source was read, or none, and the answer is that to what it gave
+    abbrev pub Ends : Option ℕ → (List ℕ → Answer) → Type 0
+    Ends None answers = EndsUnread (answers [])
+    Ends (Some limit) answers = (input : List ℕ) × EndsHavingRead limit input (answers input)

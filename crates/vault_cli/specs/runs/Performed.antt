@@ -2,9 +2,9 @@
 use Rattle.std.specs.Prelude.{◌≡◌, List, ℕ, Option, Some, None, Result}
 use Rattle.vault_core.specs.Input.{ReadsThenAnswers}
 use Rattle.vault_core.specs.Ready.{Ready}
-use Rattle.vault_common.specs.declared.fault.Fault.{Fault}
+use Rattle.vault_fault.specs.declared.fault.Fault.{Fault}
 use Rattle.vault_cli.specs.Call.{SourceCall}
-use Rattle.vault_cli.specs.runs.Outcome.{performed, task_limit}
+use Rattle.vault_cli.specs.runs.Answer.{performed, task_limit}
 use Rattle.vault_cli.specs.runs.Task.{Task}
 
 module _ {S : Type 0} (src : SourceCall S) (limit : ℕ) (task : Task)

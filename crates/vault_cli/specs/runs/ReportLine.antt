@@ -1,7 +1,7 @@
 -- The lines on standard error: of a fault, and of arguments that are no text.
 use Rattle.std.specs.Prelude.{ℕ, List, [], ◌∷◌, ◌++◌, codes}
-use Rattle.vault_common.specs.Fault.{text_of}
-use Rattle.vault_common.specs.declared.fault.Fault.{Fault}
+use Rattle.vault_fault.specs.Fault.{text_of}
+use Rattle.vault_fault.specs.declared.fault.Fault.{Fault}
 
 -- `ERROR! `, the text, LF
 abbrev pub line_of : Fault → List ℕ

@@ -10,9 +10,9 @@ use Rattle.vault_core.specs.Form.{Form, Envelope, Block}
 use Rattle.vault_text.specs.Steps.{◌>>=◌}
 use Rattle.vault_core.specs.Password.{password_of}
 use Rattle.vault_core.specs.Secrets.{Secret, SecretList}
-use Rattle.vault_common.specs.declared.fault.Fault.{Fault}
-use Rattle.vault_common.specs.declared.fault.Fault.TheVariants.{NeedNewSecret, SaltShort}
-use Rattle.vault_common.specs.declared.fault.Fault.TheVariants.{SecretEmpty}
+use Rattle.vault_fault.specs.declared.fault.Fault.{Fault}
+use Rattle.vault_fault.specs.declared.fault.Fault.TheVariants.{NeedNewSecret, SaltShort}
+use Rattle.vault_fault.specs.declared.fault.Fault.TheVariants.{SecretEmpty}
 use Rattle.vault_request.specs.Request.{Request, SecretFile}
 use Rattle.vault_cli.specs.declared.limits.TheConstants.{SEALING_SALT_LENGTH}
 use Rattle.vault_request.specs.declared.command_name.CommandName.{CommandName}
@@ -24,13 +24,13 @@ use Rattle.vault_request.specs.declared.command_name.CommandName.TheVariants.{En
 -- it; to open it and to seal it again under a new secret
 pub data Task : Type 0 where
   Seal : (secrets : List Secret) (index : ℕ) (form : Form) (salt : List ℕ) → Task
-  Open : (secrets : SecretList) → Task
+  Unseal : (secrets : SecretList) → Task
   Reseal : (secrets : SecretList) (new : Secret) (salt : List ℕ) → Task
 
 -- the index of a task is in its list
 abbrev pub HasValidIndex : Task → Type 0
 HasValidIndex (Seal secrets index form salt) = index < length secrets
-HasValidIndex (Open secrets) = Unit {0}
+HasValidIndex (Unseal secrets) = Unit {0}
 HasValidIndex (Reseal secrets new salt) = Unit {0}
 
 -- the password in a file that holds these bytes
@@ -95,14 +95,14 @@ abbrev pub task_of : CommandName → Request → SecretList → List ℕ → Lis
 task_of Encrypt request list last salt = seal_of request list.secrets Envelope salt
 task_of EncryptString request list last salt =
     seal_of request list.secrets (Block request.name) salt
-task_of Decrypt request list last salt = Ok (Open list)
-task_of View request list last salt = Ok (Open list)
+task_of Decrypt request list last salt = Ok (Unseal list)
+task_of View request list last salt = Ok (Unseal list)
 task_of Rekey request list last salt = reseal_of request list last salt
 
 -- steps 1 to 3: the task of a request, of the contents of its password files, of which that of the
 -- new secret is the last, and of a salt, or the first fault
-unfoldable pub prepared : Request → List (List ℕ) → List ℕ → Result Task Fault
-prepared request contents salt = do
+unfoldable pub planned : Request → List (List ℕ) → List ℕ → Result Task Fault
+planned request contents salt = do
   -- step 1
   list ← secret_list_of request contents
   -- the new password of `rekey`, and steps 2 and 3

@@ -8,8 +8,8 @@ ghost use Rattle.vault_cli.specs.runs.Reports.{Reports};
 
 use crate::runs::status::{Status, status_of};
 use arrayvec::ArrayVec;
-use vault_common::FAULT_TEXT_LIMIT;
 use vault_core::Fault;
+use vault_fault::FAULT_TEXT_LIMIT;
 use vault_text::{Sink, SinkFailed, Stage, put_all};
 
 /// What each line begins with.

@@ -34,7 +34,7 @@ impl Status {
     }
 }
 
-/// How a run ends that meets the fault.
+/// How a run with this fault ends.
 pub(crate) fn status_of(fault: Fault) -> Status
     ensures { result ≡ status_of fault }
 {

@@ -4,14 +4,14 @@ ghost use Rattle.std.specs.Prelude.{Err, IfErr, IfOk};
 ghost use Rattle.vault_core.specs.Form.{form_of};
 ghost use Rattle.vault_text.specs.Failures.{IsLast};
 ghost use Rattle.vault_text.specs.Limits.{IsWorkLength, limit_of};
-ghost use Rattle.vault_common.specs.declared.fault.Fault.TheVariants.{Read};
-ghost use Rattle.vault_common.specs.declared.fault.Role.TheVariants.{Input};
+ghost use Rattle.vault_fault.specs.declared.fault.Fault.TheVariants.{Read};
+ghost use Rattle.vault_fault.specs.declared.fault.Role.TheVariants.{Input};
 ghost use Rattle.vault_cli.specs.Call.{source};
 ghost use Rattle.vault_cli.specs.runs.Performed.{PerformsOnInput};
 ghost use Rattle.vault_request.specs.CommandName.{rekeys};
 ghost use Rattle.vault_request.specs.Request.{files_of};
 ghost use Rattle.vault_cli.specs.runs.StoredTask.{task_in};
-ghost use Rattle.vault_cli.specs.runs.Task.{HasValidIndex, prepared, reseal_of, salt_of, seal_of};
+ghost use Rattle.vault_cli.specs.runs.Task.{HasValidIndex, planned, reseal_of, salt_of, seal_of};
 
 use crate::limits::SEALING_SALT_LENGTH;
 use crate::runs::passwords::{new_secret_in, secrets_of};
@@ -34,7 +34,7 @@ pub(crate) enum Task<'p> {
         salt: Salt,
     },
     /// To decrypt it.
-    Open {
+    Unseal {
         secrets: Secrets<'p>,
     },
     /// To decrypt it, and to encrypt the plaintext with another secret.
@@ -46,24 +46,24 @@ pub(crate) enum Task<'p> {
 }
 
 /// Finds the passwords of a request, the secret that seals and the salt; faults come in this order.
-#[tactic(auto, unfolding(crate::specs::runs::Task::prepared))]
-pub(crate) fn prepare<'p>(
+#[tactic(auto, unfolding(crate::specs::runs::Task::planned))]
+pub(crate) fn plan<'p>(
     request: &'p Request,
     secret_files: &'p [Vec<u8>],
     salt: &[u8],
 ) -> Result<Task<'p>, Fault>
     requires { length secret_files.now ≡ length (files_of request.now) }
-    ensures prepared { let contents = map (λ file. file.items) secret_files.now in
-        IfOk result (λ task. prepared request.now contents salt.now ≡ Ok (task_in task)) }
+    ensures planned { let contents = map (λ file. file.items) secret_files.now in
+        IfOk result (λ task. planned request.now contents salt.now ≡ Ok (task_in task)) }
     ensures refused { let contents = map (λ file. file.items) secret_files.now in
-        IfErr result (λ fault. prepared request.now contents salt.now ≡ Err fault) }
+        IfErr result (λ fault. planned request.now contents salt.now ≡ Err fault) }
     ensures index { IfOk result (λ task. HasValidIndex (task_in task)) }
 {
     let secrets = secrets_of(request, secret_files)?;
     match request.command() {
         CommandName::Encrypt => seal(request, secrets, Form::Envelope, salt),
         CommandName::EncryptString => seal(request, secrets, Form::Block(request.name()), salt),
-        CommandName::Decrypt | CommandName::View => Ok(Task::Open { secrets }),
+        CommandName::Decrypt | CommandName::View => Ok(Task::Unseal { secrets }),
         CommandName::Rekey => reseal(request, secrets, secret_files, salt),
     }
 }
@@ -149,7 +149,7 @@ impl<'p> Task<'p> {
                 form,
                 salt,
             } => prepare_encrypt_in(src, memory, secrets, *index, *form, salt, &mut meter),
-            Task::Open { secrets } => prepare_decrypt_in(src, memory, secrets, &mut meter),
+            Task::Unseal { secrets } => prepare_decrypt_in(src, memory, secrets, &mut meter),
             Task::Reseal { secrets, new, salt } => {
                 prepare_rekey_in(src, memory, secrets, new, salt, &mut meter)
             }

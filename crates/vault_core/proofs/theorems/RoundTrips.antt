@@ -9,17 +9,17 @@ use Rattle.vault_core.specs.Encryption.{encryption, is_vault}
 use Rattle.vault_core.specs.Form.{Envelope}
 use Rattle.vault_core.specs.Laws.{EncryptedDecrypts, IsTriedFirst, RekeyedDecrypts}
 use Rattle.vault_aes.specs.Padding.{padded_length}
-use Rattle.vault_core.specs.Opening.{opening}
+use Rattle.vault_core.specs.Unsealing.{unsealing}
 use Rattle.vault_core.specs.Ready.{Ready}
 use Rattle.vault_core.specs.Rekeying.{rekeying, resealing}
 use Rattle.vault_core.specs.Sealing.{sealed, text_in}
 use Rattle.vault_core.specs.Secrets.{Secret, SecretList, secret_at, tried_behind, tried_order}
-use Rattle.vault_common.specs.declared.fault.Fault.{Fault}
-use Rattle.vault_common.specs.declared.label_rule.LabelRule.{LabelRule}
+use Rattle.vault_fault.specs.declared.fault.Fault.{Fault}
+use Rattle.vault_fault.specs.declared.label_rule.LabelRule.{LabelRule}
 use Rattle.vault_core.proofs.DecryptionLemmas.{decryption-Ok}
 use Rattle.vault_core.proofs.EncryptionLemmas.{encryption-sealed, encryption-too_long}
 use Rattle.vault_core.proofs.EncryptionLemmas.{encryption-vault}
-use Rattle.vault_core.proofs.OpeningPlaintextLemmas.{FitsAgain-decryption}
+use Rattle.vault_core.proofs.UnsealingPlaintextLemmas.{FitsAgain-decryption}
 use Rattle.vault_core.proofs.RekeyingLemmas.{rekeying-no_payload, rekeying-payload, resealing-Err}
 use Rattle.vault_core.proofs.RekeyingLemmas.{resealing-sealed, resealing-vault}
 use Rattle.vault_core.proofs.theorems.SealedOpens.{bytes_eq-same, sealed_opens}
@@ -67,31 +67,32 @@ encrypted_decrypts limit list index salt input ready label salt_bytes salt_fits 
 
 module _ (limit : ℕ) (secrets : SecretList) (new : Secret) (salt input : List ℕ) (ready : Ready)
     (is : rekeying limit secrets new salt input ≡ Ok ready) where
-  pub rekeying-made : (opened : Ready) × (decryption limit secrets input ≡ Ok opened)
-      × (ready ≡ envelope_of new salt opened.output opened.tried)
+  pub rekeying-made : (unsealed : Ready) × (decryption limit secrets input ≡ Ok unsealed)
+      × (ready ≡ envelope_of new salt unsealed.output unsealed.tried)
   rekeying-made = by_payload (payload_of limit input) refl
     where
       Made : Type 0
       Made =
-          (opened : Ready) × (decryption limit secrets input ≡ Ok opened)
-          × (ready ≡ envelope_of new salt opened.output opened.tried)
+          (unsealed : Ready) × (decryption limit secrets input ≡ Ok unsealed)
+          × (ready ≡ envelope_of new salt unsealed.output unsealed.tried)
 
-      by_opened : (payload : Payload) → resealing secrets new salt payload ≡ Ok ready
-          → (answer : Result Ready Fault) → opening secrets payload ≡ answer
+      by_unsealed : (payload : Payload) → resealing secrets new salt payload ≡ Ok ready
+          → (answer : Result Ready Fault) → unsealing secrets payload ≡ answer
           → decryption limit secrets input ≡ answer → Made
-      by_opened payload is (Err fault) known same =
+      by_unsealed payload is (Err fault) known same =
           let wrong = sym (resealing-Err secrets new salt payload fault (sym known)) ∙ is in
           absurd cc
-      by_opened payload is (Ok opened) known same = elim (cases_Bool (is_vault opened.output)) [
-        | inl vault ↦
-            let wrong =
-            sym (resealing-vault secrets new salt payload opened (sym known) vault) ∙ is in
-            absurd cc
-        | inr plain ↦
-            let made =
-            sym (resealing-sealed secrets new salt payload opened (sym known) plain) ∙ is in
-            (opened, same, sym cc)
-      ]
+      by_unsealed payload is (Ok unsealed) known same =
+          elim (cases_Bool (is_vault unsealed.output)) [
+            | inl vault ↦
+                let wrong =
+                sym (resealing-vault secrets new salt payload unsealed (sym known) vault) ∙ is in
+                absurd cc
+            | inr plain ↦
+                let made =
+                sym (resealing-sealed secrets new salt payload unsealed (sym known) plain) ∙ is in
+                (unsealed, same, sym cc)
+          ]
 
       by_payload : (read : Result Payload Fault) → payload_of limit input ≡ read → Made
       by_payload (Err fault) known =
@@ -101,7 +102,7 @@ module _ (limit : ℕ) (secrets : SecretList) (new : Secret) (salt input : List 
       by_payload (Ok payload) known =
           let resealed =
           sym (rekeying-payload limit secrets new salt input payload (sym known)) ∙ is in
-          by_opened payload resealed (opening secrets payload) refl
+          by_unsealed payload resealed (unsealing secrets payload) refl
           (decryption-Ok limit secrets input payload (sym known))
 
 -- a list of one secret tries it first for its own label

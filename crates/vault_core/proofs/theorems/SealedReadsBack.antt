@@ -10,7 +10,7 @@ use Rattle.vault_text.specs.Limits.{ciphertext_limit}
 use Rattle.vault_text.specs.declared.limits.TheConstants.{SALT_LIMIT, TAG_LENGTH}
 use Rattle.vault_text.proofs.theorems.WrittenReadsBack.{written_reads_back}
 use Rattle.vault_core.specs.Decryption.{payload_of}
-use Rattle.vault_common.specs.Fault.{of_text}
+use Rattle.vault_fault.specs.Fault.{of_text}
 use Rattle.vault_core.specs.Laws.{IsBytes, SealedReadsBack}
 use Rattle.vault_aes.specs.Padding.{padded_length}
 use Rattle.vault_core.specs.Sealing.{sealed}

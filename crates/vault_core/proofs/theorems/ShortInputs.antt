@@ -6,7 +6,7 @@ use Rattle.std.proofs.lemmas.Bool.{le-ltb}
 use Rattle.vault_text.proofs.theorems.LargerLimits.{short_inputs}
 use Rattle.vault_core.specs.Decryption.{decryption, payload_of}
 use Rattle.vault_core.specs.Encryption.{encryption}
-use Rattle.vault_common.specs.Fault.{of_text}
+use Rattle.vault_fault.specs.Fault.{of_text}
 use Rattle.vault_core.specs.Form.{Form}
 use Rattle.vault_core.specs.Rekeying.{rekeying}
 use Rattle.vault_core.specs.Secrets.{Secret, SecretList}

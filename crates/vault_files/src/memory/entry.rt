@@ -1,5 +1,5 @@
 ghost use Rattle.std.specs.Prelude.{◌≡◌};
-ghost use Rattle.vault_files.specs.File.Finding.{Broken, Whole};
+ghost use Rattle.vault_files.specs.File.FileState.{Broken, Whole};
 ghost use Rattle.vault_files.specs.Memory.{IsReaderOf};
 
 use super::reader::MemFileReader;
@@ -16,7 +16,7 @@ pub struct MemFile<'a> {
 
 impl<'a> Model for MemFile<'a> {
     ghost use Rattle.std.specs.Prelude.{if◌then◌else◌};
-    ghost use Rattle.vault_files.specs.File.Finding.{Broken, Whole};
+    ghost use Rattle.vault_files.specs.File.FileState.{Broken, Whole};
     ghost use Rattle.vault_files.specs.Memory.{Entry};
 
     ghost Value = { Entry };
@@ -39,7 +39,7 @@ impl<'a> MemFile<'a> {
         }
     }
 
-    /// A file that cannot be read on behind these bytes.
+    /// A file that cannot be read on after these bytes.
     pub fn broken(path: &'a str, bytes: &'a [u8]) -> Self
         ensures { result ≡ record { path = path.now; file = Broken bytes.now } }
     {

@@ -25,7 +25,7 @@ impl<'a> Model for MemFileReader<'a> {
 
 impl<'a> Source for MemFileReader<'a> {
     ghost use Rattle.vault_files.specs.Memory.{Reads};
-    ghost use Rattle.vault_files.specs.SourceLaws.{Reads-none, Reads-more};
+    ghost use Rattle.vault_files.specs.SourceProofs.{Reads-none, Reads-more};
 
     ghost gives = { Reads };
 
@@ -53,8 +53,8 @@ impl<'a> Source for MemFileReader<'a> {
             return Err(SourceFailed);
         }
         let n = buf.len().min(self.left.len());
-        let (front, rest) = self.left.split_at(n);
-        buf[..n].copy_from_slice(front);
+        let (prefix, rest) = self.left.split_at(n);
+        buf[..n].copy_from_slice(prefix);
         self.left = rest;
         self.ended = n == 0;
         Ok(n)

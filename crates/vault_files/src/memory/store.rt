@@ -1,7 +1,7 @@
 ghost use Rattle.std.specs.Prelude.{◌≡◌, [], ◌∷◌, ◌++◌, MatchOption, IsErr, OnOk, OnErr, map};
 ghost use Rattle.std.specs.Option.{option_map};
 ghost use Rattle.std.specs.String.{string_bytes};
-ghost use Rattle.vault_files.specs.File.Finding.{Missing};
+ghost use Rattle.vault_files.specs.File.FileState.{Missing};
 ghost use Rattle.vault_text.specs.Failures.{CountsFailure, IsLast};
 ghost use Rattle.vault_files.specs.Memory.{StoreOpens, StoreTakes, bytes_of, file_at};
 ghost use Rattle.vault_files.specs.Memory.{new_store, stands_at};
@@ -15,15 +15,15 @@ use std::alloc::{AllocError, Global};
 use std::marker::Model;
 use vault_text::{MemSink, Sink, SinkFailed, Stage};
 
-/// Files in memory. Of two files under one path the first counts. What is written stands at the
+/// Files in memory. Of two files under one path the first counts. What is written is at the
 /// path that was chosen, from `begin` on, in the place of what stood there; where none was chosen
-/// it stands at no path. A growth that is refused counts as a failure of the output. A log keeps
+/// it is at no path. An allocation that fails counts as a failure of the output. A log keeps
 /// the paths that were opened, also those where no file was found, until there is no memory for one
 /// of them.
 #[derive(Drop)]
 pub struct MemFiles<'a> {
     entries: &'a [MemFile<'a>],
-    aim: Option<String>,
+    output_file: Option<String>,
     output: MemSink,
     log: Option<Vec<String>>,
 }
@@ -38,7 +38,7 @@ impl<'a> Model for MemFiles<'a> {
 
     ghost view = { λ s. record {
       entries = s.entries.now;
-      aim = option_map string_bytes s.aim;
+      output_file = option_map string_bytes s.output_file;
       output = s.output;
       log = option_map (λ log. map string_bytes log.items) s.log;
     } };
@@ -51,19 +51,19 @@ impl<'a> MemFiles<'a> {
     {
         MemFiles {
             entries,
-            aim: None,
+            output_file: None,
             output: MemSink::new(alloc, usize::MAX),
             log: Some(Vec::new(alloc)),
         }
     }
 
-    /// The bytes that stand at a path; None where no file does. Those of a file that breaks are the
-    /// ones before the break.
+    /// The bytes of the file at a path; None where no file does. Those of a file that breaks are
+    /// the ones before the break.
     pub fn content(&self, path: &str) -> Option<&[u8]>
         ensures { option_map (λ bytes. bytes.now) result ≡ bytes_of (stands_at self.now path.now) }
     {
-        match &self.aim {
-            Some(aim) if self.output.begun() && aim.as_str() == path => Some(self.output.bytes()),
+        match &self.output_file {
+            Some(at) if self.output.begun() && at.as_str() == path => Some(self.output.bytes()),
             _ => find(self.entries, path).map(|entry| entry.bytes),
         }
     }
@@ -110,7 +110,7 @@ fn find<'a>(entries: &'a [MemFile<'a>], path: &str) -> Option<&'a MemFile<'a>>
 
 impl<'a> Sink for MemFiles<'a> {
     ghost use Rattle.vault_files.specs.Memory.{StoreTakes};
-    ghost use Rattle.vault_files.specs.SinkLaws.{StoreTakes-none, StoreTakes-more};
+    ghost use Rattle.vault_files.specs.SinkProofs.{StoreTakes-none, StoreTakes-more};
 
     ghost takes = { StoreTakes };
 
@@ -155,19 +155,19 @@ impl<'a> Sink for MemFiles<'a> {
 
 impl<'a> FileSystem for MemFiles<'a> {
     ghost use Rattle.std.specs.Prelude.{◌≡◌, refl, Some};
-    ghost use Rattle.vault_files.specs.FileSystemLaws.{StoreOpens-none, StoreOpens-more};
-    ghost use Rattle.vault_files.specs.FileSystemLaws.{front-met, break-met};
+    ghost use Rattle.vault_files.specs.FileSystemProofs.{StoreOpens-none, StoreOpens-more};
+    ghost use Rattle.vault_files.specs.FileSystemProofs.{prefix-found, break-found};
     ghost use Rattle.vault_files.specs.Memory.{IsReaderOf, StoreOpens, file_at};
 
     type Reader = MemFileReader<'a>;
 
-    ghost meets = { λ s path file. file ≡ file_at s.entries path };
+    ghost finds = { λ s path file. file ≡ file_at s.entries path };
 
     ghost opened = { λ s path reader. IsReaderOf (file_at s.entries path) reader };
 
     ghost opens = { StoreOpens };
 
-    ghost aimed = { λ s path access t. t ≡ record s { aim = Some path } };
+    ghost output_set = { λ s path access t. t ≡ record s { output_file = Some path } };
 
     ghost opens_none = { StoreOpens-none };
 
@@ -177,16 +177,16 @@ impl<'a> FileSystem for MemFiles<'a> {
 
     ghost opens_failures = { λ s t paths opens. rw opens.rest refl };
 
-    ghost opens_meets = { λ s t paths path file opens met. rw opens.rest at met };
+    ghost opens_finds = { λ s t paths path file opens found. rw opens.rest at found };
 
     ghost opens_opened = { λ s t paths path reader opens opened. rw opens.rest at opened };
 
-    ghost meets_some = { λ s path. (file_at s.entries path, refl) };
+    ghost finds_some = { λ s path. (file_at s.entries path, refl) };
 
-    ghost front_met = { λ s path r t xs n opened gives fits end unfailed.
-        front-met (file_at s.entries path) r t xs n opened gives fits end };
+    ghost prefix_found = { λ s path r t xs n opened gives fits end unfailed.
+        prefix-found (file_at s.entries path) r t xs n opened gives fits end };
 
-    ghost break_met = { λ s path. break-met (file_at s.entries path) };
+    ghost break_found = { λ s path. break-found (file_at s.entries path) };
 
     fn open(&mut self, path: &str) -> Result<MemFileReader<'a>, FileFault> {
         self.note(path);
@@ -196,7 +196,7 @@ impl<'a> FileSystem for MemFiles<'a> {
         }
     }
 
-    fn aim(&mut self, path: String, _access: Access) {
-        self.aim = Some(path);
+    fn set_output(&mut self, path: String, _access: Access) {
+        self.output_file = Some(path);
     }
 }

@@ -7,8 +7,8 @@ use Rattle.std.specs.Option.{option_map, option_or}
 use Rattle.std.specs.Prelude.{option_to_list}
 use Rattle.clap.specs.Walk.{Row}
 use Rattle.vault_text.specs.Label.{is_label}
-use Rattle.vault_common.specs.declared.fault.Fault.{Fault}
-use Rattle.vault_common.specs.declared.fault.Fault.TheVariants.{BadLabel}
+use Rattle.vault_fault.specs.declared.fault.Fault.{Fault}
+use Rattle.vault_fault.specs.declared.fault.Fault.TheVariants.{BadLabel}
 use Rattle.vault_request.specs.CommandName.{rekeys}
 use Rattle.vault_request.specs.Laws.{SettledRequests}
 use Rattle.vault_request.specs.Options.{Options, options_of}

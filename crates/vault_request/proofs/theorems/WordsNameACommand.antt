@@ -19,7 +19,7 @@ use Rattle.clap.proofs.OnLiterals.{clap_on_literals}
 use Rattle.vault_command_line.specs.CommandLine.{vault_app}
 use Rattle.vault_request.specs.CommandName.{command_of}
 use Rattle.vault_request.specs.Laws.{WordsNameACommand}
-use Rattle.vault_request.specs.Settled.{asked, asked_by, command_in}
+use Rattle.vault_request.specs.Settled.{requested, requested_by, command_in}
 use Rattle.vault_request.proofs.SettledLemmas.{is_some-map}
 
 -- ---- a level without a fault has its subcommand, where one is required
@@ -59,33 +59,34 @@ has-command a words required e =
 abbrev NamesCommand : Shape → Type 0
 NamesCommand s = is_some (command_of s.name) ≡ true
 
-named-asked : (s : Shape) (rows : List Row) → NamesCommand s
-    → is_some (asked (Some (s.name, rows))) ≡ true
-named-asked s rows e =
+named-requested : (s : Shape) (rows : List Row) → NamesCommand s
+    → is_some (requested (Some (s.name, rows))) ≡ true
+named-requested s rows e =
     sym (is_some-map _ (command_in (Some (s.name, rows)))) ∙ sym (is_some-map _ (command_of s.name))
     ∙ e
 
 find-next : (here : Bool) (s : Shape) (rest : Option Shape) (words : List Text) → NamesCommand s
     → (is_some (option_map (λ s. rows_at s words) rest) ≡ true
-    → is_some (asked (option_map (λ s. rows_at s words) rest)) ≡ true)
+    → is_some (requested (option_map (λ s. rows_at s words) rest)) ≡ true)
     → is_some (option_map (λ s. rows_at s words) (cond here (Some s) rest)) ≡ true
-    → is_some (asked (option_map (λ s. rows_at s words) (cond here (Some s) rest))) ≡ true
-find-next true s rest words named later some = named-asked s (rows_at s words).1 named
+    → is_some (requested (option_map (λ s. rows_at s words) (cond here (Some s) rest))) ≡ true
+find-next true s rest words named later some = named-requested s (rows_at s words).1 named
 find-next false s rest words named later some = later some
 
-find-asked : (test : Shape → Bool) (subs : List Shape) (words : List Text)
+find-requested : (test : Shape → Bool) (subs : List Shape) (words : List Text)
     → AllByRecursion NamesCommand subs
     → is_some (option_map (λ s. rows_at s words) (find test subs)) ≡ true
-    → is_some (asked (option_map (λ s. rows_at s words) (find test subs))) ≡ true
-find-asked test [] words all some = absurd (false≢true some)
-find-asked test (s ∷ subs) words (named, others) some =
-    find-next (test s) s (find test subs) words named (find-asked test subs words others) some
+    → is_some (requested (option_map (λ s. rows_at s words) (find test subs))) ≡ true
+find-requested test [] words all some = absurd (false≢true some)
+find-requested test (s ∷ subs) words (named, others) some =
+    find-next (test s) s (find test subs) words named (find-requested test subs words others) some
 
-entered-asked : (a : App) (stop : Option (Text × List Text)) → AllByRecursion NamesCommand a.subs
-    → is_some (entered a stop) ≡ true → is_some (asked (entered a stop)) ≡ true
-entered-asked a None all some = absurd (false≢true some)
-entered-asked a (Some (word, words)) all some =
-    find-asked (λ s. answers_to word (label_of s)) a.subs words all some
+entered-requested : (a : App) (stop : Option (Text × List Text))
+    → AllByRecursion NamesCommand a.subs
+    → is_some (entered a stop) ≡ true → is_some (requested (entered a stop)) ≡ true
+entered-requested a None all some = absurd (false≢true some)
+entered-requested a (Some (word, words)) all some =
+    find-requested (λ s. answers_to word (label_of s)) a.subs words all some
 
 -- ---- of the program's command line
 
@@ -97,21 +98,22 @@ commands-named : AllByRecursion NamesCommand (built vault_app).subs
 unfolding clap_on_literals vault_app
 commands-named = (refl, (refl, (refl, (refl, (refl, tt)))))
 
-asks : (words : List Text) → fault_of vault_app words ≡ [] → is_some (asked_by words) ≡ true
-asks words e =
+words-requested : (words : List Text) → fault_of vault_app words ≡ [] → is_some (requested_by words)
+    ≡ true
+words-requested words e =
     let app = built vault_app in
     let given = argument_words vault_app words in
-    entered-asked app (stop_after app.top.rules (names_of app) given) commands-named
+    entered-requested app (stop_after app.top.rules (names_of app) given) commands-named
     (has-command app given command-required e)
 
 pub words_name_a_command : WordsNameACommand
-words_name_a_command words e none = false≢true (sym (ap is_some none) ∙ asks words e)
+words_name_a_command words e none = false≢true (sym (ap is_some none) ∙ words-requested words e)
 
 -- what parses asks for something
-pub parsed_asks : (words : List Text) (r : Result ArgMatches Error)
+pub parsed_requested : (words : List Text) (r : Result ArgMatches Error)
     → FailsBy (fault_of vault_app words) r
     → IfOk r (λ m. subcommand_rows_of m ≡ subcommand_of vault_app words)
-    → IfOk r (λ m. is_some (asked (subcommand_rows_of m)) ≡ true)
-parsed_asks words (Ok m) kinds matches =
-    ap (λ parse. is_some (asked parse)) matches ∙ asks words kinds
-parsed_asks words (Err error) kinds matches = tt
+    → IfOk r (λ m. is_some (requested (subcommand_rows_of m)) ≡ true)
+parsed_requested words (Ok m) kinds matches =
+    ap (λ parse. is_some (requested parse)) matches ∙ words-requested words kinds
+parsed_requested words (Err error) kinds matches = tt

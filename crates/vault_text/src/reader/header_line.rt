@@ -17,7 +17,7 @@ const KEPT_LIMIT: usize = HEADER_LIMIT + 1;
 #[derive(Drop)]
 pub(super) struct HeaderLine {
     kept: ArrayVec<u8, KEPT_LIMIT>,
-    /// Whether its line end was met.
+    /// Whether its line end was found.
     has_ended: bool,
 }
 
@@ -60,7 +60,7 @@ impl HeaderLine {
         ensures line { TakesPiece IsKept self.old.kept bytes.now self.new.kept }
     {
         let count = bytes.len().min(self.kept.remaining_capacity());
-        // So many always fit.
+        // This many always fit.
         let _ = self.kept.try_extend_from_slice(&bytes[..count]);
     }
 

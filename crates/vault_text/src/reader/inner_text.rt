@@ -43,7 +43,7 @@ impl Part {
         }
     }
 
-    /// The part behind it; the ciphertext is the last.
+    /// The part after it; the ciphertext is the last.
     fn next(self) -> Part
         ensures { result ≡ next_part self }
     {

@@ -9,7 +9,7 @@ use std::alloc::Global;
 use std::marker::Model;
 
 /// A sink that keeps what it took in memory, and fails at each call after a number of them. A
-/// growth that is refused counts as a failure too, and takes nothing.
+/// allocation that fails counts as a failure too, and takes nothing.
 #[derive(Drop)]
 pub struct FailingSink {
     memory: MemSink,

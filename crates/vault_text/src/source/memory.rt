@@ -68,8 +68,8 @@ impl<'a> Source for MemSource<'a> {
         ensures full { IsLast 0 → IsErr result }
     {
         let n = buf.len().min(self.step).min(self.left.len());
-        let (front, rest) = self.left.split_at(n);
-        buf[..n].copy_from_slice(front);
+        let (prefix, rest) = self.left.split_at(n);
+        buf[..n].copy_from_slice(prefix);
         self.left = rest;
         self.ended = n == 0;
         Ok(n)

@@ -8,7 +8,7 @@ use std::io::Read;
 use std::marker::Model;
 
 /// A source over a reader. Every error of the reader is a failure, an interruption too; after the
-/// reader's first `Ok(0)` it is not asked again.
+/// reader's first `Ok(0)` it is not called again.
 #[derive(Drop)]
 pub struct ReadSource<R: Read> {
     reader: R,

@@ -24,8 +24,8 @@ pub(super) fn first_lines<'a>(parts: &Parts<'a>) -> (First, &'a [u8])
 {
     let mut inner = salt_and_tag(parts.salt, parts.tag);
     let room = (FIRST_BYTES - inner.len()) / 2;
-    let (front, rest) = parts.ciphertext.split_at(parts.ciphertext.len().min(room));
-    append_hexadecimal(&mut inner, front);
+    let (first, rest) = parts.ciphertext.split_at(parts.ciphertext.len().min(room));
+    append_hexadecimal(&mut inner, first);
     (inner, rest)
 }
 

@@ -6,10 +6,10 @@ ghost use Rattle.vault_text.specs.Written.{text_of_lines, written_header};
 use super::lines::{HEAD_LIMIT, INDENTATION_LIMIT, TEXT_LIMIT, Text, append};
 use crate::label::Label;
 
-/// What may stand before the header line.
+/// What may come before the header line.
 pub(super) const START_LIMIT: usize = 11;
 
-/// Begins a text with its start, and the header line behind an indentation, with its end.
+/// Begins a text with its start, and the header line after an indentation, with its end.
 #[tactic(auto, unfolding(crate::specs::Written::text_of_lines))]
 pub(super) fn append_head(text: &mut Text, start: &[u8], indentation: &[u8], label: &Label)
     requires empty { text.old.items ≡ [] }

@@ -17,7 +17,7 @@ pub(super) const LINE_CIPHERTEXT: usize = LINE_BYTES / 2;
 
 pub(super) const INDENTATION_LIMIT: usize = 10;
 
-/// A line with what stands before it and its end.
+/// A line with what comes before it and its end.
 const LINE_LIMIT: usize = INDENTATION_LIMIT + LINE_DIGITS + 1;
 
 /// Lines that have room for the longest salt, and the tag.
@@ -41,7 +41,7 @@ pub(super) const OPENING_LIMIT: usize = HEAD_LIMIT + FIRST_LINES * LINE_LIMIT;
 /// The longest text that is handed to a sink at once.
 pub(super) const TEXT_LIMIT: usize = OPENING_LIMIT + BATCH_LINES * LINE_LIMIT;
 
-/// Text that is gathered before it is handed to a sink.
+/// Text that is collected before it is handed to a sink.
 pub(super) type Text = ArrayVec<u8, TEXT_LIMIT>;
 
 /// The inner text as far as the first lines of a body spell it.
@@ -98,7 +98,7 @@ fn append_line(text: &mut Text, indentation: &[u8], bytes: &[u8])
     append(text, b"\n");
 }
 
-/// Appends the first lines of a body, which spell these bytes, behind an indentation.
+/// Appends the first lines of a body, which spell these bytes, after an indentation.
 pub(super) fn append_lines(text: &mut Text, indentation: &[u8], bytes: &[u8])
     requires head { array_vec_len text.old ≤ HEAD_LIMIT }
     requires narrow { length indentation.now ≤ INDENTATION_LIMIT }

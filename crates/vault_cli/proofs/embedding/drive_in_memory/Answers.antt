@@ -1,6 +1,6 @@
 use Rattle.std.proofs.Common.{map}
 use Rattle.std.specs.String.{string_bytes}
-use Rattle.vault_request.specs.Settled.{asked_by}
+use Rattle.vault_request.specs.Settled.{requested_by}
 use Rattle.vault_cli.proofs.EmbeddingLemmas.{drives-embeds, drives-logged, drives-taken}
 use Rattle.vault_cli.proofs.embedding.drive_in_memory.Goals as goal
 
@@ -9,18 +9,18 @@ returns-clause-answered c = λ parses.
     drives-embeds c.drive_over.result c.args.files.now c.drive_over.new.files c.args.src.now
     c.drive_over.new.src c.args.out.now c.drive_over.new.out c.args.err.now c.drive_over.new.err
     c.requires.files_unbegun c.requires.files_empty c.requires.src_not_ended
-    (asked_by (map string_bytes c.args.words.now)) (c.drive_over.ensures.answered parses)
+    (requested_by (map string_bytes c.args.words.now)) (c.drive_over.ensures.answered parses)
 
 pub returns-clause-taken : goal.returns-clause-taken
 returns-clause-taken c = λ parses.
     drives-taken c.drive_over.result c.args.files.now c.drive_over.new.files c.args.src.now
     c.drive_over.new.src c.args.out.now c.drive_over.new.out c.args.err.now c.drive_over.new.err
     c.requires.files_unbegun c.requires.files_empty c.requires.src_not_ended
-    (asked_by (map string_bytes c.args.words.now)) (c.drive_over.ensures.answered parses)
+    (requested_by (map string_bytes c.args.words.now)) (c.drive_over.ensures.answered parses)
 
 pub returns-clause-opened : goal.returns-clause-opened
 returns-clause-opened c = λ parses.
     drives-logged c.drive_over.result c.args.files.now c.drive_over.new.files c.args.src.now
     c.drive_over.new.src c.args.out.now c.drive_over.new.out c.args.err.now c.drive_over.new.err
     c.requires.files_unbegun c.requires.files_empty c.requires.src_not_ended
-    (asked_by (map string_bytes c.args.words.now)) (c.drive_over.ensures.answered parses)
+    (requested_by (map string_bytes c.args.words.now)) (c.drive_over.ensures.answered parses)

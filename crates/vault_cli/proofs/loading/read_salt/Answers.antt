@@ -6,12 +6,12 @@ pub returns-in-Some-clause-read : goal.returns-in-Some-clause-read
 returns-in-Some-clause-read g c =
     let path : Some c.in-Some.path.now ≡ c.args.request.now.salt_path =
     rw c.in-Some.is at c.salt_path.ensures in
-    salt-read (g.F.FileSystem.meets c.args.files.now) c.in-Some.path.now _
-    (vec_len c.args.buf) c.front_of.result path c.requires.length c.front_of.ensures.read
+    salt-read (g.F.FileSystem.finds c.args.files.now) c.in-Some.path.now _
+    (vec_len c.args.buf) c.prefix_of.result path c.requires.length c.prefix_of.ensures.read
 
 pub returns-in-Some-clause-refused : goal.returns-in-Some-clause-refused
 returns-in-Some-clause-refused g c =
     let path : Some c.in-Some.path.now ≡ c.args.request.now.salt_path =
     rw c.in-Some.is at c.salt_path.ensures in
-    salt-unread (g.F.FileSystem.meets c.args.files.now) c.in-Some.path.now _
-    (vec_len c.args.buf) c.front_of.result path c.requires.length c.front_of.ensures.refused
+    salt-unread (g.F.FileSystem.finds c.args.files.now) c.in-Some.path.now _
+    (vec_len c.args.buf) c.prefix_of.result path c.requires.length c.prefix_of.ensures.refused

@@ -2,15 +2,15 @@ use Rattle.std.proofs.Common.{rules, arith, ◌≡◌, ◌++◌, ◌+◌, ◌<�
 use Rattle.std.proofs.Common.{ap, subst, List, ℕ, vec_len}
 use Rattle.std.proofs.lemmas.List.{map-append, take_all}
 use Rattle.std.proofs.lemmas.Result.{err_from_is_err_and}
-use Rattle.vault_common.specs.declared.fault.Role.TheVariants.{Secret}
+use Rattle.vault_fault.specs.declared.fault.Role.TheVariants.{Secret}
 use Rattle.vault_core.specs.declared.limits.TheConstants.{PASSWORD_FILE_LIMIT}
-use Rattle.vault_cli.specs.runs.Found.{secret_paths}
+use Rattle.vault_cli.specs.runs.FileContents.{secret_paths}
 use Rattle.vault_request.specs.Request.{files_of}
 use Rattle.vault_cli.proofs.ReservedLemmas.{left-long, popped-long, popped-one}
-use Rattle.vault_cli.proofs.FoundLemmas.{at_limit, ContentsMet-all, FrontMet-back}
-use Rattle.vault_cli.proofs.FoundLemmas.{GivesFront-more, GivesFront-none, length-paths}
-use Rattle.vault_cli.proofs.FoundLemmas.{path_at, secrets-refuse, split_at}
-use Rattle.vault_cli.proofs.FoundLemmas.{take_one_more}
+use Rattle.vault_cli.proofs.FileContentsLemmas.{at_limit, ContentsFound-all, PrefixFound-back}
+use Rattle.vault_cli.proofs.FileContentsLemmas.{GivesPrefix-more, GivesPrefix-none, length-paths}
+use Rattle.vault_cli.proofs.FileContentsLemmas.{path_at, secrets-refuse, split_at}
+use Rattle.vault_cli.proofs.FileContentsLemmas.{take_one_more}
 use Rattle.vault_cli.proofs.loading.read_secret_files.Goals as goal
 
 pub loop-i-init : goal.loop-i-init
@@ -19,7 +19,7 @@ loop-i-init g c =
     search (rules, ap length c.requires.empty) in (
       none,
       rw c.requires.empty
-          (GivesFront-none (g.F.FileSystem.meets c.args.files.now)
+          (GivesPrefix-none (g.F.FileSystem.finds c.args.files.now)
           (secret_paths c.args.request.now)),
       g.met.F.FileSystem.opens_none c.args.files.now,
       c.requires.unbegun,
@@ -43,20 +43,20 @@ returns-in_err-bytes-clause-refused g c =
     (c.pop.ensures.value c.unwrap-buf.result (omega (arith, one))) in
     let p = err_from_is_err_and c.from_residual.result c.from_residual.ensures.1 in
     rw (p.1, p.2)
-    (secrets-refuse (g.F.FileSystem.meets c.args.files.now) g.F.FileSystem.opens
-    c.args.files.now c.front_of.new.files
-    (g.met.F.FileSystem.meets_some c.args.files.now) paths c.loop-i.i _ c.path.result.now
+    (secrets-refuse (g.F.FileSystem.finds c.args.files.now) g.F.FileSystem.opens
+    c.args.files.now c.prefix_of.new.files
+    (g.met.F.FileSystem.finds_some c.args.files.now) paths c.loop-i.i _ c.path.result.now
     (split_at paths c.loop-i.i c.path.result.now within at)
     c.loop-i.invariant.1 c.in_err-bytes.field-0.0
-    (at_limit (g.F.FileSystem.meets c.args.files.now c.path.result.now) Secret
+    (at_limit (g.F.FileSystem.finds c.args.files.now c.path.result.now) Secret
     (vec_len c.unwrap-buf.result) (PASSWORD_FILE_LIMIT + 1) _
     long
-    (FrontMet-back (g.F.FileSystem.meets c.args.files.now c.path.result.now)
-    (g.F.FileSystem.meets c.loop-i.files c.path.result.now)
-    (λ file. g.met.F.FileSystem.opens_meets c.args.files.now c.loop-i.files _
+    (PrefixFound-back (g.F.FileSystem.finds c.args.files.now c.path.result.now)
+    (g.F.FileSystem.finds c.loop-i.files c.path.result.now)
+    (λ file. g.met.F.FileSystem.opens_finds c.args.files.now c.loop-i.files _
     c.path.result.now file c.loop-i.invariant.2) Secret _ _
     c.in_err-bytes.ensures.refused))
-    (g.met.F.FileSystem.opens_more c.args.files.now c.loop-i.files c.front_of.new.files
+    (g.met.F.FileSystem.opens_more c.args.files.now c.loop-i.files c.prefix_of.new.files
     (take c.loop-i.i paths) (c.path.result.now ∷ [])
     c.loop-i.invariant.2 c.in_err-bytes.ensures.opens))
 
@@ -74,18 +74,18 @@ loop-i-preserved g c =
     let long = popped-long c.loop-i.unread c.pop.new.self c.pop.result c.unwrap-buf.result
     c.unwrap-buf.ensures c.loop-i.invariant.5 (search rules) (omega (arith, one))
     (c.pop.ensures.value c.unwrap-buf.result (omega (arith, one))) in
-    let one_more = GivesFront-more (g.F.FileSystem.meets c.args.files.now) paths c.loop-i.i _
+    let one_more = GivesPrefix-more (g.F.FileSystem.finds c.args.files.now) paths c.loop-i.i _
     c.path.result.now c.in_ok-bytes.bytes.items next
     c.loop-i.invariant.1
-    (at_limit (g.F.FileSystem.meets c.args.files.now c.path.result.now) Secret
+    (at_limit (g.F.FileSystem.finds c.args.files.now c.path.result.now) Secret
     (vec_len c.unwrap-buf.result) (PASSWORD_FILE_LIMIT + 1) _
     long
-    (FrontMet-back (g.F.FileSystem.meets c.args.files.now c.path.result.now)
-    (g.F.FileSystem.meets c.loop-i.files c.path.result.now)
-    (λ file. g.met.F.FileSystem.opens_meets c.args.files.now c.loop-i.files _ c.path.result.now file
+    (PrefixFound-back (g.F.FileSystem.finds c.args.files.now c.path.result.now)
+    (g.F.FileSystem.finds c.loop-i.files c.path.result.now)
+    (λ file. g.met.F.FileSystem.opens_finds c.args.files.now c.loop-i.files _ c.path.result.now file
     c.loop-i.invariant.2) Secret _ _
     c.in_ok-bytes.ensures.read)) in
-    let went = g.met.F.FileSystem.opens_more c.args.files.now c.loop-i.files c.front_of.new.files
+    let went = g.met.F.FileSystem.opens_more c.args.files.now c.loop-i.files c.prefix_of.new.files
     (take c.loop-i.i paths) (c.path.result.now ∷ [])
     c.loop-i.invariant.2 c.in_ok-bytes.ensures.opens in
     let pushed : c.push.new.self.items ≡ c.loop-i.contents.items ++ c.in_ok-bytes.bytes ∷ [] =
@@ -96,9 +96,9 @@ loop-i-preserved g c =
       rw pushed
           (rw (map-append (λ file. file.items) c.loop-i.contents.items (c.in_ok-bytes.bytes ∷ []))
           one_more),
-      subst (λ (ps : List (List ℕ)). g.F.FileSystem.opens c.args.files.now ps c.front_of.new.files)
+      subst (λ (ps : List (List ℕ)). g.F.FileSystem.opens c.args.files.now ps c.prefix_of.new.files)
           (sym next) went,
-      g.met.F.FileSystem.opens_stage c.args.files.now c.front_of.new.files _ went
+      g.met.F.FileSystem.opens_stage c.args.files.now c.prefix_of.new.files _ went
           ∙ c.requires.unbegun,
       omega (arith, one, c.loop-i.invariant.4),
       left-long c.loop-i.unread c.pop.new.self c.pop.result c.unwrap-buf.result c.unwrap-buf.ensures
@@ -108,14 +108,14 @@ loop-i-preserved g c =
 
 pub returns-in_err-bytes-clause-unbegun : goal.returns-in_err-bytes-clause-unbegun
 returns-in_err-bytes-clause-unbegun g c =
-    g.met.F.FileSystem.opens_stage c.loop-i.files c.front_of.new.files _
+    g.met.F.FileSystem.opens_stage c.loop-i.files c.prefix_of.new.files _
     c.in_err-bytes.ensures.opens ∙ c.loop-i.invariant.3
 
 pub returns-clause-read : goal.returns-clause-read
 returns-clause-read g c =
     let files = files_of c.args.request.now in
     let paths = secret_paths c.args.request.now in
-    ContentsMet-all (g.F.FileSystem.meets c.args.files.now) paths c.loop-i.i _
+    ContentsFound-all (g.F.FileSystem.finds c.args.files.now) paths c.loop-i.i _
     (omega (arith, c.loop-i-test.false, c.files-i-end.ensures.count, length-paths files))
     c.loop-i.invariant.1
 

@@ -1,7 +1,7 @@
 use Rattle.std.proofs.Common.{refl}
 use Rattle.clap.specs.Words.{subcommand_rows_of}
 use Rattle.vault_cli.specs.Call.{sink, source}
-use Rattle.vault_request.specs.Settled.{asked}
+use Rattle.vault_request.specs.Settled.{requested}
 use Rattle.vault_cli.proofs.DriveLemmas.{drives-settled, drives-unsettled}
 use Rattle.vault_cli.proofs.EndingLemmas.{store_between}
 use Rattle.vault_cli.proofs.program.drive_matches.Goals as goal
@@ -13,8 +13,8 @@ returns-in-Ok-clause-drives g c =
     (source g.S.Source c.args.src.now c.drive_request.new.src)
     (sink g.K.Sink c.args.out.now c.drive_request.new.out)
     (sink g.E.Sink c.args.err.now c.drive_request.new.err) c.drive_request.result
-    (asked (subcommand_rows_of c.args.matches.now)) c.in-Ok.request
-    c.requires.asks
+    (requested (subcommand_rows_of c.args.matches.now)) c.in-Ok.request
+    c.requires.requested
     c.in-Ok.ensures c.drive_request.ensures.drives
 
 pub returns-in-Err-clause-drives : goal.returns-in-Err-clause-drives
@@ -23,6 +23,6 @@ returns-in-Err-clause-drives g c =
     (source g.S.Source c.args.src.now c.args.src.now) (sink g.K.Sink c.args.out.now c.args.out.now)
     (sink g.E.Sink c.args.err.now c.report.new.err) c.report.result refl refl refl
     c.requires.files_unbegun (g.met.F.FileSystem.opens_none c.args.files.now)
-    (asked (subcommand_rows_of c.args.matches.now)) c.in-Err.fault
-    c.requires.asks
+    (requested (subcommand_rows_of c.args.matches.now)) c.in-Err.fault
+    c.requires.requested
     c.in-Err.ensures c.report.ensures.status c.report.ensures.line

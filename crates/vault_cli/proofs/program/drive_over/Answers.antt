@@ -4,7 +4,7 @@ use Rattle.clap.specs.Words.{fault_of}
 use Rattle.clap.specs.Values.{kind_of}
 use Rattle.vault_cli.specs.Call.{sink, source}
 use Rattle.vault_command_line.specs.CommandLine.{vault_app}
-use Rattle.vault_request.specs.Settled.{asked_by}
+use Rattle.vault_request.specs.Settled.{requested_by}
 use Rattle.vault_cli.proofs.DriveLemmas.{drives-no_memory}
 use Rattle.vault_cli.proofs.EndingLemmas.{store_between}
 use Rattle.vault_cli.proofs.ExplainedLemmas.{explains-memory, explains-one}
@@ -20,7 +20,7 @@ returns-in-Err-clause-answered g c = λ parses.
     c.in-Err.ensures.kinds c.explain.ensures.explains) in
     drives-no_memory (store_between g.F.Sink g.F.FileSystem c.args.files.now c.args.files.now)
     (source g.S.Source c.args.src.now c.args.src.now) out err c.explain.result refl memory.output
-    refl (asked_by texts) memory.status memory.line
+    refl (requested_by texts) memory.status memory.line
 
 pub returns-in-Ok-clause-answered : goal.returns-in-Ok-clause-answered
 returns-in-Ok-clause-answered g c =

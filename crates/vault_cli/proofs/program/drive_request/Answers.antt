@@ -38,7 +38,8 @@ returns-in-Some-clause-drives g c =
     (source g.F.Reader.Source c.in-Some.reader c.run_to_output.new.src)
     (rw c.in-Some.is at c.in-Ok-load.ensures.input)
     (g.met.F.Reader.Source.gives_none c.in-Some.reader)
-    (g.met.F.FileSystem.front_met c.args.files.now) (g.met.F.FileSystem.break_met c.args.files.now)
+    (g.met.F.FileSystem.prefix_found c.args.files.now)
+    (g.met.F.FileSystem.break_found c.args.files.now)
     c.run_to_output.ensures.ends
 
 pub returns-clause-drives : goal.returns-clause-drives

@@ -11,7 +11,7 @@ returns-in-Some-clause-performs g c =
     let task = task_in c.args.task.now in
     let string : Some c.in-Some.string.now ≡ c.args.request.now.string =
     rw c.in-Some.is at c.string.ensures in
-    let (front, gave, bound, cases) = c.perform.ensures.performs in
+    let (prefix, gave, bound, cases) = c.perform.ensures.performs in
     let text : c.new.result.left ≡ c.in-Some.string.now =
     rw c.new.ensures c.as_bytes.ensures.value in
     let unended : c.new.result.ended ≡ false = rw c.new.ensures refl in
@@ -19,6 +19,6 @@ returns-in-Some-clause-performs g c =
     λ ended. let wrong : false ≡ true = sym unended ∙ ended in absurd cc in
     rw (← string) (
       refl,
-      performed-text limit task c.perform.result c.perform.new.src.ended c.in-Some.string.now front
+      performed-text limit task c.perform.result c.perform.new.src.ended c.in-Some.string.now prefix
           c.perform.new.src.left _ (sym text ∙ gave.0.consumed) (gave.0.end_is_real none) cases,
     )

@@ -1,18 +1,18 @@
 use Rattle.std.proofs.Common.{◌≡◌, map, Ok, Err, inl, inr, refl, sym, ap, ◌∙◌}
 use Rattle.vault_text.specs.Limits.{limit_of}
 use Rattle.vault_cli.specs.Call.{sink, source}
-use Rattle.vault_common.specs.declared.fault.Fault.TheVariants.{Read}
-use Rattle.vault_common.specs.declared.fault.Role.TheVariants.{Input}
-use Rattle.vault_cli.specs.runs.Outcome.{input_limit}
+use Rattle.vault_fault.specs.declared.fault.Fault.TheVariants.{Read}
+use Rattle.vault_fault.specs.declared.fault.Role.TheVariants.{Input}
+use Rattle.vault_cli.specs.runs.Answer.{input_limit}
 use Rattle.vault_cli.specs.runs.Status.{status_of}
 use Rattle.vault_cli.specs.runs.StoredTask.{task_in}
 use Rattle.vault_cli.specs.declared.runs.status.Status.TheVariants.{DeviceFailed, OutOfMemory}
 use Rattle.vault_cli.specs.declared.runs.status.Status.TheVariants.{Refused, Success}
-use Rattle.vault_cli.specs.runs.Task.{prepared}
-use Rattle.vault_cli.proofs.StatusLemmas.{alone-prepared}
-use Rattle.vault_cli.proofs.OutcomeLemmas.{asked-no_string, asked-prepared}
+use Rattle.vault_cli.specs.runs.Task.{planned}
+use Rattle.vault_cli.proofs.StatusLemmas.{alone-planned}
+use Rattle.vault_cli.proofs.AnswerLemmas.{requested-no_string, requested-planned}
 use Rattle.vault_cli.proofs.PerformedLemmas.{ends-performed}
-use Rattle.vault_cli.proofs.PerformedLemmas.{ends-unprepared, finished}
+use Rattle.vault_cli.proofs.PerformedLemmas.{ends-unplanned, finished}
 use Rattle.vault_cli.proofs.StatusLemmas.{fault-fails}
 use Rattle.vault_cli.proofs.PerformedLemmas.{finishes-refused, performed-refused}
 use Rattle.vault_cli.proofs.PerformedLemmas.{performed-unfailed}
@@ -20,7 +20,7 @@ use Rattle.vault_cli.proofs.runs.run_job.Goals as goal
 
 pub returns-in-Err-clause-ends : goal.returns-in-Err-clause-ends
 returns-in-Err-clause-ends g c =
-    ends-unprepared (source g.S.Source c.args.src.now c.args.src.now)
+    ends-unplanned (source g.S.Source c.args.src.now c.args.src.now)
     (sink g.K.Sink c.args.out.now c.args.out.now)
     (sink g.E.Sink c.args.err.now c.report.new.err) c.report.result
     (limit_of c.args.job.memory.limit) c.args.job.request.now
@@ -30,7 +30,7 @@ returns-in-Err-clause-ends g c =
 pub returns-in-Err-clause-memory_suffices : goal.returns-in-Err-clause-memory_suffices
 returns-in-Err-clause-memory_suffices g c = λ memory.
     let contents = map (λ file. file.items) c.args.job.secret_files.now in
-    let alone = (alone-prepared c.args.job.request.now contents c.args.job.salt.now).status
+    let alone = (alone-planned c.args.job.request.now contents c.args.job.salt.now).status
     c.in-Err.fault c.in-Err.ensures.refused in
     let other : Refused ≡ OutOfMemory = sym alone ∙ sym c.report.ensures.status ∙ memory in
     absurd cc
@@ -38,7 +38,7 @@ returns-in-Err-clause-memory_suffices g c = λ memory.
 pub returns-in-Err-clause-device_failed : goal.returns-in-Err-clause-device_failed
 returns-in-Err-clause-device_failed g c = λ device.
     let contents = map (λ file. file.items) c.args.job.secret_files.now in
-    let alone = (alone-prepared c.args.job.request.now contents c.args.job.salt.now).status
+    let alone = (alone-planned c.args.job.request.now contents c.args.job.salt.now).status
     c.in-Err.fault c.in-Err.ensures.refused in
     let other : Refused ≡ DeviceFailed = sym alone ∙ sym c.report.ensures.status ∙ device in
     absurd cc
@@ -50,7 +50,7 @@ returns-in-Ok-perform-clause-ends g c =
     (sink g.E.Sink c.args.err.now c.deliver.new.err) c.deliver.result
     (limit_of c.args.job.memory.limit) c.args.job.request.now
     (map (λ file. file.items) c.args.job.secret_files.now) c.args.job.salt.now
-    (task_in c.in-Ok.task) c.in-Ok.ensures.prepared (Ok c.in-Ok-perform.ready)
+    (task_in c.in-Ok.task) c.in-Ok.ensures.planned (Ok c.in-Ok-perform.ready)
     c.in-Ok-perform.ensures.performs c.deliver.ensures.finishes
 
 pub returns-in-Ok-perform-clause-memory_suffices : goal.returns-in-Ok-perform-clause-memory_suffices
@@ -99,7 +99,7 @@ returns-in-Err-perform-clause-ends g c =
     let report = c.report-in-Err-perform.ensures in
     ends-performed src out err result (limit_of c.args.job.memory.limit) c.args.job.request.now
     (map (λ file. file.items) c.args.job.secret_files.now) c.args.job.salt.now
-    (task_in c.in-Ok.task) c.in-Ok.ensures.prepared (Err fault) c.in-Err-perform.ensures.performs
+    (task_in c.in-Ok.task) c.in-Ok.ensures.planned (Err fault) c.in-Err-perform.ensures.performs
     (finishes-refused src out err result fault report.status refl report.line)
 
 pub returns-in-Err-perform-clause-memory_suffices :
@@ -136,24 +136,24 @@ returns-in-Err-perform-clause-none_failed g c = λ none.
     ]
 
 pub returns-in-Err-clause-full_source : goal.returns-in-Err-clause-full_source
-returns-in-Err-clause-full_source g c = λ asked full.
+returns-in-Err-clause-full_source g c = λ requested full.
     let request = c.args.job.request.now in
     let contents = map (λ file. file.items) c.args.job.secret_files.now in
     let limit = input_limit (limit_of c.args.job.memory.limit) request.command in
-    absurd (asked-prepared (prepared request contents c.args.job.salt.now) request.string limit
-    c.in-Err.fault c.in-Err.ensures.refused asked)
+    absurd (requested-planned (planned request contents c.args.job.salt.now) request.string limit
+    c.in-Err.fault c.in-Err.ensures.refused requested)
 
 pub returns-in-Err-clause-full_output : goal.returns-in-Err-clause-full_output
 returns-in-Err-clause-full_output g c = λ full succeeds.
     fault-fails c.in-Err.fault (sym c.report.ensures.status ∙ succeeds)
 
 pub returns-in-Ok-perform-clause-full_source : goal.returns-in-Ok-perform-clause-full_source
-returns-in-Ok-perform-clause-full_source g c = λ asked full.
+returns-in-Ok-perform-clause-full_source g c = λ requested full.
     let request = c.args.job.request.now in
     let contents = map (λ file. file.items) c.args.job.secret_files.now in
     let limit = input_limit (limit_of c.args.job.memory.limit) request.command in
-    let unstrung = asked-no_string (prepared request contents c.args.job.salt.now) request.string
-    limit asked in
+    let unstrung = requested-no_string (planned request contents c.args.job.salt.now) request.string
+    limit requested in
     let wrong = c.in-Ok-perform.ensures.full unstrung full in absurd cc
 
 pub returns-in-Ok-perform-clause-full_output : goal.returns-in-Ok-perform-clause-full_output
@@ -161,12 +161,12 @@ returns-in-Ok-perform-clause-full_output g c = λ full succeeds.
     let wrong : DeviceFailed ≡ Success = sym (c.deliver.ensures.full full) ∙ succeeds in absurd cc
 
 pub returns-in-Err-perform-clause-full_source : goal.returns-in-Err-perform-clause-full_source
-returns-in-Err-perform-clause-full_source g c = λ asked full.
+returns-in-Err-perform-clause-full_source g c = λ requested full.
     let request = c.args.job.request.now in
     let contents = map (λ file. file.items) c.args.job.secret_files.now in
     let limit = input_limit (limit_of c.args.job.memory.limit) request.command in
-    let unstrung = asked-no_string (prepared request contents c.args.job.salt.now) request.string
-    limit asked in
+    let unstrung = requested-no_string (planned request contents c.args.job.salt.now) request.string
+    limit requested in
     let unread : c.in-Err-perform.fault ≡ Read Input =
     let same = c.in-Err-perform.ensures.full unstrung full in cc in
     c.report-in-Err-perform.ensures.status ∙ ap status_of unread

@@ -4,7 +4,7 @@ use Rattle.vault_text.specs.Limits.{limit_of}
 use Rattle.vault_core.specs.Decryption.{decryption_derivations}
 use Rattle.vault_core.proofs.DecryptionLemmas.{UnlessUnreadable-from, decryption-Err, decryption-Ok}
 use Rattle.vault_core.proofs.DecryptionLemmas.{decryption_derivations-Err}
-use Rattle.vault_core.proofs.DecryptionLemmas.{decryption_derivations-Ok, opening-is_no_read}
+use Rattle.vault_core.proofs.DecryptionLemmas.{decryption_derivations-Ok, unsealing-is_no_read}
 use Rattle.vault_core.proofs.decryption.prepare_decrypt_in.Goals as goal
 
 pub returns-in_err-payload-clause-answer : goal.returns-in_err-payload-clause-answer
@@ -38,7 +38,7 @@ returns-clause-answer g c =
       read.1,
       read.2,
       UnlessUnreadable-from _ _ _ _ c.decrypt_payload.result
-          (λ fault refused. opening-is_no_read secrets payload fault
+          (λ fault refused. unsealing-is_no_read secrets payload fault
           (sym c.decrypt_payload.ensures.answer ∙ refused))
           read.3.0 (
             read.3.1.0,

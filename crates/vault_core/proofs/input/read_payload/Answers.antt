@@ -1,7 +1,7 @@
 use Rattle.std.proofs.Common.{ap, inr, [], ◌∙◌}
 use Rattle.std.specs.Result.{result_map_both}
 use Rattle.std.proofs.lemmas.Result.{err_from_is_err_and}
-use Rattle.vault_common.specs.Fault.{of_text}
+use Rattle.vault_fault.specs.Fault.{of_text}
 use Rattle.vault_core.proofs.DecryptionLemmas.{of_text-is_no_read}
 use Rattle.vault_core.proofs.input.read_payload.Goals as goal
 

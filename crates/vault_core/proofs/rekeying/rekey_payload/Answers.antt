@@ -13,30 +13,30 @@ returns-in_err-padded-clause-answer c =
     let p = err_from_is_err_and c.from_residual.result c.from_residual.ensures.1 in
     let new = c.args.new.now in
     rw (p.1, p.2) (sym (resealing-Err c.args.secrets.now new c.args.salt.now c.args.payload _
-    c.in_err-padded.ensures.opened))
+    c.in_err-padded.ensures.unsealed))
 
 pub returns-then-is_vault-clause-answer : goal.returns-then-is_vault-clause-answer
 returns-then-is_vault-clause-answer c =
     let new = c.args.new.now in
-    let marked = ap (λ (opened : Ready). is_vault opened.output) (sym c.padded.view_is)
+    let marked = ap (λ (unsealed : Ready). is_vault unsealed.output) (sym c.padded.view_is)
     ∙ sym c.if-is_vault.ensures in
     sym (resealing-vault c.args.secrets.now new c.args.salt.now c.args.payload
-    c.in_ok-padded.field-0 c.in_ok-padded.ensures.opened marked)
+    c.in_ok-padded.field-0 c.in_ok-padded.ensures.unsealed marked)
 
 pub returns-clause-answer : goal.returns-clause-answer
 returns-clause-answer c =
     let new = c.args.new.now in
-    let plain = ap (λ (opened : Ready). is_vault opened.output) (sym c.padded.view_is)
+    let plain = ap (λ (unsealed : Ready). is_vault unsealed.output) (sym c.padded.view_is)
     ∙ sym c.if-is_vault.ensures in
     let answer = resealing-sealed c.args.secrets.now new c.args.salt.now c.args.payload
-    c.in_ok-padded.field-0 c.in_ok-padded.ensures.opened plain in
+    c.in_ok-padded.field-0 c.in_ok-padded.ensures.unsealed plain in
     let written = c.vault.ensures
     ∙ ap (λ (vault : Payload). record {
       output = text_in Envelope vault;
       tried = c.padded.inside.tried;
     }) c.seal-vault.ensures.sealed in
-    let opened = ap (λ (opened : Ready). record {
-      output = text_in Envelope (sealed new c.args.salt.now opened.output);
-      tried = opened.tried;
+    let unsealed = ap (λ (unsealed : Ready). record {
+      output = text_in Envelope (sealed new c.args.salt.now unsealed.output);
+      tried = unsealed.tried;
     }) c.padded.view_is in
-    ap Ok (written ∙ opened) ∙ sym answer
+    ap Ok (written ∙ unsealed) ∙ sym answer

@@ -1,5 +1,5 @@
 use Rattle.std.proofs.Common.{ℕ, List, [], ◌++◌, ap, ◌∙◌, arith, rules}
-use Rattle.vault_kdf.specs.Hmac.{hmac, StandsFor}
+use Rattle.vault_kdf.specs.Hmac.{hmac, HasRead}
 use Rattle.vault_kdf.proofs.Pbkdf2Lemmas.{IsAfterRounds_one, IsAfterRounds_more}
 use Rattle.vault_kdf.proofs.Pbkdf2Lemmas.{IsAfterRounds-block}
 use Rattle.vault_kdf.proofs.pbkdf2_hmac.block.Goals as goal
@@ -7,7 +7,7 @@ use Rattle.vault_kdf.proofs.pbkdf2_hmac.block.Goals as goal
 pub loop-init : goal.loop-init
 loop-init c = λ password stands.
     let salt : List ℕ = c.args.salt.now in
-    let copied : StandsFor c.unwrap-first.result password [] = search rules in
+    let copied : HasRead c.unwrap-first.result password [] = search rules in
     let tag = c.finish-iterate.ensures password (salt ++ c.to_be_bytes.result)
     (c.update-2.ensures password salt (c.update.ensures password [] copied)) in
     IsAfterRounds_one password _ _

@@ -1,6 +1,6 @@
 use Rattle.std.proofs.Common.{map}
 use Rattle.std.specs.String.{string_bytes}
-use Rattle.vault_request.proofs.theorems.WordsNameACommand.{parsed_asks}
+use Rattle.vault_request.proofs.theorems.WordsNameACommand.{parsed_requested}
 use Rattle.vault_command_line.proofs.CommandLineLemmas.{fails_as, parsed_as}
 use Rattle.vault_request.proofs.parsing.parse.Goals as goal
 
@@ -14,7 +14,7 @@ returns-clause-kinds c =
     fails_as _ _ c.try_get_matches_from.result c.in_ok-command.ensures.shape
     c.try_get_matches_from.ensures.kinds
 
-pub returns-clause-asks : goal.returns-clause-asks
-returns-clause-asks c =
-    parsed_asks (map string_bytes c.args.words.now) c.try_get_matches_from.result
+pub returns-clause-requested : goal.returns-clause-requested
+returns-clause-requested c =
+    parsed_requested (map string_bytes c.args.words.now) c.try_get_matches_from.result
     (returns-clause-kinds c) (returns-clause-matches c)

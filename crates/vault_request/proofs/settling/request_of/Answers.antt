@@ -10,9 +10,9 @@ pub invariant_of-result : goal.invariant_of-result
 invariant_of-result c =
     let given = c.args.options.now in
     let fine = allowed given c.requires.allowed in
-    let files : c.in_ok-secrets_of.field-0.items
+    let files : c.in_ok-secret_files_of.field-0.items
     ≡ map file_of_id given.vault_ids ++ map plain_file given.password_files =
-    c.in_ok-secrets_of.ensures.files
+    c.in_ok-secret_files_of.ensures.files
     ∙ ap₂ (λ labelled plain. labelled ++ map plain_file plain)
     (c.as_slice-labelled.ensures.value ∙ c.requires.labelled)
     (ap (λ (o : Options). o.password_files) c.options.view_is) in

@@ -2,7 +2,7 @@ use Rattle.std.proofs.Common.{◌≡◌, ◌∙◌, [], map, ap, codes, refl, un
 use Rattle.clap.specs.Words.{found_of, rows_of, subcommand_rows_of}
 use Rattle.clap.proofs.WalkLemmas.{raw_values-rows}
 use Rattle.vault_request.specs.Options.{values_of}
-use Rattle.vault_request.proofs.SettledLemmas.{asked_given, values_or_none, with_values}
+use Rattle.vault_request.proofs.SettledLemmas.{requested_given, values_or_none, with_values}
 use Rattle.vault_request.proofs.settling.settle.Goals as goal
 
 pub returns : goal.returns
@@ -22,5 +22,5 @@ returns c =
     ∙ ap (λ values. unwrap_or values [])
     (c.get_strs-2.ensures ∙ raw_values-rows found (codes "vault-password-file")) in
     let given = c.of.ensures ∙ with_values command rows _ _ ids paths in
-    asked_given (subcommand_rows_of c.args.matches.now) rows command _
+    requested_given (subcommand_rows_of c.args.matches.now) rows command _
     (rw c.unwrap-command.ensures at c.command_in.ensures) (rw given at c.settled_by.ensures)

@@ -1,14 +1,14 @@
 use Rattle.std.proofs.Common.{refl, ◌∷◌}
-use Rattle.vault_files.specs.Disk.{if_failed}
-use Rattle.vault_files.specs.Disk.SystemCall.{Open}
-use Rattle.vault_files.proofs.HostFacts.{one_open}
+use Rattle.vault_files.specs.System.{if_failed}
+use Rattle.vault_files.specs.System.SystemCall.{Open}
+use Rattle.vault_files.proofs.HostLemmas.{one_open}
 use Rattle.vault_files.proofs.host.HostFilesFileSystem.open.Goals as goal
 
 pub returns-clause-opens : goal.returns-clause-opens
 returns-clause-opens g c =
     rw (← c.self.view_is) (record {
       calls = Open c.args.path.now ∷ if_failed c.open.result;
-      asked = c.open.ensures.asks;
+      executed = c.open.ensures.executes;
       are_opens = one_open c.args.path.now c.open.result;
       rest = refl;
     })

@@ -1,14 +1,15 @@
 use Rattle.std.proofs.Common.{◌≡◌, ◌∙◌, sym, ap, refl, arith, true, false}
 use Rattle.std.specs.Result.{is_ok}
 use Rattle.std.proofs.lemmas.Bool.{false≢true}
-use Rattle.vault_files.specs.HostLaws.{HostTakes-none}
-use Rattle.vault_files.proofs.HostFacts.{finished, unfinished, rises}
-use Rattle.vault_files.proofs.HostFacts.{if_failed-ok, if_failed-err}
+use Rattle.vault_files.specs.HostProofs.{HostTakes-none}
+use Rattle.vault_files.proofs.HostLemmas.{finished, unfinished, rises}
+use Rattle.vault_files.proofs.HostLemmas.{if_failed-ok, if_failed-err}
 use Rattle.vault_files.proofs.host.HostFilesSink.finish.Goals as goal
 use Rattle.vault_files.proofs.host.HostFilesSink.finish.Goals.{in-Some, in-None}
 
 pub returns-then-is_last-clause-takes : goal.returns-then-is_last-clause-takes
-returns-then-is_last-clause-takes g c = HostTakes-none g.D.Disk.asks g.met.D.Disk.asks_none _
+returns-then-is_last-clause-takes g c = HostTakes-none g.D.System.executes
+    g.met.D.System.executes_none _
 
 pub returns-then-not-synced-clause-takes : goal.returns-then-not-synced-clause-takes
 returns-then-not-synced-clause-takes g c =
@@ -19,11 +20,12 @@ returns-then-not-synced-clause-takes g c =
           let call = w.sync.ensures in
           let made : is_ok w.sync.result ≡ false =
           grind (arith, w.is_ok-synced.ensures, w.synced-is, c.if-not-synced.true) in
-          let asked = rw (if_failed-err _ made) at call in
+          let executed = rw (if_failed-err _ made) at call in
           let raised = c.raise.ensures.risen in
           let counted = rw w.self-inside-is at raised in
           rw (← c.self.view_is, w.self-inside-is)
-          (unfinished g.D.Disk.asks _ _ asked stage stage (rises _ _ unstopped counted) refl)
+          (unfinished g.D.System.executes _ _ executed stage stage (rises _ _ unstopped counted)
+          refl)
       | in-None w ↦
           let never : true ≡ false = rw (stage, w.in-None.is) at c.self.invariant in
           absurd (false≢true (sym never))
@@ -37,9 +39,9 @@ returns-clause-takes g c =
           let call = w.sync.ensures in
           let made : is_ok w.sync.result ≡ true =
           grind (arith, w.is_ok-synced.ensures, w.synced-is, c.if-not-synced.false) in
-          let asked = rw (if_failed-ok _ made) at call in
+          let executed = rw (if_failed-ok _ made) at call in
           rw (← c.self.view_is, w.self-inside-is)
-          (finished g.D.Disk.asks _ _ asked stage refl (omega arith) refl)
+          (finished g.D.System.executes _ _ executed stage refl (omega arith) refl)
       | in-None w ↦
           let never : false ≡ true = grind (arith, w.synced-is, c.if-not-synced.false) in
           absurd (false≢true never)

@@ -1,10 +1,10 @@
 use Rattle.std.proofs.Common.{◌≡◌, ℕ, List, replicate, ap, ◌∙◌, append-nil}
 use Rattle.vault_kdf.specs.Xor.{xor}
-use Rattle.vault_kdf.specs.Hmac.{inner_key, outer_key, StandsFor}
+use Rattle.vault_kdf.specs.Hmac.{inner_key, outer_key, HasRead}
 use Rattle.vault_kdf.proofs.hmac_sha256.Hmac.new.Goals as goal
 
 pub returns : goal.returns
-unfolding StandsFor inner_key outer_key
+unfolding HasRead inner_key outer_key
 returns c =
     let key : List ℕ = c.args.key.now in
     let inner : c.xor.result ≡ inner_key key =

@@ -1,12 +1,12 @@
 use Rattle.std.proofs.Common.{refl}
-use Rattle.vault_text.proofs.EnvelopeReaderLemmas.{StandsFor-piece}
+use Rattle.vault_text.proofs.EnvelopeReaderLemmas.{HasRead-piece}
 use Rattle.vault_text.proofs.reader.EnvelopeReader.feed.Goals as goal
 
 pub returns-clause-taken : goal.returns-clause-taken
 returns-clause-taken c input stands =
     let line = c.extend-rest.ensures in
     let here = rw (← c.self.view_is) at stands in
-    StandsFor-piece
+    HasRead-piece
     (record {
       limit = c.self.inside.limit;
       fed = c.self.inside.fed;

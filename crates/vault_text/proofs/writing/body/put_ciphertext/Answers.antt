@@ -40,10 +40,10 @@ returns-in_err-put_batch-clause-prefix g c =
     let next = cipher_text-next c.args.indentation.now cipher l.done more l.invariant.0
     (omega arith) (omega arith) in
     let rest = cipher_text-rest c.args.indentation.now cipher more (omega arith) (omega arith) in
-    let front = prefix_second g.K.Sink.takes g.met.K.Sink.takes_more _ _ _
+    let first = prefix_second g.K.Sink.takes g.met.K.Sink.takes_more _ _ _
     (hexadecimal_lines c.args.indentation.now (encode_lower (take l.done cipher))) _ _ next
     l.invariant.2 c.put_batch.ensures.prefix in
-    prefix_first g.K.Sink.takes _ _ _ _ _ rest front
+    prefix_first g.K.Sink.takes _ _ _ _ _ rest first
 
 pub returns-clause-takes : goal.returns-clause-takes
 returns-clause-takes g c =

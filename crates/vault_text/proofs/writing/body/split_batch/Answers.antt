@@ -11,7 +11,7 @@ returns-clause-parts c =
 pub returns-clause-whole : goal.returns-clause-whole
 returns-clause-whole c =
     let cipher = c.args.cipher.now in
-    let front = length-take c.min.result cipher in
+    let prefix = length-take c.min.result cipher in
     elim (cases_lt c.min.result (length cipher)) [
       | inl some ↦ inl (rw c.split_at.ensures.front (omega arith))
       | inr none ↦ inr (c.split_at.ensures.back ∙ drop_all c.min.result cipher none)

@@ -3,7 +3,7 @@ use Rattle.vault_text.specs.InnerReader.{IsOneLine, MayHave}
 use Rattle.vault_text.specs.InnerText.{is_line_feed}
 use Rattle.vault_text.specs.declared.reader.inner_text.Part.{Part}
 use Rattle.vault_text.specs.declared.reader.inner_text.Part.TheVariants.{Salt, Tag}
-use Rattle.vault_text.proofs.ListLemmas.{before_first-clean_front}
+use Rattle.vault_text.proofs.ListLemmas.{before_first-clean_prefix}
 use Rattle.vault_text.proofs.reader.inner_text.Part.split.Goals as goal
 
 may_have-line : (part : Part) (digits : List ℕ) → (part ≡ Salt) ⊎ (part ≡ Tag) → IsOneLine digits
@@ -14,4 +14,4 @@ may_have-line part digits (inr tag) line = rw tag line
 pub returns-in-Salt-clause-digits : goal.returns-in-Salt-clause-digits
 returns-in-Salt-clause-digits c =
     may_have-line c.args.self _ c.in-Salt.is
-    (rw c.split_at_byte.ensures.before (before_first-clean_front is_line_feed c.args.text.now))
+    (rw c.split_at_byte.ensures.before (before_first-clean_prefix is_line_feed c.args.text.now))

@@ -1,5 +1,0 @@
-use Rattle.vault_cli.proofs.theorems.ProgramLaws.{program_is_outcome}
-use Rattle.vault_cli.proofs.laws.program_is_outcome.Goals as goal
-
-pub returns : goal.returns
-returns c = program_is_outcome

@@ -1,0 +1,31 @@
+-- Which paths are opened, in order: up to the first that cannot be opened or read, this one too.
+use Rattle.std.specs.Prelude.{ℕ, ◌+◌, List, [], ◌∷◌, ◌++◌, option_to_list, Option, Some, None}
+use Rattle.std.specs.Prelude.{Result, Ok, Err}
+use Rattle.vault_files.specs.File.{FileState}
+use Rattle.vault_fault.specs.declared.fault.Fault.{Fault}
+use Rattle.vault_fault.specs.declared.fault.Role.TheVariants.{Secret}
+use Rattle.vault_core.specs.declared.limits.TheConstants.{PASSWORD_FILE_LIMIT}
+use Rattle.vault_cli.specs.runs.FileContents.{contents_of, prefix_in, secret_paths}
+use Rattle.vault_cli.specs.Program.{Files, salt_in}
+use Rattle.vault_request.specs.Request.{Request}
+
+-- none after a step that refuses
+abbrev pub behind : {T : Type 0} → Result T Fault → List (List ℕ) → List (List ℕ)
+behind (Ok value) paths = paths
+behind (Err fault) paths = []
+
+-- of password files
+unfoldable pub opened_secrets : List (List ℕ) → List FileState → List (List ℕ)
+opened_secrets [] files = []
+opened_secrets (path ∷ paths) [] = []
+opened_secrets (path ∷ paths) (file ∷ files) =
+    path ∷ behind (prefix_in Secret (PASSWORD_FILE_LIMIT + 1) file) (opened_secrets paths files)
+
+-- of all files of a request: none where no request was made of the arguments
+abbrev pub opened_paths : Option (Result Request Fault) → Files → List (List ℕ)
+opened_paths None files = []
+opened_paths (Some (Err fault)) files = []
+opened_paths (Some (Ok request)) files =
+    opened_secrets (secret_paths request) files.secrets
+    ++ behind (contents_of files.secrets) (option_to_list request.salt_path
+    ++ behind (salt_in files.salt) (option_to_list request.input))

@@ -1,0 +1,102 @@
+-- What a run of a request answers, as a function of the request, the password files, the salt and
+-- the input: five steps, of which the first that refuses decides. Steps 1 to 3, the passwords, the
+-- index of the secret that seals and the salt, stand with the tasks; then the text is read; step 4
+-- is its length, and step 5 what becomes of it.
+use Rattle.std.specs.Prelude.{ℕ, ◌*◌, if◌then◌else◌, List, [], Option, Some, None, unwrap_or}
+use Rattle.std.specs.Prelude.{Result, Ok, Err}
+use Rattle.vault_text.specs.Limits.{envelope_limit}
+use Rattle.vault_text.specs.declared.limits.TheConstants.{PLAINTEXT_LIMIT}
+use Rattle.vault_core.specs.Decryption.{decryption}
+use Rattle.vault_core.specs.Encryption.{encryption}
+use Rattle.vault_text.specs.Steps.{◌>>=◌}
+use Rattle.vault_core.specs.Ready.{Ready}
+use Rattle.vault_core.specs.Rekeying.{rekeying}
+use Rattle.vault_fault.specs.declared.fault.Fault.{Fault}
+use Rattle.vault_request.specs.CommandName.{encrypts}
+use Rattle.vault_cli.specs.runs.ReportLine.{line_of}
+use Rattle.vault_request.specs.Request.{Request}
+use Rattle.vault_cli.specs.runs.Status.{status_of}
+use Rattle.vault_cli.specs.runs.Task.{Task, Seal, Unseal, Reseal, planned}
+use Rattle.vault_request.specs.declared.command_name.CommandName.{CommandName}
+use Rattle.vault_request.specs.declared.command_name.CommandName.TheVariants.{Encrypt, Decrypt}
+use Rattle.vault_request.specs.declared.command_name.CommandName.TheVariants.{Rekey}
+use Rattle.vault_cli.specs.declared.runs.status.Status.{Status}
+use Rattle.vault_cli.specs.declared.runs.status.Status.TheVariants.{Success}
+
+-- the bytes to be written, where there are any; the line on standard error; the status
+pub record Answer : Type 0 where
+  pub output : Option (List ℕ)
+  pub line : List ℕ
+  pub status : Status
+
+-- the outcome of a fault
+abbrev pub reported : Fault → Answer
+reported fault = record { output = None; line = line_of fault; status = status_of fault }
+
+-- the outcome of what is ready to be written, or of a fault
+abbrev pub answered : Result Ready Fault → Answer
+answered (Ok ready) = record { output = Some ready.output; line = []; status = Success }
+answered (Err fault) = reported fault
+
+-- how much input a command takes, by how much plaintext is encrypted
+abbrev pub input_limit : ℕ → CommandName → ℕ
+input_limit limit command = if encrypts command then limit else envelope_limit limit
+
+-- how long a text may be that has room wherever so much plaintext does: an envelope spells each
+-- byte with four digits
+abbrev pub room_limit : ℕ → CommandName → ℕ
+room_limit limit command = if encrypts command then limit else 4 * limit
+
+-- how much input a task takes
+abbrev pub task_limit : ℕ → Task → ℕ
+task_limit limit (Seal secrets index form salt) = input_limit limit Encrypt
+task_limit limit (Unseal secrets) = input_limit limit Decrypt
+task_limit limit (Reseal secrets new salt) = input_limit limit Rekey
+
+-- the text that a request speaks of: its STRING, or the input
+abbrev pub text_of_request : Request → List ℕ → List ℕ
+text_of_request request input = unwrap_or request.string input
+
+-- the STRING where there is one, or else the input, or why that cannot be read
+abbrev pub text_or : Option (List ℕ) → Result (List ℕ) Fault → Result (List ℕ) Fault
+text_or (Some string) input = Ok string
+text_or None input = input
+
+-- how much of the input is asked for beside one byte more: the limit, where steps 1 to 3 do not
+-- refuse and there is no STRING, and else none
+abbrev pub input_needed_by : Result Task Fault → Option (List ℕ) → ℕ → Option ℕ
+input_needed_by (Err fault) string limit = None
+input_needed_by (Ok task) (Some string) limit = None
+input_needed_by (Ok task) None limit = Some limit
+
+-- steps 4 and 5 of each task
+abbrev pub performed : ℕ → Task → List ℕ → Result Ready Fault
+performed limit (Seal secrets index form salt) text = encryption limit secrets index form salt text
+performed limit (Unseal secrets) text = decryption limit secrets text
+performed limit (Reseal secrets new salt) text = rekeying limit secrets new salt text
+
+-- all five steps, where so much plaintext is encrypted
+abbrev pub ready_by : ℕ → Result Task Fault → Option (List ℕ) → Result (List ℕ) Fault
+    → Result Ready Fault
+ready_by limit plans string input = do
+  -- steps 1 to 3
+  task ← plans
+  text ← text_or string input
+  -- steps 4 and 5
+  performed limit task text
+
+-- how much of the input a request asks for
+abbrev pub input_needed : ℕ → Request → List (List ℕ) → List ℕ → Option ℕ
+input_needed limit request contents salt =
+    input_needed_by (planned request contents salt) request.string
+    (input_limit limit request.command)
+
+-- the outcome of a request where so much plaintext is encrypted
+unfoldable pub run_answer_within : ℕ → Request → List (List ℕ) → List ℕ → List ℕ → Answer
+run_answer_within limit request contents salt input =
+    answered (ready_by limit (planned request contents salt) request.string (Ok input))
+
+-- its outcome under the limit of the program
+abbrev pub run_answer : Request → List (List ℕ) → List ℕ → List ℕ → Answer
+run_answer request contents salt input = run_answer_within PLAINTEXT_LIMIT request contents salt
+    input

@@ -1,0 +1,110 @@
+//! Calls of the library, each with one list of secrets and memory of one size.
+ghost use Rattle.std.specs.Prelude.{◌≡◌, IfOk, vec_len};
+ghost use Rattle.vault_core.specs.Password.{IsPassword};
+
+use std::alloc::{AllocError, Global};
+use vault_core::{Fault, Form, Ready, Secrets, prepare_decrypt, prepare_encrypt, prepare_rekey};
+use vault_kdf::Meter;
+use vault_text::{Label, MemSink, MemSource, Salt};
+
+/// The memory that the calls borrow, which has room for 1,024 bytes of plaintext.
+pub const WORK_LENGTH: usize = 1_040;
+
+/// What a call made.
+#[derive(Drop)]
+pub struct Answer {
+    pub output: Vec<u8>,
+    pub tried: usize,
+    pub derived: u64,
+}
+
+pub fn work(alloc: Global) -> Result<Vec<u8>, AllocError>
+    ensures { IfOk result (λ work. vec_len work ≡ WORK_LENGTH) }
+{
+    vec![in alloc; 0u8; WORK_LENGTH]
+}
+
+fn answer_of(alloc: Global, ready: Ready, meter: &Meter) -> Result<Answer, Fault> {
+    let tried = ready.tried();
+    let mut sink = MemSink::new(alloc, 4096);
+    ready.write_to(&mut sink)?;
+    Ok(Answer {
+        output: Vec::from_slice(alloc, sink.bytes())?,
+        tried,
+        derived: meter.count(),
+    })
+}
+
+pub fn decrypt(alloc: Global, envelope: &[u8], secrets: &Secrets) -> Result<Answer, Fault> {
+    let mut work = work(alloc)?;
+    let mut meter = Meter::new();
+    let mut src = MemSource::new(envelope, 1000);
+    let ready = prepare_decrypt(&mut src, work.as_mut_slice(), secrets, &mut meter)?;
+    answer_of(alloc, ready, &meter)
+}
+
+/// Encrypts with the only secret of a list, under a salt of 32 zero bytes.
+pub fn encrypt(
+    alloc: Global,
+    plain: &[u8],
+    secrets: &Secrets,
+    form: Form,
+) -> Result<Answer, Fault> {
+    let mut work = work(alloc)?;
+    let mut meter = Meter::new();
+    let mut src = MemSource::new(plain, 1000);
+    let salt = Salt::new(&[0; 32]).unwrap();
+    let index = secrets.encrypt_choice(None)?;
+    let ready = prepare_encrypt(
+        &mut src,
+        work.as_mut_slice(),
+        secrets,
+        index,
+        form,
+        &salt,
+        &mut meter,
+    )?;
+    answer_of(alloc, ready, &meter)
+}
+
+/// Rekeys under a salt of 32 bytes 01.
+pub fn rekey(
+    alloc: Global,
+    envelope: &[u8],
+    secrets: &Secrets,
+    new: &Label,
+    password: &[u8],
+) -> Result<Answer, Fault> {
+    let mut work = work(alloc)?;
+    let mut meter = Meter::new();
+    let mut src = MemSource::new(envelope, 1000);
+    let salt = Salt::new(&[1; 32]).unwrap();
+    let ready = prepare_rekey(
+        &mut src,
+        work.as_mut_slice(),
+        secrets,
+        new,
+        password,
+        &salt,
+        &mut meter,
+    )?;
+    answer_of(alloc, ready, &meter)
+}
+
+pub fn one_secret<'p>(label: &str, password: &'p [u8]) -> Result<Secrets<'p>, Fault>
+    requires { IsPassword password.now }
+{
+    let mut secrets = Secrets::new();
+    secrets.push(Label::new(label)?, password)?;
+    Ok(secrets)
+}
+
+/// A secret with the label `a`, and then one with the label `b`.
+pub fn two_secrets<'p>(first: &'p [u8], second: &'p [u8]) -> Result<Secrets<'p>, Fault>
+    requires first { IsPassword first.now }
+    requires second { IsPassword second.now }
+{
+    let mut secrets = one_secret("a", first)?;
+    secrets.push(Label::new("b")?, second)?;
+    Ok(secrets)
+}

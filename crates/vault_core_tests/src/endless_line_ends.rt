@@ -1,0 +1,40 @@
+//! A body of line ends without end.
+ghost use Rattle.std.specs.Prelude.{◌≡◌, IfOk, vec_len};
+ghost use Rattle.vault_text.specs.declared.limits.TheConstants.{CIPHERTEXT_LIMIT};
+
+use std::alloc::{AllocError, Global};
+use std::test::Fail;
+use vault_core::{Fault, Secrets, prepare_decrypt};
+use vault_kdf::Meter;
+use vault_test_data::CountingReader;
+use vault_text::{CIPHERTEXT_LIMIT, ReadSource};
+
+const HEADER_LINE: &[u8] = b"$ANSIBLE_VAULT;1.1;AES256\n";
+
+/// All the memory that the limits ask for.
+fn work_memory(alloc: Global) -> Result<Vec<u8>, AllocError>
+    ensures { IfOk result (λ work. vec_len work ≡ CIPHERTEXT_LIMIT) }
+{
+    vec![in alloc; 0u8; CIPHERTEXT_LIMIT]
+}
+
+/// How line ends without end are refused that come in steps, without a request; and how many bytes
+/// of them are read.
+fn endless_line_ends(alloc: Global, step: usize) -> Result<(Option<Fault>, usize), Fail> {
+    let mut work = work_memory(alloc)?;
+    let mut reader = CountingReader::with_line_feeds(HEADER_LINE, usize::MAX, step);
+    let mut src = ReadSource::new(&mut reader);
+    let secrets = Secrets::new();
+    let mut meter = Meter::new();
+    let refused = prepare_decrypt(&mut src, work.as_mut_slice(), &secrets, &mut meter).err();
+    Ok((refused, reader.given))
+}
+
+#[test]
+fn refuse_endless_line_ends(rt: HostRuntime) -> Result<(), Fail> {
+    for step in [1, 7, 4_096, 65_536] {
+        let refused = endless_line_ends(rt.alloc(), step)?;
+        assert_eq!(rt; refused, (Some(Fault::TooLong), 100_671_489), "{step}");
+    }
+    Ok(())
+}

@@ -1,0 +1,29 @@
+-- The calls of the system that files ask for.
+use Rattle.std.specs.Prelude.{ℕ, List, [], ◌∷◌, Result, Ok, Err}
+
+pub data SystemCall : Type 0 where
+  -- the file at this path is opened for reading
+  Open : List ℕ → SystemCall
+  -- the file at this path is created for its owner alone, or truncated if it exists
+  Create : List ℕ → SystemCall
+  -- the file that was created is made its owner's alone, where it is a regular one
+  ChmodOwnerOnly : SystemCall
+  -- it takes these bytes
+  Write : List ℕ → SystemCall
+  -- what it took is brought to its device
+  Sync : SystemCall
+  -- the call before this one failed
+  Failed : SystemCall
+
+-- what comes after a call that was answered so
+abbrev pub if_failed : {T E : Type 0} → Result T E → List SystemCall
+if_failed (Ok value) = []
+if_failed (Err error) = Failed ∷ []
+
+-- the calls that open these paths, in this order, each of which may fail
+pub data OpenCalls : List (List ℕ) → List SystemCall → Type 0 where
+  no_opens : OpenCalls [] []
+  opens : (path : List ℕ) (paths : List (List ℕ)) (calls : List SystemCall)
+      → OpenCalls paths calls → OpenCalls (path ∷ paths) (Open path ∷ calls)
+  fails_to_open : (path : List ℕ) (paths : List (List ℕ)) (calls : List SystemCall)
+      → OpenCalls paths calls → OpenCalls (path ∷ paths) (Open path ∷ Failed ∷ calls)

@@ -1,0 +1,59 @@
+use super::System;
+use std::fs::{Files, OpenFile, OpenOptions, Permissions};
+use std::io::{ErrorKind, Write};
+use std::os::unix::fs::{OpenOptionsExt, PermissionsExt};
+use std::{fs, io};
+
+/// Readable and writable by its owner alone.
+const OWNER_ONLY: u32 = 0o600;
+
+/// The system itself. No contract sees it: that each method asks for what the trait says, and for
+/// nothing else, is taken from these lines.
+impl<R: Files> System for &R {
+    ghost use Rattle.std.specs.Prelude.{None};
+
+    type Reader = R::File;
+
+    type Writer = R::File;
+
+    ghost executes = { λ s calls t. Unit {0} };
+
+    ghost executes_none = { λ s. tt };
+
+    ghost executes_more = { λ s t u xs ys p q. tt };
+
+    ghost reader_at = { λ s path found. Unit {0} };
+
+    ghost reader_some = { λ s path. (None, tt) };
+
+    ghost opens_give = { λ s t paths calls path found opens executes reader_at. tt };
+
+    fn open(&mut self, path: &str) -> io::Result<R::File> {
+        fs::open(*self, path)
+    }
+
+    fn create(&mut self, path: &str) -> io::Result<R::File> {
+        let mut options = OpenOptions::new();
+        options.write(true).create(true).truncate(true);
+        options.mode(OWNER_ONLY);
+        options.open(*self, path)
+    }
+
+    fn chmod_owner_only(&mut self, file: &R::File) -> io::Result<()> {
+        if !file.metadata()?.is_file() {
+            return Ok(());
+        }
+        file.set_permissions(Permissions::from_mode(OWNER_ONLY))
+    }
+
+    fn write(&mut self, file: &mut R::File, bytes: &[u8]) -> io::Result<usize> {
+        file.write(bytes)
+    }
+
+    fn sync(&mut self, file: &R::File) -> io::Result<()> {
+        match file.sync_all() {
+            Err(error) if matches!(error.kind(), ErrorKind::InvalidInput) => Ok(()),
+            synced => synced,
+        }
+    }
+}

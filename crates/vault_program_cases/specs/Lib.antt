@@ -1,3 +1,0 @@
-pub mod Disk
-pub mod DiskLaws
-pub mod OnDisk

@@ -1,0 +1,3 @@
+pub mod System
+pub mod SystemProofs
+pub mod OnDisk

@@ -1,0 +1,85 @@
+//! Runs of the program over files of the system.
+use std::test::Fail;
+use vault_cli::Status;
+use vault_test_data::{CountingReader, envelope};
+use vault_test_runs::{LINUX_FILE, run_on_system};
+
+const PLAINTEXT: &[u8] = b"key: value\n";
+
+/// A run over one vault on standard input, and how it ends.
+struct Case<'a> {
+    words: &'a [&'a str],
+    is_read: bool,
+    status: Status,
+    output: &'a [u8],
+    message: &'a str,
+}
+
+const CASES: [Case<'static>; 7] = [
+    Case {
+        words: &["view", "--vault-id", LINUX_FILE],
+        is_read: true,
+        status: Status::Success,
+        output: PLAINTEXT,
+        message: "",
+    },
+    Case {
+        words: &["decrypt", "--vault-id", LINUX_FILE, "--output", "/dev/null"],
+        is_read: true,
+        status: Status::Success,
+        output: b"",
+        message: "",
+    },
+    Case {
+        words: &["decrypt", "--vault-id", LINUX_FILE, "--output", "/dev/full"],
+        is_read: true,
+        status: Status::DeviceFailed,
+        output: b"",
+        message: "ERROR! the output cannot be written\n",
+    },
+    Case {
+        words: &["view", "--vault-id", "/dev/zero"],
+        is_read: false,
+        status: Status::Refused,
+        output: b"",
+        message: "ERROR! a password file is longer than 4096 bytes\n",
+    },
+    Case {
+        words: &["view", "--vault-id", "/"],
+        is_read: false,
+        status: Status::DeviceFailed,
+        output: b"",
+        message: "ERROR! a password file cannot be read\n",
+    },
+    Case {
+        words: &["view", "--vault-password-file", ""],
+        is_read: false,
+        status: Status::DeviceFailed,
+        output: b"",
+        message: "ERROR! a password file cannot be opened\n",
+    },
+    Case {
+        words: &["view", "--vault-id", LINUX_FILE, "/dev/null"],
+        is_read: false,
+        status: Status::Refused,
+        output: b"",
+        message: "ERROR! input is not vault encrypted data\n",
+    },
+];
+
+#[test]
+fn ends_with_the_answer(rt: HostRuntime) -> Result<(), Fail> {
+    let alloc = rt.alloc();
+    let vault = envelope(alloc, "default", b"Linux", &[7; 32], PLAINTEXT)?;
+    for case in &CASES {
+        let words = case.words;
+        let mut stdin = CountingReader::new(vault.as_slice(), 4_096);
+        let ended = run_on_system(&rt, alloc, words, &mut stdin)?;
+        let read = if case.is_read { vault.len() } else { 0 };
+        assert_eq!(rt; ended.status, case.status, "{words:?}");
+        assert_eq!(rt; ended.output.as_slice(), case.output, "{words:?}");
+        assert_eq!(rt; ended.message.as_str(), case.message, "{words:?}");
+        assert_eq!(rt; stdin.given, read, "{words:?}");
+    }
+    Ok(())
+}

@@ -1,0 +1,133 @@
+//! How often a reader or a writer is called within one call of a source or a sink.
+ghost use Rattle.std.specs.Prelude.{◌≤◌, IfOk};
+
+use std::io;
+use std::io::{Read, Write};
+use std::test::Fail;
+use vault_text::{ReadSource, Sink, SinkFailed, Source, SourceFailed, WriteSink, fill_up, put_all};
+
+/// A reader of the byte `x` and a writer, of one byte a call: one of its calls is interrupted, or
+/// takes nothing, and each other one succeeds. It counts its calls.
+#[derive(Drop)]
+struct FailsOnce {
+    failing_call: usize,
+    takes_nothing: bool,
+    calls: usize,
+}
+
+impl FailsOnce {
+    /// The call of this number, from 1, is interrupted.
+    fn interrupted(failing_call: usize) -> Self {
+        FailsOnce {
+            failing_call,
+            takes_nothing: false,
+            calls: 0,
+        }
+    }
+
+    /// The call of this number, from 1, takes nothing.
+    fn stuck(failing_call: usize) -> Self {
+        FailsOnce {
+            failing_call,
+            takes_nothing: true,
+            calls: 0,
+        }
+    }
+
+    fn answer(&mut self, count: usize) -> io::Result<usize>
+        ensures { IfOk result (λ n. n ≤ count) }
+    {
+        self.calls = self.calls.saturating_add(1);
+        if self.calls != self.failing_call {
+            return Ok(count);
+        }
+        if self.takes_nothing {
+            return Ok(0);
+        }
+        Err(io::ErrorKind::Interrupted.into())
+    }
+}
+
+impl Read for FailsOnce {
+    fn read(&mut self, buf: &mut [u8]) -> io::Result<usize> {
+        let count = self.answer(buf.len().min(1))?;
+        buf[..count].fill(b'x');
+        Ok(count)
+    }
+}
+
+impl Write for FailsOnce {
+    fn write(&mut self, buf: &[u8]) -> io::Result<usize> {
+        self.answer(buf.len().min(1))
+    }
+
+    fn flush(&mut self) -> io::Result<()> {
+        self.answer(0)?;
+        Ok(())
+    }
+}
+
+#[test]
+fn a_source_asks_its_reader_once_a_call(rt: HostRuntime) {
+    let mut reader = FailsOnce::interrupted(2);
+    let mut source = ReadSource::new(&mut reader);
+    let mut buf = [0; 4];
+    assert_eq!(rt; source.fill(&mut buf), Ok(1));
+    assert_eq!(rt; source.fill(&mut buf), Err(SourceFailed));
+    assert_eq!(rt; source.fill(&mut buf), Ok(1));
+    assert_eq!(rt; reader.calls, 3);
+}
+
+#[test]
+fn a_source_asks_no_more_after_the_end(rt: HostRuntime) {
+    let mut reader = FailsOnce::stuck(2);
+    let mut source = ReadSource::new(&mut reader);
+    let mut buf = [0; 4];
+    assert_eq!(rt; fill_up(&mut source, &mut buf), Ok(1));
+    assert_eq!(rt; source.fill(&mut buf), Ok(0));
+    assert_eq!(rt; reader.calls, 2);
+}
+
+#[test]
+fn reading_stops_at_a_failure(rt: HostRuntime) {
+    let mut reader = FailsOnce::interrupted(3);
+    let mut source = ReadSource::new(&mut reader);
+    let mut buf = [0; 8];
+    assert_eq!(rt; fill_up(&mut source, &mut buf), Err(SourceFailed));
+    assert_eq!(rt; reader.calls, 3);
+}
+
+#[test]
+fn a_sink_asks_its_writer_once_a_call(rt: HostRuntime) -> Result<(), Fail> {
+    for writer in [FailsOnce::interrupted(2), FailsOnce::stuck(2)] {
+        let mut sink = WriteSink::new(writer);
+        sink.begin()?;
+        assert_eq!(rt; sink.put(b"ab"), Ok(1));
+        assert_eq!(rt; sink.put(b"bc"), Err(SinkFailed));
+        assert_eq!(rt; sink.put(b"bc"), Ok(1));
+        sink.finish()?;
+        assert_eq!(rt; sink.into_inner().calls, 4);
+    }
+    Ok(())
+}
+
+#[test]
+fn writing_stops_at_a_failure(rt: HostRuntime) -> Result<(), Fail> {
+    for writer in [FailsOnce::interrupted(1), FailsOnce::stuck(1)] {
+        let mut sink = WriteSink::new(writer);
+        sink.begin()?;
+        assert_eq!(rt; put_all(&mut sink, b"ab"), Err(SinkFailed));
+        assert_eq!(rt; sink.into_inner().calls, 1);
+    }
+    Ok(())
+}
+
+#[test]
+fn a_sink_flushes_once_a_call(rt: HostRuntime) -> Result<(), Fail> {
+    let mut sink = WriteSink::new(FailsOnce::interrupted(1));
+    sink.begin()?;
+    assert_eq!(rt; sink.finish(), Err(SinkFailed));
+    sink.finish()?;
+    assert_eq!(rt; sink.into_inner().calls, 2);
+    Ok(())
+}

@@ -1,0 +1,154 @@
+//! A second reader: it follows the definition step by step, on the whole input in memory.
+use crate::reading::{INPUT_LIMIT, WORK_LENGTH};
+use hex::FromHexError;
+use std::alloc::{AllocError, Global};
+use vault_text::{HEADER_LIMIT, Label, MARKER, SALT_LIMIT, TAG_LENGTH, TextFault, strip};
+
+/// What an envelope holds.
+#[derive(Drop)]
+pub struct OwnedPayload {
+    pub label: Label,
+    pub salt: Vec<u8>,
+    pub tag: Vec<u8>,
+    pub cipher: Vec<u8>,
+}
+
+#[derive(Drop)]
+struct Parts {
+    salt: Vec<u8>,
+    tag: Vec<u8>,
+    cipher: Vec<u8>,
+}
+
+/// Reads an envelope, in the order of the nine steps.
+pub fn read_envelope(
+    alloc: Global,
+    input: &[u8],
+) -> Result<Result<OwnedPayload, TextFault>, AllocError> {
+    if input.len() > INPUT_LIMIT {
+        return Ok(Err(TextFault::TooLong));
+    }
+    if !input.starts_with(MARKER) {
+        return Ok(Err(TextFault::NotVault));
+    }
+    let (line, text) = split_at_line_end(input);
+    match read_header(line) {
+        Ok(label) => read_body(alloc, label, text),
+        Err(fault) => Ok(Err(fault)),
+    }
+}
+
+/// Whether the byte ends a line.
+fn is_line_end(byte: u8) -> bool {
+    byte == b'\n' || byte == b'\r'
+}
+
+/// What comes before the first line end, and the rest.
+fn split_at_line_end(input: &[u8]) -> (&[u8], &[u8]) {
+    match input.iter().position(|byte| is_line_end(*byte)) {
+        Some(end) => (&input[..end], &input[end..]),
+        None => (input, b"".as_slice()),
+    }
+}
+
+/// The label that a header line names.
+fn read_header(line: &[u8]) -> Result<Label, TextFault> {
+    if line.len() > HEADER_LIMIT {
+        return Err(TextFault::HeaderTooLong);
+    }
+    let mut fields = line
+        .split(|byte| *byte == b';')
+        .map(|field| strip(field))
+        .skip(1);
+    let (Some(version), Some(cipher)) = (fields.next(), fields.next()) else {
+        return Err(TextFault::BadHeader);
+    };
+    let Some(label) = label_of(fields.next().unwrap_or(b"")) else {
+        return Err(TextFault::BadHeader);
+    };
+    if !line.is_ascii() {
+        return Err(TextFault::BadHeader);
+    }
+    if version != b"1.1".as_slice() && version != b"1.2".as_slice() {
+        return Err(TextFault::BadVersion);
+    }
+    if cipher != b"AES256".as_slice() {
+        return Err(TextFault::BadCipher);
+    }
+    Ok(label)
+}
+
+/// The label of this field, `default` where it is empty.
+fn label_of(field: &[u8]) -> Option<Label> {
+    if field.is_empty() {
+        return Some(Label::default_label());
+    }
+    Label::new(str::from_utf8(field).ok()?).ok()
+}
+
+/// Reads what follows the header line.
+fn read_body(
+    alloc: Global,
+    label: Label,
+    text: &[u8],
+) -> Result<Result<OwnedPayload, TextFault>, AllocError> {
+    let digits: Vec<u8> = text
+        .iter()
+        .copied()
+        .filter(|byte| !is_line_end(*byte))
+        .collect(alloc)?;
+    let Some(inner) = unhex(alloc, digits.as_slice())? else {
+        return Ok(Err(TextFault::BadHex));
+    };
+    let Some(parts) = parts_of(alloc, inner.as_slice())? else {
+        return Ok(Err(TextFault::BadPayload));
+    };
+    let Parts { salt, tag, cipher } = parts;
+    if cipher.len() > WORK_LENGTH {
+        return Ok(Err(TextFault::CipherTooLong));
+    }
+    Ok(Ok(OwnedPayload {
+        label,
+        salt,
+        tag,
+        cipher,
+    }))
+}
+
+/// The parts of an inner text.
+fn parts_of(alloc: Global, text: &[u8]) -> Result<Option<Parts>, AllocError> {
+    let Some((salt, rest)) = split_at_line_feed(text) else {
+        return Ok(None);
+    };
+    let Some((tag, cipher)) = split_at_line_feed(rest) else {
+        return Ok(None);
+    };
+    let Some(salt) = unhex(alloc, salt)? else {
+        return Ok(None);
+    };
+    let Some(tag) = unhex(alloc, tag)? else {
+        return Ok(None);
+    };
+    let Some(cipher) = unhex(alloc, cipher)? else {
+        return Ok(None);
+    };
+    if salt.len() > SALT_LIMIT || tag.len() != TAG_LENGTH {
+        return Ok(None);
+    }
+    Ok(Some(Parts { salt, tag, cipher }))
+}
+
+/// What comes before the first LF and after it; None where there is none.
+fn split_at_line_feed(text: &[u8]) -> Option<(&[u8], &[u8])> {
+    let end = text.iter().position(|byte| *byte == b'\n')?;
+    Some((&text[..end], &text[end + 1..]))
+}
+
+/// The bytes that the digits spell; None where they are no hexadecimal text.
+fn unhex(alloc: Global, digits: &[u8]) -> Result<Option<Vec<u8>>, AllocError> {
+    match hex::decode(alloc, digits) {
+        Ok(bytes) => Ok(Some(bytes)),
+        Err(FromHexError::OutOfMemory) => Err(AllocError),
+        Err(_) => Ok(None),
+    }
+}

@@ -1,0 +1,279 @@
+//! The texts were made in Python: `bytes.hex` of salt, tag and ciphertext joined by line feeds,
+//! then `bytes.hex` of that, cut every 80 digits.
+ghost use Rattle.std.specs.Prelude.{◌≡◌, ◌≤◌, IfOk, vec_len};
+ghost use Rattle.vault_text_tests.specs.declared.writing.TheConstants.{WORK_LENGTH};
+
+use std::alloc::{AllocError, Global};
+use std::test::Fail;
+use vault_text::{
+    EnvelopeReader, FailingSink, Label, MemSink, Salt, Sink, SinkFailed, TAG_LENGTH, write_block,
+    write_envelope,
+};
+
+/// Label, length of the salt, length of the ciphertext, and the envelope. The last line is full but
+/// where the ciphertext has 16 bytes.
+const ENVELOPES: [(&str, u16, u16, &str); 7] = [
+    (
+        "default",
+        0,
+        7,
+        "\
+         $ANSIBLE_VAULT;1.1;AES256\n\
+         0a666666656664666366626661663966386637663666356634663366326631663065666565656465\n\
+         636562656165396538653765366535653465336532653165300a3035313031623236333133633437\n\
+         ",
+    ),
+    (
+        "dev",
+        1,
+        6,
+        "\
+         $ANSIBLE_VAULT;1.2;AES256;dev\n\
+         30330a66666665666466636662666166396638663766366635663466336632663166306566656565\n\
+         6465636562656165396538653765366535653465336532653165300a303531303162323633313363\n\
+         ",
+    ),
+    (
+        "x",
+        3,
+        64,
+        "\
+         $ANSIBLE_VAULT;1.2;AES256;x\n\
+         3033306131310a666666656664666366626661663966386637663666356634663366326631663065\n\
+         666565656465636562656165396538653765366535653465336532653165300a3035313031623236\n\
+         33313363343735323564363837333765383939343966616162356330636264366531656366373032\n\
+         30643138323332653339343434663561363537303762383639313963613762326264633864336465\n\
+         65396634666630613135323032623336343134633537363236643738383338653939613461666261\n\
+         ",
+    ),
+    (
+        "default",
+        16,
+        16,
+        "\
+         $ANSIBLE_VAULT;1.1;AES256\n\
+         30333061313131383166323632643334336234323439353035373565363536630a66666665666466\n\
+         63666266616639663866376636663566346633663266316630656665656564656365626561653965\n\
+         38653765366535653465336532653165300a30353130316232363331336334373532356436383733\n\
+         37653839393439666161\n\
+         ",
+    ),
+    (
+        "a b",
+        32,
+        16,
+        "\
+         $ANSIBLE_VAULT;1.2;AES256;a b\n\
+         30333061313131383166323632643334336234323439353035373565363536633733376138313838\n\
+         3866393639646134616262326239633063376365643564630a666666656664666366626661663966\n\
+         38663766366635663466336632663166306566656565646563656265616539653865376536653565\n\
+         3465336532653165300a303531303162323633313363343735323564363837333765383939343966\n\
+         6161\n\
+         ",
+    ),
+    (
+        "default",
+        37,
+        10,
+        "\
+         $ANSIBLE_VAULT;1.1;AES256\n\
+         30333061313131383166323632643334336234323439353035373565363536633733376138313838\n\
+         386639363964613461626232623963306337636564356463653365616631663866660a6666666566\n\
+         64666366626661663966386637663666356634663366326631663065666565656465636562656165\n\
+         396538653765366535653465336532653165300a3035313031623236333133633437353235643638\n\
+         ",
+    ),
+    (
+        "prod",
+        256,
+        11,
+        "\
+         $ANSIBLE_VAULT;1.2;AES256;prod\n\
+         30333061313131383166323632643334336234323439353035373565363536633733376138313838\n\
+         38663936396461346162623262396330633763656435646365336561663166386666303630643134\n\
+         31623232323933303337336534353463353335613631363836663736376438343862393239396130\n\
+         61376165623562636333636164316438646665366564663466623032303931303137316532353263\n\
+         33333361343134383466353635643634366237323739383038373865393539636133616162316238\n\
+         62666336636464346462653265396630663766653035306331333161323132383266333633643434\n\
+         34623532353936303637366537353763383338613931393839666136616462346262633263396430\n\
+         64376465653565636633666130313038306631363164323432623332333934303437346535353563\n\
+         36333661373137383766383638643934396261326139623062376265633563636433646165316538\n\
+         65666636666430343062313231393230323732653335336334333461353135383566363636643734\n\
+         37623832383939303937396561356163623362616331633863666436646465346562663266393030\n\
+         30373065313531633233326133313338336634363464353435623632363937303737376538353863\n\
+         39333961613161386166623662646334636264326439653065376565663566630a66666665666466\n\
+         63666266616639663866376636663566346633663266316630656665656564656365626561653965\n\
+         38653765366535653465336532653165300a30353130316232363331336334373532356436383733\n\
+         ",
+    ),
+];
+
+/// The second envelope, as the value of a variable.
+const NAMED_BLOCK: &str = "\
+    db_password: !vault |\n\
+    \x20         $ANSIBLE_VAULT;1.2;AES256;dev\n\
+    \x20         30330a66666665666466636662666166396638663766366635663466336632663166306566656565\n\
+    \x20         6465636562656165396538653765366535653465336532653165300a303531303162323633313363\n\
+    ";
+
+/// The first envelope.
+const UNNAMED_BLOCK: &str = "\
+    !vault |\n\
+    \x20         $ANSIBLE_VAULT;1.1;AES256\n\
+    \x20         0a666666656664666366626661663966386637663666356634663366326631663065666565656465\n\
+    \x20         636562656165396538653765366535653465336532653165300a3035313031623236333133633437\n\
+    ";
+
+/// Room for the longest ciphertext that is read back.
+const WORK_LENGTH: usize = 20_000;
+
+fn work_memory(alloc: Global) -> Result<Vec<u8>, AllocError>
+    ensures { IfOk result (λ work. vec_len work ≡ WORK_LENGTH) }
+{
+    vec![in alloc; 0u8; WORK_LENGTH]
+}
+
+/// `length` bytes, of which byte i is `step * i + first` modulo 256.
+fn counting(alloc: Global, length: u16, step: u8, first: u8) -> Result<Vec<u8>, AllocError> {
+    let mut bytes = Vec::new(alloc);
+    let mut byte = first;
+    for _ in 0..length {
+        bytes.push(byte)?;
+        byte = byte.wrapping_add(step);
+    }
+    Ok(bytes)
+}
+
+fn salt_of(alloc: Global, length: u16) -> Result<Salt, Fail> {
+    let bytes = counting(alloc, length, 7, 3)?;
+    Ok(Salt::new(bytes.as_slice()).ok_or("long salt")?)
+}
+
+fn tag() -> [u8; TAG_LENGTH] {
+    let mut tag = [0; TAG_LENGTH];
+    let mut next: u8 = 255;
+    for byte in tag.iter_mut() {
+        *byte = next;
+        next = next.wrapping_sub(1);
+    }
+    tag
+}
+
+/// The envelope as it is written into memory, `step` bytes at a time.
+fn envelope(
+    alloc: Global,
+    step: usize,
+    label: &str,
+    salt_length: u16,
+    cipher: &[u8],
+) -> Result<Vec<u8>, Fail>
+    requires { 1 ≤ step }
+{
+    let label = Label::new(label)?;
+    let salt = salt_of(alloc, salt_length)?;
+    let mut sink = MemSink::new(alloc, step);
+    sink.begin()?;
+    write_envelope(&mut sink, &label, &salt, &tag(), cipher)?;
+    sink.finish()?;
+    Ok(sink.bytes().to_vec(alloc)?)
+}
+
+#[test]
+fn envelopes_are_those_of_another_implementation(rt: HostRuntime) -> Result<(), Fail> {
+    let alloc = rt.alloc();
+    for (label, salt_length, length, text) in ENVELOPES {
+        let cipher = counting(alloc, length, 11, 5)?;
+        for step in [1, 7, 10_000] {
+            let bytes = envelope(alloc, step, label, salt_length, cipher.as_slice())?;
+            assert_eq!(rt; bytes.as_slice(), text.as_bytes(), "salt of {salt_length}");
+        }
+    }
+    Ok(())
+}
+
+#[test]
+fn envelopes_read_back(rt: HostRuntime) -> Result<(), Fail> {
+    let alloc = rt.alloc();
+    let mut work = work_memory(alloc)?;
+    for (label, salt_length, length) in [
+        ("default", 0, 0),
+        ("default", 1, 16),
+        ("dev", 16, 7),
+        ("prod", 32, 16),
+        ("x", 37, 2_543),
+        ("a b", 256, 20_000),
+    ] {
+        let cipher = counting(alloc, length, 11, 5)?;
+        let bytes = envelope(alloc, 4_096, label, salt_length, cipher.as_slice())?;
+        assert_eq!(rt; work.len(), WORK_LENGTH);
+        let mut reader = EnvelopeReader::new(work.as_mut_slice());
+        reader.feed(bytes.as_slice());
+        let payload = reader.finish()?;
+        let salt = salt_of(alloc, salt_length)?;
+        assert_eq!(rt; payload.label().as_str(), label);
+        assert_eq!(rt; payload.salt().as_bytes(), salt.as_bytes());
+        assert_eq!(rt; payload.tag().as_slice(), tag().as_slice());
+        assert_eq!(rt; payload.cipher(), cipher.as_slice());
+    }
+    Ok(())
+}
+
+/// A block as it is written into memory.
+fn block(
+    alloc: Global,
+    name: Option<&str>,
+    label: &str,
+    salt_length: u16,
+    length: u16,
+) -> Result<Vec<u8>, Fail> {
+    let label = Label::new(label)?;
+    let salt = salt_of(alloc, salt_length)?;
+    let cipher = counting(alloc, length, 11, 5)?;
+    let mut sink = MemSink::new(alloc, 4_096);
+    sink.begin()?;
+    write_block(&mut sink, name, &label, &salt, &tag(), cipher.as_slice())?;
+    Ok(sink.bytes().to_vec(alloc)?)
+}
+
+#[test]
+fn blocks_are_those_of_another_implementation(rt: HostRuntime) -> Result<(), Fail> {
+    let alloc = rt.alloc();
+    let named = block(alloc, Some("db_password"), "dev", 1, 6)?;
+    assert_eq!(rt; named.as_slice(), NAMED_BLOCK.as_bytes());
+    for name in [None, Some("")] {
+        let unnamed = block(alloc, name, "default", 0, 7)?;
+        assert_eq!(rt; unnamed.as_slice(), UNNAMED_BLOCK.as_bytes());
+    }
+    Ok(())
+}
+
+#[test]
+fn a_failing_sink_holds_a_prefix(rt: HostRuntime) -> Result<(), Fail> {
+    let alloc = rt.alloc();
+    let label = Label::default_label();
+    let salt = salt_of(alloc, 1)?;
+    let whole = envelope(alloc, 4_096, "default", 1, b"cipher")?;
+    let whole = whole.as_slice();
+    for taken in 0..whole.len() {
+        // one call for `begin`
+        let mut sink = FailingSink::new(alloc, 1, taken + 1);
+        sink.begin()?;
+        let result = write_envelope(&mut sink, &label, &salt, &tag(), b"cipher");
+        assert_eq!(rt; result, Err(SinkFailed));
+        assert_eq!(rt; sink.bytes(), &whole[..taken]);
+        assert!(rt; sink.begun());
+    }
+    let mut sink = FailingSink::new(alloc, 1, whole.len() + 1);
+    sink.begin()?;
+    write_envelope(&mut sink, &label, &salt, &tag(), b"cipher")?;
+    assert_eq!(rt; sink.bytes(), whole);
+    assert_eq!(rt; sink.finish(), Err(SinkFailed));
+    Ok(())
+}
+
+#[test]
+fn a_failing_sink_may_not_begin(rt: HostRuntime) {
+    let mut sink = FailingSink::new(rt.alloc(), 1, 0);
+    assert_eq!(rt; sink.begin(), Err(SinkFailed));
+    assert!(rt; !sink.begun());
+}

@@ -1,0 +1,25 @@
+"""Runs a program with one allocation of its memory refused."""
+
+import os
+import subprocess
+
+from lib.limits import SECONDS
+
+# The library that stands before the system's allocator, and where it tells that it refused a allocation.
+LIBRARY = "refuse_allocation"
+TOLD = 3
+
+
+def run_refusing(library: str, words: list[str], stdin: bytes, number: int):
+    """A run of these words whose allocation of this number, from 1, is refused, and whether it had one."""
+    reading, writing = os.pipe()
+    with open(reading, "rb") as told:
+        environment = {"LD_PRELOAD": library, "REFUSED_ALLOCATION": str(number)}
+        try:
+            done = subprocess.run(
+                words, input=stdin, capture_output=True, env=environment, timeout=SECONDS,
+                pass_fds=[TOLD], preexec_fn=lambda: os.dup2(writing, TOLD),
+            )
+        finally:
+            os.close(writing)
+        return done, told.read() != b""
