@@ -23,11 +23,11 @@ from lib.paths import COMPANIONS, PAGE, ROOT
 from model.vaults import seal, yaml_block
 from shells import all_shown
 
-PASSWORDS = {"old.pass": b"the old one", "new.pass": b"the new one", "prod.pass": b"in production", "ci.pass": b"of CI"}
+PASSWORDS = {"old.pass": b"the old one", "new.pass": b"the new one", "prod.pass": b"in production", "ci.pass": rb"of \CI\t\\"}
 # As the document marks files.
 MARKS = "*.vault.yml diff=ansible-vault merge=ansible-vault\nvault.yml diff=ansible-vault merge=ansible-vault\n"
 SETTINGS = "[defaults]\nvault_identity_list = prod@~/.vault/prod.pass\n"
-INVENTORY = "localhost ansible_connection=local\n"
+INVENTORY = "web1 ansible_connection=local\n"
 # What a piece needs of the machine besides git.
 TOOLS = {
     "Secrets, named once": ["ansible-playbook"],
@@ -39,12 +39,11 @@ TOOLS = {
 PLAYBOOK = """\
 - hosts: all
   gather_facts: false
-  vars_files: [vars.yml]
   tasks:
     - ansible.builtin.debug:
         msg: "{{ shared }} and {{ db_password }}"
 """
-# The same without a file of variables.
+# The same without a block.
 SHORT_PLAYBOOK = """\
 - hosts: all
   gather_facts: false
@@ -65,6 +64,12 @@ def pieces() -> dict[str, str]:
     _, *parts = re.split(r"^## (.+)$", document, flags=re.MULTILINE)
     lines = lambda text: [line[4:] for line in text.splitlines() if line.startswith("    ")]
     return {title: "\n".join(lines(text)) + "\n" for title, text in zip(parts[::2], parts[1::2])}
+
+
+def shown_settings() -> str:
+    """The `ansible.cfg` of the document."""
+    document = (ROOT / "docs" / "workflows.md").read_text()
+    return re.search(r"^```ini\n(.*?)^```$", document, re.MULTILINE | re.DOTALL)[1]
 
 
 def examples(page: pathlib.Path = PAGE) -> dict[str, str]:
@@ -163,9 +168,10 @@ def check_settings(outcome: Outcome, repository: Repository, shell: str):
     repository.put("group_vars/all/vault.yml", b"shared: battery staple\n")
     repository.put("inventory", INVENTORY.encode())
     repository.put("playbook.yml", SHORT_PLAYBOOK.encode())
+    repository.put("ansible.cfg", shown_settings().encode())
     ran = repository.shell(shell)
     outcome.check("the commands end well", (ran.returncode, ran.stderr), (0, ""))
-    outcome.check("the settings are those of the page", repository.get("ansible.cfg").decode(), SETTINGS)
+    outcome.check("the other pieces have the same settings", shown_settings(), SETTINGS)
     outcome.check("the vault is shown", ran.stdout.splitlines()[:1], ["shared: battery staple"])
     outcome.check("ansible-playbook reads it by the same settings", played(ran.stdout), ["battery staple"])
     for name in ("host_vars/web1/secrets.yml", "group_vars/all/vault.yml"):
@@ -175,16 +181,18 @@ def check_settings(outcome: Outcome, repository: Repository, shell: str):
 
 def check_playbook(outcome: Outcome, repository: Repository, shell: str):
     repository.put("plain.yml", b"shared: battery staple\n")
-    repository.put("group_vars/.keep", b"")
+    repository.put("group_vars/all/.keep", b"")
+    repository.put("host_vars/web1.yml", b"port: 5432\n")
     repository.put("inventory", INVENTORY.encode())
     repository.put("playbook.yml", PLAYBOOK.encode())
     ran = repository.shell(shell)
     what = "ansible-playbook reads the vault and the block"
     outcome.check(what, played(ran.stdout), ["battery staple and correct horse"])
+    outcome.check("the plaintext is still there", repository.get("plain.yml"), b"shared: battery staple\n")
 
 
 def check_edit(outcome: Outcome, repository: Repository, shell: str):
-    name = "group_vars/all.yml"
+    name = "group_vars/all/vault.yml"
     repository.put(name, seal(PASSWORDS["prod.pass"], b"password: first\n", b"prod"))
     (repository.folder / name).chmod(0o640)
     ran = repository.shell(shell, EDITOR=repository.script('sed -i s/first/second/ "$1"'))
@@ -195,7 +203,7 @@ def check_edit(outcome: Outcome, repository: Repository, shell: str):
 
 
 def check_asked(outcome: Outcome, repository: Repository, shell: str):
-    repository.put("group_vars/all.yml", seal(PASSWORDS["old.pass"], b"shown\n"))
+    repository.put("group_vars/all/vault.yml", seal(PASSWORDS["old.pass"], b"shown\n"))
     for password, wanted in ((PASSWORDS["old.pass"], True), (b"another", False)):
         shown = pasted(repository, f"{shell.rstrip()}; exit\n", password.decode())
         outcome.check(f"`{password.decode()}` is typed", "shown\r\n" in shown, wanted)
@@ -203,7 +211,7 @@ def check_asked(outcome: Outcome, repository: Repository, shell: str):
 
 
 def check_typed(outcome: Outcome, repository: Repository, shell: str):
-    repository.put("group_vars/all.yml", seal(PASSWORDS["old.pass"], b"shown\n"))
+    repository.put("group_vars/all/vault.yml", seal(PASSWORDS["old.pass"], b"shown\n"))
     for interpreter in ("bash", "zsh"):
         for password, wanted in ((PASSWORDS["old.pass"], (0, "shown\n")), (b"another", (1, ""))):
             ran = repository.shell(shell, stdin=password.decode() + "\n", interpreter=interpreter)
@@ -246,11 +254,14 @@ def check_rotation(outcome: Outcome, repository: Repository, shell: str):
     repository.put("b.yml", block("secret", "b", "old.pass", "").encode())
     kept = seal(PASSWORDS["prod.pass"], b"c", b"prod")
     repository.put("c.yml", kept)
+    repository.shell("rm ~/.vault/new.pass")
     ran = repository.shell(shell)
     told = ["2 rotated, 0 under the new secret already, 1 of other labels (prod 1), 0 failed"]
     outcome.check("a rotation", (ran.returncode, ran.stdout.splitlines()[-1:], ran.stderr), (0, told, ""))
-    shown = repository.shell("ansible-vault view --vault-password-file new.pass vars/a.yml").stdout
+    shown = repository.shell('ansible-vault view --vault-password-file "$HOME"/.vault/new.pass vars/a.yml').stdout
     outcome.check("the vault is under the new secret", (shown, repository.get("c.yml")), ("a", kept))
+    told = repository.shell("stat -c %a ~/.vault/new.pass; base64 --decode < ~/.vault/new.pass | wc -c").stdout
+    outcome.check("which is of 32 bytes, for its owner alone", told, "600\n32\n")
 
 
 def check_check(outcome: Outcome, repository: Repository, shell: str):
@@ -259,7 +270,7 @@ def check_check(outcome: Outcome, repository: Repository, shell: str):
     ran = repository.shell(shell)
     home = repository.environment["HOME"]
     lines = [
-        f"./b.yml:2: secret: prod: opened by prod@{home}/.vault/prod.pass",
+        "./b.yml:2: secret: prod: opened by prod@~/.vault/prod.pass",
         f"./vars/a.yml: default: opened by {home}/.vault/new.pass",
         "2 opened, 0 not",
     ]
@@ -375,6 +386,7 @@ def check_marks(outcome: Outcome, repository: Repository, shell: str):
     lines = [
         "group_vars/all/vault.yml: diff: ansible-vault",
         "host_vars/web1/secrets.yml: diff: ansible-vault",
+        "host_vars/web1.yml: diff: ansible-vault",
         "group_vars/all/vars.yml: diff: unspecified",
     ]
     outcome.check("the marks", (ran.returncode, ran.stdout.splitlines(), ran.stderr), (0, lines, ""))
@@ -412,12 +424,11 @@ def check_pipeline(outcome: Outcome, repository: Repository, shell: str):
 
 def check_encrypt(outcome: Outcome, repository: Repository, shell: str):
     repository.put("plain.yml", b"plain: text\n")
-    repository.put("group_vars/.keep", b"")
+    repository.put("group_vars/all/.keep", b"")
     ran = repository.shell(shell)
     outcome.check("a file is encrypted and decrypted", (ran.returncode, ran.stderr), (0, ""))
-    outcome.holds(
-        "one is a vault", repository.get("group_vars/all.yml").startswith(b"$ANSIBLE_VAULT;1.2;AES256;prod\n")
-    )
+    first = repository.get("group_vars/all/vault.yml").splitlines()[0]
+    outcome.check("one is a vault", first, b"$ANSIBLE_VAULT;1.2;AES256;prod")
     outcome.check("the other is its plaintext", repository.get("other.yml"), b"plain: text\n")
 
 
@@ -467,7 +478,7 @@ RECIPES = {
     "A password that is typed": check_asked,
     "Editing a vault": check_edit,
     "One secret in a YAML file": check_one_secret,
-    "A repository under new secrets": check_rotation,
+    "A new password for a whole repository": check_rotation,
     "Which secret opens what": check_check,
     "Which files are to be encrypted": check_marks,
     "Differences in git": check_differences,
@@ -495,7 +506,7 @@ def example_repository(repository: Repository, password: str) -> str:
     vault = lambda text: seal(PASSWORDS[password], text, b"prod")
     repository.put("ansible.cfg", SETTINGS.encode())
     repository.put(".gitattributes", MARKS.encode())
-    for name in ("group_vars/all.yml", "group_vars/all/vault.yml", "one.vault.yml", "a.yml", "b.yml"):
+    for name in ("group_vars/all/vault.yml", "one.vault.yml", "a.yml", "b.yml"):
         repository.put(name, vault(b"a: 1\nb: 2\nc: 3\nd: 4\n"))
     repository.put("host_vars/web1.yml", block("db_password", "correct horse", password, "prod").encode())
     repository.put("get-pass", b"#!/bin/sh\ncat prod.pass\n")
