@@ -14,7 +14,7 @@ from lib.option_sets import companion_options, companion_page, companion_statuse
 from lib.option_sets import help_commands, help_of, help_options, help_text, options_in, sections, spellings
 from lib.option_table import code_in, constants_in, entries, literals_in, named_in, table_options
 from lib.outcome import Outcome
-from lib.paths import COMPANIONS, PAGE, ROOT
+from lib.paths import COMPANIONS, PAGE, ROOT, version
 from model.options import COMMON, FLAGS, OPTIONS
 from shells import SHELLS, needs_shell
 
@@ -36,8 +36,14 @@ LOOKS = {
     "groff": ["groff", "-ww", "-mdoc", "-T", "utf8", "-P", "-c"],
 }
 COLUMNS = 80
-# The pages to which a page refers are not installed where the tests run.
-UNINSTALLED = ("referenced manual not found", "outdated mandoc.db", "see above the output for STYLE")
+# Remarks that say nothing against a page. The pages to which it refers are not installed where the tests run, and its
+# foot names the program in the place of the system.
+EXPECTED = (
+    "referenced manual not found",
+    "outdated mandoc.db",
+    "see above the output for STYLE",
+    "operating system explicitly specified",
+)
 PAGES = sorted(PAGE.parent.glob("*.1"))
 # The sections of a companion's page, and others that may follow them.
 SECTIONS = [
@@ -207,9 +213,11 @@ def test_page_as_it_is_shown(outcome: Outcome, tool: str, page: Path) -> None:
         pytest.skip(f"{tool} is not installed")
     done = subprocess.run([*LOOKS[tool], str(page)], capture_output=True, text=True)
     lines = [re.sub(".\b", "", line) for line in done.stdout.splitlines()]
-    remarks = [line for line in done.stderr.splitlines() if not any(each in line for each in UNINSTALLED)]
+    remarks = [line for line in done.stderr.splitlines() if not any(each in line for each in EXPECTED)]
     outcome.check(f"{tool} finds nothing in the page", remarks, [])
     outcome.check("the page is no wider than a terminal", [line for line in lines if len(line) > COLUMNS], [])
+    foot = next(line for line in reversed(lines) if line)
+    outcome.holds("its foot has the program and the version", foot.startswith(f"ansible-vault {version()} "), foot)
 
 
 # Documents with commands of the companions.

@@ -211,7 +211,7 @@ def check_asked(outcome: Outcome, repository: Repository, shell: str):
 
 
 def check_typed(outcome: Outcome, repository: Repository, shell: str):
-    repository.put("group_vars/all/vault.yml", seal(PASSWORDS["old.pass"], b"shown\n"))
+    repository.put("vault.yml", seal(PASSWORDS["old.pass"], b"shown\n"))
     for interpreter in ("bash", "zsh"):
         for password, wanted in ((PASSWORDS["old.pass"], (0, "shown\n")), (b"another", (1, ""))):
             ran = repository.shell(shell, stdin=password.decode() + "\n", interpreter=interpreter)
