@@ -23,7 +23,13 @@ from lib.paths import COMPANIONS, PAGE, ROOT
 from model.vaults import seal, yaml_block
 from shells import all_shown
 
-PASSWORDS = {"old.pass": b"the old one", "new.pass": b"the new one", "prod.pass": b"in production", "ci.pass": rb"of \CI\t\\"}
+# One has what some shells' `echo` would interpret.
+PASSWORDS = {
+    "old.pass": b"the old one",
+    "new.pass": b"the new one",
+    "prod.pass": b"in production",
+    "ci.pass": rb"of \CI\t\\",
+}
 # As the document marks files.
 MARKS = "*.vault.yml diff=ansible-vault merge=ansible-vault\nvault.yml diff=ansible-vault merge=ansible-vault\n"
 SETTINGS = "[defaults]\nvault_identity_list = prod@~/.vault/prod.pass\n"

@@ -21,12 +21,12 @@ BYTE_ORDER_MARK = b"\xef\xbb\xbf"
 # Forms in which an envelope is not put back, with what to do.
 IN_A_LINE = (
     "an envelope in quotes or within a line; write it as a block (`NAME: !vault |` and its lines below, "
-    "behind spaces), or encrypt the whole file"
+    "indented with spaces), or encrypt the whole file"
 )
 COMMENTED = "an envelope in a comment; remove it, or the comment's marks"
-BEHIND_TABS = "an envelope behind tabs; write spaces"
+BEHIND_TABS = "an envelope after tabs; indent with spaces"
 FOLDED = "an envelope in a folded scalar (`>`), which is not read; write `!vault |`"
-BEHIND_MARK = "an envelope behind a byte order mark; remove the mark"
+BEHIND_MARK = "an envelope after a byte order mark; remove the mark"
 IN_UTF_16 = "envelopes in UTF-16, which are not read; write the file in UTF-8"
 
 # The lines of a block, but for the end of the last one.

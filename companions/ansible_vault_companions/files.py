@@ -13,17 +13,17 @@ from ansible_vault_companions.program import Refused
 
 # What is read at once of a file that may be no text at all.
 PIECE = 1 << 20
-# Bytes of an envelope's beginning that may end one piece and go on in the next.
+# Bytes of an envelope's beginning that may end one piece and continue in the next.
 OVERLAP = max(map(len, UTF_16)) - 1
 # Prose shows blocks that are not meant.
 PROSE = (".md", ".rst", ".adoc", ".html")
 PLACES = """\
-Looked at are the files PATH and those below a folder PATH, but for folders
-.git. Links to files are followed, and links to folders where they are a PATH.
-Blocks are looked for in every file but prose (.md, .rst, .adoc, .html): an
-envelope whose lines have the same indentation, as after `NAME: !vault |`,
+It looks at the files PATH and those below a folder PATH, skipping .git.
+Symbolic links to files are followed, and those to folders only where they are
+a PATH. Blocks are found in every file except prose (.md, .rst, .adoc, .html):
+an envelope whose lines have the same indentation, as after `NAME: !vault |`,
 also within another text; and in the plaintext of a vault. An envelope in
-another form (quotes, JSON, comments, tabs, `!vault >`, UTF-16, behind a byte
+another form (quotes, JSON, comments, tabs, `!vault >`, UTF-16, after a byte
 order mark) is reported as a failure, with what to do."""
 
 Result = TypeVar("Result")

@@ -18,7 +18,7 @@ FILE_MODES = {"100644", "100755"}
 RAW = ("--raw", "-z", "--no-abbrev", "--no-renames")
 # By a variable of this name git names to a hook a commit that is merged.
 MERGED = "GITHEAD_"
-# Where contents are noted that have merge marks within a vault, which are seen with a secret alone.
+# Where contents are noted that have conflict markers within a vault, which are seen with a secret alone.
 CONFLICTS = "ansible-vault-conflicts"
 
 

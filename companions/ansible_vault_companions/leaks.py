@@ -14,13 +14,13 @@ DIFF, VAULT_ALONE = "diff", "ansible-vault"
 
 NOT_ENCRYPTED = "is not encrypted"
 DAMAGED = "is a damaged vault"
-UNMERGED = "has git's merge marks"
+UNMERGED = "has git's conflict markers"
 
 HEADER = re.compile(rb"\$ANSIBLE_VAULT;1\.(?:1;AES256|2;AES256;[^;\r\n]{1,128})[ \t]*(?=[\r\n]|\Z)")
 # Lengths in bytes.
 TAG_LENGTH = 32
 CIPHER_BLOCK = 16
-MERGE_MARK = re.compile(rb"^(?:<<<<<<<|>>>>>>>|\|\|\|\|\|\|\|)(?:[ \t][^\r\n]*)?\r?$", re.MULTILINE)
+CONFLICT_MARKER = re.compile(rb"^(?:<<<<<<<|>>>>>>>|\|\|\|\|\|\|\|)(?:[ \t][^\r\n]*)?\r?$", re.MULTILINE)
 # What follows a block, up to its first character.
 NEXT_LINE = re.compile(rb"(?:\r?\n[ \t]*(?=[\r\n]))*\r?\n(?P<spaces> *)\S")
 # A variable of YAML and what it has in its line.
@@ -44,12 +44,12 @@ def is_whole(text: bytes) -> bool:
 
 
 def is_unmerged(text: bytes) -> bool:
-    """Whether git has left the marks of a merge in it."""
-    return MERGE_MARK.search(text) is not None
+    """Whether git has left conflict markers in it."""
+    return CONFLICT_MARKER.search(text) is not None
 
 
 def has_unmerged_envelopes(text: bytes) -> bool:
-    """Whether it has marks of a merge beside envelopes, and is no vault."""
+    """Whether it has conflict markers beside envelopes, and is no vault."""
     return not text.startswith(MAGIC) and is_unmerged(text) and bool(envelopes(text))
 
 

@@ -13,8 +13,8 @@ from typing import Callable
 from ansible_vault_companions import VERSION, stopping
 
 NOTE = """\
-Nothing of this program is proved: the proofs speak of ansible-vault, which it
-calls for all that is secret."""
+This program is tested, not proved. It leaves all encryption and decryption to
+ansible-vault, which is proved."""
 
 
 class Refused(Exception):

@@ -44,7 +44,7 @@ def replace(path: str, content: bytes, before: bytes | None, is_private: bool = 
 def rehearse(target: str) -> None:
     """Refuses now what `replace` would refuse."""
     if target in _mount_points():
-        raise Refused("it is mounted by itself, and no file can take its place")
+        raise Refused("it is itself a mount point, so no other file can take its place")
     os.unlink(_write_beside(target, b""))
 
 

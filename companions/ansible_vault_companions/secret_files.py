@@ -21,13 +21,14 @@ A password file that is executable is run, and writes the password; one whose
 name ends in -client, before its suffix, is given --vault-id LABEL. `prompt`
 as FILE asks at the terminal."""
 BY_SETTINGS = """
-Where no option names a secret, Ansible's settings do:
+If no option names a secret, Ansible's settings do:
 ANSIBLE_VAULT_IDENTITY_LIST and ANSIBLE_VAULT_PASSWORD_FILE, or else
 vault_identity_list and vault_password_file of ansible.cfg, as Ansible finds
-it. What they name and is not there is ignored with a warning."""
+it. A secret of these that is missing is ignored with a warning, unless
+something is to be encrypted."""
 NONE = (
     "no secret is given: name one by --vault-id or --vault-password-file, in ANSIBLE_VAULT_PASSWORD_FILE or "
-    "in ansible.cfg, or be asked by --ask-vault-password"
+    "in ansible.cfg, or type one with --ask-vault-password"
 )
 
 

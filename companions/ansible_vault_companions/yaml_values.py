@@ -2,7 +2,7 @@
 
 It reads no more of YAML than that takes: indentation, keys, and where each scalar ends, as PyYAML has them, which
 Ansible reads with. What it cannot read is refused, so that no plaintext in the wrong column is taken for
-something else. Between git's merge marks each side begins where the other began.
+something else. Between git's conflict markers each side begins where the other began.
 """
 
 from __future__ import annotations
@@ -298,7 +298,7 @@ class _Scanner:
         return found is not None
 
     def _side(self, mark: bytes) -> bool:
-        """Whether a mark of git's begins or ends a side of a conflict here."""
+        """Whether a conflict marker begins or ends a side of a conflict here."""
         if mark != b"<" and not self.side:
             return False
         self._end_node()

@@ -80,7 +80,7 @@ def help_of_each(cases: Companions) -> None:
             for word in ("--help", "-h"):
                 done = place.run(name, word)
                 example = f"Example:\n  {name} "
-                parts = [f"usage: {name}", example, "Exit status: 0", "Nothing of this program is proved"]
+                parts = [f"usage: {name}", example, "Exit status: 0", "This program is tested, not proved"]
                 cases.ended(f"{name} {word}", done, 0, *parts)
                 wide = [line for line in done.stdout.splitlines() if len(line) > 80]
                 cases.check(f"{name}: the help is no wider than a terminal", (wide, done.stderr), ([], ""))

@@ -16,9 +16,9 @@ REPORTED = {
     "one line": (b"a: !vault " + sealed("old").replace(b"\n", b" ") + b"\n", "write it as a block"),
     "a comment": (COMMENT, "an envelope in a comment"),
     "a comment behind a value": (b"a: 1 # " + sealed("old").replace(b"\n", b" "), "within a line"),
-    "tabs": (b"a: !vault |\n" + BODY.replace(b"          ", b"\t"), "behind tabs; write spaces"),
+    "tabs": (b"a: !vault |\n" + BODY.replace(b"          ", b"\t"), "after tabs; indent with spaces"),
     "a folded scalar": (b"a: !vault >\n" + BODY + b"\n", "in a folded scalar"),
-    "a byte order mark": (b"\xef\xbb\xbf" + sealed("old"), "behind a byte order mark"),
+    "a byte order mark": (b"\xef\xbb\xbf" + sealed("old"), "after a byte order mark"),
     "UTF-16": ("\ufeff".encode("utf-16-le") + block("old").decode().encode("utf-16-le"), "write the file in UTF-8"),
     "UTF-16, big-endian": (block("old").decode().encode("utf-16-be"), "write the file in UTF-8"),
 }
@@ -117,7 +117,7 @@ def linear_time(cases: Companions) -> None:
         "a marked file": lambda data: leaks.fault_of_marked(b"x: 1\n" + data, {"diff"}),
         "what is decrypted": lambda data: leaks.decrypted(start + data, b"x: 1\n" + data),
         "a whole vault": lambda data: leaks.is_whole(b"$ANSIBLE_VAULT;1.1;AES256\n" + data),
-        "merge marks": leaks.is_unmerged,
+        "conflict markers": leaks.is_unmerged,
     }
     for piece in PIECES:
         small = (piece * (SMALL // len(piece) + 1))[:SMALL]

@@ -140,7 +140,7 @@ def mounted_vaults(cases: Companions) -> None:
         words = f"{EDIT} {' '.join(place.by_file('old'))} all.yml"
         place.environment["EDITOR"] = place.script(f"touch ../started; {CHANGE}", "editor")
         done = place.run("unshare", "-m", "sh", "-c", f"mount --bind all.yml all.yml && {words}")
-        cases.ended("a mounted vault", done, 1, "all.yml: it is mounted by itself")
+        cases.ended("a mounted vault", done, 1, "all.yml: it is itself a mount point")
         cases.check("it is seen before the editor starts", (place.path / "started").exists(), False)
         place.environment["EDITOR"] = place.script(f"{CHANGE}; mount --bind all.yml all.yml", "editor")
         done = place.run("unshare", "-m", "sh", "-c", words)

@@ -33,7 +33,7 @@ def unmarked_vaults(cases: Companions) -> None:
         refused(cases, "plaintext", done, "group_vars/all.yml", why=WHOLE, hint=MEANT)
         for what, content in {
             "a part of it": sealed("old")[:-100],
-            "merge marks": sealed("old").replace(b"\n", b"\n<<<<<<< ours\n", 1),
+            "conflict markers": sealed("old").replace(b"\n", b"\n<<<<<<< ours\n", 1),
             "plaintext below": sealed("old") + TEXT,
             "plaintext with a block": TEXT + block("old"),
         }.items():
@@ -116,11 +116,11 @@ def merges(cases: Companions) -> None:
             again(place, "vars.yml", sealed(password))
         place.shell("git merge -q ours")
         done = add_and_commit(place)
-        refused(cases, "merge marks in a vault", done, "vars.yml", why=WHOLE, hint=MEANT)
+        refused(cases, "conflict markers in a vault", done, "vars.yml", why=WHOLE, hint=MEANT)
 
 
 def marked_content(cases: Companions) -> None:
-    """What is marked needs the digits of an envelope, and neither merge marks nor plaintext between them."""
+    """What is marked needs the digits of an envelope, and neither conflict markers nor plaintext between them."""
     digits = sealed("old").partition(b"\n")[2]
     damaged = {
         "a bare header": b"$ANSIBLE_VAULT;1.1;AES256\n",
@@ -146,7 +146,7 @@ def marked_content(cases: Companions) -> None:
             done = again(place, "a.vault.yml", b"x: 1\n" + content)
             refused(cases, what, done, "a.vault.yml", why=why)
         marks = block("old") + b"<<<<<<< HEAD\nb: 1\n=======\nb: 2\n>>>>>>> branch\n"
-        refused(cases, "merge marks", again(place, "a.vault.yml", marks), "a.vault.yml", why="has git's merge marks")
+        refused(cases, "markers", again(place, "a.vault.yml", marks), "a.vault.yml", why="has git's conflict markers")
         cases.silent("blocks", again(place, "a.vault.yml", block("old") + b"x: 1\n\n" + block("old", name="b") + b"\n"))
 
 

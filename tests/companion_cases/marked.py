@@ -17,8 +17,8 @@ def marked_files(cases: Companions) -> None:
         "deep/b.vault.yml": (b"", "is not encrypted"),
         "secrets/vars.yml": (block("old"), "is not encrypted"),
         "notes.vault.md": (TEXT, "is not encrypted"),
-        "c.vault.yml": (block("old") + MERGE, "has git's merge marks"),
-        "d.yml": (MERGE + block("old"), "has git's merge marks"),
+        "c.vault.yml": (block("old") + MERGE, "has git's conflict markers"),
+        "d.yml": (MERGE + block("old"), "has git's conflict markers"),
     }
     with cases.place() as place:
         under_git(place, ATTRIBUTES)

@@ -67,12 +67,12 @@ def merges(place: Place, texts: dict[str, tuple]) -> Iterator[tuple[str, bytes, 
 
 def check_merge(cases: Companions, place: Place, what: str, merge: list[str], conflicts: int) -> None:
     done = place.run(MERGE, *place.by_file("old"), *merge)
-    told = f"{MERGE}: a.yml: {conflicts} conflict{'s' if conflicts > 1 else ''}, to be solved by ansible-vault-edit\n"
+    told = f"{MERGE}: a.yml: {conflicts} conflict{'s' if conflicts > 1 else ''}, to be resolved with ansible-vault-edit\n"
     found = (done.returncode, done.stdout, done.stderr)
     cases.check(f"{what}: the status", found, (1, "", told) if conflicts else (0, "", ""))
     if conflicts:
         checked = place.run(CHECK, *place.by_file("old"), "a.yml")
-        cases.holds(f"{what}: the check sees the marks", "merge marks" in checked.stderr, checked.stderr)
+        cases.holds(f"{what}: the check sees the markers", "conflict markers" in checked.stderr, checked.stderr)
 
 
 def of_vaults(cases: Companions) -> None:

@@ -57,16 +57,17 @@ def with_conflict(cases: Companions) -> None:
         done = branches(place, base, ours, other)
         cases.ended("a conflict", done, 1, "whole.yml: 1 conflict", "vars.yml: 1 conflict")
         marked = opened("old", place.get("whole.yml"))
-        cases.check("the marks are within", marked, b"<<<<<<< ours\nx: ours\n=======\nx: theirs\n>>>>>>> theirs\n")
+        cases.check("the markers are within", marked, b"<<<<<<< ours\nx: ours\n=======\nx: theirs\n>>>>>>> theirs\n")
         cases.check("both values stay encrypted", texts(place.get("vars.yml"), "old"), [b"ours", b"theirs"])
-        cases.holds("around them are marks", place.get("vars.yml").startswith(b"<<<<<<< ours\na: !vault |\n"))
-        cases.ended("the check", place.run(CHECK, *place.by_file("old"), "."), 1, "its plaintext has git's merge marks")
+        cases.holds("around them are markers", place.get("vars.yml").startswith(b"<<<<<<< ours\na: !vault |\n"))
+        checked = place.run(CHECK, *place.by_file("old"), ".")
+        cases.ended("the check", checked, 1, "its plaintext has git's conflict markers")
         place.shell(f"git add -A; {HOOK} --install")
         done = place.shell("git commit -qm merged")
-        cases.ended("the hook", done, 1, "whole.yml has git's merge marks", "vars.yml has git's merge marks")
+        cases.ended("the hook", done, 1, "whole.yml has git's conflict markers", "vars.yml has git's conflict markers")
         for name in ("whole.yml", "vars.yml"):
             done = edit(place, TAKE_THEIRS, *place.by_file("old"), name)
-            cases.ended(f"{EDIT} {name}", done, 0, "it has git's merge marks")
+            cases.ended(f"{EDIT} {name}", done, 0, "it has git's conflict markers")
         cases.check("the vault", opened("old", place.get("whole.yml")), b"x: theirs\n")
         cases.check("the value keeps its envelope", place.get("vars.yml"), other["vars.yml"])
         cases.silent("the commit", add_and_commit(place))
@@ -77,7 +78,7 @@ def labels(cases: Companions) -> None:
         words = [*place.by_file("old"), *place.by_id("prod", "prod")]
         ours, other = sealed("old", OURS), sealed("prod", THEIRS, "prod")
         done = branches(place, {"a.yml": sealed("old", BASE)}, {"a.yml": ours}, {"a.yml": other}, *words)
-        why = "a.yml: not merged, ours stays as it is: the labels differ: default in ours, prod in theirs"
+        why = "a.yml: not merged, ours is left as it was: the labels differ: default in ours, prod in theirs"
         cases.ended("labels", done, 1, why)
         cases.check("ours stays", place.get("a.yml"), ours)
 
@@ -112,7 +113,7 @@ def those_that_fail(cases: Companions) -> None:
     """Ours stays to the byte, no other file is left, and the message says why."""
     with cases.place() as place:
         secrets = [*place.by_file("old"), *place.by_file("new"), *place.by_file("prod")]
-        where = f"{MERGE}: a.yml: not merged, ours stays as it is: "
+        where = f"{MERGE}: a.yml: not merged, ours is left as it was: "
         for why, contents in REFUSED.items():
             done = place.run(MERGE, *secrets, *versions(place, "a.yml", *contents))
             cases.check(why, (done.returncode, done.stdout, done.stderr), (1, "", f"{where}{why}\n"))
@@ -121,7 +122,7 @@ def those_that_fail(cases: Companions) -> None:
         words = versions(place, "a.yml", *changes)
         for number in range(3):
             names = [*words[:number], "../missing", *words[number + 1 :]]
-            cases.ended(f"version {number} is not there", place.run(MERGE, *secrets, *names), 1, "is not there")
+            cases.ended(f"version {number} is missing", place.run(MERGE, *secrets, *names), 1, "is missing")
         done = place.run(MERGE, "--vault-password-file", "../missing", *words)
         cases.ended("no password file", done, 1, f"{where}../missing: a password file cannot be opened")
         place.stand_before_tool('[ "$1" != encrypt ] || echo other > a.yml')

@@ -24,9 +24,9 @@ TYPED = {
     "!vault &x secret": b"secret",
 }
 REFUSED = {
-    "!vault": "is missing behind `!vault`",
-    "!vault a\n  b": "goes on in further lines",
-    "!vault 'a\n  b'": "goes on in further lines",
+    "!vault": "is missing after `!vault`",
+    "!vault a\n  b": "continues in further lines",
+    "!vault 'a\n  b'": "continues in further lines",
     "!vault >\n  a": "is a folded scalar",
     "!vault\n  a": "stands below its tag",
     "!vault [a]": "is no text",
@@ -147,7 +147,7 @@ def closed(cases: Companions) -> None:
         done = edit(place, "true", *place.by_file("old"), "plain.yml")
         cases.ended("no vault", done, 1, "it is no vault", "ansible-vault encrypt", "NAME: !vault TEXT")
         place.put("vars.yml", block("dev"))
-        cases.ended("no secret", edit(place, "true", *place.by_file("old"), "vars.yml"), 1, "no secret decrypts one of")
+        cases.ended("no secret", edit(place, "true", *place.by_file("old"), "vars.yml"), 1, "no secret decrypts any of")
 
 
 def shown_by_git(cases: Companions) -> None:
