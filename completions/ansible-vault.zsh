@@ -36,10 +36,10 @@ _ansible_vault_arguments() {
     local -a help=('(- *)'{-h,--help}'[print help]')
     # Of a companion.
     local -a about=($help '(- *)'{-V,--version}'[print version]')
-    local -a labels=('*--label=[a label that is to open; others are counted]:label: ')
+    local -a labels=('*--label=[open only what has this label, and just count the rest]:label: ')
     local -a commits=(
         '(--since --install)--all[look at every file of the commit that is checked out]'
-        '(--all --install)--since=[look at each commit from this one on]:commit: '
+        '(--all --install)--since=[look at each commit since this one, which is left out]:commit: '
         '(--all --since)--install[install the hooks of this clone]'
     )
     local -a secrets=(

@@ -67,7 +67,8 @@ def merges(place: Place, texts: dict[str, tuple]) -> Iterator[tuple[str, bytes, 
 
 def check_merge(cases: Companions, place: Place, what: str, merge: list[str], conflicts: int) -> None:
     done = place.run(MERGE, *place.by_file("old"), *merge)
-    told = f"{MERGE}: a.yml: {conflicts} conflict{'s' if conflicts > 1 else ''}, to be resolved with ansible-vault-edit\n"
+    count = f"{conflicts} conflict{'s' if conflicts > 1 else ''}"
+    told = f"{MERGE}: a.yml: {count}, to be resolved with ansible-vault-edit\n"
     found = (done.returncode, done.stdout, done.stderr)
     cases.check(f"{what}: the status", found, (1, "", told) if conflicts else (0, "", ""))
     if conflicts:
