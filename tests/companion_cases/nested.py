@@ -91,8 +91,8 @@ def checked(cases: Companions) -> None:
         cases.ended("one does not", done, 1, why, "2 opened, 1 not")
         place.put("all.yml", sealed("old", b"<<<<<<< HEAD\na: 1\n=======\na: 2\n>>>>>>> branch\n"))
         done = place.run(CHECK, *old, ".")
-        why = "./all.yml: default: its plaintext has git's merge marks"
-        cases.ended("merge marks", done, 1, why, "1 opened, 1 not")
+        why = "./all.yml: default: its plaintext has git's conflict markers"
+        cases.ended("conflict markers", done, 1, why, "1 opened, 1 not")
 
 
 GROUPS = [inside_and_outside, inside_alone, faults_within, dry_run, checked]
