@@ -5,7 +5,7 @@ import subprocess
 
 from lib.limits import SECONDS
 
-# The library that stands before the system's allocator, and where it tells that it refused a allocation.
+# The library that stands before the system's allocator, and where it tells that it refused an allocation.
 LIBRARY = "refuse_allocation"
 TOLD = 3
 

@@ -22,7 +22,7 @@ const INPUT_LIMIT: usize = 4_096;
 fn usage() -> io::Error {
     io::Error::new(
         ErrorKind::InvalidInput,
-        "usage: vault_growths drive|run WORD..",
+        "usage: vault_allocation_failures drive|run WORD..",
     )
 }
 
@@ -135,8 +135,18 @@ fn answer(rt: &HostRuntime, words: &[String], input: &[u8]) -> io::Result<()> {
     print(rt, status, called, out.bytes(), err.bytes(), kept)
 }
 
+/// The arguments. They are pushed one by one, since `collect` goes on where the room for all of
+/// them is refused.
+fn arguments(rt: &HostRuntime) -> io::Result<Vec<String>> {
+    let mut arguments = Vec::new(rt.alloc());
+    for argument in env::args(rt)? {
+        arguments.push(argument)?;
+    }
+    Ok(arguments)
+}
+
 fn main(rt: HostRuntime) -> io::Result<()> {
-    let words: Vec<String> = env::args(&rt)?.collect(rt.alloc())?;
+    let words = arguments(&rt)?;
     let [_, words @ ..] = words.as_slice() else {
         return Err(usage());
     };
