@@ -36,7 +36,7 @@ PROGRAM = {
 }
 HEADLINE = PROGRAM | {
     "crates/vault_cli/src/system.rt": "drive",
-    "crates/vault_cli/src/embedding.rt": "drive_in_memory",
+    "crates/vault_cli/src/in_memory.rt": "drive_in_memory",
     "crates/vault_cli/src/laws.rt": r"\w+",
     "crates/vault_request/src/laws.rt": r"\w+",
     "crates/vault_core/src/laws.rt": r"\w+",

@@ -21,9 +21,9 @@ use Rattle.vault_request.specs.Request.{IsSaltText, Request, SecretFile}
 use Rattle.vault_request.specs.declared.command_name.CommandName.{CommandName}
 use Rattle.vault_request.specs.declared.command_name.CommandName.TheVariants as command
 use Rattle.vault_cli.specs.runs.Answer.{answered, text_of_request}
-use Rattle.vault_cli.specs.runs.Task.{Task, Seal, Unseal, Reseal, new_secret_in, password_in}
-use Rattle.vault_cli.specs.runs.Task.{index_of, planned, salt_of, seal_of, secret_in, secrets_of}
-use Rattle.vault_cli.specs.runs.Task.{secret_list_of, task_of}
+use Rattle.vault_cli.specs.runs.Task.{Task, Encrypt, Decrypt, Rekey, new_secret_in, password_in}
+use Rattle.vault_cli.specs.runs.Task.{encrypt_task, index_of, planned, salt_of, secret_in}
+use Rattle.vault_cli.specs.runs.Task.{secret_list_of, secrets_of, task_of}
 use Rattle.vault_cli.specs.declared.limits.TheConstants.{SEALING_SALT_LENGTH}
 use Rattle.vault_core.proofs.SealingByteLemmas.{take-bytes}
 use Rattle.vault_core.proofs.ChoiceLemmas.{IfOk-within}
@@ -41,9 +41,10 @@ pub record IsSalt (salt : List ℕ) : Type 0 where
 
 -- what seals has a label, and a salt
 abbrev pub IsSound : Task → Type 0
-IsSound (Seal list index form salt) = (is_label (secret_at index list).label ≡ true) × IsSalt salt
-IsSound (Unseal secrets) = Unit {0}
-IsSound (Reseal secrets new salt) = (is_label new.label ≡ true) × IsSalt salt
+IsSound (Encrypt list index form salt) =
+    (is_label (secret_at index list).label ≡ true) × IsSalt salt
+IsSound (Decrypt secrets) = Unit {0}
+IsSound (Rekey secrets new salt) = (is_label new.label ≡ true) × IsSalt salt
 
 -- what holds of each answer
 record Keeps {A : Type 0} (P : A → Type 0) (r : Result A Fault) : Type 0 where
@@ -128,14 +129,15 @@ module _ (request : Request) (known : IsRequest request) (salt : List ℕ)
   keeps-used : Keeps IsSalt (salt_of request.salt_text salt)
   keeps-used = keeps-salt request.salt_text salt known.settled.salt_text texts bytes
 
-  keeps-seal : (secrets : List Secret) (form : Form) → AreLabelled secrets
-      → Keeps IsSound (seal_of request secrets form salt)
-  keeps-seal secrets form labels =
+  keeps-encrypt : (secrets : List Secret) (form : Form) → AreLabelled secrets
+      → Keeps IsSound (encrypt_task request secrets form salt)
+  keeps-encrypt secrets form labels =
       keeps-next (λ index. index < length secrets) IsSound (index_of secrets request.choice) _
       (keeps-named (λ index. index < length secrets) of_choice (chosen_index secrets request.choice)
       (λ index e. IfOk-within secrets request.choice (Ok index) (sym e))) (λ index within.
       keeps-next IsSalt IsSound (salt_of request.salt_text salt) _ keeps-used (λ used is.
-      keeps-ok IsSound (Seal secrets index form used) (label-at secrets index labels within, is)))
+      keeps-ok IsSound (Encrypt secrets index form used)
+      (label-at secrets index labels within, is)))
 
   keeps-new : (file : Option SecretFile) (last : List ℕ)
       → AllByRecursion (λ file. is_label file.label ≡ true) (option_to_list file)
@@ -146,15 +148,15 @@ module _ (request : Request) (known : IsRequest request) (salt : List ℕ)
   keeps-task : (command : CommandName) (list : SecretList) (last : List ℕ)
       → AreLabelled list.secrets → Keeps IsLabelled (new_secret_in request.new_secret last)
       → Keeps IsSound (task_of command request list last salt)
-  keeps-task command.Encrypt list last labels new = keeps-seal list.secrets Envelope labels
+  keeps-task command.Encrypt list last labels new = keeps-encrypt list.secrets Envelope labels
   keeps-task command.EncryptString list last labels new =
-      keeps-seal list.secrets (Block request.name) labels
-  keeps-task command.Decrypt list last labels new = keeps-ok IsSound (Unseal list) tt
-  keeps-task command.View list last labels new = keeps-ok IsSound (Unseal list) tt
+      keeps-encrypt list.secrets (Block request.name) labels
+  keeps-task command.Decrypt list last labels new = keeps-ok IsSound (Decrypt list) tt
+  keeps-task command.View list last labels new = keeps-ok IsSound (Decrypt list) tt
   keeps-task command.Rekey list last labels new =
       keeps-next IsLabelled IsSound (new_secret_in request.new_secret last) _ new (λ secret label.
       keeps-next IsSalt IsSound (salt_of request.salt_text salt) _ keeps-used
-      (λ used is. keeps-ok IsSound (Reseal list secret used) (label, is)))
+      (λ used is. keeps-ok IsSound (Rekey list secret used) (label, is)))
 
   -- what is prepared of it is sound
   pub sound-planned : (contents : List (List ℕ)) (task : Task)

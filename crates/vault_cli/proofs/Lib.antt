@@ -1,6 +1,6 @@
 pub mod theorems
 pub mod DriveLemmas
-pub mod EmbeddingLemmas
+pub mod InMemoryLemmas
 pub mod EndingLemmas
 pub mod ExplainedLemmas
 pub mod FileContentsLemmas

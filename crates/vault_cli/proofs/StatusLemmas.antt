@@ -34,9 +34,9 @@ use Rattle.vault_request.specs.declared.command_name.CommandName.{CommandName}
 use Rattle.vault_request.specs.declared.command_name.CommandName.TheVariants as command
 use Rattle.vault_cli.specs.runs.Answer.{performed}
 use Rattle.vault_cli.specs.runs.Status.{status_of}
-use Rattle.vault_cli.specs.runs.Task.{Task, Seal, Unseal, Reseal, new_secret_in, password_in}
-use Rattle.vault_cli.specs.runs.Task.{index_of, planned, salt_of, seal_of, secret_in, secrets_of}
-use Rattle.vault_cli.specs.runs.Task.{secret_list_of, task_of}
+use Rattle.vault_cli.specs.runs.Task.{Task, Encrypt, Decrypt, Rekey, new_secret_in, password_in}
+use Rattle.vault_cli.specs.runs.Task.{encrypt_task, index_of, planned, salt_of, secret_in}
+use Rattle.vault_cli.specs.runs.Task.{secret_list_of, secrets_of, task_of}
 use Rattle.vault_cli.specs.declared.limits.TheConstants.{SEALING_SALT_LENGTH}
 use Rattle.vault_cli.specs.declared.runs.status.Status.TheVariants.{Refused, Success}
 
@@ -130,10 +130,10 @@ rekeys limit secrets new salt input =
 -- steps 4 and 5
 pub alone-performed : (limit : ℕ) (task : Task) (input : List ℕ)
     → IsRefusedAlone (performed limit task input)
-alone-performed limit (Seal secrets index form salt) input =
+alone-performed limit (Encrypt secrets index form salt) input =
     encrypts limit secrets index form salt input
-alone-performed limit (Unseal secrets) input = decrypts limit secrets input
-alone-performed limit (Reseal secrets new salt) input = rekeys limit secrets new salt input
+alone-performed limit (Decrypt secrets) input = decrypts limit secrets input
+alone-performed limit (Rekey secrets new salt) input = rekeys limit secrets new salt input
 
 alone-password : (bytes : List ℕ) → IsRefusedAlone (password_in bytes)
 alone-password bytes = named (λ password. password) of_secret (password_of bytes) status-secret
@@ -159,9 +159,9 @@ alone-salt (Some text) salt = alone-ok text
 alone-salt None salt =
     unless (nat_lt (length salt) SEALING_SALT_LENGTH) SaltShort _ refl (alone-ok _)
 
-alone-seal : (request : Request) (secrets : List Secret) (form : Form) (salt : List ℕ)
-    → IsRefusedAlone (seal_of request secrets form salt)
-alone-seal request secrets form salt =
+alone-encrypt : (request : Request) (secrets : List Secret) (form : Form) (salt : List ℕ)
+    → IsRefusedAlone (encrypt_task request secrets form salt)
+alone-encrypt request secrets form salt =
     next (index_of secrets request.choice) _
     (named (λ index. index) of_choice (chosen_index secrets request.choice) status-choice) (λ index.
     next (salt_of request.salt_text salt) _ (alone-salt request.salt_text salt)
@@ -169,9 +169,9 @@ alone-seal request secrets form salt =
 
 alone-task : (command : CommandName) (request : Request) (list : SecretList) (last salt : List ℕ)
     → IsRefusedAlone (task_of command request list last salt)
-alone-task command.Encrypt request list last salt = alone-seal request list.secrets Envelope salt
+alone-task command.Encrypt request list last salt = alone-encrypt request list.secrets Envelope salt
 alone-task command.EncryptString request list last salt =
-    alone-seal request list.secrets (Block request.name) salt
+    alone-encrypt request list.secrets (Block request.name) salt
 alone-task command.Decrypt request list last salt = alone-ok _
 alone-task command.View request list last salt = alone-ok _
 alone-task command.Rekey request list last salt =

@@ -24,9 +24,9 @@ use Rattle.vault_request.specs.Request.{Request, SecretFile, files_of}
 use Rattle.vault_request.specs.declared.command_name.CommandName.{CommandName}
 use Rattle.vault_request.specs.declared.command_name.CommandName.TheVariants as command
 use Rattle.vault_cli.specs.runs.Answer.{input_limit, performed, task_limit}
-use Rattle.vault_cli.specs.runs.Task.{Task, Seal, Unseal, Reseal, new_secret_in, index_of, planned}
-use Rattle.vault_cli.specs.runs.Task.{salt_of, seal_of, secret_list_of, task_of, password_in}
-use Rattle.vault_cli.specs.runs.Task.{secret_in, secrets_of}
+use Rattle.vault_cli.specs.runs.Task.{Task, Encrypt, Decrypt, Rekey, encrypt_task, index_of}
+use Rattle.vault_cli.specs.runs.Task.{new_secret_in, password_in, planned, salt_of, secret_in}
+use Rattle.vault_cli.specs.runs.Task.{secret_list_of, secrets_of, task_of}
 use Rattle.vault_core.proofs.EncryptionLemmas.{encryption-too_long}
 
 -- an input that is too long is refused as such
@@ -44,11 +44,11 @@ rekeying-too_long limit secrets new salt input long = rw long refl
 
 pub performed-too_long : (limit : ℕ) (task : Task) (input : List ℕ)
     → task_limit limit task < length input → performed limit task input ≡ Err TooLong
-performed-too_long limit (Seal secrets index form salt) input long =
+performed-too_long limit (Encrypt secrets index form salt) input long =
     encryption-too_long limit secrets index form salt input long
-performed-too_long limit (Unseal secrets) input long =
+performed-too_long limit (Decrypt secrets) input long =
     decryption-too_long limit secrets input (search (rules, tests))
-performed-too_long limit (Reseal secrets new salt) input long =
+performed-too_long limit (Rekey secrets new salt) input long =
     rekeying-too_long limit secrets new salt input (search (rules, tests))
 
 -- how much the task takes that was found
@@ -63,26 +63,26 @@ pub limit-next : {A : Type 0} (limit amount : ℕ) (r : Result A Fault) (f : A �
 limit-next limit amount (Ok x) f h = h x
 limit-next limit amount (Err fault) f h = record { is = λ task e. absurd cc }
 
-limit-seal : (limit : ℕ) (request : Request) (secrets : List Secret) (form : Form) (salt : List ℕ)
-    → HasLimit limit limit (seal_of request secrets form salt)
-limit-seal limit request secrets form salt =
+limit-encrypt : (limit : ℕ) (request : Request) (secrets : List Secret) (form : Form)
+    (salt : List ℕ) → HasLimit limit limit (encrypt_task request secrets form salt)
+limit-encrypt limit request secrets form salt =
     limit-next limit limit (index_of secrets request.choice) _ (λ index.
     limit-next limit limit (salt_of request.salt_text salt) _
-    (λ used. limit-ok limit (Seal secrets index form used)))
+    (λ used. limit-ok limit (Encrypt secrets index form used)))
 
 limit-task : (limit : ℕ) (command : CommandName) (request : Request) (list : SecretList)
     (last salt : List ℕ)
     → HasLimit limit (input_limit limit command) (task_of command request list last salt)
 limit-task limit command.Encrypt request list last salt =
-    limit-seal limit request list.secrets Envelope salt
+    limit-encrypt limit request list.secrets Envelope salt
 limit-task limit command.EncryptString request list last salt =
-    limit-seal limit request list.secrets (Block request.name) salt
-limit-task limit command.Decrypt request list last salt = limit-ok limit (Unseal list)
-limit-task limit command.View request list last salt = limit-ok limit (Unseal list)
+    limit-encrypt limit request list.secrets (Block request.name) salt
+limit-task limit command.Decrypt request list last salt = limit-ok limit (Decrypt list)
+limit-task limit command.View request list last salt = limit-ok limit (Decrypt list)
 limit-task limit command.Rekey request list last salt =
     limit-next limit (envelope_limit limit) (new_secret_in request.new_secret last) _ (λ secret.
     limit-next limit (envelope_limit limit) (salt_of request.salt_text salt) _
-    (λ used. limit-ok limit (Reseal list secret used)))
+    (λ used. limit-ok limit (Rekey list secret used)))
 
 -- the task of a request takes as much as its command
 pub limit-planned : (limit : ℕ) (request : Request) (contents : List (List ℕ)) (salt : List ℕ)

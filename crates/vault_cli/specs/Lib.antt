@@ -8,6 +8,6 @@ pub mod Reserved
 pub mod Drive
 pub mod Loaded
 pub mod System
-pub mod Embedding
+pub mod InMemory
 pub mod Laws
 pub mod ProgramLaws

@@ -7,14 +7,15 @@ use Rattle.vault_core.specs.Form.{Envelope}
 use Rattle.vault_core.specs.Laws.{IsBytes, IsTriedFirst}
 use Rattle.vault_core.specs.Secrets.{Secret, SecretList, secret_at}
 use Rattle.vault_fault.specs.declared.label_rule.LabelRule.{LabelRule}
-use Rattle.vault_cli.specs.Embedding.{stands_after}
+use Rattle.vault_cli.specs.InMemory.{stands_after}
 use Rattle.vault_cli.specs.runs.FileContents.{contents_of}
 use Rattle.vault_cli.specs.Laws.{UnsealsWith}
 use Rattle.vault_cli.specs.runs.Answer.{Answer, run_answer}
 use Rattle.vault_request.specs.Settled.{requested_by}
 use Rattle.vault_cli.specs.Program.{Files, files_in, output_path, program, salt_in}
 use Rattle.vault_request.specs.Request.{Request}
-use Rattle.vault_cli.specs.runs.Task.{Seal, Reseal, planned}
+use Rattle.vault_cli.specs.runs.Task as task
+use Rattle.vault_cli.specs.runs.Task.{planned}
 use Rattle.vault_request.specs.declared.command_name.CommandName.TheVariants.{Encrypt, Rekey}
 use Rattle.vault_cli.specs.declared.runs.status.Status.TheVariants.{Success}
 
@@ -66,7 +67,7 @@ ProgramEncryptsThenDecrypts =
     → IfSome encrypting.request.salt_text IsBytes
     → IsBytes encrypting.salt → IsBytes encrypting.input
     → planned encrypting.request encrypting.contents encrypting.salt
-    ≡ Ok (Seal list index Envelope used)
+    ≡ Ok (task.Encrypt list index Envelope used)
     → (answer encrypting).output ≡ Some decrypting.input
     → UnsealsWith decrypting.request decrypting.contents decrypting.salt secrets
     → IsTriedFirst secrets (secret_at index list)
@@ -80,7 +81,7 @@ ProgramKeepsThePlaintext =
     (secrets : SecretList) (new : Secret) (used : List ℕ) (rule : LabelRule)
     → rekeying.request.command ≡ Rekey
     → IfSome rekeying.request.salt_text IsBytes → IsBytes rekeying.salt
-    → planned rekeying.request rekeying.contents rekeying.salt ≡ Ok (Reseal secrets new used)
+    → planned rekeying.request rekeying.contents rekeying.salt ≡ Ok (task.Rekey secrets new used)
     → before.input ≡ rekeying.input → (answer rekeying).output ≡ Some after.input
     → UnsealsWith before.request before.contents before.salt secrets
     → UnsealsWith after.request after.contents after.salt

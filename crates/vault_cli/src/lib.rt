@@ -20,9 +20,9 @@
 //! ```
 #![tactic(auto)]
 
-mod embedding;
 mod escaping;
 mod explaining;
+mod in_memory;
 pub mod laws;
 mod limits;
 mod loading;
@@ -31,8 +31,8 @@ mod reserving;
 mod runs;
 mod system;
 
-pub use embedding::drive_in_memory;
 pub use explaining::reject_words;
+pub use in_memory::drive_in_memory;
 pub use limits::SEALING_SALT_LENGTH;
 pub use program::drive_over;
 pub use runs::{Status, report, run};

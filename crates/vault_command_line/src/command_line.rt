@@ -14,6 +14,10 @@ use std::alloc::{AllocError, Global};
 
 const VERSION: &str = "0.3.0";
 
+/// The last line of the program's help: where else to look.
+const SEE_ALSO: &str = "See also: man ansible-vault, and the companions ansible-vault-with, -edit, \
+    -rotate, -check, -hook, -merge and -textconv.";
+
 /// The command line's description, to be parsed by `clap`.
 #[tactic(auto, unfolding(crate::specs::CommandLine::vault_app))]
 pub fn command<'a>(alloc: Global) -> Result<Command<'a>, AllocError>
@@ -35,6 +39,7 @@ fn top<'a>(alloc: Global) -> Result<Command<'a>, AllocError>
     let about = "Encrypts and decrypts Ansible Vault files";
     let command = Command::new(alloc, "ansible-vault")
         .about(about)
+        .after_help(SEE_ALSO)
         .version(VERSION)
         .subcommand_required(true)
         .disable_help_subcommand(true);

@@ -9,9 +9,9 @@ use crate::system::System;
 use std::marker::Model;
 use vault_text::{FailureCount, ReadSource, Sink, SinkFailed, Stage};
 
-/// The files of a disk. An output is created when it is begun; under `Access::OwnerOnly` it is
+/// The files of a system. An output is created when it is begun; under `Access::OwnerOnly` it is
 /// then made its owner's alone, and where that fails, so does `begin`. It is synced when it is
-/// finished. What a file holds is what the disk's reader has left.
+/// finished. What a file holds is what the system's reader has left.
 #[derive(Drop)]
 pub struct HostFiles<D: System> {
     system: D,
@@ -57,8 +57,8 @@ impl<D: System> HostFiles<D> {
         }
     }
 
-    /// The disk, with what an output has left on it.
-    pub fn into_disk(self) -> D
+    /// The system, with what an output has left there.
+    pub fn into_system(self) -> D
         ensures { result ≡ self.system }
     {
         self.system

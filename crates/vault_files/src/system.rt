@@ -10,7 +10,8 @@ mod runtime;
 use std::io;
 use std::io::Read;
 
-/// All that files ask of the system. Each method is the call of its name, once.
+/// All that files ask of the system. Each method makes its calls once: `chmod_owner_only` looks
+/// whether the file is a regular one, and each of the others is the call of its name.
 pub trait System {
     type Reader: Read + Drop;
 
@@ -28,8 +29,8 @@ pub trait System {
         ensures found { IfOk result (λ reader. reader_at self.old path.now (Some reader)) }
         ensures missing { IfErr result (λ _. reader_at self.old path.now None) };
 
-    /// Opens a file for writing: it is created for its owner alone, less the umask, or cut to
-    /// nothing where it is there already.
+    /// Opens a file for writing: it is created for its owner alone, less the umask, or truncated
+    /// if it is there already.
     fn create(&mut self, path: &str) -> io::Result<Self::Writer>
         ensures { executes self.old (Create path.now ∷ if_failed result) self.new };
 

@@ -26,7 +26,7 @@ use Rattle.vault_files.specs.declared.access.Access.TheVariants.{Kept, OwnerOnly
 use Rattle.vault_request.specs.Request.{Request}
 use Rattle.vault_cli.specs.Call.{SinkCall, SourceCall, StoreCall, files_from}
 use Rattle.vault_cli.specs.Drive.{AllFound}
-use Rattle.vault_cli.specs.Embedding.{Received, change}
+use Rattle.vault_cli.specs.InMemory.{Received, change}
 use Rattle.vault_cli.specs.Program.{Files}
 use Rattle.vault_cli.specs.runs.Ending.{Ends, Finishes, Output, Receives, to_path}
 use Rattle.vault_cli.specs.runs.FileContents.{AtPath, secret_paths}

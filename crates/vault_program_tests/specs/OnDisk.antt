@@ -1,7 +1,7 @@
 -- What a run over a disk in memory leaves.
 use Rattle.std.specs.Prelude.{◌≡◌, ℕ, List, Option, Some, None}
 use Rattle.vault_text.specs.Sink.{MemSinkState}
-use Rattle.vault_cli.specs.Embedding.{Change, Received}
+use Rattle.vault_cli.specs.InMemory.{Change, Received}
 use Rattle.vault_cli.specs.runs.Answer.{Answer}
 use Rattle.vault_cli.specs.declared.runs.status.Status.{Status}
 use Rattle.vault_program_tests.specs.System.{SystemState}

@@ -36,7 +36,7 @@ fn run_on_disk(alloc: Global, entries: &[SystemFile<'_>], words: &[&str]) -> Res
         &mut out,
         &mut err,
     );
-    let created = files.into_disk().into_written();
+    let created = files.into_system().into_written();
     Ok(Ended {
         status,
         output: Vec::from_slice(alloc, out.bytes())?,

@@ -5,9 +5,9 @@
 #[cfg(test)]
 mod disk_runs;
 #[cfg(test)]
-mod embedding;
-#[cfg(test)]
 mod examples;
+#[cfg(test)]
+mod in_memory;
 mod mem_system;
 mod on_disk;
 #[cfg(test)]

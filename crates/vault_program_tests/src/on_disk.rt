@@ -6,7 +6,7 @@ ghost use Rattle.vault_command_line.specs.CommandLine.{vault_app};
 ghost use Rattle.vault_request.specs.Settled.{requested_by};
 ghost use Rattle.vault_text.specs.Source.{MemoryGives};
 ghost use Rattle.vault_cli.specs.Drive.{AllFound};
-ghost use Rattle.vault_cli.specs.Embedding.{change};
+ghost use Rattle.vault_cli.specs.InMemory.{change};
 ghost use Rattle.vault_cli.specs.Program.{Files, output_path, program};
 ghost use Rattle.vault_program_tests.specs.System.{IsOn};
 ghost use Rattle.vault_program_tests.specs.OnDisk.{Leaves};

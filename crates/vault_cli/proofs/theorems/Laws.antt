@@ -14,7 +14,7 @@ use Rattle.vault_cli.specs.Laws.{RekeyKeepsThePlaintext, ShortTexts}
 use Rattle.vault_cli.specs.runs.Answer.{Answer, answered, input_limit, run_answer_within, performed}
 use Rattle.vault_cli.specs.runs.Answer.{ready_by, room_limit, task_limit, text_of_request}
 use Rattle.vault_request.specs.Request.{Request}
-use Rattle.vault_cli.specs.runs.Task.{Task, Seal, Unseal, Reseal, planned}
+use Rattle.vault_cli.specs.runs.Task.{Task, Encrypt, Decrypt, Rekey, planned}
 use Rattle.vault_fault.specs.declared.label_rule.LabelRule.TheVariants.{Hint}
 use Rattle.vault_request.specs.declared.command_name.CommandName.{CommandName}
 use Rattle.vault_request.specs.declared.command_name.CommandName.TheVariants as command
@@ -38,7 +38,7 @@ opened limit request contents salt input secrets opens =
       | inr view ↦ let wrong : command.View ≡ command.EncryptString = sym view ∙ string in absurd cc
     ] in
     let text = text-input request input opens.settled other in
-    run_answer-performed request contents salt limit input (Unseal secrets) opens.found
+    run_answer-performed request contents salt limit input (Decrypt secrets) opens.found
     ∙ ap (λ t. answered (decryption limit secrets t)) text
 
 pub encrypt_then_decrypt : EncryptedDecrypts → EncryptThenDecrypt
@@ -50,9 +50,9 @@ encrypt_then_decrypt law limit encrypting decrypting contents other_contents sal
     sym encrypts ∙ string in absurd cc in
     let text = text-input encrypting input known other in
     let (label, used_salt) = sound-planned encrypting known salt text_bytes salt_bytes contents
-    (Seal list index Envelope used) sealed in
+    (Encrypt list index Envelope used) sealed in
     let out = run_answer-performed encrypting contents salt limit input
-    (Seal list index Envelope used)
+    (Encrypt list index Envelope used)
     sealed in
     let (ready, is, same) = answered-some
     (encryption limit list index Envelope used (text_of_request encrypting input)) envelope
@@ -71,14 +71,14 @@ rekey_keeps_the_plaintext law limit rekeying before after contents old_contents 
     sym rekeys ∙ string in absurd cc in
     let text = text-input rekeying input known other in
     let (label, used_salt) = sound-planned rekeying known salt text_bytes salt_bytes contents
-    (Reseal secrets new used) found in
-    let out = run_answer-performed rekeying contents salt limit input (Reseal secrets new used)
+    (Rekey secrets new used) found in
+    let out = run_answer-performed rekeying contents salt limit input (Rekey secrets new used)
     found in
     let (ready, is, same) = answered-some
-    (performed limit (Reseal secrets new used) (text_of_request rekeying input)) envelope
+    (performed limit (Rekey secrets new used) (text_of_request rekeying input)) envelope
     (sym (ap (λ (o : Answer). o.output) out) ∙ written) in
     let (plain, was, opens_to) = law limit secrets new used input ready label used_salt.bytes
-    used_salt.limit (sym (ap (performed limit (Reseal secrets new used)) text) ∙ is) in
+    used_salt.limit (sym (ap (performed limit (Rekey secrets new used)) text) ∙ is) in
     opened limit after new_contents new_salt envelope (record { secrets = new ∷ []; rule = rule })
     opens
     ∙ ap answered (rw same at (opens_to rule))
@@ -102,26 +102,26 @@ envelope-room limit text command.Rekey short = short
 
 -- how long a text may be that a task has room for wherever so much plaintext does
 abbrev task_room : ℕ → Task → ℕ
-task_room limit (Seal secrets index form salt) = limit
-task_room limit (Unseal secrets) = 4 * limit
-task_room limit (Reseal secrets new salt) = 4 * limit
+task_room limit (Encrypt secrets index form salt) = limit
+task_room limit (Decrypt secrets) = 4 * limit
+task_room limit (Rekey secrets new salt) = 4 * limit
 
 -- a text that has room under both limits
 module _ (law : ShortInputs) (smaller larger : ℕ) (text : List ℕ) (more : smaller ≤ larger) where
   short-performed : (task : Task) → length text ≤ task_room smaller task
       → performed larger task text ≡ performed smaller task text
-  short-performed (Seal secrets index form salt) short =
+  short-performed (Encrypt secrets index form salt) short =
       (law smaller larger text more secrets index form no_secrets no_secret salt).0 short
-  short-performed (Unseal secrets) short =
+  short-performed (Decrypt secrets) short =
       ((law smaller larger text more [] 0 Envelope secrets no_secret []).1 short).0
-  short-performed (Reseal secrets new salt) short =
+  short-performed (Rekey secrets new salt) short =
       ((law smaller larger text more [] 0 Envelope secrets new salt).1 short).1
 
   -- a task takes as much as its command, and has as much room
   room-of_task : (task : Task) (name : CommandName)
       → task_limit smaller task ≡ input_limit smaller name
       → length text ≤ room_limit smaller name → length text ≤ task_room smaller task
-  room-of_task (Seal secrets index form salt) name same short = sealed-short name same short
+  room-of_task (Encrypt secrets index form salt) name same short = sealed-short name same short
     where
       sealed-short : (name : CommandName) → smaller ≡ input_limit smaller name
           → length text ≤ room_limit smaller name
@@ -131,8 +131,8 @@ module _ (law : ShortInputs) (smaller larger : ℕ) (text : List ℕ) (more : sm
       sealed-short command.Decrypt same short = absurd (omega (arith, same))
       sealed-short command.View same short = absurd (omega (arith, same))
       sealed-short command.Rekey same short = absurd (omega (arith, same))
-  room-of_task (Unseal secrets) name same short = envelope-room smaller text name short
-  room-of_task (Reseal secrets new salt) name same short = envelope-room smaller text name short
+  room-of_task (Decrypt secrets) name same short = envelope-room smaller text name short
+  room-of_task (Rekey secrets new salt) name same short = envelope-room smaller text name short
 
 short-tasks : (larger smaller : ℕ) (string : Option (List ℕ)) (input : List ℕ)
     (found : Result Task Fault)

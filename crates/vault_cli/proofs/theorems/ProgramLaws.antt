@@ -12,7 +12,7 @@ use Rattle.vault_files.specs.File.FileState.{Whole}
 use Rattle.vault_fault.specs.declared.fault.Fault.{Fault}
 use Rattle.vault_core.proofs.theorems.SealedOpens.{bytes_eq-same}
 use Rattle.vault_command_line.specs.CommandLine.{vault_app}
-use Rattle.vault_cli.specs.Embedding.{stands_after}
+use Rattle.vault_cli.specs.InMemory.{stands_after}
 use Rattle.vault_cli.specs.Laws as run_answers
 use Rattle.vault_request.specs.Laws.{IsRequest, SettledRequests}
 use Rattle.vault_cli.specs.runs.Answer.{Answer, answered, input_needed_by, input_limit, run_answer}

@@ -16,7 +16,8 @@ use Rattle.vault_request.specs.CommandName.{encrypts}
 use Rattle.vault_cli.specs.runs.ReportLine.{line_of}
 use Rattle.vault_request.specs.Request.{Request}
 use Rattle.vault_cli.specs.runs.Status.{status_of}
-use Rattle.vault_cli.specs.runs.Task.{Task, Seal, Unseal, Reseal, planned}
+use Rattle.vault_cli.specs.runs.Task as task
+use Rattle.vault_cli.specs.runs.Task.{Task, planned}
 use Rattle.vault_request.specs.declared.command_name.CommandName.{CommandName}
 use Rattle.vault_request.specs.declared.command_name.CommandName.TheVariants.{Encrypt, Decrypt}
 use Rattle.vault_request.specs.declared.command_name.CommandName.TheVariants.{Rekey}
@@ -49,9 +50,9 @@ room_limit limit command = if encrypts command then limit else 4 * limit
 
 -- how much input a task takes
 abbrev pub task_limit : ℕ → Task → ℕ
-task_limit limit (Seal secrets index form salt) = input_limit limit Encrypt
-task_limit limit (Unseal secrets) = input_limit limit Decrypt
-task_limit limit (Reseal secrets new salt) = input_limit limit Rekey
+task_limit limit (task.Encrypt secrets index form salt) = input_limit limit Encrypt
+task_limit limit (task.Decrypt secrets) = input_limit limit Decrypt
+task_limit limit (task.Rekey secrets new salt) = input_limit limit Rekey
 
 -- the text that a request speaks of: its STRING, or the input
 abbrev pub text_of_request : Request → List ℕ → List ℕ
@@ -71,9 +72,10 @@ input_needed_by (Ok task) None limit = Some limit
 
 -- steps 4 and 5 of each task
 abbrev pub performed : ℕ → Task → List ℕ → Result Ready Fault
-performed limit (Seal secrets index form salt) text = encryption limit secrets index form salt text
-performed limit (Unseal secrets) text = decryption limit secrets text
-performed limit (Reseal secrets new salt) text = rekeying limit secrets new salt text
+performed limit (task.Encrypt secrets index form salt) text =
+    encryption limit secrets index form salt text
+performed limit (task.Decrypt secrets) text = decryption limit secrets text
+performed limit (task.Rekey secrets new salt) text = rekeying limit secrets new salt text
 
 -- all five steps, where so much plaintext is encrypted
 abbrev pub ready_by : ℕ → Result Task Fault → Option (List ℕ) → Result (List ℕ) Fault

@@ -1,5 +1,5 @@
--- The task of a request: the passwords, step 1, the index of the secret that seals, step 2, and the
--- salt, step 3.
+-- The task of a request: the passwords, step 1, the index of the secret that encrypts, step 2, and
+-- the salt, step 3.
 use Rattle.std.specs.Prelude.{ℕ, ◌<◌, nat_lt, if◌then◌else◌, List, [], ◌∷◌, length, take}
 use Rattle.std.specs.Prelude.{slice_index_or, Option, Some, None, Result, Ok, Err}
 use Rattle.std.specs.Result.{result_map_both}
@@ -16,22 +16,20 @@ use Rattle.vault_fault.specs.declared.fault.Fault.TheVariants.{SecretEmpty}
 use Rattle.vault_request.specs.Request.{Request, SecretFile}
 use Rattle.vault_cli.specs.declared.limits.TheConstants.{SEALING_SALT_LENGTH}
 use Rattle.vault_request.specs.declared.command_name.CommandName.{CommandName}
-use Rattle.vault_request.specs.declared.command_name.CommandName.TheVariants.{Encrypt, Decrypt}
-use Rattle.vault_request.specs.declared.command_name.CommandName.TheVariants.{View, Rekey}
-use Rattle.vault_request.specs.declared.command_name.CommandName.TheVariants.{EncryptString}
+use Rattle.vault_request.specs.declared.command_name.CommandName.TheVariants as command
 
--- what is to be done with the input: to seal it in a form, under the secret at an index; to open
--- it; to open it and to seal it again under a new secret
+-- what is to be done with the input: to encrypt it in a form, with the secret at an index; to
+-- decrypt it; to decrypt it and to encrypt the plaintext with a new secret
 pub data Task : Type 0 where
-  Seal : (secrets : List Secret) (index : ℕ) (form : Form) (salt : List ℕ) → Task
-  Unseal : (secrets : SecretList) → Task
-  Reseal : (secrets : SecretList) (new : Secret) (salt : List ℕ) → Task
+  Encrypt : (secrets : List Secret) (index : ℕ) (form : Form) (salt : List ℕ) → Task
+  Decrypt : (secrets : SecretList) → Task
+  Rekey : (secrets : SecretList) (new : Secret) (salt : List ℕ) → Task
 
 -- the index of a task is in its list
 abbrev pub HasValidIndex : Task → Type 0
-HasValidIndex (Seal secrets index form salt) = index < length secrets
-HasValidIndex (Unseal secrets) = Unit {0}
-HasValidIndex (Reseal secrets new salt) = Unit {0}
+HasValidIndex (Encrypt secrets index form salt) = index < length secrets
+HasValidIndex (Decrypt secrets) = Unit {0}
+HasValidIndex (Rekey secrets new salt) = Unit {0}
 
 -- the password in a file that holds these bytes
 abbrev pub password_in : List ℕ → Result (List ℕ) Fault
@@ -76,28 +74,28 @@ salt_of None salt =
     else Ok (take SEALING_SALT_LENGTH salt)
 
 -- steps 2 and 3 of `encrypt` and `encrypt_string`
-abbrev pub seal_of : Request → List Secret → Form → List ℕ → Result Task Fault
-seal_of request secrets form salt = do
+abbrev pub encrypt_task : Request → List Secret → Form → List ℕ → Result Task Fault
+encrypt_task request secrets form salt = do
   index ← index_of secrets request.choice
   used ← salt_of request.salt_text salt
-  Ok (Seal secrets index form used)
+  Ok (Encrypt secrets index form used)
 
 -- the last of step 1, and step 3, of `rekey`, whose last password file holds these bytes
-abbrev pub reseal_of : Request → SecretList → List ℕ → List ℕ → Result Task Fault
-reseal_of request secrets last salt = do
+abbrev pub rekey_task : Request → SecretList → List ℕ → List ℕ → Result Task Fault
+rekey_task request secrets last salt = do
   new ← new_secret_in request.new_secret last
   used ← salt_of request.salt_text salt
-  Ok (Reseal secrets new used)
+  Ok (Rekey secrets new used)
 
 -- the task of each command, of the secrets without the new one, of what the last password file
 -- holds, and of a salt
 abbrev pub task_of : CommandName → Request → SecretList → List ℕ → List ℕ → Result Task Fault
-task_of Encrypt request list last salt = seal_of request list.secrets Envelope salt
-task_of EncryptString request list last salt =
-    seal_of request list.secrets (Block request.name) salt
-task_of Decrypt request list last salt = Ok (Unseal list)
-task_of View request list last salt = Ok (Unseal list)
-task_of Rekey request list last salt = reseal_of request list last salt
+task_of command.Encrypt request list last salt = encrypt_task request list.secrets Envelope salt
+task_of command.EncryptString request list last salt =
+    encrypt_task request list.secrets (Block request.name) salt
+task_of command.Decrypt request list last salt = Ok (Decrypt list)
+task_of command.View request list last salt = Ok (Decrypt list)
+task_of command.Rekey request list last salt = rekey_task request list last salt
 
 -- steps 1 to 3: the task of a request, of the contents of its password files, of which that of the
 -- new secret is the last, and of a salt, or the first fault

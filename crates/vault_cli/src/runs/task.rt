@@ -11,7 +11,8 @@ ghost use Rattle.vault_cli.specs.runs.Performed.{PerformsOnInput};
 ghost use Rattle.vault_request.specs.CommandName.{rekeys};
 ghost use Rattle.vault_request.specs.Request.{files_of};
 ghost use Rattle.vault_cli.specs.runs.StoredTask.{task_in};
-ghost use Rattle.vault_cli.specs.runs.Task.{HasValidIndex, planned, reseal_of, salt_of, seal_of};
+ghost use Rattle.vault_cli.specs.runs.Task.{HasValidIndex, encrypt_task, planned};
+ghost use Rattle.vault_cli.specs.runs.Task.{rekey_task, salt_of};
 
 use crate::limits::SEALING_SALT_LENGTH;
 use crate::runs::passwords::{new_secret_in, secrets_of};
@@ -27,25 +28,26 @@ use vault_text::{Salt, Source, TextMemory};
 #[derive(Drop)]
 pub(crate) enum Task<'p> {
     /// To encrypt it with the secret at an index of the list.
-    Seal {
+    Encrypt {
         secrets: Secrets<'p>,
         index: usize,
         form: Form<'p>,
         salt: Salt,
     },
     /// To decrypt it.
-    Unseal {
+    Decrypt {
         secrets: Secrets<'p>,
     },
     /// To decrypt it, and to encrypt the plaintext with another secret.
-    Reseal {
+    Rekey {
         secrets: Secrets<'p>,
         new: SealingSecret<'p, 'p>,
         salt: Salt,
     },
 }
 
-/// Finds the passwords of a request, the secret that seals and the salt; faults come in this order.
+/// Finds the passwords of a request, the secret that encrypts and the salt; faults come in this
+/// order.
 #[tactic(auto, unfolding(crate::specs::runs::Task::planned))]
 pub(crate) fn plan<'p>(
     request: &'p Request,
@@ -61,30 +63,35 @@ pub(crate) fn plan<'p>(
 {
     let secrets = secrets_of(request, secret_files)?;
     match request.command() {
-        CommandName::Encrypt => seal(request, secrets, Form::Envelope, salt),
-        CommandName::EncryptString => seal(request, secrets, Form::Block(request.name()), salt),
-        CommandName::Decrypt | CommandName::View => Ok(Task::Unseal { secrets }),
-        CommandName::Rekey => reseal(request, secrets, secret_files, salt),
+        CommandName::Encrypt => plan_encrypt(request, secrets, Form::Envelope, salt),
+        CommandName::EncryptString => plan_encrypt(
+            request,
+            secrets,
+            Form::Block(request.name()),
+            salt,
+        ),
+        CommandName::Decrypt | CommandName::View => Ok(Task::Decrypt { secrets }),
+        CommandName::Rekey => plan_rekey(request, secrets, secret_files, salt),
     }
 }
 
 /// The task of a request that encrypts.
-fn seal<'p>(
+fn plan_encrypt<'p>(
     request: &'p Request,
     secrets: Secrets<'p>,
     form: Form<'p>,
     salt: &[u8],
 ) -> Result<Task<'p>, Fault>
     ensures index { IfOk result (λ task. HasValidIndex (task_in task)) }
-    ensures sealed { IfOk result (λ task.
-        seal_of request.now secrets.entry.secrets (form_of form.entry) salt.now
+    ensures planned { IfOk result (λ task.
+        encrypt_task request.now secrets.entry.secrets (form_of form.entry) salt.now
         ≡ Ok (task_in task)) }
     ensures refused { IfErr result (λ fault.
-        seal_of request.now secrets.entry.secrets (form_of form.entry) salt.now ≡ Err fault) }
+        encrypt_task request.now secrets.entry.secrets (form_of form.entry) salt.now ≡ Err fault) }
 {
     let index = secrets.encrypt_choice(request.choice())?;
     let salt = salt_of(request, salt)?;
-    Ok(Task::Seal {
+    Ok(Task::Encrypt {
         secrets,
         index,
         form,
@@ -93,7 +100,7 @@ fn seal<'p>(
 }
 
 /// The task of `rekey`.
-fn reseal<'p>(
+fn plan_rekey<'p>(
     request: &'p Request,
     secrets: Secrets<'p>,
     secret_files: &'p [Vec<u8>],
@@ -102,17 +109,17 @@ fn reseal<'p>(
     requires command { rekeys request.now.command ≡ true }
     requires files { length secret_files.now ≡ length (files_of request.now) }
     ensures index { IfOk result (λ task. HasValidIndex (task_in task)) }
-    ensures resealed { let contents = map (λ file. file.items) secret_files.now in
+    ensures planned { let contents = map (λ file. file.items) secret_files.now in
         let last = slice_index_or contents (length request.now.secrets) [] in
         IfOk result (λ task.
-        reseal_of request.now secrets.entry last salt.now ≡ Ok (task_in task)) }
+        rekey_task request.now secrets.entry last salt.now ≡ Ok (task_in task)) }
     ensures refused { let contents = map (λ file. file.items) secret_files.now in
         let last = slice_index_or contents (length request.now.secrets) [] in
-        IfErr result (λ fault. reseal_of request.now secrets.entry last salt.now ≡ Err fault) }
+        IfErr result (λ fault. rekey_task request.now secrets.entry last salt.now ≡ Err fault) }
 {
     let new = new_secret_in(request, secret_files)?;
     let salt = salt_of(request, salt)?;
-    Ok(Task::Reseal { secrets, new, salt })
+    Ok(Task::Rekey { secrets, new, salt })
 }
 
 /// The salt of a request: its salt text, or the first 32 bytes of the salt.
@@ -143,14 +150,14 @@ impl<'p> Task<'p> {
     {
         let mut meter = Meter::new();
         match self {
-            Task::Seal {
+            Task::Encrypt {
                 secrets,
                 index,
                 form,
                 salt,
             } => prepare_encrypt_in(src, memory, secrets, *index, *form, salt, &mut meter),
-            Task::Unseal { secrets } => prepare_decrypt_in(src, memory, secrets, &mut meter),
-            Task::Reseal { secrets, new, salt } => {
+            Task::Decrypt { secrets } => prepare_decrypt_in(src, memory, secrets, &mut meter),
+            Task::Rekey { secrets, new, salt } => {
                 prepare_rekey_in(src, memory, secrets, new, salt, &mut meter)
             }
         }

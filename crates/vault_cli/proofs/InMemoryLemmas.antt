@@ -23,8 +23,8 @@ use Rattle.vault_cli.specs.Drive.{AllFound, Drives, IsDriven}
 use Rattle.vault_cli.specs.OpenedPaths.{opened_paths}
 use Rattle.vault_cli.specs.Program.{Files, access_of, answer_to, files_in, output_path}
 use Rattle.vault_cli.specs.Program.{stdin_needed}
-use Rattle.vault_cli.specs.Embedding.{Embeds, HoldsPrefix, Holds, IsCut, IsFinished, IsKept}
-use Rattle.vault_cli.specs.Embedding.{Received, Stands, Taken, Reported, change, stands_after}
+use Rattle.vault_cli.specs.InMemory.{EndsInMemory, HoldsPrefix, Holds, IsCut, IsFinished, IsKept}
+use Rattle.vault_cli.specs.InMemory.{Received, Stands, Taken, Reported, change, stands_after}
 use Rattle.vault_cli.specs.runs.Ending.{Ends, Finishes, LacksMemory, Output, Receives, to_path}
 use Rattle.vault_cli.specs.runs.Ending.{to_sink}
 use Rattle.vault_cli.specs.runs.ReportLine.{line_of}
@@ -102,13 +102,14 @@ log-behind : (files opened : StoreState) (paths : List (List ℕ))
 log-behind files opened paths opens = (opened.log, opens.rest, opens.log)
 
 -- there was no memory
-embeds-memory : (result : Status) (files new_files : StoreState)
+ends-out_of_memory : (result : Status) (files new_files : StoreState)
     (out new_out err new_err : MemSinkState)
     → files.output.stage ≡ Unbegun → new_files ≡ files
     → LacksMemory (to_sink (memory_sink out new_out)) (memory_sink err new_err) result
     → (path : Option (List ℕ)) (answer : Answer)
-    → Embeds result (change files new_files) (change out new_out) (change err new_err) path answer
-embeds-memory result files new_files out new_out err new_err unbegun same memory path answer =
+    → EndsInMemory result (change files new_files) (change out new_out) (change err new_err)
+    path answer
+ends-out_of_memory result files new_files out new_out err new_err unbegun same memory path answer =
     inr (inl (record {
       status = memory.status;
       stands = λ p. ap (λ (s : StoreState). stands_at s p) same ∙ unbegun-stands files p unbegun;
@@ -237,13 +238,14 @@ module _ (result : Status) (files new_files : StoreState) (log : Option (List (L
   log-written path (Some bytes) (took, finished) = log-wrote path bytes took
 
   module _ (path : Option (List ℕ)) where
-    abbrev EmbedsSo : Answer → Type 0
-    EmbedsSo answer =
-        Embeds result (change files new_files) (change out new_out) (change err new_err) path answer
+    abbrev EndsSo : Answer → Type 0
+    EndsSo answer =
+        EndsInMemory result (change files new_files) (change out new_out) (change err new_err)
+        path answer
 
-    embeds-done : (answer : Answer)
-        → Finishes (OutputAt path) (memory_sink err new_err) result answer → EmbedsSo answer
-    embeds-done answer (inl done) =
+    ends-done : (answer : Answer)
+        → Finishes (OutputAt path) (memory_sink err new_err) result answer → EndsSo answer
+    ends-done answer (inl done) =
         let (stands, received) = written path answer.output done.output in
         inl (record {
           status = done.status;
@@ -253,7 +255,7 @@ module _ (result : Status) (files new_files : StoreState) (log : Option (List (L
           line = said err new_err
               answer.line done.line;
         })
-    embeds-done answer (inr fails) = inr (inr (record {
+    ends-done answer (inr fails) = inr (inr (record {
       status = fails.status;
       cut = let (bytes, is, (n, took)) = fails.output in
           (bytes, is, cut-to path bytes n fails.failed took);
@@ -287,20 +289,20 @@ module _ (result : Status) (files new_files : StoreState) (log : Option (List (L
           (λ ended. let never : IsTrue false = rw not_ended at ended in absurd (false≢true never))
 
       -- the answer to what was given is the answer to all that was there
-      embeds : (requested : Option ℕ) (answers : List ℕ → Answer) → IsOfPrefix requested answers
+      ends : (requested : Option ℕ) (answers : List ℕ → Answer) → IsOfPrefix requested answers
           → Ends (OutputAt path) (memory_sink err new_err) result (memory_source src new_src)
           requested
           answers
-          → EmbedsSo (answers src.left)
-      embeds None answers same (unread, done) =
-          subst EmbedsSo (same src.left) (embeds-done (answers []) done)
-      embeds (Some limit) answers same (input, (given, fits, inl (failed, short))) =
+          → EndsSo (answers src.left)
+      ends None answers same (unread, done) =
+          subst EndsSo (same src.left) (ends-done (answers []) done)
+      ends (Some limit) answers same (input, (given, fits, inl (failed, short))) =
           absurd (omega (arith, failed.failed))
-      embeds (Some limit) answers same (input, (given, fits, inr ((stay, whole), done))) =
-          subst EmbedsSo
+      ends (Some limit) answers same (input, (given, fits, inr ((stay, whole), done))) =
+          subst EndsSo
           (same new_src.ended src.left input new_src.left given.0.consumed (at-end input given)
           whole)
-          (embeds-done (answers input) done)
+          (ends-done (answers input) done)
 
       -- so much of the input was taken
       taken : (requested : Option ℕ) (answers : List ℕ → Answer)
@@ -356,16 +358,16 @@ module _ (result : Status) (files new_files : StoreState) (src new_src : source.
       let (log, same, logged) = log-behind files opened (opened_paths requested found) went in
       (log, logged, rw same at ends)
 
-  -- it is embedded as the answer to all of its input
-  pub drives-embeds : DrivesSo
-      → Embeds result (change files new_files) (change out new_out) (change err new_err)
+  -- it ends as the answer to all of its input
+  pub drives-ends : DrivesSo
+      → EndsInMemory result (change files new_files) (change out new_out) (change err new_err)
       (output_path requested) (answer_to requested found src.left)
-  drives-embeds (inl (same, unread, memory)) =
-      embeds-memory result files new_files out new_out err new_err unbegun same memory
+  drives-ends (inl (same, unread, memory)) =
+      ends-out_of_memory result files new_files out new_out err new_err unbegun same memory
       (output_path requested) (answer_to requested found src.left)
-  drives-embeds (inr (seen, all_found, (opened, driven))) =
+  drives-ends (inr (seen, all_found, (opened, driven))) =
       let (log, logged, ends) = ends-behind seen all_found opened driven in
-      embeds result files new_files log out new_out err new_err unbegun empty (access_of requested)
+      ends result files new_files log out new_out err new_err unbegun empty (access_of requested)
       (output_path requested) src new_src not_ended (stdin_needed requested found)
       (answer_to requested found)
       (answer-prefix requested found) ends

@@ -110,5 +110,6 @@ module _ (result : Status) (files : Change StoreState) (out err : Change MemSink
     pub line : Reported err (line_of Write)
 
   -- one of the three
-  abbrev pub Embeds : Option (List ℕ) → Answer → Type 0
-  Embeds output_file answer = EndsAs output_file answer ⊎ (RunsOut ⊎ EndsShort output_file answer)
+  abbrev pub EndsInMemory : Option (List ℕ) → Answer → Type 0
+  EndsInMemory output_file answer =
+      EndsAs output_file answer ⊎ (RunsOut ⊎ EndsShort output_file answer)

@@ -5,7 +5,7 @@ ghost use Rattle.clap.specs.Words.{fault_of};
 ghost use Rattle.vault_files.specs.Memory.{Logs};
 ghost use Rattle.vault_cli.specs.Call.{sink};
 ghost use Rattle.vault_command_line.specs.CommandLine.{vault_app};
-ghost use Rattle.vault_cli.specs.Embedding.{Embeds, Taken, change, found_by};
+ghost use Rattle.vault_cli.specs.InMemory.{EndsInMemory, Taken, change, found_by};
 ghost use Rattle.vault_cli.specs.Explained.{ExplainsOneOf};
 ghost use Rattle.vault_cli.specs.OpenedPaths.{opened_paths};
 ghost use Rattle.vault_request.specs.Settled.{requested_by};
@@ -39,7 +39,7 @@ pub fn drive_in_memory(
     ensures answered { let texts = map string_bytes words.now in
         let answer = program texts (found_by files.old texts) src.old.left in
         fault_of vault_app texts ≡ []
-        → Embeds result (change files.old files.new) (change out.old out.new)
+        → EndsInMemory result (change files.old files.new) (change out.old out.new)
         (change err.old err.new) (output_path (requested_by texts)) answer }
     ensures taken { let texts = map string_bytes words.now in
         let limit = stdin_needed (requested_by texts) (found_by files.old texts) in
