@@ -289,16 +289,16 @@ module _ (result : Status) (files new_files : StoreState) (log : Option (List (L
           (λ ended. let never : IsTrue false = rw not_ended at ended in absurd (false≢true never))
 
       -- the answer to what was given is the answer to all that was there
-      ends : (requested : Option ℕ) (answers : List ℕ → Answer) → IsOfPrefix requested answers
+      ends-given : (requested : Option ℕ) (answers : List ℕ → Answer) → IsOfPrefix requested answers
           → Ends (OutputAt path) (memory_sink err new_err) result (memory_source src new_src)
           requested
           answers
           → EndsSo (answers src.left)
-      ends None answers same (unread, done) =
+      ends-given None answers same (unread, done) =
           subst EndsSo (same src.left) (ends-done (answers []) done)
-      ends (Some limit) answers same (input, (given, fits, inl (failed, short))) =
+      ends-given (Some limit) answers same (input, (given, fits, inl (failed, short))) =
           absurd (omega (arith, failed.failed))
-      ends (Some limit) answers same (input, (given, fits, inr ((stay, whole), done))) =
+      ends-given (Some limit) answers same (input, (given, fits, inr ((stay, whole), done))) =
           subst EndsSo
           (same new_src.ended src.left input new_src.left given.0.consumed (at-end input given)
           whole)
@@ -367,8 +367,8 @@ module _ (result : Status) (files new_files : StoreState) (src new_src : source.
       (output_path requested) (answer_to requested found src.left)
   drives-ends (inr (seen, all_found, (opened, driven))) =
       let (log, logged, ends) = ends-behind seen all_found opened driven in
-      ends result files new_files log out new_out err new_err unbegun empty (access_of requested)
-      (output_path requested) src new_src not_ended (stdin_needed requested found)
+      ends-given result files new_files log out new_out err new_err unbegun empty
+      (access_of requested) (output_path requested) src new_src not_ended (stdin_needed requested found)
       (answer_to requested found)
       (answer-prefix requested found) ends
 
