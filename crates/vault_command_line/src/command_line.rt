@@ -14,9 +14,9 @@ use std::alloc::{AllocError, Global};
 
 const VERSION: &str = "0.3.0";
 
-/// The last line of the program's help: where else to look.
-const SEE_ALSO: &str = "See also: man ansible-vault, and the companions ansible-vault-with, -edit, \
-    -rotate, -check, -hook, -merge and -textconv.";
+/// The last line of the program's help: its manual page, and its companions.
+const SEE_ALSO: &str = "See also: ansible-vault(1), \
+    ansible-vault-with, -edit, -rotate, -check, -hook, -merge, -textconv";
 
 /// The command line's description, to be parsed by `clap`.
 #[tactic(auto, unfolding(crate::specs::CommandLine::vault_app))]
