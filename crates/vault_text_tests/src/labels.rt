@@ -1,23 +1,27 @@
 //! Labels and salts.
+use std::process::Abort;
 use std::test::Fail;
 use vault_text::{BadLabel, Label, Salt};
 
+fn assert_no_label(rt: &impl Abort, text: &str) {
+    assert_eq!(rt; Label::new(text).err(), Some(BadLabel), "at {text}");
+}
+
 #[test]
 fn refuses_what_is_no_label(rt: HostRuntime) -> Result<(), Fail> {
-    let long = [b'a'; 129];
-    for text in ["", "a;b", " a", str::from_utf8(&long)?] {
-        assert_eq!(rt; Label::new(text).err(), Some(BadLabel), "at {text}");
-    }
+    assert_no_label(&rt, "");
+    assert_no_label(&rt, "a;b");
+    assert_no_label(&rt, " a");
+    assert_no_label(&rt, str::from_utf8(&[b'a'; 129])?);
     Ok(())
 }
 
 #[test]
 fn keeps_the_text(rt: HostRuntime) -> Result<(), Fail> {
     let label = Label::new("a b")?;
-    assert_eq!(rt; label.as_str(), "a b");
-    assert!(rt; label.copy() == label);
-    assert!(rt; label != Label::default_label());
-    assert_eq!(rt; Label::default_label().as_str(), "default");
+    let default = Label::default_label();
+    assert_eq!(rt; [label.as_str(), default.as_str()], ["a b", "default"]);
+    assert!(rt; label.copy() == label && label != default);
     Ok(())
 }
 

@@ -4,6 +4,8 @@
 #[cfg(test)]
 mod asked_once;
 #[cfg(test)]
+mod contents;
+#[cfg(test)]
 mod failing_source;
 #[cfg(test)]
 mod labels;

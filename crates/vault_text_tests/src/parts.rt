@@ -1,5 +1,6 @@
 //! The parts of envelopes, read in pieces.
-use crate::reading::{FILLED, HEADER, WORK_LENGTH, read_in_pieces, text_of, work_memory};
+use crate::contents::Contents;
+use crate::reading::{FILLED, HEADER, assert_read, text_of};
 use std::test::Fail;
 
 /// The body that Python's `hashlib` and `hmac` and the command `openssl` made of no plaintext,
@@ -15,46 +16,29 @@ const SEALED: [&str; 5] = [
 #[test]
 fn all_parts_of_an_envelope(rt: HostRuntime) -> Result<(), Fail> {
     let alloc = rt.alloc();
-    let mut memory = work_memory(alloc)?;
-    let work = memory.as_mut_slice();
-    assert_eq!(rt; work.len(), WORK_LENGTH);
     let input = text_of(alloc, "$ANSIBLE_VAULT;1.2;AES256;dev", &FILLED, "\n")?;
-    let whole = read_in_pieces(&rt, alloc, work, input.as_slice())?;
-    let payload = whole.map_err(|_| "refused")?;
-    let mut tag = [0; 32];
-    for i in 0..32 {
-        tag[i as usize] = i;
-    }
-    assert_eq!(rt; payload.label.as_str(), "dev");
-    assert_eq!(rt; payload.salt.as_slice(), b"pepper and salt".as_slice());
-    assert_eq!(rt; payload.tag.as_slice(), tag.as_slice());
-    assert_eq!(rt; payload.cipher.len(), 32);
-    assert_eq!(rt; &payload.cipher[..3], [0xf0, 0xf1, 0xf2].as_slice());
-    assert_eq!(rt; &payload.cipher[16..], b"0123456789abcdef".as_slice());
-    Ok(())
+    let contents = Contents {
+        label: "dev",
+        salt: b"pepper and salt",
+        tag: b"\x00\x01\x02\x03\x04\x05\x06\x07\x08\x09\x0a\x0b\x0c\x0d\x0e\x0f\
+               \x10\x11\x12\x13\x14\x15\x16\x17\x18\x19\x1a\x1b\x1c\x1d\x1e\x1f",
+        cipher: b"\xf0\xf1\xf2\xf3\xf4\xf5\xf6\xf7\xf8\xf9\xfa\xfb\xfc\xfd\xfe\xff\
+                  0123456789abcdef",
+    };
+    assert_read(&rt, alloc, input.as_slice(), Ok(contents))
 }
 
 #[test]
 fn an_envelope_of_no_plaintext(rt: HostRuntime) -> Result<(), Fail> {
     let alloc = rt.alloc();
-    let mut memory = work_memory(alloc)?;
-    let work = memory.as_mut_slice();
-    assert_eq!(rt; work.len(), WORK_LENGTH);
     let input = text_of(alloc, HEADER, &SEALED, "\n")?;
     assert_eq!(rt; input.len(), 355);
-    let whole = read_in_pieces(&rt, alloc, work, input.as_slice())?;
-    let payload = whole.map_err(|_| "refused")?;
-    assert_eq!(rt; payload.label.as_str(), "default");
-    assert_eq!(rt; payload.salt.as_slice(), [0; 32].as_slice());
-    assert_eq!(rt;
-        payload.tag.as_slice(),
-        b"\xdb\xa5\xf2\xab\x68\x76\x83\x36\x1c\xe3\x89\x8a\x9c\x08\x2b\x0e\
-          \xe5\x22\x52\x8e\x12\x73\xf5\x23\xf4\x76\xdf\x7d\x3a\x16\x76\xa5"
-            .as_slice()
-    );
-    assert_eq!(rt;
-        payload.cipher.as_slice(),
-        b"\x66\x38\x32\xe6\xf2\x03\x11\x5b\x6a\xe3\x8b\x76\x50\x08\xfd\xe3".as_slice()
-    );
-    Ok(())
+    let contents = Contents {
+        label: "default",
+        salt: &[0; 32],
+        tag: b"\xdb\xa5\xf2\xab\x68\x76\x83\x36\x1c\xe3\x89\x8a\x9c\x08\x2b\x0e\
+               \xe5\x22\x52\x8e\x12\x73\xf5\x23\xf4\x76\xdf\x7d\x3a\x16\x76\xa5",
+        cipher: b"\x66\x38\x32\xe6\xf2\x03\x11\x5b\x6a\xe3\x8b\x76\x50\x08\xfd\xe3",
+    };
+    assert_read(&rt, alloc, input.as_slice(), Ok(contents))
 }

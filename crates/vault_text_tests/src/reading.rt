@@ -1,14 +1,15 @@
 //! Envelopes in pieces, held against the whole-list reader and the answers wanted.
-ghost use Rattle.std.specs.Prelude.{◌≡◌, ◌<◌, IfOk, length, vec_len};
+ghost use Rattle.std.specs.Prelude.{◌<◌, length};
 ghost use Rattle.vault_text.specs.Limits.{IsWorkLength};
-ghost use Rattle.vault_text_tests.specs.declared.reading.TheConstants.{WORK_LENGTH};
 
-use crate::whole_list::{OwnedPayload, read_envelope};
+use crate::contents::Contents;
+use crate::whole_list::{contents_of, read_envelope};
 use std::alloc::{AllocError, Global};
 use std::process::Abort;
 use std::test::Fail;
 use vault_text::{
-    EnvelopeReader, MemSource, PADDING_LIMIT, Payload, Source, SourceFailed, TextFault, TextMemory,
+    EnvelopeReader, MemSource, PADDING_LIMIT, Payload, Source, SourceFailed, TAG_LENGTH, TextFault,
+    TextMemory,
 };
 
 /// The memory that most tests lend: room for 100 bytes of plaintext.
@@ -50,22 +51,22 @@ pub fn text_of(
     Ok(text)
 }
 
-/// Both readers answered the same.
+/// The reader of pieces gave this payload.
+fn assert_payload(rt: &impl Abort, payload: Payload<'_>, expected: Contents<'_>) {
+    assert_eq!(rt; Contents::of(&payload), expected);
+    let body: &[u8] = payload.into_body();
+    assert_eq!(rt; body, expected.cipher);
+}
+
+/// The reader of pieces gave this answer.
 fn assert_same(
     rt: &impl Abort,
     reading: Result<Payload<'_>, TextFault>,
-    whole: &Result<OwnedPayload, TextFault>,
+    expected: Result<Contents<'_>, TextFault>,
 ) {
-    match (reading, whole) {
-        (Ok(payload), Ok(owned)) => {
-            assert_eq!(rt; payload.label().as_str(), owned.label.as_str());
-            assert_eq!(rt; payload.salt().as_bytes(), owned.salt.as_slice());
-            assert_eq!(rt; payload.tag().as_slice(), owned.tag.as_slice());
-            assert_eq!(rt; payload.cipher(), owned.cipher.as_slice());
-            let body: &[u8] = payload.into_body();
-            assert_eq!(rt; body, owned.cipher.as_slice());
-        }
-        (Err(fault), Err(expected)) => assert_eq!(rt; fault, *expected),
+    match (reading, expected) {
+        (Ok(payload), Ok(contents)) => assert_payload(rt, payload, contents),
+        (Err(fault), Err(expected)) => assert_eq!(rt; fault, expected),
         (Ok(_), Err(_)) => assert!(rt; false, "only the reader of pieces accepts"),
         (Err(_), Ok(_)) => assert!(rt; false, "only the whole-list reader accepts"),
     }
@@ -84,58 +85,75 @@ fn feed_from(reader: &mut EnvelopeReader<'_>, src: &mut MemSource<'_>) -> Result
     Ok(())
 }
 
-/// Reads the input cut in two at every place, with an empty piece between, in single bytes with
-/// empty pieces between, and from sources of three steps; the answer is that of the whole-list
-/// reader.
-pub fn read_in_pieces(
-    rt: &impl Abort,
-    alloc: Global,
-    work: &mut [u8],
-    input: &[u8],
-) -> Result<Result<OwnedPayload, TextFault>, Fail>
-    requires { length work.old ≡ WORK_LENGTH }
-{
-    let whole = read_envelope(alloc, input)?;
+/// Reads the input cut in two at every place, with an empty piece between.
+fn assert_cut_in_two(rt: &impl Abort, input: &[u8], expected: Result<Contents<'_>, TextFault>) {
+    let mut work = [0; WORK_LENGTH];
     for cut in 0..=input.len() {
-        let mut reader = EnvelopeReader::new(work);
+        let mut reader = EnvelopeReader::new(&mut work);
         reader.feed(&input[..cut]);
         reader.feed(&[]);
         reader.feed(&input[cut..]);
-        assert_same(rt, reader.finish(), &whole);
+        assert_same(rt, reader.finish(), expected);
     }
-    let mut reader = EnvelopeReader::new(work);
+}
+
+/// Reads the input in single bytes, with empty pieces between.
+fn assert_byte_by_byte(rt: &impl Abort, input: &[u8], expected: Result<Contents<'_>, TextFault>) {
+    let mut work = [0; WORK_LENGTH];
+    let mut reader = EnvelopeReader::new(&mut work);
     for byte in input {
         reader.feed([*byte].as_slice());
         reader.feed(&[]);
     }
-    assert_same(rt, reader.finish(), &whole);
-    for step in [1, 7, 4_096] {
-        let mut reader = EnvelopeReader::new(work);
-        feed_from(&mut reader, &mut MemSource::new(input, step))?;
-        assert_same(rt, reader.finish(), &whole);
-    }
-    Ok(whole)
+    assert_same(rt, reader.finish(), expected);
 }
 
-/// Memory for a ciphertext.
-pub fn work_memory(alloc: Global) -> Result<Vec<u8>, AllocError>
-    ensures { IfOk result (λ work. vec_len work ≡ WORK_LENGTH) }
+/// Reads the input from a source of this step.
+fn assert_from_source(
+    rt: &impl Abort,
+    input: &[u8],
+    step: usize,
+    expected: Result<Contents<'_>, TextFault>,
+) -> Result<(), SourceFailed>
+    requires { 0 < step }
 {
-    vec![in alloc; 0u8; WORK_LENGTH]
+    let mut work = [0; WORK_LENGTH];
+    let mut reader = EnvelopeReader::new(&mut work);
+    feed_from(&mut reader, &mut MemSource::new(input, step))?;
+    assert_same(rt, reader.finish(), expected);
+    Ok(())
+}
+
+/// The whole-list reader gives this answer. So does the reader of pieces, where the input is cut
+/// in two at every place, comes in single bytes, and comes from sources of three steps.
+pub fn assert_read(
+    rt: &impl Abort,
+    alloc: Global,
+    input: &[u8],
+    expected: Result<Contents<'_>, TextFault>,
+) -> Result<(), Fail> {
+    let whole = read_envelope(alloc, input)?;
+    assert_eq!(rt; contents_of(&whole), expected, "at {input:?}");
+    assert_cut_in_two(rt, input, expected);
+    assert_byte_by_byte(rt, input, expected);
+    for step in [1, 7, 4_096] {
+        assert_from_source(rt, input, step, expected)?;
+    }
+    Ok(())
 }
 
 #[test]
 fn first_fault_of_the_header_line(rt: HostRuntime) -> Result<(), Fail> {
     let alloc = rt.alloc();
-    let mut memory = work_memory(alloc)?;
-    let work = memory.as_mut_slice();
-    assert_eq!(rt; work.len(), WORK_LENGTH);
-    let long = [b';'; 232];
     let mut long_header = text_of(alloc, HEADER, &[], "")?;
-    long_header.extend_from_slice(&long)?;
+    long_header.extend_from_slice(&[b';'; 232])?;
     assert_eq!(rt; long_header.len(), 257);
-    let whole = read_in_pieces(&rt, alloc, work, long_header.as_slice())?;
-    assert_eq!(rt; whole.err(), Some(TextFault::HeaderTooLong));
+    assert_read(
+        &rt,
+        alloc,
+        long_header.as_slice(),
+        Err(TextFault::HeaderTooLong),
+    )?;
     let cases = [
         ("", TextFault::NotVault),
         ("$ANSIBLE_VAUL", TextFault::NotVault),
@@ -148,77 +166,70 @@ fn first_fault_of_the_header_line(rt: HostRuntime) -> Result<(), Fail> {
         ("$ANSIBLE_VAULT;1.1;AES256\nabc", TextFault::BadHex),
     ];
     for (input, fault) in cases {
-        let whole = read_in_pieces(&rt, alloc, work, input.as_bytes())?;
-        assert_eq!(rt; whole.err(), Some(fault), "at {input}");
+        assert_read(&rt, alloc, input.as_bytes(), Err(fault))?;
     }
     Ok(())
 }
 
-/// The empty envelope was read, under this label.
-fn assert_empty(rt: &impl Abort, reading: Result<OwnedPayload, TextFault>, label: &str) {
-    match reading {
-        Ok(payload) => {
-            assert_eq!(rt; payload.label.as_str(), label);
-            assert_eq!(rt; payload.salt.as_slice(), [].as_slice());
-            assert_eq!(rt; payload.tag.as_slice(), [0; 32].as_slice());
-            assert_eq!(rt; payload.cipher.as_slice(), [].as_slice());
-        }
-        Err(fault) => assert!(rt; false, "refused as {fault:?}"),
+/// The empty envelope is read, under this label.
+fn assert_empty(rt: &impl Abort, alloc: Global, input: &[u8], label: &str) -> Result<(), Fail> {
+    let contents = Contents {
+        label,
+        salt: b"",
+        tag: &[0; TAG_LENGTH],
+        cipher: b"",
+    };
+    assert_read(rt, alloc, input, Ok(contents))
+}
+
+/// The empty envelope with each digit of its body on a line of its own.
+fn single_digits(alloc: Global) -> Result<Vec<u8>, AllocError> {
+    let mut input = text_of(alloc, HEADER, &[], "\n")?;
+    let digits = text_of(alloc, "", &EMPTY, "")?;
+    for digit in digits.as_slice() {
+        input.extend_from_slice(&[*digit, b'\n'])?;
     }
+    Ok(input)
 }
 
 #[test]
 fn lines_of_any_form(rt: HostRuntime) -> Result<(), Fail> {
     let alloc = rt.alloc();
-    let mut memory = work_memory(alloc)?;
-    let work = memory.as_mut_slice();
-    assert_eq!(rt; work.len(), WORK_LENGTH);
-    let [first, second] = EMPTY;
-    let mut single_digits = text_of(alloc, HEADER, &[], "\n")?;
-    for digit in first.bytes().chain(second.bytes()) {
-        single_digits.extend_from_slice(&[digit, b'\n'])?;
-    }
-    let mut no_last_end = text_of(alloc, HEADER, &[first], "\n")?;
-    no_last_end.extend_from_slice(second.as_bytes())?;
     let upper = [
         "0A303030303030303030303030303030303030303030303030303030303030303030303030303030",
         "303030303030303030303030303030303030303030303030300A",
     ];
-    let inputs = [
-        text_of(alloc, HEADER, &EMPTY, "\n")?,
-        text_of(alloc, HEADER, &EMPTY, "\r\n")?,
-        text_of(alloc, HEADER, &upper, "\n")?,
-        single_digits,
-        no_last_end,
-        text_of(alloc, "$ANSIBLE_VAULT; 1.2 ;AES256; ;x", &EMPTY, "\n")?,
+    let cases = [
+        (HEADER, &EMPTY, "\n"),
+        (HEADER, &EMPTY, "\r\n"),
+        (HEADER, &upper, "\n"),
+        ("$ANSIBLE_VAULT; 1.2 ;AES256; ;x", &EMPTY, "\n"),
     ];
-    for input in inputs {
-        let whole = read_in_pieces(&rt, alloc, work, input.as_slice())?;
-        assert_empty(&rt, whole, "default");
+    for (header, lines, end) in cases {
+        let input = text_of(alloc, header, lines, end)?;
+        assert_empty(&rt, alloc, input.as_slice(), "default")?;
     }
-    Ok(())
+    let single_digits = single_digits(alloc)?;
+    assert_empty(&rt, alloc, single_digits.as_slice(), "default")?;
+    let mut no_last_end = text_of(alloc, HEADER, &EMPTY, "\n")?;
+    assert_eq!(rt; no_last_end.pop(), Some(b'\n'));
+    assert_empty(&rt, alloc, no_last_end.as_slice(), "default")
 }
 
 #[test]
 fn first_lines_that_name_a_label(rt: HostRuntime) -> Result<(), Fail> {
     let alloc = rt.alloc();
-    let mut memory = work_memory(alloc)?;
-    let work = memory.as_mut_slice();
-    assert_eq!(rt; work.len(), WORK_LENGTH);
     let cases = [
         ("$ANSIBLE_VAULTX;1.1;AES256;dev", "dev"),
         ("$ANSIBLE_VAULT;1.2;AES256;a b", "a b"),
     ];
     for (header, label) in cases {
         let input = text_of(alloc, header, &EMPTY, "\n")?;
-        let whole = read_in_pieces(&rt, alloc, work, input.as_slice())?;
-        assert_empty(&rt, whole, label);
+        assert_empty(&rt, alloc, input.as_slice(), label)?;
     }
     let [first, second] = EMPTY;
     let spaced = text_of(alloc, HEADER, &[first, " ", second], "\n")?;
-    let whole = read_in_pieces(&rt, alloc, work, spaced.as_slice())?;
-    assert_eq!(rt; whole.err(), Some(TextFault::BadHex));
-    Ok(())
+    assert_read(&rt, alloc, spaced.as_slice(), Err(TextFault::BadHex))
 }
 
 /// Feeds the input in pieces of this many bytes.
@@ -230,108 +241,87 @@ fn feed_in_steps(reader: &mut EnvelopeReader<'_>, input: &[u8], step: usize)
     }
 }
 
-/// Reads the input in pieces of `step` bytes, and perhaps a shorter last one.
-fn read_in_steps<'w>(
-    work: &'w mut [u8],
-    input: &[u8],
-    step: usize,
-) -> Result<Payload<'w>, TextFault>
+/// The length of the ciphertext, where the input comes in pieces of `step` bytes, and perhaps a
+/// shorter last one.
+fn length_in_steps(work: &mut [u8], input: &[u8], step: usize) -> Result<usize, TextFault>
     requires room { IsWorkLength (length work.old) }
     requires some { 0 < step }
 {
     let mut reader = EnvelopeReader::new(work);
     feed_in_steps(&mut reader, input, step);
-    reader.finish()
+    let payload = reader.finish()?;
+    Ok(payload.cipher().len())
+}
+
+/// Read in steps of three lengths, the ciphertext has this length, or the input this fault.
+fn assert_length(rt: &impl Abort, work: &mut [u8], input: &[u8], expected: Result<usize, TextFault>)
+    requires { IsWorkLength (length work.old) }
+{
+    for step in [1, 7, 4_096] {
+        let found = length_in_steps(work, input, step);
+        assert_eq!(rt; found, expected, "in steps of {step}");
+    }
 }
 
 #[test]
 fn no_envelope_over_the_limit(rt: HostRuntime) -> Result<(), Fail> {
-    let alloc = rt.alloc();
-    let mut memory = work_memory(alloc)?;
-    let work = memory.as_mut_slice();
-    assert_eq!(rt; work.len(), WORK_LENGTH);
-    let mut input = text_of(alloc, HEADER, &["zz"], "\n")?;
-    for _ in input.len()..INPUT_LIMIT {
-        input.push(b'\n')?;
-    }
-    for step in [1, 7, 4_096] {
-        let reading = read_in_steps(work, input.as_slice(), step);
-        assert_eq!(rt;
-            reading.err(),
-            Some(TextFault::BadHex),
-            "in steps of {step}"
-        );
-    }
+    let mut work = [0; WORK_LENGTH];
+    let mut input = text_of(rt.alloc(), HEADER, &["zz"], "\n")?;
+    input.resize(INPUT_LIMIT, b'\n')?;
+    assert_length(&rt, &mut work, input.as_slice(), Err(TextFault::BadHex));
     input.push(b'\n')?;
-    for step in [1, 7, 4_096] {
-        let reading = read_in_steps(work, input.as_slice(), step);
-        assert_eq!(rt;
-            reading.err(),
-            Some(TextFault::TooLong),
-            "in steps of {step}"
-        );
-    }
+    assert_length(&rt, &mut work, input.as_slice(), Err(TextFault::TooLong));
     Ok(())
+}
+
+/// An envelope whose ciphertext is so many zeros.
+fn zeros(alloc: Global, length: usize) -> Result<Vec<u8>, AllocError> {
+    let mut input = text_of(alloc, HEADER, &EMPTY, "\n")?;
+    for _ in 0..length {
+        input.extend_from_slice(b"3030")?;
+    }
+    Ok(input)
 }
 
 #[test]
 fn no_ciphertext_over_the_limit(rt: HostRuntime) -> Result<(), Fail> {
-    let alloc = rt.alloc();
-    let mut memory = work_memory(alloc)?;
-    let work = memory.as_mut_slice();
-    assert_eq!(rt; work.len(), WORK_LENGTH);
-    let mut input = text_of(alloc, HEADER, &EMPTY, "\n")?;
-    for _ in 0..2 * WORK_LENGTH {
-        input.extend_from_slice(b"30")?;
-    }
-    for step in [1, 7, 4_096] {
-        let reading = read_in_steps(work, input.as_slice(), step);
-        let payload = reading.map_err(|_| "refused")?;
-        assert_eq!(rt; payload.cipher().len(), WORK_LENGTH);
-    }
+    let mut work = [0; WORK_LENGTH];
+    let mut input = zeros(rt.alloc(), WORK_LENGTH)?;
+    assert_length(&rt, &mut work, input.as_slice(), Ok(WORK_LENGTH));
     input.extend_from_slice(b"3030")?;
-    for step in [1, 7, 4_096] {
-        let reading = read_in_steps(work, input.as_slice(), step);
-        assert_eq!(rt;
-            reading.err(),
-            Some(TextFault::CipherTooLong),
-            "in steps of {step}"
-        );
-    }
+    assert_length(
+        &rt,
+        &mut work,
+        input.as_slice(),
+        Err(TextFault::CipherTooLong),
+    );
     Ok(())
 }
 
 #[test]
 fn memory_for_padding_alone(rt: HostRuntime) -> Result<(), Fail> {
-    let alloc = rt.alloc();
-    let mut memory = work_memory(alloc)?;
-    let work = &mut memory.as_mut_slice()[..PADDING_LIMIT];
-    assert_eq!(rt; work.len(), PADDING_LIMIT);
-    let mut input = text_of(alloc, HEADER, &EMPTY, "\n")?;
-    for _ in 0..2 * PADDING_LIMIT {
-        input.extend_from_slice(b"30")?;
-    }
-    let reading = read_in_steps(work, input.as_slice(), 7);
-    let payload = reading.map_err(|_| "refused")?;
-    assert_eq!(rt; payload.cipher().len(), 16);
+    let mut work = [0; PADDING_LIMIT];
+    let mut input = zeros(rt.alloc(), PADDING_LIMIT)?;
+    assert_length(&rt, &mut work, input.as_slice(), Ok(16));
     input.extend_from_slice(b"3030")?;
-    let reading = read_in_steps(work, input.as_slice(), 7);
-    assert_eq!(rt; reading.err(), Some(TextFault::CipherTooLong));
-    for _ in input.len()..8_193 {
-        input.push(b'\n')?;
-    }
-    let reading = read_in_steps(work, input.as_slice(), 7);
-    assert_eq!(rt; reading.err(), Some(TextFault::TooLong));
+    assert_length(
+        &rt,
+        &mut work,
+        input.as_slice(),
+        Err(TextFault::CipherTooLong),
+    );
+    input.resize(8_193, b'\n')?;
+    assert_length(&rt, &mut work, input.as_slice(), Err(TextFault::TooLong));
     Ok(())
 }
 
-/// Reads the input in steps into reserved memory; the answer is that of the whole-list reader.
-fn read_into_reserved(
+/// Reads the input in steps into reserved memory.
+fn assert_read_into_reserved(
     rt: &impl Abort,
     alloc: Global,
     input: &[u8],
     step: usize,
-    whole: &Result<OwnedPayload, TextFault>,
+    expected: Result<Contents<'_>, TextFault>,
 ) -> Result<(), AllocError>
     requires { 0 < step }
 {
@@ -339,9 +329,8 @@ fn read_into_reserved(
     memory.extend_from_slice(b"what it held")?;
     let mut reader = EnvelopeReader::in_memory(TextMemory::reserved(&mut memory, WORK_LENGTH));
     feed_in_steps(&mut reader, input, step);
-    assert_same(rt, reader.finish(), whole);
-    assert_eq!(rt; memory.len(), 32);
-    assert_eq!(rt; memory.capacity(), WORK_LENGTH);
+    assert_same(rt, reader.finish(), expected);
+    assert_eq!(rt; [memory.len(), memory.capacity()], [32, WORK_LENGTH]);
     Ok(())
 }
 
@@ -352,7 +341,7 @@ fn in_reserved_memory(rt: HostRuntime) -> Result<(), Fail> {
     let whole = read_envelope(alloc, input.as_slice())?;
     assert!(rt; whole.is_ok());
     for step in [1, 7, 4_096] {
-        read_into_reserved(&rt, alloc, input.as_slice(), step, &whole)?;
+        assert_read_into_reserved(&rt, alloc, input.as_slice(), step, contents_of(&whole))?;
     }
     Ok(())
 }

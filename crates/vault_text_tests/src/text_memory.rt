@@ -3,26 +3,41 @@ use std::process::Abort;
 use std::test::Fail;
 use vault_text::TextMemory;
 
+/// Puts a piece that fits, and tells what room is left.
+fn put(memory: &mut TextMemory, piece: &[u8]) -> usize {
+    if piece.len() <= memory.room() {
+        memory.put(piece);
+    }
+    memory.room()
+}
+
 /// Puts two pieces into memory of ten bytes.
 fn put_pieces(rt: &impl Abort, memory: &mut TextMemory) {
     assert_eq!(rt; memory.room(), 10);
-    for piece in [b"abc".as_slice(), b"defg".as_slice()] {
-        if piece.len() <= memory.room() {
-            memory.put(piece);
-        }
-    }
-    assert_eq!(rt; memory.room(), 3);
+    assert_eq!(rt; [put(memory, b"abc"), put(memory, b"defg")], [7, 3]);
+}
+
+/// The memory holds the two pieces.
+fn assert_text(rt: &impl Abort, memory: TextMemory) {
+    let text: &[u8] = memory.into_bytes();
+    assert_eq!(rt; text, b"abcdefg".as_slice());
+}
+
+/// The memory holds the two pieces, and two further bytes fit.
+fn assert_text_and_spare(rt: &impl Abort, memory: TextMemory) {
+    assert!(rt; memory.room() >= 2);
+    let text: &[u8] = memory.into_bytes_and_spare(2);
+    assert_eq!(rt; text.len(), 9);
+    assert!(rt; text.starts_with(b"abcdefg"));
 }
 
 #[test]
-fn text_in_a_slice(rt: HostRuntime) -> Result<(), Fail> {
+fn text_in_a_slice(rt: HostRuntime) {
     let mut bytes = *b"0123456789";
     let mut memory = TextMemory::borrowed(&mut bytes);
     put_pieces(&rt, &mut memory);
-    let text: &[u8] = memory.into_bytes();
-    assert_eq!(rt; text, b"abcdefg".as_slice());
+    assert_text(&rt, memory);
     assert_eq!(rt; bytes.as_slice(), b"abcdefg789".as_slice());
-    Ok(())
 }
 
 #[test]
@@ -31,12 +46,7 @@ fn text_in_a_vector(rt: HostRuntime) -> Result<(), Fail> {
     bytes.extend_from_slice(b"what it held")?;
     let mut memory = TextMemory::reserved(&mut bytes, 10);
     put_pieces(&rt, &mut memory);
-    if memory.room() >= 2 {
-        let text: &[u8] = memory.into_bytes_and_spare(2);
-        assert_eq!(rt; text.len(), 9);
-        assert_eq!(rt; &text[..7], b"abcdefg".as_slice());
-    }
-    assert_eq!(rt; bytes.len(), 9);
-    assert_eq!(rt; bytes.capacity(), 16);
+    assert_text_and_spare(&rt, memory);
+    assert_eq!(rt; [bytes.len(), bytes.capacity()], [9, 16]);
     Ok(())
 }

@@ -1,4 +1,5 @@
 //! A second reader: it follows the definition step by step, on the whole input in memory.
+use crate::contents::Contents;
 use crate::reading::{INPUT_LIMIT, WORK_LENGTH};
 use hex::FromHexError;
 use std::alloc::{AllocError, Global};
@@ -13,11 +14,23 @@ pub struct OwnedPayload {
     pub cipher: Vec<u8>,
 }
 
-#[derive(Drop)]
-struct Parts {
-    salt: Vec<u8>,
-    tag: Vec<u8>,
-    cipher: Vec<u8>,
+impl OwnedPayload {
+    fn contents(&self) -> Contents<'_> {
+        Contents {
+            label: self.label.as_str(),
+            salt: self.salt.as_slice(),
+            tag: self.tag.as_slice(),
+            cipher: self.cipher.as_slice(),
+        }
+    }
+}
+
+/// The answer of this reader, in a form that compares.
+pub fn contents_of(whole: &Result<OwnedPayload, TextFault>) -> Result<Contents<'_>, TextFault> {
+    match whole {
+        Ok(payload) => Ok(payload.contents()),
+        Err(fault) => Err(*fault),
+    }
 }
 
 /// Reads an envelope, in the order of the nine steps.
@@ -100,23 +113,21 @@ fn read_body(
     let Some(inner) = unhex(alloc, digits.as_slice())? else {
         return Ok(Err(TextFault::BadHex));
     };
-    let Some(parts) = parts_of(alloc, inner.as_slice())? else {
+    let Some(payload) = payload_of(alloc, label, inner.as_slice())? else {
         return Ok(Err(TextFault::BadPayload));
     };
-    let Parts { salt, tag, cipher } = parts;
-    if cipher.len() > WORK_LENGTH {
+    if payload.cipher.len() > WORK_LENGTH {
         return Ok(Err(TextFault::CipherTooLong));
     }
-    Ok(Ok(OwnedPayload {
-        label,
-        salt,
-        tag,
-        cipher,
-    }))
+    Ok(Ok(payload))
 }
 
-/// The parts of an inner text.
-fn parts_of(alloc: Global, text: &[u8]) -> Result<Option<Parts>, AllocError> {
+/// What an inner text holds, under this label.
+fn payload_of(
+    alloc: Global,
+    label: Label,
+    text: &[u8],
+) -> Result<Option<OwnedPayload>, AllocError> {
     let Some((salt, rest)) = split_at_line_feed(text) else {
         return Ok(None);
     };
@@ -135,7 +146,12 @@ fn parts_of(alloc: Global, text: &[u8]) -> Result<Option<Parts>, AllocError> {
     if salt.len() > SALT_LIMIT || tag.len() != TAG_LENGTH {
         return Ok(None);
     }
-    Ok(Some(Parts { salt, tag, cipher }))
+    Ok(Some(OwnedPayload {
+        label,
+        salt,
+        tag,
+        cipher,
+    }))
 }
 
 /// What comes before the first LF and after it; None where there is none.

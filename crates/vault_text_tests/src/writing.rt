@@ -1,9 +1,10 @@
 //! The texts were made in Python: `bytes.hex` of salt, tag and ciphertext joined by line feeds,
 //! then `bytes.hex` of that, cut every 80 digits.
-ghost use Rattle.std.specs.Prelude.{◌≡◌, ◌≤◌, IfOk, vec_len};
-ghost use Rattle.vault_text_tests.specs.declared.writing.TheConstants.{WORK_LENGTH};
+ghost use Rattle.std.specs.Prelude.{◌≤◌};
 
+use crate::contents::Contents;
 use std::alloc::{AllocError, Global};
+use std::process::Abort;
 use std::test::Fail;
 use vault_text::{
     EnvelopeReader, FailingSink, Label, MemSink, Salt, Sink, SinkFailed, TAG_LENGTH, write_block,
@@ -127,12 +128,6 @@ const UNNAMED_BLOCK: &str = "\
 /// Room for the longest ciphertext that is read back.
 const WORK_LENGTH: usize = 20_000;
 
-fn work_memory(alloc: Global) -> Result<Vec<u8>, AllocError>
-    ensures { IfOk result (λ work. vec_len work ≡ WORK_LENGTH) }
-{
-    vec![in alloc; 0u8; WORK_LENGTH]
-}
-
 /// `length` bytes, of which byte i is `step * i + first` modulo 256.
 fn counting(alloc: Global, length: u16, step: u8, first: u8) -> Result<Vec<u8>, AllocError> {
     let mut bytes = Vec::new(alloc);
@@ -178,44 +173,65 @@ fn envelope(
     Ok(sink.bytes().to_vec(alloc)?)
 }
 
+/// The envelope is this text, in whatever steps it is written.
+fn assert_envelope(
+    rt: &impl Abort,
+    alloc: Global,
+    label: &str,
+    salt_length: u16,
+    length: u16,
+    text: &str,
+) -> Result<(), Fail> {
+    let cipher = counting(alloc, length, 11, 5)?;
+    for step in [1, 7, 10_000] {
+        let bytes = envelope(alloc, step, label, salt_length, cipher.as_slice())?;
+        assert_eq!(rt; bytes.as_slice(), text.as_bytes(), "salt of {salt_length}");
+    }
+    Ok(())
+}
+
 #[test]
 fn envelopes_are_those_of_another_implementation(rt: HostRuntime) -> Result<(), Fail> {
-    let alloc = rt.alloc();
     for (label, salt_length, length, text) in ENVELOPES {
-        let cipher = counting(alloc, length, 11, 5)?;
-        for step in [1, 7, 10_000] {
-            let bytes = envelope(alloc, step, label, salt_length, cipher.as_slice())?;
-            assert_eq!(rt; bytes.as_slice(), text.as_bytes(), "salt of {salt_length}");
-        }
+        assert_envelope(&rt, rt.alloc(), label, salt_length, length, text)?;
     }
+    Ok(())
+}
+
+/// Reading an envelope gives what it was written from.
+fn assert_reads_back(
+    rt: &impl Abort,
+    alloc: Global,
+    label: &str,
+    salt_length: u16,
+    length: u16,
+) -> Result<(), Fail> {
+    let salt = salt_of(alloc, salt_length)?;
+    let cipher = counting(alloc, length, 11, 5)?;
+    let bytes = envelope(alloc, 4_096, label, salt_length, cipher.as_slice())?;
+    let mut work = [0; WORK_LENGTH];
+    let mut reader = EnvelopeReader::new(&mut work);
+    reader.feed(bytes.as_slice());
+    let payload = reader.finish()?;
+    let expected = Contents {
+        label,
+        salt: salt.as_bytes(),
+        tag: &tag(),
+        cipher: cipher.as_slice(),
+    };
+    assert_eq!(rt; Contents::of(&payload), expected);
     Ok(())
 }
 
 #[test]
 fn envelopes_read_back(rt: HostRuntime) -> Result<(), Fail> {
     let alloc = rt.alloc();
-    let mut work = work_memory(alloc)?;
-    for (label, salt_length, length) in [
-        ("default", 0, 0),
-        ("default", 1, 16),
-        ("dev", 16, 7),
-        ("prod", 32, 16),
-        ("x", 37, 2_543),
-        ("a b", 256, 20_000),
-    ] {
-        let cipher = counting(alloc, length, 11, 5)?;
-        let bytes = envelope(alloc, 4_096, label, salt_length, cipher.as_slice())?;
-        assert_eq!(rt; work.len(), WORK_LENGTH);
-        let mut reader = EnvelopeReader::new(work.as_mut_slice());
-        reader.feed(bytes.as_slice());
-        let payload = reader.finish()?;
-        let salt = salt_of(alloc, salt_length)?;
-        assert_eq!(rt; payload.label().as_str(), label);
-        assert_eq!(rt; payload.salt().as_bytes(), salt.as_bytes());
-        assert_eq!(rt; payload.tag().as_slice(), tag().as_slice());
-        assert_eq!(rt; payload.cipher(), cipher.as_slice());
-    }
-    Ok(())
+    assert_reads_back(&rt, alloc, "default", 0, 0)?;
+    assert_reads_back(&rt, alloc, "default", 1, 16)?;
+    assert_reads_back(&rt, alloc, "dev", 16, 7)?;
+    assert_reads_back(&rt, alloc, "prod", 32, 16)?;
+    assert_reads_back(&rt, alloc, "x", 37, 2_543)?;
+    assert_reads_back(&rt, alloc, "a b", 256, 20_000)
 }
 
 /// A block as it is written into memory.
@@ -247,25 +263,31 @@ fn blocks_are_those_of_another_implementation(rt: HostRuntime) -> Result<(), Fai
     Ok(())
 }
 
+/// A sink that fails after these bytes of the envelope holds them.
+fn assert_holds(rt: &impl Abort, alloc: Global, taken: &[u8]) -> Result<(), Fail> {
+    let salt = salt_of(alloc, 1)?;
+    // one call for `begin`
+    let mut sink = FailingSink::new(alloc, 1, taken.len() + 1);
+    sink.begin()?;
+    let result = write_envelope(&mut sink, &Label::default_label(), &salt, &tag(), b"cipher");
+    assert_eq!(rt; result, Err(SinkFailed));
+    assert_eq!(rt; sink.bytes(), taken);
+    assert!(rt; sink.begun());
+    Ok(())
+}
+
 #[test]
 fn a_failing_sink_holds_a_prefix(rt: HostRuntime) -> Result<(), Fail> {
     let alloc = rt.alloc();
-    let label = Label::default_label();
-    let salt = salt_of(alloc, 1)?;
     let whole = envelope(alloc, 4_096, "default", 1, b"cipher")?;
     let whole = whole.as_slice();
     for taken in 0..whole.len() {
-        // one call for `begin`
-        let mut sink = FailingSink::new(alloc, 1, taken + 1);
-        sink.begin()?;
-        let result = write_envelope(&mut sink, &label, &salt, &tag(), b"cipher");
-        assert_eq!(rt; result, Err(SinkFailed));
-        assert_eq!(rt; sink.bytes(), &whole[..taken]);
-        assert!(rt; sink.begun());
+        assert_holds(&rt, alloc, &whole[..taken])?;
     }
+    let salt = salt_of(alloc, 1)?;
     let mut sink = FailingSink::new(alloc, 1, whole.len() + 1);
     sink.begin()?;
-    write_envelope(&mut sink, &label, &salt, &tag(), b"cipher")?;
+    write_envelope(&mut sink, &Label::default_label(), &salt, &tag(), b"cipher")?;
     assert_eq!(rt; sink.bytes(), whole);
     assert_eq!(rt; sink.finish(), Err(SinkFailed));
     Ok(())

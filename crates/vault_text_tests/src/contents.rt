@@ -1,0 +1,22 @@
+//! What an envelope holds, in a form that is compared and shown as a whole.
+use vault_text::Payload;
+
+/// The contents of an envelope.
+#[derive(Clone, Copy, Debug, PartialEq, Eq)]
+pub struct Contents<'a> {
+    pub label: &'a str,
+    pub salt: &'a [u8],
+    pub tag: &'a [u8],
+    pub cipher: &'a [u8],
+}
+
+impl<'a> Contents<'a> {
+    pub fn of(payload: &'a Payload<'_>) -> Self {
+        Contents {
+            label: payload.label().as_str(),
+            salt: payload.salt().as_bytes(),
+            tag: payload.tag().as_slice(),
+            cipher: payload.cipher(),
+        }
+    }
+}
