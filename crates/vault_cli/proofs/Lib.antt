@@ -10,7 +10,6 @@ pub mod OpenedPathsLemmas
 pub mod AnswerLemmas
 pub mod PerformedLemmas
 pub mod ProgramLemmas
-pub mod ProgramSamples
 pub mod ReservedLemmas
 pub mod ShownLemmas
 pub mod StatusLemmas

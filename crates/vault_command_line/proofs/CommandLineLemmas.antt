@@ -1,5 +1,5 @@
 -- A parse by the command line of the program.
-use Rattle.std.proofs.Common.{◌≡◌, ◌∙◌, List, [], ◌∷◌, true, Result, Ok, Err, ap, codes, refl}
+use Rattle.std.proofs.Common.{◌≡◌, ◌∙◌, List, true, Result, Ok, Err, ap, refl}
 use Rattle.std.proofs.Common.{subst}
 use Rattle.std.proofs.lemmas.Bool.{and_parts}
 use Rattle.std.specs.Prelude.{IfOk}
@@ -7,7 +7,6 @@ use Rattle.clap.specs.Words.{App, FailsBy, HasMatchesOf, Text, fault_of, is_simp
 use Rattle.clap.specs.Words.{subcommand_rows_of}
 use Rattle.clap.specs.Faults.{is_simple_and_free}
 use Rattle.clap.specs.declared.error.Error.{Error}
-use Rattle.clap.specs.declared.error.kind.ErrorKind.TheVariants as kind
 use Rattle.clap.specs.declared.parser.matches.ArgMatches.{ArgMatches}
 use Rattle.clap.proofs.OnLiterals.{clap_on_literals}
 use Rattle.vault_command_line.specs.CommandLine.{vault_app}
@@ -32,18 +31,3 @@ pub fails_as : (app : App) (words : List Text) (r : Result ArgMatches Error) →
 fails_as app words r e h =
     subst (λ (a : App). FailsBy (fault_of a words) r) e
     (h (ap is_simple_and_free e ∙ vault_app-simple))
-
--- the kinds of some arguments, by computing
-
-no_command : fault_of vault_app (codes "ansible-vault" ∷ []) ≡ kind.MissingSubcommand ∷ []
-unfolding clap_on_literals vault_app
-no_command = refl
-
-unknown_option : fault_of vault_app (codes "ansible-vault" ∷ codes "view" ∷ codes "--loud" ∷ [])
-    ≡ kind.UnknownArgument ∷ []
-unfolding clap_on_literals vault_app
-unknown_option = refl
-
-help : fault_of vault_app (codes "ansible-vault" ∷ codes "--help" ∷ []) ≡ kind.DisplayHelp ∷ []
-unfolding clap_on_literals vault_app
-help = refl

@@ -1,5 +1,3 @@
-pub mod OptionsSamples
 pub mod RefusalLemmas
 pub mod SettledLemmas
-pub mod SettledSamples
 pub mod theorems
