@@ -1,0 +1,28 @@
+//! Tests of whole runs: what each command answers; envelopes that are damaged, or spelled otherwise
+//! than they are written; inputs at the limits; password files that are none; devices that fail.
+#![tactic(auto)]
+
+#[cfg(test)]
+mod damage;
+#[cfg(test)]
+mod each_call;
+#[cfg(test)]
+mod encrypting;
+#[cfg(test)]
+mod failures;
+#[cfg(test)]
+mod limits;
+#[cfg(test)]
+mod long_ciphertext;
+#[cfg(test)]
+mod opening;
+#[cfg(test)]
+mod password_files;
+#[cfg(test)]
+mod rekeying;
+#[cfg(test)]
+mod runs;
+#[cfg(test)]
+mod spellings;
+#[cfg(test)]
+mod watched;
