@@ -1,14 +1,11 @@
 //! Envelopes that are damaged.
-ghost use Rattle.std.specs.Prelude.{◌≤◌};
-
 use std::alloc::Global;
 use std::process::Abort;
 use std::test::Fail;
 use vault_aes::{Key, ctr_apply};
-use vault_cli::Status;
 use vault_kdf::{Meter, derive};
 use vault_test_data::{envelope, spelled, tagged};
-use vault_test_runs::Trial;
+use vault_test_runs::{Left, Trial};
 
 const SALT: &[u8; 32] = &[7; 32];
 
@@ -16,33 +13,11 @@ const DECRYPT: &[&str] = &["decrypt", "--vault-password-file", "one"];
 
 const FIRST: &[&[u8]] = &[b"first\n"];
 
-/// Decrypting these bytes, which come in steps, is refused with this text, and the output is not
-/// begun.
-fn assert_refused_in_steps(
-    rt: &impl Abort,
-    alloc: Global,
-    input: &[u8],
-    step: usize,
-    text: &str,
-) -> Result<(), Fail>
-    requires { 1 ≤ step }
-{
-    let ran = Trial::new(DECRYPT, FIRST, &[])
-        .at_the_limit()
-        .run_in_steps(alloc, input, step)?;
-    let line = format!(in alloc; "ERROR! {text}\n")?;
-    assert_eq!(rt; ran.status, Status::Refused, "{text} {step}");
-    assert_eq!(rt; ran.message.as_str(), line.as_str(), "{text} {step}");
-    assert!(rt; !ran.begun, "{text} {step}");
-    Ok(())
-}
-
-/// The same at three steps.
+/// Decrypting these bytes is refused with this text, and the output is not begun.
 fn assert_refused(rt: &impl Abort, alloc: Global, input: &[u8], text: &str) -> Result<(), Fail> {
-    for step in [1, 7, 4_096] {
-        assert_refused_in_steps(rt, alloc, input, step, text)?;
-    }
-    Ok(())
+    let line = format!(in alloc; "ERROR! {text}\n")?;
+    let trial = Trial::new(DECRYPT, FIRST, &[]).at_the_limit();
+    trial.assert_leaves(rt, alloc, input, Left::refused(line.as_str()))
 }
 
 /// These bytes as ciphertext under the tests' password and salt, without padding.

@@ -16,7 +16,7 @@ const TWO: &[&[u8]] = &[b"one\n", b"two\n"];
 
 const ZEROS: &[u8; 32] = &[0; 32];
 
-const READ_FAILED: &[u8] = b"ERROR! the input cannot be read\n";
+const READ_FAILED: &str = "ERROR! the input cannot be read\n";
 
 const WRITE_FAILED: &[u8] = b"ERROR! the output cannot be written\n";
 
@@ -37,22 +37,15 @@ fn assert_reads_told(
 ) -> Result<(), Fail> {
     let words = trial.words;
     for calls in 0..=input.len() + 1 {
-        let is_whole = calls > input.len();
         let mut src = Watched::new(FailingSource::new(input, 1, calls));
         let ran = trial.run_from(alloc, &mut src)?;
-        assert_eq!(rt;
-            ran.status == Status::Success,
-            is_whole,
-            "{words:?} {calls}"
-        );
-        assert_eq!(rt;
-            ran.status == Status::DeviceFailed,
-            !is_whole,
-            "{words:?} {calls}"
-        );
-        let line: &[u8] = if is_whole { b"" } else { READ_FAILED };
-        assert_eq!(rt; ran.message.as_bytes(), line, "{words:?} {calls}");
-        assert_eq!(rt; ran.begun, is_whole, "{words:?} {calls}");
+        let left = (ran.status, ran.begun, ran.message.as_str());
+        let expected = if calls > input.len() {
+            (Status::Success, true, "")
+        } else {
+            (Status::DeviceFailed, false, READ_FAILED)
+        };
+        assert_eq!(rt; left, expected, "{words:?} {calls}");
         assert_eq!(rt; src.asked_after, 0, "{words:?} {calls}");
     }
     Ok(())
@@ -87,20 +80,18 @@ fn assert_program_tells_reads(
     ];
     let line = line_of(alloc, words)?;
     for calls in 0..=input.len() + 1 {
-        let is_whole = calls > input.len();
         let mut src = Watched::new(FailingSource::new(input, 1, calls));
         let mut out = MemSink::new(alloc, usize::MAX);
         let mut err = MemSink::new(alloc, usize::MAX);
         let mut files = MemFiles::new(alloc, &files);
         let line = line.as_slice();
         let status = drive_over(&mut files, alloc, line, &mut src, &mut out, &mut err);
-        assert_eq!(rt; status == Status::Success, is_whole, "{words:?} {calls}");
-        assert_eq!(rt;
-            status == Status::DeviceFailed,
-            !is_whole,
-            "{words:?} {calls}"
-        );
-        assert_eq!(rt; out.begun(), is_whole, "{words:?} {calls}");
+        let expected = if calls > input.len() {
+            (Status::Success, true)
+        } else {
+            (Status::DeviceFailed, false)
+        };
+        assert_eq!(rt; (status, out.begun()), expected, "{words:?} {calls}");
         assert_eq!(rt; src.asked_after, 0, "{words:?} {calls}");
     }
     Ok(())
@@ -125,23 +116,19 @@ fn assert_writes_told(
 ) -> Result<(), Fail> {
     let words = trial.words;
     for calls in 0..=output.len() + 2 {
-        let is_whole = calls > output.len() + 1;
         let mut out = Watched::new(FailingSink::new(alloc, 1, calls));
         let mut err = MemSink::new(alloc, 100);
         let mut src = MemSource::new(input, 4_096);
         let status = trial.run_between(alloc, &mut src, &mut out, &mut err)?;
-        assert_eq!(rt; status == Status::Success, is_whole, "{words:?} {calls}");
-        assert_eq!(rt;
-            status == Status::DeviceFailed,
-            !is_whole,
-            "{words:?} {calls}"
-        );
-        let line: &[u8] = if is_whole { b"" } else { WRITE_FAILED };
-        assert_eq!(rt; err.bytes(), line, "{words:?} {calls}");
-        assert_eq!(rt; out.device.begun(), calls > 0, "{words:?} {calls}");
+        let expected: (Status, &[u8]) = if calls > output.len() + 1 {
+            (Status::Success, b"")
+        } else {
+            (Status::DeviceFailed, WRITE_FAILED)
+        };
+        assert_eq!(rt; (status, err.bytes()), expected, "{words:?} {calls}");
         let taken = calls.saturating_sub(1).min(output.len());
-        assert_eq!(rt; out.device.bytes().len(), taken, "{words:?} {calls}");
-        assert!(rt; output.starts_with(out.device.bytes()), "{words:?} {calls}");
+        assert_eq!(rt; out.device.begun(), calls > 0, "{words:?} {calls}");
+        assert_eq!(rt; out.device.bytes(), &output[..taken], "{words:?} {calls}");
         assert_eq!(rt; out.asked_after, 0, "{words:?} {calls}");
     }
     Ok(())

@@ -15,7 +15,7 @@ mod limits;
 #[cfg(test)]
 mod long_ciphertext;
 #[cfg(test)]
-mod opening;
+mod opened_files;
 #[cfg(test)]
 mod password_files;
 #[cfg(test)]

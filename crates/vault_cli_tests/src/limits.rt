@@ -3,7 +3,7 @@ use std::alloc::Global;
 use std::test::Fail;
 use vault_cli::Status;
 use vault_test_data::{CountingReader, envelope};
-use vault_test_runs::{Trial, run_on_system};
+use vault_test_runs::{Left, Trial, run_on_system};
 use vault_text::{CIPHERTEXT_LIMIT, ENVELOPE_LIMIT, PLAINTEXT_LIMIT};
 
 const ENCRYPT: &[&str] = &["encrypt", "--vault-password-file", "one"];
@@ -59,15 +59,10 @@ fn take_the_longest_envelope(rt: HostRuntime) -> Result<(), Fail> {
     let alloc = rt.alloc();
     let plaintext = vec![in alloc; b'p'; 16_777_231]?;
     let vault = envelope(alloc, "default", b"one", &[7; 32], plaintext.as_slice())?;
-    for step in [1, 7, 4_096] {
-        let mut reader = CountingReader::new(vault.as_slice(), step);
-        let ran = Trial::new(DECRYPT, ONE, &[])
-            .at_the_limit()
-            .run_on_reader(alloc, &mut reader)?;
-        assert_eq!(rt; ran.status, Status::Success, "{step}");
-        assert!(rt; ran.output.as_slice() == plaintext.as_slice(), "{step}");
-    }
-    Ok(())
+    let left = Left::success(plaintext.as_slice());
+    Trial::new(DECRYPT, ONE, &[])
+        .at_the_limit()
+        .assert_leaves(&rt, alloc, vault.as_slice(), left)
 }
 
 // The same vault under another password, label and salt: more than `encrypt` takes is sealed anew.
@@ -77,12 +72,10 @@ fn rekey_the_longest_envelope(rt: HostRuntime) -> Result<(), Fail> {
     let plaintext = vec![in alloc; b'p'; 16_777_231]?;
     let vault = envelope(alloc, "default", b"one", &[7; 32], plaintext.as_slice())?;
     let rekeyed = envelope(alloc, "prod", b"two", &[1; 32], plaintext.as_slice())?;
-    let ran = Trial::new(REKEY, TWO, &[1; 32])
+    let left = Left::success(rekeyed.as_slice());
+    Trial::new(REKEY, TWO, &[1; 32])
         .at_the_limit()
-        .run_on(alloc, vault.as_slice())?;
-    assert_eq!(rt; ran.status, Status::Success);
-    assert!(rt; ran.output.as_slice() == rekeyed.as_slice());
-    Ok(())
+        .assert_leaves_in_steps(&rt, alloc, vault.as_slice(), 4_096, left)
 }
 
 // A limit of one MiB would end before it.
@@ -91,12 +84,10 @@ fn take_more_than_a_mib(rt: HostRuntime) -> Result<(), Fail> {
     let alloc = rt.alloc();
     let plaintext = vec![in alloc; b'a'; 1_048_592]?;
     let vault = envelope(alloc, "default", b"one", &[7; 32], plaintext.as_slice())?;
-    let ran = Trial::new(DECRYPT, ONE, &[])
+    let left = Left::success(plaintext.as_slice());
+    Trial::new(DECRYPT, ONE, &[])
         .at_the_limit()
-        .run_on(alloc, vault.as_slice())?;
-    assert_eq!(rt; ran.status, Status::Success);
-    assert!(rt; ran.output.as_slice() == plaintext.as_slice());
-    Ok(())
+        .assert_leaves_in_steps(&rt, alloc, vault.as_slice(), 4_096, left)
 }
 
 /// An input: some bytes, and line feeds after them up to a length.
@@ -186,9 +177,7 @@ fn are_refused(rt: HostRuntime) -> Result<(), Fail> {
         let ran = Trial::new(words, ONE, &[0; 32])
             .at_the_limit()
             .run_on_reader(alloc, &mut reader)?;
-        assert_eq!(rt; ran.status, Status::Refused, "{length}");
-        assert_eq!(rt; ran.message.as_str(), line, "{length}");
-        assert!(rt; !ran.begun, "{length}");
+        assert_eq!(rt; ran.left(), Left::refused(line), "{length}");
         assert_eq!(rt; reader.given, read, "{length}");
     }
     Ok(())
@@ -207,36 +196,31 @@ fn tell_the_damage_of_the_longest_input(rt: HostRuntime) -> Result<(), Fail> {
     Ok(())
 }
 
-/// This many letters.
-fn letters(alloc: Global, count: usize) -> Result<String, Fail> {
-    let letters = vec![in alloc; b'x'; count]?;
-    Ok(String::from_utf8(letters)?)
+/// A vault under a label of this many letters.
+fn vault_under(alloc: Global, length: usize) -> Result<Vec<u8>, Fail> {
+    let letters = vec![in alloc; b'x'; length]?;
+    let label = String::from_utf8(letters)?;
+    Ok(envelope(alloc, label.as_str(), b"one", &[7; 32], b"text")?)
 }
 
 // With 26 bytes before it, a label of 231 bytes makes a header line of 257.
 #[test]
 fn take_the_longest_label(rt: HostRuntime) -> Result<(), Fail> {
     let alloc = rt.alloc();
-    let cases: [(usize, &str); 4] = [
-        (128, ""),
-        (129, "ERROR! vault header line is malformed\n"),
-        (230, "ERROR! vault header line is malformed\n"),
-        (231, "ERROR! vault header line is longer than 256 bytes\n"),
+    let malformed = Left::refused("ERROR! vault header line is malformed\n");
+    let cases: [(usize, Left<'_>); 4] = [
+        (128, Left::success(b"text")),
+        (129, malformed),
+        (230, malformed),
+        (
+            231,
+            Left::refused("ERROR! vault header line is longer than 256 bytes\n"),
+        ),
     ];
-    for (length, message) in cases {
-        let label = letters(alloc, length)?;
-        let vault = envelope(alloc, label.as_str(), b"one", &[7; 32], b"text")?;
-        for step in [1, 7, 4_096] {
-            let ran = Trial::new(DECRYPT, ONE, &[])
-                .at_the_limit()
-                .run_in_steps(alloc, vault.as_slice(), step)?;
-            assert_eq!(rt; ran.message.as_str(), message, "{length} {step}");
-            assert_eq!(rt;
-                ran.output.as_slice() == b"text".as_slice(),
-                message.is_empty(),
-                "{length} {step}"
-            );
-        }
+    let trial = Trial::new(DECRYPT, ONE, &[]).at_the_limit();
+    for (length, left) in cases {
+        let vault = vault_under(alloc, length)?;
+        trial.assert_leaves(&rt, alloc, vault.as_slice(), left)?;
     }
     Ok(())
 }

@@ -5,9 +5,8 @@ ghost use Rattle.vault_text.specs.declared.limits.TheConstants.{CIPHERTEXT_LIMIT
 use std::alloc::{AllocError, Global};
 use std::process::Abort;
 use std::test::Fail;
-use vault_cli::Status;
 use vault_test_data::spelled;
-use vault_test_runs::Trial;
+use vault_test_runs::{Left, Trial};
 use vault_text::{CIPHERTEXT_LIMIT, EnvelopeReader, TextFault};
 
 const DECRYPT: &[&str] = &["decrypt", "--vault-password-file", "one"];
@@ -56,12 +55,9 @@ fn is_refused(rt: HostRuntime) -> Result<(), Fail> {
     let prefix = prefix(&rt, alloc)?;
     for (end, _, line) in ENDS {
         let vault = ended(&prefix, end)?;
-        let ran = Trial::new(DECRYPT, FIRST, &[])
-            .at_the_limit()
-            .run_on(alloc, vault.as_slice())?;
-        assert_eq!(rt; ran.status, Status::Refused, "{line}");
-        assert_eq!(rt; ran.message.as_str(), line);
-        assert!(rt; !ran.begun, "{line}");
+        let trial = Trial::new(DECRYPT, FIRST, &[]).at_the_limit();
+        let vault = vault.as_slice();
+        trial.assert_leaves_in_steps(&rt, alloc, vault, 4_096, Left::refused(line))?;
     }
     Ok(())
 }

@@ -1,19 +1,27 @@
 //! Password files of whole runs of the program.
 use std::alloc::Global;
+use std::process::Abort;
 use std::test::Fail;
 use vault_cli::{MemFile, MemFiles, ReadSource, Status};
 use vault_test_data::{CountingReader, EMPTY_ENVELOPE};
-use vault_test_runs::{Ran, run_program};
+use vault_test_runs::{Left, run_program};
 
-/// Runs the program on these words over these files and this input.
-fn ran_over<'a>(
+/// The program, run on these words over these files, leaves this. It reads nothing of its input,
+/// which is so many line feeds.
+fn assert_leaves<'a>(
+    rt: &impl Abort,
     alloc: Global,
     files: &'a [MemFile<'a>],
     words: &[&str],
-    stdin: &mut CountingReader,
-) -> Result<Ran, Fail> {
+    length: usize,
+    left: Left<'_>,
+) -> Result<(), Fail> {
+    let mut stdin = CountingReader::with_line_feeds(b"", length, 65_536);
     let mut files = MemFiles::new(alloc, files);
-    run_program(alloc, &mut files, words, &mut ReadSource::new(&mut *stdin))
+    let ran = run_program(alloc, &mut files, words, &mut ReadSource::new(&mut stdin))?;
+    assert_eq!(rt; ran.left(), left, "{words:?}");
+    assert_eq!(rt; stdin.given, 0, "{words:?}");
+    Ok(())
 }
 
 fn files() -> [MemFile<'static>; 6] {
@@ -27,36 +35,41 @@ fn files() -> [MemFile<'static>; 6] {
     ]
 }
 
+/// Paths of password files, with the status and the message of each.
+const REFUSED: [(&str, Status, &str); 6] = [
+    (
+        "missing",
+        Status::DeviceFailed,
+        "ERROR! a password file cannot be opened\n",
+    ),
+    (
+        "folder",
+        Status::DeviceFailed,
+        "ERROR! a password file cannot be read\n",
+    ),
+    ("empty", Status::Refused, "ERROR! a password is empty\n"),
+    (
+        "script",
+        Status::Refused,
+        "ERROR! a password file is a script\n",
+    ),
+    (
+        "vault",
+        Status::Refused,
+        "ERROR! a password file is itself a vault\n",
+    ),
+    (
+        "long",
+        Status::Refused,
+        "ERROR! a password file is longer than 4096 bytes\n",
+    ),
+];
+
 // The input has no end: a password file that is refused leaves it unread.
 #[test]
 fn refuses_before_the_input_is_read(rt: HostRuntime) -> Result<(), Fail> {
-    let alloc = rt.alloc();
-    let cases: [(&str, &str, Status); 6] = [
-        (
-            "missing",
-            "a password file cannot be opened",
-            Status::DeviceFailed,
-        ),
-        (
-            "folder",
-            "a password file cannot be read",
-            Status::DeviceFailed,
-        ),
-        ("empty", "a password is empty", Status::Refused),
-        ("script", "a password file is a script", Status::Refused),
-        (
-            "vault",
-            "a password file is itself a vault",
-            Status::Refused,
-        ),
-        (
-            "long",
-            "a password file is longer than 4096 bytes",
-            Status::Refused,
-        ),
-    ];
-    for (path, text, status) in cases {
-        let line = format!(in alloc; "ERROR! {text}\n")?;
+    let files = files();
+    for (path, status, line) in REFUSED {
         let words = [
             "decrypt",
             "--vault-password-file",
@@ -64,12 +77,8 @@ fn refuses_before_the_input_is_read(rt: HostRuntime) -> Result<(), Fail> {
             "--vault-password-file",
             path,
         ];
-        let mut stdin = CountingReader::with_line_feeds(b"", usize::MAX, 65_536);
-        let refused = ran_over(alloc, &files(), &words, &mut stdin)?;
-        assert_eq!(rt; refused.status, status, "{path}");
-        assert_eq!(rt; refused.message.as_str(), line.as_str(), "{path}");
-        assert_eq!(rt; refused.output.len(), 0, "{path}");
-        assert_eq!(rt; stdin.given, 0, "{path}");
+        let left = Left::failure(status, line);
+        assert_leaves(&rt, rt.alloc(), &files, &words, usize::MAX, left)?;
     }
     Ok(())
 }
@@ -78,42 +87,24 @@ fn refuses_before_the_input_is_read(rt: HostRuntime) -> Result<(), Fail> {
 #[test]
 fn asks_for_no_more_than_is_taken(rt: HostRuntime) -> Result<(), Fail> {
     let files = [MemFile::broken("endless", &[b'a'; 4_097])];
-    let mut stdin = CountingReader::new(b"", 1);
-    let refused = ran_over(
-        rt.alloc(),
-        &files,
-        &["view", "--vault-id", "endless"],
-        &mut stdin,
-    )?;
-    assert_eq!(rt;
-        refused.message.as_str(),
-        "ERROR! a password file is longer than 4096 bytes\n"
-    );
-    Ok(())
+    let words = ["view", "--vault-id", "endless"];
+    let left = Left::refused("ERROR! a password file is longer than 4096 bytes\n");
+    assert_leaves(&rt, rt.alloc(), &files, &words, usize::MAX, left)
 }
 
 #[test]
 fn opens_all_before_one_is_refused(rt: HostRuntime) -> Result<(), Fail> {
     let words = ["view", "--vault-id", "empty", "--vault-id", "missing"];
-    let mut stdin = CountingReader::new(b"", 1);
-    let refused = ran_over(rt.alloc(), &files(), &words, &mut stdin)?;
-    assert_eq!(rt;
-        refused.message.as_str(),
-        "ERROR! a password file cannot be opened\n"
-    );
-    assert_eq!(rt; refused.status, Status::DeviceFailed);
-    Ok(())
+    let line = "ERROR! a password file cannot be opened\n";
+    let left = Left::failure(Status::DeviceFailed, line);
+    assert_leaves(&rt, rt.alloc(), &files(), &words, usize::MAX, left)
 }
 
+// The input is empty, which only a run over a password finds out.
 #[test]
 fn takes_the_longest_password(rt: HostRuntime) -> Result<(), Fail> {
     let files = [MemFile::whole("longest", &[b'a'; 4_096])];
-    let mut stdin = CountingReader::new(b"", 1);
     let words = ["view", "--vault-id", "longest"];
-    let refused = ran_over(rt.alloc(), &files, &words, &mut stdin)?;
-    assert_eq!(rt;
-        refused.message.as_str(),
-        "ERROR! input is not vault encrypted data\n"
-    );
-    Ok(())
+    let left = Left::refused("ERROR! input is not vault encrypted data\n");
+    assert_leaves(&rt, rt.alloc(), &files, &words, 0, left)
 }

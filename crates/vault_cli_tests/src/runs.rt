@@ -2,7 +2,7 @@
 use std::test::Fail;
 use vault_cli::{MemFile, MemFiles, MemSink, MemSource, ReadSource, Status};
 use vault_test_data::{CountingReader, EMPTY_ENVELOPE, envelope};
-use vault_test_runs::{Trial, run_program};
+use vault_test_runs::{Left, Trial, run_program};
 
 const DECRYPT: &[&str] = &["decrypt", "--vault-password-file", "one"];
 
@@ -38,9 +38,7 @@ fn shows_plaintext(rt: HostRuntime) -> Result<(), Fail> {
         let files = files();
         let mut files = MemFiles::new(alloc, &files);
         let shown = run_program(alloc, &mut files, words, &mut ReadSource::new(&mut stdin))?;
-        assert_eq!(rt; shown.status, Status::Success, "{words:?}");
-        assert_eq!(rt; shown.output.as_slice(), plaintext, "{words:?}");
-        assert_eq!(rt; shown.message.as_str(), "", "{words:?}");
+        assert_eq!(rt; shown.left(), Left::success(plaintext), "{words:?}");
         assert_eq!(rt; stdin.given, vault.len(), "{words:?}");
     }
     Ok(())
@@ -55,28 +53,21 @@ fn refuses_another_password(rt: HostRuntime) -> Result<(), Fail> {
     let mut files = MemFiles::new(alloc, &files);
     let mut src = MemSource::new(vault.as_slice(), 4_096);
     let refused = run_program(alloc, &mut files, &words, &mut src)?;
-    assert_eq!(rt; refused.status, Status::Refused);
     assert_eq!(rt;
-        refused.message.as_str(),
-        "ERROR! no secret decrypts this vault\n"
+        refused.left(),
+        Left::refused("ERROR! no secret decrypts this vault\n")
     );
-    assert_eq!(rt; refused.output.len(), 0);
     Ok(())
 }
 
 #[test]
 fn refuses_without_secrets(rt: HostRuntime) -> Result<(), Fail> {
-    let cases: [(&[u8], &[u8]); 2] = [
-        (b"", b"ERROR! input is not vault encrypted data\n"),
-        (EMPTY_ENVELOPE, b"ERROR! no secret decrypts this vault\n"),
-    ];
-    for (input, message) in cases {
-        let refused = Trial::new(&["view"], &[], &[]).run_on(rt.alloc(), input)?;
-        assert_eq!(rt; refused.status, Status::Refused);
-        assert_eq!(rt; refused.message.as_bytes(), message);
-        assert!(rt; !refused.begun);
-    }
-    Ok(())
+    let alloc = rt.alloc();
+    let trial = Trial::new(&["view"], &[], &[]);
+    let no_vault = Left::refused("ERROR! input is not vault encrypted data\n");
+    trial.assert_leaves(&rt, alloc, b"", no_vault)?;
+    let no_secret = Left::refused("ERROR! no secret decrypts this vault\n");
+    trial.assert_leaves(&rt, alloc, EMPTY_ENVELOPE, no_secret)
 }
 
 #[test]
@@ -101,9 +92,6 @@ fn runs_at_any_step(rt: HostRuntime) -> Result<(), Fail> {
 fn gives_empty_plaintext(rt: HostRuntime) -> Result<(), Fail> {
     let alloc = rt.alloc();
     let vault = envelope(alloc, "default", b"first", &[7; 32], b"")?;
-    let shown = Trial::new(DECRYPT, &[b"first"], &[]).run_on(alloc, vault.as_slice())?;
-    assert_eq!(rt; shown.status, Status::Success);
-    assert!(rt; shown.begun && shown.output.is_empty());
-    assert_eq!(rt; shown.message.as_str(), "");
-    Ok(())
+    let trial = Trial::new(DECRYPT, &[b"first"], &[]);
+    trial.assert_leaves(&rt, alloc, vault.as_slice(), Left::success(b""))
 }

@@ -6,5 +6,5 @@ mod ran;
 mod trial;
 
 pub use program::{LINUX_FILE, run_on_system, run_program};
-pub use ran::{Ended, Ran};
+pub use ran::{Ended, Left, Ran};
 pub use trial::{LITTLE_WORK, Trial};

@@ -12,7 +12,55 @@ pub struct Ran {
     pub message: String,
 }
 
-/// The same where no one knows whether the output was begun.
+/// What a run leaves, so that one comparison covers all of it.
+#[derive(Clone, Copy, Debug, PartialEq, Eq)]
+pub struct Left<'a> {
+    pub status: Status,
+    pub begun: bool,
+    pub output: &'a [u8],
+    pub message: &'a str,
+}
+
+impl<'a> Left<'a> {
+    /// Its whole output, and no message.
+    pub const fn success(output: &'a [u8]) -> Self {
+        Left {
+            status: Status::Success,
+            begun: true,
+            output,
+            message: "",
+        }
+    }
+
+    /// A message alone.
+    pub const fn failure(status: Status, message: &'a str) -> Self {
+        Left {
+            status,
+            begun: false,
+            output: b"",
+            message,
+        }
+    }
+
+    /// The message of a run that was refused.
+    pub const fn refused(message: &'a str) -> Self {
+        Left::failure(Status::Refused, message)
+    }
+}
+
+impl Ran {
+    /// All that the run left.
+    pub fn left(&self) -> Left<'_> {
+        Left {
+            status: self.status,
+            begun: self.begun,
+            output: self.output.as_slice(),
+            message: self.message.as_str(),
+        }
+    }
+}
+
+/// What a run left where no one knows whether its output was begun.
 #[derive(Drop)]
 pub struct Ended {
     pub status: Status,
