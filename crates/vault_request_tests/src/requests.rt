@@ -11,10 +11,7 @@ const LONGEST: &str = "aaaaaaaaaaaaaaaaaaaaaaaaaaaaaaaaaaaaaaaaaaaaaaaaaaaaaaaaa
 
 /// The words of a line, between any two spaces one, with the program's name before them.
 fn words_of(alloc: Global, line: &str) -> Result<Vec<String>, AllocError> {
-    let mut words = Vec::new(alloc);
-    for word in line.split(' ') {
-        words.push(word)?;
-    }
+    let words: Vec<&str> = line.split(' ').collect(alloc)?;
     line_of(alloc, words.as_slice())
 }
 
@@ -30,37 +27,115 @@ fn is_file(request: &Request, i: usize, label: &str, path: &str) -> bool {
     i < request.files() && request.label(i).as_str() == label && request.path(i) == path
 }
 
+/// Asserts that the words of a line name these files of secrets, each by its label and its path.
+fn assert_files(
+    rt: &impl Abort,
+    alloc: Global,
+    line: &str,
+    files: &[(&str, &str)],
+) -> Result<(), Fail> {
+    let request = settled(alloc, line)??;
+    assert_eq!(rt; request.files(), files.len());
+    for (i, &(label, path)) in files.iter().enumerate() {
+        assert!(rt; is_file(&request, i, label, path), "file {i}");
+    }
+    Ok(())
+}
+
+/// What a request is asked beside the files of its secrets.
+#[derive(Clone, Copy, Debug, PartialEq, Eq)]
+struct Said<'a> {
+    command: CommandName,
+    seals: bool,
+    secret_count: usize,
+    new_label: Option<&'a str>,
+    choice: Option<&'a str>,
+    name: Option<&'a str>,
+    string: Option<&'a str>,
+    salt_text: Option<&'a str>,
+    salt_path: Option<&'a str>,
+    rule: LabelRule,
+    input: Option<&'a str>,
+    output: Option<&'a str>,
+}
+
+/// What `decrypt` says without an option.
+const DECRYPT: Said<'static> = Said {
+    command: CommandName::Decrypt,
+    seals: false,
+    secret_count: 0,
+    new_label: None,
+    choice: None,
+    name: None,
+    string: None,
+    salt_text: None,
+    salt_path: None,
+    rule: LabelRule::Hint,
+    input: None,
+    output: None,
+};
+
+/// The label of the new secret of `rekey`, as a text.
+fn new_label_of(request: &Request) -> Option<&str> {
+    Some(request.new_label()?.as_str())
+}
+
+/// The label to encrypt with, as a text.
+fn choice_of(request: &Request) -> Option<&str> {
+    Some(request.choice()?.as_str())
+}
+
+/// All that a request says beside the files of its secrets.
+fn said_by(request: &Request) -> Said<'_> {
+    Said {
+        command: request.command(),
+        seals: request.seals(),
+        secret_count: request.secret_count(),
+        new_label: new_label_of(request),
+        choice: choice_of(request),
+        name: request.name(),
+        string: request.string(),
+        salt_text: request.salt_text(),
+        salt_path: request.salt_path(),
+        rule: request.rule(),
+        input: request.input(),
+        output: request.output(),
+    }
+}
+
+/// Asserts that the words of a line settle a request that says this.
+fn assert_says(rt: &impl Abort, alloc: Global, line: &str, wanted: Said<'_>) -> Result<(), Fail> {
+    let request = settled(alloc, line)??;
+    assert_eq!(rt; said_by(&request), wanted, "{line}");
+    Ok(())
+}
+
 #[test]
 fn keeps_files_in_order(rt: HostRuntime) -> Result<(), Fail> {
     let line = "decrypt --vault-password-file p --vault-id @f \
         --vault-id=f --vault-id dev@x@y --vault-id dev@";
-    let request = settled(rt.alloc(), line)??;
-    assert_eq!(rt; request.files(), 5);
-    assert!(rt; is_file(&request, 0, "default", "f"));
-    assert!(rt; is_file(&request, 1, "default", "f"));
-    assert!(rt; is_file(&request, 2, "dev", "x@y"));
-    assert!(rt; is_file(&request, 3, "dev", ""));
-    assert!(rt; is_file(&request, 4, "default", "p"));
-    Ok(())
+    let files = [
+        ("default", "f"),
+        ("default", "f"),
+        ("dev", "x@y"),
+        ("dev", ""),
+        ("default", "p"),
+    ];
+    assert_files(&rt, rt.alloc(), line, &files)
 }
 
 #[test]
 fn leaves_unset_what_no_option_names(rt: HostRuntime) -> Result<(), Fail> {
-    let request = settled(rt.alloc(), "decrypt --vault-id=f")??;
-    assert_eq!(rt; request.command(), CommandName::Decrypt);
-    assert!(rt; request.input().is_none());
-    assert!(rt; request.output().is_none());
-    assert!(rt; request.salt_path().is_none());
-    assert!(rt; !request.seals());
-    Ok(())
+    let wanted = Said {
+        secret_count: 1,
+        ..DECRYPT
+    };
+    assert_says(&rt, rt.alloc(), "decrypt --vault-id=f", wanted)
 }
 
 /// The fault for which the words of a line are refused.
 fn fault_of(alloc: Global, line: &str) -> Result<Option<Fault>, Fail> {
-    match settled(alloc, line)? {
-        Ok(_) => Ok(None),
-        Err(fault) => Ok(Some(fault)),
-    }
+    Ok(settled(alloc, line)?.err())
 }
 
 /// Asserts that the words of each line are refused for the fault beside it.
@@ -68,6 +143,12 @@ fn assert_refused(rt: &impl Abort, alloc: Global, cases: &[(&str, Fault)]) -> Re
     for &(line, fault) in cases {
         assert_eq!(rt; fault_of(alloc, line)?, Some(fault), "{line}");
     }
+    Ok(())
+}
+
+/// Asserts that the words of a line settle a request.
+fn assert_settled(rt: &impl Abort, alloc: Global, line: &str) -> Result<(), Fail> {
+    assert!(rt; fault_of(alloc, line)?.is_none(), "{line}");
     Ok(())
 }
 
@@ -128,18 +209,20 @@ fn needs_an_output_for_a_file(rt: HostRuntime) -> Result<(), Fail> {
         ("encrypt f --salt=", Fault::OutputNeeded),
     ];
     assert_refused(&rt, rt.alloc(), &cases)?;
-    for line in ["encrypt --output=- f", "encrypt -- -"] {
-        assert_eq!(rt; fault_of(rt.alloc(), line)?, None, "{line}");
-    }
-    Ok(())
+    assert_settled(&rt, rt.alloc(), "encrypt --output=- f")?;
+    assert_settled(&rt, rt.alloc(), "encrypt -- -")
 }
 
 #[test]
 fn takes_one_salt(rt: HostRuntime) -> Result<(), Fail> {
     let line = "encrypt --salt aaaaaaaaaaaaaaaaaaaaaaaaaaaaaaaaaaaaaaaaaaaaaaaaaaaaaaaaaaaaaaaa";
-    let request = settled(rt.alloc(), line)??;
-    assert_eq!(rt; request.salt_text(), Some(LONGEST));
-    Ok(())
+    let wanted = Said {
+        command: CommandName::Encrypt,
+        seals: true,
+        salt_text: Some(LONGEST),
+        ..DECRYPT
+    };
+    assert_says(&rt, rt.alloc(), line, wanted)
 }
 
 #[test]
@@ -164,89 +247,118 @@ fn refuses_wrong_salts(rt: HostRuntime) -> Result<(), Fail> {
 #[test]
 fn reads_the_options_of_encrypt(rt: HostRuntime) -> Result<(), Fail> {
     let line = "encrypt --vault-id=b@f --encrypt-vault-id=b --salt-file=s --output=o x";
-    let request = settled(rt.alloc(), line)??;
-    assert_eq!(rt; request.command(), CommandName::Encrypt);
-    assert!(rt; request.choice().is_some_and(|label| label.as_str() == "b"));
-    assert_eq!(rt; request.salt_path(), Some("s"));
-    assert_eq!(rt; request.output(), Some("o"));
-    assert_eq!(rt; request.input(), Some("x"));
-    assert_eq!(rt; request.rule(), LabelRule::Hint);
-    Ok(())
+    let wanted = Said {
+        command: CommandName::Encrypt,
+        seals: true,
+        secret_count: 1,
+        choice: Some("b"),
+        salt_path: Some("s"),
+        input: Some("x"),
+        output: Some("o"),
+        ..DECRYPT
+    };
+    assert_says(&rt, rt.alloc(), line, wanted)
 }
 
 #[test]
 fn reads_the_options_of_decrypt(rt: HostRuntime) -> Result<(), Fail> {
-    let request = settled(rt.alloc(), "decrypt --require-id-match --output=o x")??;
-    assert_eq!(rt; request.rule(), LabelRule::Required);
-    assert_eq!(rt; request.output(), Some("o"));
-    assert_eq!(rt; request.input(), Some("x"));
-    Ok(())
+    let line = "decrypt --require-id-match --output=o x";
+    let wanted = Said {
+        rule: LabelRule::Required,
+        input: Some("x"),
+        output: Some("o"),
+        ..DECRYPT
+    };
+    assert_says(&rt, rt.alloc(), line, wanted)
 }
 
 #[test]
 fn reads_the_options_of_view(rt: HostRuntime) -> Result<(), Fail> {
-    let request = settled(rt.alloc(), "view --require-id-match x")??;
-    assert_eq!(rt; request.command(), CommandName::View);
-    assert_eq!(rt; request.rule(), LabelRule::Required);
-    assert_eq!(rt; request.input(), Some("x"));
-    assert!(rt; !request.seals());
-    Ok(())
+    let line = "view --require-id-match x";
+    let wanted = Said {
+        command: CommandName::View,
+        rule: LabelRule::Required,
+        input: Some("x"),
+        ..DECRYPT
+    };
+    assert_says(&rt, rt.alloc(), line, wanted)
 }
 
 #[test]
 fn reads_the_new_secret_of_rekey(rt: HostRuntime) -> Result<(), Fail> {
     let line = "rekey --new-vault-id=prod@g --vault-password-file=f";
-    let request = settled(rt.alloc(), line)??;
-    assert_eq!(rt; request.command(), CommandName::Rekey);
-    assert_eq!(rt; request.files(), 2);
-    assert_eq!(rt; request.secret_count(), 1);
-    assert!(rt; is_file(&request, 1, "prod", "g"));
-    assert_eq!(rt; request.salt_path(), Some("/dev/urandom"));
-    Ok(())
+    assert_files(&rt, rt.alloc(), line, &[("default", "f"), ("prod", "g")])?;
+    let wanted = Said {
+        command: CommandName::Rekey,
+        seals: true,
+        secret_count: 1,
+        new_label: Some("prod"),
+        salt_path: Some("/dev/urandom"),
+        ..DECRYPT
+    };
+    assert_says(&rt, rt.alloc(), line, wanted)
 }
 
 #[test]
 fn reads_the_new_password_file_of_rekey(rt: HostRuntime) -> Result<(), Fail> {
-    let request = settled(rt.alloc(), "rekey --new-vault-password-file=a@g")??;
-    assert_eq!(rt; request.files(), 1);
-    assert!(rt; is_file(&request, 0, "default", "a@g"));
-    let label = request.new_label();
-    assert!(rt; label.is_some_and(|label| label.as_str() == "default"));
-    Ok(())
+    let line = "rekey --new-vault-password-file=a@g";
+    assert_files(&rt, rt.alloc(), line, &[("default", "a@g")])?;
+    let wanted = Said {
+        command: CommandName::Rekey,
+        seals: true,
+        new_label: Some("default"),
+        salt_path: Some("/dev/urandom"),
+        ..DECRYPT
+    };
+    assert_says(&rt, rt.alloc(), line, wanted)
 }
 
 #[test]
 fn reads_the_options_of_rekey(rt: HostRuntime) -> Result<(), Fail> {
     let line = "rekey --new-vault-id=g --salt=abc --require-id-match --output=- -";
-    let request = settled(rt.alloc(), line)??;
-    assert_eq!(rt; request.salt_text(), Some("abc"));
-    assert!(rt; request.salt_path().is_none());
-    assert_eq!(rt; request.rule(), LabelRule::Required);
-    assert!(rt; request.input().is_none());
-    assert!(rt; request.output().is_none());
-    Ok(())
+    let wanted = Said {
+        command: CommandName::Rekey,
+        seals: true,
+        new_label: Some("default"),
+        salt_text: Some("abc"),
+        rule: LabelRule::Required,
+        ..DECRYPT
+    };
+    assert_says(&rt, rt.alloc(), line, wanted)
 }
 
 #[test]
 fn reads_the_options_of_encrypt_string(rt: HostRuntime) -> Result<(), Fail> {
     let line = "encrypt_string -n k --encrypt-vault-id=default --salt-file=s --output=o secret";
-    let request = settled(rt.alloc(), line)??;
-    assert_eq!(rt; request.command(), CommandName::EncryptString);
-    assert_eq!(rt; request.name(), Some("k"));
-    assert_eq!(rt; request.string(), Some("secret"));
-    assert!(rt; request.choice().is_some());
-    assert_eq!(rt; request.salt_path(), Some("s"));
-    assert_eq!(rt; request.output(), Some("o"));
-    Ok(())
+    let wanted = Said {
+        command: CommandName::EncryptString,
+        seals: true,
+        choice: Some("default"),
+        name: Some("k"),
+        string: Some("secret"),
+        salt_path: Some("s"),
+        output: Some("o"),
+        ..DECRYPT
+    };
+    assert_says(&rt, rt.alloc(), line, wanted)
 }
 
 #[test]
 fn reads_the_name_of_a_string_from_standard_input(rt: HostRuntime) -> Result<(), Fail> {
-    let request = settled(rt.alloc(), "encrypt_string --stdin-name=")??;
-    assert_eq!(rt; request.name(), Some(""));
-    assert!(rt; request.string().is_none());
-    assert!(rt; request.input().is_none());
-    Ok(())
+    let line = "encrypt_string --stdin-name=";
+    let wanted = Said {
+        command: CommandName::EncryptString,
+        seals: true,
+        name: Some(""),
+        salt_path: Some("/dev/urandom"),
+        ..DECRYPT
+    };
+    assert_says(&rt, rt.alloc(), line, wanted)
+}
+
+/// Whether these words are a command with options of its own.
+fn are_parsed(alloc: Global, words: Vec<String>) -> bool {
+    parse(alloc, words.as_slice()).is_ok()
 }
 
 #[test]
@@ -262,25 +374,23 @@ fn takes_no_option_of_another_command(rt: HostRuntime) -> Result<(), Fail> {
         "help",
         "",
     ];
+    let alloc = rt.alloc();
     for line in lines {
-        let words = words_of(rt.alloc(), line)?;
-        assert!(rt; parse(rt.alloc(), words.as_slice()).is_err(), "{line}");
+        assert!(rt; !are_parsed(alloc, words_of(alloc, line)?), "{line}");
     }
-    let nothing = line_of(rt.alloc(), &[])?;
-    assert!(rt; parse(rt.alloc(), nothing.as_slice()).is_err());
+    assert!(rt; !are_parsed(alloc, line_of(alloc, &[])?));
     Ok(())
 }
 
 #[test]
 fn takes_sixteen_secrets(rt: HostRuntime) -> Result<(), Fail> {
-    let mut line = String::from_str(rt.alloc(), "view")?;
+    let alloc = rt.alloc();
+    let mut line = String::from_str(alloc, "view")?;
     for _ in 0..16 {
         line.push_str(" --vault-id=f")?;
     }
-    assert_eq!(rt; fault_of(rt.alloc(), line.as_str())?, None);
+    assert_settled(&rt, alloc, line.as_str())?;
     // The seventeenth comes before its own faults.
     line.push_str(" --vault-id=a;b@f")?;
-    let fault = fault_of(rt.alloc(), line.as_str())?;
-    assert_eq!(rt; fault, Some(Fault::TooManySecrets));
-    Ok(())
+    assert_refused(&rt, alloc, &[(line.as_str(), Fault::TooManySecrets)])
 }
