@@ -1,5 +1,7 @@
 //! Runs the programs of docs/library.md.
 use crate::{OnePassword, decrypt, decrypt_with, encrypt, encrypt_variable, rekey};
+use std::alloc::Global;
+use std::process::Abort;
 use std::test::Fail;
 use vault_cli::{Fault, MemSink, Status};
 use vault_test_data::{block, envelope};
@@ -44,54 +46,72 @@ fn encrypts(rt: HostRuntime) -> Result<(), Fail> {
     Ok(())
 }
 
-#[test]
-fn encrypts_a_variable(rt: HostRuntime) -> Result<(), Fail> {
-    let alloc = rt.alloc();
+/// Asserts how the request for a variable of this value ends, and what it writes.
+fn assert_variable(
+    rt: &impl Abort,
+    alloc: Global,
+    value: &str,
+    wanted: Status,
+    output: &[u8],
+    message: &[u8],
+) -> Result<(), Fail> {
     let mut out = MemSink::new(alloc, 4_096);
     let mut err = MemSink::new(alloc, 4_096);
-    let status = encrypt_variable(alloc, "key", "value", b"first\n", SALT, &mut out, &mut err)?;
-    let vault = envelope(alloc, "dev", b"first", SALT, b"value")?;
-    assert_eq!(rt; status, Status::Success);
-    assert!(rt; out.bytes() == block(alloc, "key", vault.as_slice())?.as_slice());
-    assert!(rt; err.bytes().is_empty());
+    let status = encrypt_variable(alloc, "key", value, b"first\n", SALT, &mut out, &mut err)?;
+    assert_eq!(rt;
+        (status, out.bytes(), err.bytes()),
+        (wanted, output, message)
+    );
     Ok(())
 }
 
 #[test]
-fn says_why_there_is_no_variable(rt: HostRuntime) -> Result<(), Fail> {
+fn encrypts_a_variable(rt: HostRuntime) -> Result<(), Fail> {
     let alloc = rt.alloc();
-    let mut out = MemSink::new(alloc, 4_096);
-    let mut err = MemSink::new(alloc, 4_096);
-    let status = encrypt_variable(alloc, "key", "", b"first\n", SALT, &mut out, &mut err)?;
-    assert_eq!(rt; status, Status::Refused);
-    assert!(rt; out.bytes().is_empty());
+    let vault = envelope(alloc, "dev", b"first", SALT, b"value")?;
+    let block = block(alloc, "key", vault.as_slice())?;
+    assert_variable(&rt, alloc, "value", Status::Success, block.as_slice(), b"")
+}
+
+#[test]
+fn says_why_there_is_no_variable(rt: HostRuntime) -> Result<(), Fail> {
     let message = b"ERROR! the string to encrypt is empty\n";
-    assert!(rt; err.bytes() == message.as_slice());
+    assert_variable(&rt, rt.alloc(), "", Status::Refused, b"", message)
+}
+
+/// Asserts which vault Ansible's vault becomes under the password "two", where a file holds the
+/// old password, and what is said of it.
+fn assert_rekeyed(
+    rt: &impl Abort,
+    alloc: Global,
+    old: &[u8],
+    wanted: Option<&[u8]>,
+    message: &[u8],
+) -> Result<(), Fail> {
+    let mut err = MemSink::new(alloc, 4_096);
+    let rekeyed = rekey(
+        alloc,
+        ANSIBLES_VAULT.as_bytes(),
+        old,
+        b"two\n",
+        SALT,
+        &mut err,
+    )?;
+    assert_eq!(rt; (rekeyed.as_deref(), err.bytes()), (wanted, message));
     Ok(())
 }
 
 #[test]
 fn rekeys(rt: HostRuntime) -> Result<(), Fail> {
     let alloc = rt.alloc();
-    let vault = ANSIBLES_VAULT.as_bytes();
-    let mut err = MemSink::new(alloc, 4_096);
-    let rekeyed = rekey(alloc, vault, b"one\n", b"two\n", SALT, &mut err)?;
-    let rekeyed = rekeyed.ok_or("there is no new vault")?;
-    let wanted = envelope(alloc, "default", b"two", SALT, ANSIBLES_PLAINTEXT)?;
-    assert!(rt; rekeyed.as_slice() == wanted.as_slice());
-    assert!(rt; err.bytes().is_empty());
-    Ok(())
+    let vault = envelope(alloc, "default", b"two", SALT, ANSIBLES_PLAINTEXT)?;
+    assert_rekeyed(&rt, alloc, b"one\n", Some(vault.as_slice()), b"")
 }
 
 #[test]
 fn rekeys_nothing_with_another_password(rt: HostRuntime) -> Result<(), Fail> {
-    let alloc = rt.alloc();
-    let vault = ANSIBLES_VAULT.as_bytes();
-    let mut err = MemSink::new(alloc, 4_096);
-    assert!(rt; rekey(alloc, vault, b"wrong\n", b"two\n", SALT, &mut err)?.is_none());
     let message = b"ERROR! no secret decrypts this vault\n";
-    assert!(rt; err.bytes() == message.as_slice());
-    Ok(())
+    assert_rekeyed(&rt, rt.alloc(), b"wrong\n", None, message)
 }
 
 #[test]
@@ -100,8 +120,7 @@ fn finds_the_password_at_every_path(rt: HostRuntime) -> Result<(), Fail> {
     let mut files = OnePassword::new(alloc, b"one\n");
     let mut err = MemSink::new(alloc, 4_096);
     let status = decrypt_with(alloc, &mut files, ANSIBLES_VAULT.as_bytes(), &mut err)?;
-    assert_eq!(rt; status, Status::Success);
-    assert!(rt; files.output() == ANSIBLES_PLAINTEXT);
-    assert!(rt; err.bytes().is_empty());
+    let wanted = (Status::Success, ANSIBLES_PLAINTEXT, b"".as_slice());
+    assert_eq!(rt; (status, files.output(), err.bytes()), wanted);
     Ok(())
 }
