@@ -49,6 +49,30 @@ const ONE: &str = "--vault-password-file=one";
 
 const SALT_FILE: &str = "--salt-file=salt";
 
+/// A file of a disk.
+fn file<'a>(path: &'a str, bytes: &'a [u8]) -> SystemFile<'a> {
+    SystemFile { path, bytes }
+}
+
+/// Over a disk of these files, these words after the program's name end with this status, output
+/// and message.
+fn assert_ends(
+    rt: &impl Abort,
+    alloc: Global,
+    entries: &[SystemFile<'_>],
+    words: &[&str],
+    wanted: (Status, &[u8], &[u8]),
+) -> Result<(), Fail> {
+    let ended = run_on_disk(alloc, entries, words)?;
+    let left = (
+        ended.status,
+        ended.output.as_slice(),
+        ended.message.as_slice(),
+    );
+    assert_eq!(rt; left, wanted, "{words:?}");
+    Ok(())
+}
+
 /// Over a disk of these files, these words after the program's name give this output.
 fn assert_output(
     rt: &impl Abort,
@@ -57,33 +81,17 @@ fn assert_output(
     words: &[&str],
     output: &[u8],
 ) -> Result<(), Fail> {
-    let ended = run_on_disk(alloc, entries, words)?;
-    assert_eq!(rt; ended.status, Status::Success, "{words:?}");
-    assert!(rt; ended.message.is_empty(), "{words:?}");
-    assert!(rt; ended.output.as_slice() == output, "{words:?}");
-    Ok(())
+    assert_ends(rt, alloc, entries, words, (Status::Success, output, b""))
 }
 
 #[test]
 fn encrypts(rt: HostRuntime) -> Result<(), Fail> {
     let alloc = rt.alloc();
     let entries = [
-        SystemFile {
-            path: "one",
-            bytes: b"first\n",
-        },
-        SystemFile {
-            path: "one",
-            bytes: b"later\n",
-        },
-        SystemFile {
-            path: "salt",
-            bytes: SALT,
-        },
-        SystemFile {
-            path: "plain",
-            bytes: PLAINTEXT,
-        },
+        file("one", b"first\n"),
+        file("one", b"later\n"),
+        file("salt", SALT),
+        file("plain", PLAINTEXT),
     ];
     let vault = envelope(alloc, "default", b"first", SALT, PLAINTEXT)?;
     let words = ["encrypt", ONE, SALT_FILE, "--output=-", "plain"];
@@ -93,16 +101,7 @@ fn encrypts(rt: HostRuntime) -> Result<(), Fail> {
 #[test]
 fn encrypts_a_string(rt: HostRuntime) -> Result<(), Fail> {
     let alloc = rt.alloc();
-    let entries = [
-        SystemFile {
-            path: "one",
-            bytes: b"first\n",
-        },
-        SystemFile {
-            path: "salt",
-            bytes: SALT,
-        },
-    ];
+    let entries = [file("one", b"first\n"), file("salt", SALT)];
     let vault = envelope(alloc, "default", b"first", SALT, PLAINTEXT)?;
     let block = block(alloc, "", vault.as_slice())?;
     let words = ["encrypt_string", ONE, SALT_FILE, "key: value\n"];
@@ -113,21 +112,11 @@ fn encrypts_a_string(rt: HostRuntime) -> Result<(), Fail> {
 fn decrypts_and_shows(rt: HostRuntime) -> Result<(), Fail> {
     let alloc = rt.alloc();
     let vault = envelope(alloc, "default", b"first", SALT, PLAINTEXT)?;
-    let entries = [
-        SystemFile {
-            path: "one",
-            bytes: b"first\n",
-        },
-        SystemFile {
-            path: "vault",
-            bytes: vault.as_slice(),
-        },
-    ];
+    let entries = [file("one", b"first\n"), file("vault", vault.as_slice())];
     let decrypt = ["decrypt", ONE, "--output=out", "vault"];
     let ended = run_on_disk(alloc, &entries, &decrypt)?;
-    assert_eq!(rt; ended.status, Status::Success);
-    assert!(rt; ended.output.is_empty());
-    assert!(rt; ended.created.unwrap_or(Vec::new(alloc)).as_slice() == PLAINTEXT);
+    assert_eq!(rt; (ended.status, ended.output.len()), (Status::Success, 0));
+    assert!(rt; ended.created.as_deref() == Some(PLAINTEXT));
     let view = ["view", ONE, "vault"];
     assert_output(&rt, alloc, &entries, &view, PLAINTEXT)
 }
@@ -138,22 +127,10 @@ fn rekeys(rt: HostRuntime) -> Result<(), Fail> {
     let vault = envelope(alloc, "default", b"first", SALT, PLAINTEXT)?;
     let rekeyed = envelope(alloc, "default", b"second", SALT, PLAINTEXT)?;
     let entries = [
-        SystemFile {
-            path: "one",
-            bytes: b"first\n",
-        },
-        SystemFile {
-            path: "two",
-            bytes: b"second\n",
-        },
-        SystemFile {
-            path: "salt",
-            bytes: SALT,
-        },
-        SystemFile {
-            path: "vault",
-            bytes: vault.as_slice(),
-        },
+        file("one", b"first\n"),
+        file("two", b"second\n"),
+        file("salt", SALT),
+        file("vault", vault.as_slice()),
     ];
     let new = "--new-vault-password-file=two";
     let words = ["rekey", ONE, new, SALT_FILE, "--output=-", "vault"];
@@ -165,18 +142,9 @@ fn rekeys(rt: HostRuntime) -> Result<(), Fail> {
 fn files_that_fail(rt: HostRuntime) -> Result<(), Fail> {
     let alloc = rt.alloc();
     let entries = [
-        SystemFile {
-            path: "one",
-            bytes: b"first\n",
-        },
-        SystemFile {
-            path: "salt",
-            bytes: SALT,
-        },
-        SystemFile {
-            path: "plain",
-            bytes: PLAINTEXT,
-        },
+        file("one", b"first\n"),
+        file("salt", SALT),
+        file("plain", PLAINTEXT),
     ];
     let cases: [(&[&str], &[u8]); 4] = [
         (
@@ -197,10 +165,8 @@ fn files_that_fail(rt: HostRuntime) -> Result<(), Fail> {
         ),
     ];
     for (words, message) in cases {
-        let ended = run_on_disk(alloc, &entries, words)?;
-        assert_eq!(rt; ended.status, Status::DeviceFailed, "{words:?}");
-        assert!(rt; ended.message.as_slice() == message, "{words:?}");
-        assert!(rt; ended.output.is_empty(), "{words:?}");
+        let wanted = (Status::DeviceFailed, b"".as_slice(), message);
+        assert_ends(&rt, alloc, &entries, words, wanted)?;
     }
     Ok(())
 }

@@ -2,6 +2,7 @@
 ghost use Rattle.std.specs.Prelude.{◌≡◌, []};
 
 use std::alloc::Global;
+use std::process::Abort;
 use std::test::Fail;
 use vault_cli::{MemFile, MemFiles, MemSink, MemSource, Status, drive_in_memory};
 use vault_test_data::{envelope, line_of};
@@ -12,9 +13,17 @@ const PLAINTEXT: &[u8] = b"key: value\n";
 
 const SALT: &[u8] = &[7; 32];
 
-/// Whether a file of these bytes is at the path.
-fn has(files: &MemFiles, path: &str, bytes: &[u8]) -> bool {
-    files.content(path) == Some(bytes)
+/// Asserts that each of these paths has a file of the bytes beside it.
+fn assert_has(rt: &impl Abort, files: &MemFiles, wanted: &[(&str, &[u8])]) {
+    for &(path, bytes) in wanted {
+        assert!(rt; files.content(path) == Some(bytes), "{path}");
+    }
+}
+
+/// Asserts that a run ended with this status and message, and with no output.
+fn assert_ended(rt: &impl Abort, ended: &Ended, status: Status, message: &str) {
+    let left = (ended.status, ended.message.as_str(), ended.output.len());
+    assert_eq!(rt; left, (status, message, 0));
 }
 
 /// Runs the program on these words after its name, over these files and this input.
@@ -61,12 +70,9 @@ fn writes_to_the_path_of_the_output(rt: HostRuntime) -> Result<(), Fail> {
         "plain",
     ];
     let ended = run_in_memory(alloc, &mut files, &words, vault.as_slice())?;
-    assert_eq!(rt; ended.status, Status::Success);
-    assert!(rt; ended.message.is_empty());
-    assert!(rt; ended.output.is_empty());
-    assert!(rt; has(&files, "plain", PLAINTEXT));
-    assert!(rt; has(&files, "one", b"first\n"));
-    assert!(rt; has(&files, "kept", b"text"));
+    assert_ended(&rt, &ended, Status::Success, "");
+    let wanted: [(&str, &[u8]); 3] = [("plain", PLAINTEXT), ("one", b"first\n"), ("kept", b"text")];
+    assert_has(&rt, &files, &wanted);
     Ok(())
 }
 
@@ -95,11 +101,9 @@ fn rekeys_a_file_in_its_place(rt: HostRuntime) -> Result<(), Fail> {
     ];
     let ended = run_in_memory(alloc, &mut files, &words, b"")?;
     let rekeyed = envelope(alloc, "default", b"second", SALT, PLAINTEXT)?;
-    assert_eq!(rt; ended.status, Status::Success);
-    assert!(rt; ended.message.is_empty());
-    assert!(rt; ended.output.is_empty());
-    assert!(rt; has(&files, "secrets.yml", rekeyed.as_slice()));
-    assert!(rt; has(&files, "salt", SALT));
+    assert_ended(&rt, &ended, Status::Success, "");
+    let wanted = [("secrets.yml", rekeyed.as_slice()), ("salt", SALT)];
+    assert_has(&rt, &files, &wanted);
     Ok(())
 }
 
@@ -111,14 +115,10 @@ fn creates_no_file_on_a_refusal(rt: HostRuntime) -> Result<(), Fail> {
     let mut files = MemFiles::new(alloc, &entries);
     let words = ["decrypt", "--vault-id", "two", "--output", "plain"];
     let refused = run_in_memory(alloc, &mut files, &words, vault.as_slice())?;
-    assert_eq!(rt; refused.status, Status::Refused);
-    assert_eq!(rt;
-        refused.message.as_str(),
-        "ERROR! no secret decrypts this vault\n"
-    );
-    assert!(rt; refused.output.is_empty());
+    let message = "ERROR! no secret decrypts this vault\n";
+    assert_ended(&rt, &refused, Status::Refused, message);
     assert!(rt; files.content("plain").is_none());
-    assert!(rt; has(&files, "two", b"second\n"));
+    assert_has(&rt, &files, &[("two", b"second\n".as_slice())]);
     Ok(())
 }
 
@@ -129,9 +129,11 @@ fn helps_without_a_file(rt: HostRuntime) -> Result<(), Fail> {
     let mut files = MemFiles::new(alloc, &entries);
     let words = ["rekey", "--help", "--output", "one"];
     let helped = run_in_memory(alloc, &mut files, &words, b"")?;
-    assert_eq!(rt; helped.status, Status::Success);
-    assert!(rt; helped.message.is_empty());
+    assert_eq!(rt;
+        (helped.status, helped.message.as_str()),
+        (Status::Success, "")
+    );
     assert!(rt; !helped.output.is_empty());
-    assert!(rt; has(&files, "one", b"first\n"));
+    assert_has(&rt, &files, &[("one", b"first\n".as_slice())]);
     Ok(())
 }
