@@ -1,4 +1,7 @@
 //! Runs of the program over files of the system.
+use std::alloc::Global;
+use std::fs::Files;
+use std::process::Abort;
 use std::test::Fail;
 use vault_cli::Status;
 use vault_test_data::{CountingReader, envelope};
@@ -67,19 +70,33 @@ const CASES: [Case<'static>; 7] = [
     },
 ];
 
+/// Asserts that a run over this vault ends as the case says.
+fn assert_ends(
+    rt: &(impl Abort + Files),
+    alloc: Global,
+    vault: &[u8],
+    case: &Case<'_>,
+) -> Result<(), Fail> {
+    let words = case.words;
+    let mut stdin = CountingReader::new(vault, 4_096);
+    let ended = run_on_system(rt, alloc, words, &mut stdin)?;
+    let left = (
+        ended.status,
+        ended.output.as_slice(),
+        ended.message.as_str(),
+    );
+    assert_eq!(rt; left, (case.status, case.output, case.message), "{words:?}");
+    let read = if case.is_read { vault.len() } else { 0 };
+    assert_eq!(rt; stdin.given, read, "{words:?}");
+    Ok(())
+}
+
 #[test]
 fn ends_with_the_answer(rt: HostRuntime) -> Result<(), Fail> {
     let alloc = rt.alloc();
     let vault = envelope(alloc, "default", b"Linux", &[7; 32], PLAINTEXT)?;
     for case in &CASES {
-        let words = case.words;
-        let mut stdin = CountingReader::new(vault.as_slice(), 4_096);
-        let ended = run_on_system(&rt, alloc, words, &mut stdin)?;
-        let read = if case.is_read { vault.len() } else { 0 };
-        assert_eq!(rt; ended.status, case.status, "{words:?}");
-        assert_eq!(rt; ended.output.as_slice(), case.output, "{words:?}");
-        assert_eq!(rt; ended.message.as_str(), case.message, "{words:?}");
-        assert_eq!(rt; stdin.given, read, "{words:?}");
+        assert_ends(&rt, alloc, vault.as_slice(), case)?;
     }
     Ok(())
 }
