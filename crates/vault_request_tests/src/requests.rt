@@ -42,7 +42,7 @@ fn assert_files(
     Ok(())
 }
 
-/// What a request is asked beside the files of its secrets.
+/// What is compared of a request, beside the files of its secrets.
 #[derive(Clone, Copy, Debug, PartialEq, Eq)]
 struct Said<'a> {
     command: CommandName,
