@@ -3,6 +3,8 @@ ghost use Rattle.std.specs.Prelude.{◌≡◌, IfOk, vec_len};
 ghost use Rattle.vault_core.specs.Password.{IsPassword};
 
 use std::alloc::{AllocError, Global};
+use std::process::Abort;
+use std::test::Fail;
 use vault_core::{Fault, Form, Ready, Secrets, prepare_decrypt, prepare_encrypt, prepare_rekey};
 use vault_kdf::Meter;
 use vault_text::{Label, MemSink, MemSource, Salt};
@@ -16,6 +18,13 @@ pub struct Answer {
     pub output: Vec<u8>,
     pub tried: usize,
     pub derived: u64,
+}
+
+impl Answer {
+    /// The output, the position of the secret that opened, and how many keys were derived.
+    pub fn parts(&self) -> (&[u8], usize, u64) {
+        (self.output.as_slice(), self.tried, self.derived)
+    }
 }
 
 pub fn work(alloc: Global) -> Result<Vec<u8>, AllocError>
@@ -41,6 +50,32 @@ pub fn decrypt(alloc: Global, envelope: &[u8], secrets: &Secrets) -> Result<Answ
     let mut src = MemSource::new(envelope, 1000);
     let ready = prepare_decrypt(&mut src, work.as_mut_slice(), secrets, &mut meter)?;
     answer_of(alloc, ready, &meter)
+}
+
+/// Decrypting gives the plaintext with the secret at this position of the tried order, and derives
+/// one key for each that is tried.
+pub fn assert_decrypts(
+    rt: &impl Abort,
+    alloc: Global,
+    envelope: &[u8],
+    secrets: &Secrets,
+    plain: &[u8],
+    tried: usize,
+) -> Result<(), Fail> {
+    let decrypted = decrypt(alloc, envelope, secrets)?;
+    assert_eq!(rt; decrypted.parts(), (plain, tried, tried as u64));
+    Ok(())
+}
+
+/// Decrypting has this fault.
+pub fn assert_refuses(
+    rt: &impl Abort,
+    alloc: Global,
+    envelope: &[u8],
+    secrets: &Secrets,
+    fault: Fault,
+) {
+    assert_eq!(rt; decrypt(alloc, envelope, secrets).err(), Some(fault));
 }
 
 /// Encrypts with the only secret of a list, under a salt of 32 zero bytes.

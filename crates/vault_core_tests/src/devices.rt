@@ -36,8 +36,9 @@ fn assert_write_fails(
     let mut meter = Meter::new();
     let ready = prepare_decrypt(&mut src, work.as_mut_slice(), secrets, &mut meter)?;
     let mut sink = WriteSink::new(NarrowWriter::new(alloc, room));
-    assert_eq!(rt; ready.write_to(&mut sink), Err(WriteFault::Write));
-    assert_eq!(rt; sink.into_inner().taken.len(), room);
+    let written = ready.write_to(&mut sink);
+    let taken = sink.into_inner().taken.len();
+    assert_eq!(rt; (written, taken), (Err(WriteFault::Write), room));
     Ok(())
 }
 

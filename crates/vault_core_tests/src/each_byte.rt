@@ -36,9 +36,11 @@ fn vault_of_nothing(alloc: Global) -> Result<Vec<u8>, Fail> {
     Ok(envelope(alloc, "default", b"one", SALT, b"")?)
 }
 
-/// The fault of the first bytes of the vault, this many of them digits of its body.
-fn fault_of_prefix(length: usize, digits: usize) -> Option<Fault> {
-    match length {
+/// The fault of the first bytes of the vault.
+fn fault_of_prefix(prefix: &[u8]) -> Option<Fault> {
+    let body = prefix.iter().skip(HEADER_LENGTH);
+    let digits = body.filter(|byte| **byte != b'\n').count();
+    match prefix.len() {
         0..=13 => Some(Fault::NotVault),
         14..=18 => Some(Fault::BadHeader),
         19..=24 => Some(Fault::BadCipher),
@@ -55,13 +57,7 @@ fn refuses_each_prefix(rt: HostRuntime) -> Result<(), Fail> {
     assert_eq!(rt; vault.len(), 355);
     for length in 0..=vault.len() {
         let prefix = &vault[..length];
-        let body = prefix.iter().skip(HEADER_LENGTH);
-        let digits = body.filter(|byte| **byte != b'\n').count();
-        assert_eq!(rt;
-            fault_of(prefix)?,
-            fault_of_prefix(length, digits),
-            "{length}"
-        );
+        assert_eq!(rt; fault_of(prefix)?, fault_of_prefix(prefix), "{length}");
     }
     Ok(())
 }
@@ -125,14 +121,22 @@ fn refuses_each_flipped_bit(rt: HostRuntime) -> Result<(), Fail> {
     Ok(())
 }
 
+/// The fault of a vault with a salt of this length.
+fn fault_of_salt(alloc: Global, length: usize) -> Result<Option<Fault>, Fail> {
+    let salt = vec![in alloc; 7; length]?;
+    let vault = spelled(alloc, "default", salt.as_slice(), &[0; 32], b"")?;
+    fault_of(vault.as_slice())
+}
+
 #[test]
 fn takes_the_longest_salt(rt: HostRuntime) -> Result<(), Fail> {
     let alloc = rt.alloc();
-    for (length, fault) in [(256, Fault::NoSecretFits), (257, Fault::BadPayload)] {
-        let salt = vec![in alloc; 7; length]?;
-        let vault = spelled(alloc, "default", salt.as_slice(), &[0; 32], b"")?;
-        assert_eq!(rt; fault_of(vault.as_slice())?, Some(fault), "{length}");
-    }
+    let longest = fault_of_salt(alloc, 256)?;
+    let longer = fault_of_salt(alloc, 257)?;
+    assert_eq!(rt;
+        [longest, longer],
+        [Some(Fault::NoSecretFits), Some(Fault::BadPayload)]
+    );
     // A third line feed at the end of the inner text.
     let mut vault = Vec::from_slice(alloc, EMPTY_ENVELOPE)?;
     vault.extend_from_slice(b"0a\n")?;

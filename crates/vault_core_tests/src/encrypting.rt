@@ -1,32 +1,34 @@
 //! Encrypting: sizes, forms, and what is refused.
-use crate::calls::{WORK_LENGTH, decrypt, encrypt, one_secret};
+use crate::calls::{WORK_LENGTH, assert_decrypts, encrypt, one_secret};
 use crate::envelopes::{enveloped, sealed};
+use std::alloc::Global;
+use std::process::Abort;
 use std::test::Fail;
 use vault_core::{Fault, Form};
+
+/// Encrypting gives the envelope of another writer, of this length, derives one key for that, and
+/// tries no secret. What it gave decrypts to the plaintext.
+fn assert_encrypts(
+    rt: &impl Abort,
+    alloc: Global,
+    label: &str,
+    plain: &[u8],
+    length: usize,
+) -> Result<(), Fail> {
+    let secrets = one_secret(label, b"one")?;
+    let expected = sealed(alloc, label, b"one", plain)?;
+    assert_eq!(rt; expected.len(), length);
+    let encrypted = encrypt(alloc, plain, &secrets, Form::Envelope)?;
+    assert_eq!(rt; encrypted.parts(), (expected.as_slice(), 0, 1));
+    assert_decrypts(rt, alloc, encrypted.output.as_slice(), &secrets, plain, 1)
+}
 
 #[test]
 fn another_writer_agrees(rt: HostRuntime) -> Result<(), Fail> {
     let alloc = rt.alloc();
-    let secrets = one_secret("default", b"one")?;
-    let nothing = encrypt(alloc, b"", &secrets, Form::Envelope)?;
-    assert_eq!(rt; nothing.output.len(), 355);
-    assert_eq!(rt; nothing.tried, 0);
-    assert_eq!(rt; nothing.derived, 1);
-    let decrypted = decrypt(alloc, nothing.output.as_slice(), &secrets)?;
-    assert!(rt; decrypted.output.as_slice().is_empty());
-
-    let block = [b'a'; 16];
-    let whole = encrypt(alloc, &block, &secrets, Form::Envelope)?;
-    assert_eq!(rt; whole.output.len(), 419);
-    let expected = sealed(alloc, "default", b"one", &block)?;
-    assert!(rt; whole.output.as_slice() == expected.as_slice());
-
-    let labelled = one_secret("dev", b"one")?;
-    let short = encrypt(alloc, &block[..15], &labelled, Form::Envelope)?;
-    assert_eq!(rt; short.output.len(), 359);
-    let expected = sealed(alloc, "dev", b"one", &block[..15])?;
-    assert!(rt; short.output.as_slice() == expected.as_slice());
-    Ok(())
+    assert_encrypts(&rt, alloc, "default", b"", 355)?;
+    assert_encrypts(&rt, alloc, "default", &[b'a'; 16], 419)?;
+    assert_encrypts(&rt, alloc, "dev", &[b'a'; 15], 359)
 }
 
 #[test]
@@ -34,7 +36,6 @@ fn blocks(rt: HostRuntime) -> Result<(), Fail> {
     let alloc = rt.alloc();
     let secrets = one_secret("default", b"one")?;
     let named = encrypt(alloc, b"secret", &secrets, Form::Block(Some("k")))?;
-    assert_eq!(rt; named.output.len(), 427);
     assert!(rt;
         named
             .output
@@ -42,7 +43,7 @@ fn blocks(rt: HostRuntime) -> Result<(), Fail> {
             .starts_with(b"k: !vault |\n          $ANSIBLE_VAULT;")
     );
     let unnamed = encrypt(alloc, b"secret", &secrets, Form::Block(None))?;
-    assert_eq!(rt; unnamed.output.len(), 424);
+    assert_eq!(rt; [named.output.len(), unnamed.output.len()], [427, 424]);
     let fault = encrypt(alloc, b"", &secrets, Form::Block(None)).err();
     assert_eq!(rt; fault, Some(Fault::EmptyString));
     Ok(())

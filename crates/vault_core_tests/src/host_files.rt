@@ -1,38 +1,33 @@
 //! Files of the system.
+use crate::prefixes::assert_reads;
 use std::test::Fail;
-use vault_files::{Access, FileFault, FileSystem, HostFiles, read_prefix};
+use vault_files::{Access, FileFault, FileSystem, HostFiles};
 use vault_text::{Sink, put_all};
 
 #[test]
 fn reads_files_of_the_system(rt: HostRuntime) {
     let mut files = HostFiles::new(&rt);
     let mut buf = [1; 4];
-    assert_eq!(rt; read_prefix(&mut files, "/dev/zero", &mut buf), Ok(4));
-    assert_eq!(rt; buf, [0; 4]);
-    assert_eq!(rt; read_prefix(&mut files, "/dev/null", &mut buf), Ok(0));
-    assert_eq!(rt;
-        read_prefix(&mut files, "/", &mut buf),
-        Err(FileFault::CannotRead)
-    );
-    assert_eq!(rt;
-        read_prefix(&mut files, "", &mut buf),
-        Err(FileFault::CannotOpen)
-    );
+    assert_reads(&rt, &mut files, "/dev/zero", &mut buf, Ok(&[0; 4]));
+    assert_reads(&rt, &mut files, "/dev/null", &mut buf, Ok(b""));
+    assert_reads(&rt, &mut files, "/", &mut buf, Err(FileFault::CannotRead));
+    assert_reads(&rt, &mut files, "", &mut buf, Err(FileFault::CannotOpen));
+}
+
+/// Whether the file at the path can be begun, and whether it then takes a text.
+fn begins_and_takes(rt: &HostRuntime, path: &str) -> Result<(bool, bool), Fail> {
+    let mut files = HostFiles::new(rt);
+    files.set_output(String::from_str(rt.alloc(), path)?, Access::Kept);
+    if files.begin().is_err() {
+        return Ok((false, false));
+    }
+    Ok((true, put_all(&mut files, b"text").is_ok()))
 }
 
 #[test]
 fn tells_what_cannot_be_written(rt: HostRuntime) -> Result<(), Fail> {
-    for (path, begins, takes) in [
-        ("/", false, false),
-        ("/dev/full", true, false),
-        ("/dev/null", true, true),
-    ] {
-        let mut files = HostFiles::new(&rt);
-        files.set_output(String::from_str(rt.alloc(), path)?, Access::Kept);
-        assert_eq!(rt; files.begin().is_ok(), begins, "{path}");
-        if begins {
-            assert_eq!(rt; put_all(&mut files, b"text").is_ok(), takes, "{path}");
-        }
-    }
+    assert_eq!(rt; begins_and_takes(&rt, "/")?, (false, false));
+    assert_eq!(rt; begins_and_takes(&rt, "/dev/full")?, (true, false));
+    assert_eq!(rt; begins_and_takes(&rt, "/dev/null")?, (true, true));
     Ok(())
 }

@@ -6,6 +6,8 @@ mod binding_labels;
 #[cfg(test)]
 mod calls;
 #[cfg(test)]
+mod decrypting;
+#[cfg(test)]
 mod devices;
 #[cfg(test)]
 mod each_byte;
@@ -22,7 +24,7 @@ mod host_files;
 #[cfg(test)]
 mod memory_files;
 #[cfg(test)]
-mod opening;
+mod prefixes;
 #[cfg(test)]
 mod rekeying;
 #[cfg(test)]

@@ -1,6 +1,8 @@
 //! Files in memory.
+use crate::prefixes::assert_reads;
+use std::process::Abort;
 use std::test::Fail;
-use vault_files::{Access, FileFault, FileSystem, MemFile, MemFiles, read_prefix};
+use vault_files::{Access, FileFault, FileSystem, MemFile, MemFiles};
 use vault_text::{Sink, put_all};
 
 #[test]
@@ -10,34 +12,23 @@ fn reads_prefixes(rt: HostRuntime) {
         MemFile::whole("one", b"later"),
     ];
     let mut files = MemFiles::new(rt.alloc(), &entries);
-    let mut longer = [0; 4];
-    assert_eq!(rt; read_prefix(&mut files, "one", &mut longer), Ok(3));
-    assert_eq!(rt; &longer[..3], b"abc".as_slice());
-    let mut shorter = [0; 2];
-    assert_eq!(rt; read_prefix(&mut files, "one", &mut shorter), Ok(2));
-    assert_eq!(rt; shorter, *b"ab");
+    assert_reads(&rt, &mut files, "one", &mut [0; 4], Ok(b"abc"));
+    assert_reads(&rt, &mut files, "one", &mut [0; 2], Ok(b"ab"));
 }
 
 #[test]
 fn tells_files_that_break_or_are_missing(rt: HostRuntime) {
     let entries = [MemFile::broken("two", b"abc")];
     let mut files = MemFiles::new(rt.alloc(), &entries);
-    let mut up_to_the_break = [0; 3];
-    assert_eq!(rt; read_prefix(&mut files, "two", &mut up_to_the_break), Ok(3));
-    let mut past_it = [0; 4];
-    assert_eq!(rt;
-        read_prefix(&mut files, "two", &mut past_it),
-        Err(FileFault::CannotRead)
-    );
-    assert_eq!(rt;
-        read_prefix(&mut files, "none", &mut past_it),
-        Err(FileFault::CannotOpen)
-    );
+    let (breaks, missing) = (Err(FileFault::CannotRead), Err(FileFault::CannotOpen));
+    assert_reads(&rt, &mut files, "two", &mut [0; 3], Ok(b"abc"));
+    assert_reads(&rt, &mut files, "two", &mut [0; 4], breaks);
+    assert_reads(&rt, &mut files, "none", &mut [0; 4], missing);
 }
 
-/// Whether a file of these bytes is at the path.
-fn has(files: &MemFiles, path: &str, bytes: &[u8]) -> bool {
-    files.content(path) == Some(bytes)
+/// A file of these bytes is at the path, or none.
+fn assert_content(rt: &impl Abort, files: &MemFiles, path: &str, bytes: Option<&[u8]>) {
+    assert_eq!(rt; files.content(path), bytes, "{path}");
 }
 
 #[test]
@@ -46,14 +37,14 @@ fn keeps_what_is_written(rt: HostRuntime) -> Result<(), Fail> {
     let entries = [MemFile::whole("one", b"abc"), MemFile::whole("two", b"de")];
     let mut files = MemFiles::new(alloc, &entries);
     files.set_output(String::from_str(alloc, "one")?, Access::Kept);
-    assert!(rt; has(&files, "one", b"abc"));
+    assert_content(&rt, &files, "one", Some(b"abc"));
     files.begin()?;
-    assert!(rt; has(&files, "one", b""));
+    assert_content(&rt, &files, "one", Some(b""));
     put_all(&mut files, b"new")?;
     files.finish()?;
-    assert!(rt; has(&files, "one", b"new"));
-    assert!(rt; has(&files, "two", b"de"));
-    assert!(rt; files.content("none").is_none());
+    assert_content(&rt, &files, "one", Some(b"new"));
+    assert_content(&rt, &files, "two", Some(b"de"));
+    assert_content(&rt, &files, "none", None);
     Ok(())
 }
 
@@ -75,17 +66,15 @@ fn logs_each_open(rt: HostRuntime) -> Result<(), Fail> {
     let entries = [MemFile::whole("one", b"abc")];
     let mut files = MemFiles::new(alloc, &entries);
     let mut buf = [0; 4];
-    assert_eq!(rt;
-        read_prefix(&mut files, "none", &mut buf),
-        Err(FileFault::CannotOpen)
-    );
-    assert_eq!(rt; read_prefix(&mut files, "one", &mut buf), Ok(3));
-    assert_eq!(rt; read_prefix(&mut files, "one", &mut buf), Ok(3));
+    let missing = Err(FileFault::CannotOpen);
+    assert_reads(&rt, &mut files, "none", &mut buf, missing);
+    assert_reads(&rt, &mut files, "one", &mut buf, Ok(b"abc"));
+    assert_reads(&rt, &mut files, "one", &mut buf, Ok(b"abc"));
     files.set_output(String::from_str(alloc, "out")?, Access::Kept);
     files.begin()?;
     put_all(&mut files, b"new")?;
     files.finish()?;
-    assert!(rt; has(&files, "out", b"new"));
+    assert_content(&rt, &files, "out", Some(b"new"));
     assert!(rt; has_opened(&files, &["none", "one", "one"]));
     Ok(())
 }

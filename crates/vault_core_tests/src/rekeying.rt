@@ -1,5 +1,5 @@
 //! Rekeying.
-use crate::calls::{WORK_LENGTH, decrypt, one_secret, rekey};
+use crate::calls::{WORK_LENGTH, assert_decrypts, assert_refuses, one_secret, rekey};
 use crate::envelopes::sealed;
 use std::test::Fail;
 use vault_core::Fault;
@@ -13,15 +13,13 @@ fn a_new_secret_and_a_new_salt(rt: HostRuntime) -> Result<(), Fail> {
     let prod = Label::new("prod")?;
     let envelope = sealed(alloc, "default", b"one", b"")?;
     let rekeyed = rekey(alloc, envelope.as_slice(), &old, &prod, b"two")?;
-    assert_eq!(rt; rekeyed.tried, 1);
-    assert_eq!(rt; rekeyed.derived, 2);
+    assert_eq!(rt; (rekeyed.tried, rekeyed.derived), (1, 2));
     let prefix = b"$ANSIBLE_VAULT;1.2;AES256;prod\n303130313031";
     assert!(rt; rekeyed.output.as_slice().starts_with(prefix));
 
-    let decrypted = decrypt(alloc, rekeyed.output.as_slice(), &new)?;
-    assert!(rt; decrypted.output.as_slice().is_empty());
-    let fault = decrypt(alloc, rekeyed.output.as_slice(), &old).err();
-    assert_eq!(rt; fault, Some(Fault::NoSecretFits));
+    let vault = rekeyed.output.as_slice();
+    assert_decrypts(&rt, alloc, vault, &new, b"", 1)?;
+    assert_refuses(&rt, alloc, vault, &old, Fault::NoSecretFits);
     Ok(())
 }
 
@@ -33,7 +31,6 @@ fn plaintext_over_the_limit_of_encryption(rt: HostRuntime) -> Result<(), Fail> {
     let new = one_secret("b", b"two")?;
     let envelope = sealed(alloc, "a", b"one", plain.as_slice())?;
     let rekeyed = rekey(alloc, envelope.as_slice(), &old, &Label::new("b")?, b"two")?;
-    let decrypted = decrypt(alloc, rekeyed.output.as_slice(), &new)?;
-    assert!(rt; decrypted.output.as_slice() == plain.as_slice());
-    Ok(())
+    let vault = rekeyed.output.as_slice();
+    assert_decrypts(&rt, alloc, vault, &new, plain.as_slice(), 1)
 }

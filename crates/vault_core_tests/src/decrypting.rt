@@ -1,0 +1,48 @@
+//! Decrypting: which secrets are tried, and what is refused.
+use crate::calls::{assert_decrypts, assert_refuses, one_secret, two_secrets};
+use crate::envelopes::{enciphered, enveloped, sealed};
+use std::test::Fail;
+use vault_core::{Fault, LabelRule};
+
+#[test]
+fn the_label_is_a_hint_or_required(rt: HostRuntime) -> Result<(), Fail> {
+    let alloc = rt.alloc();
+    let mut secrets = two_secrets(b"one", b"two")?;
+    // The vault has the label of its secret, and then that of the other.
+    let right = sealed(alloc, "b", b"two", b"plain")?;
+    assert_decrypts(&rt, alloc, right.as_slice(), &secrets, b"plain", 1)?;
+    let wrong = sealed(alloc, "a", b"two", b"plain")?;
+    assert_decrypts(&rt, alloc, wrong.as_slice(), &secrets, b"plain", 2)?;
+
+    secrets.set_rule(LabelRule::Required);
+    assert_decrypts(&rt, alloc, right.as_slice(), &secrets, b"plain", 1)?;
+    assert_refuses(&rt, alloc, wrong.as_slice(), &secrets, Fault::NoSecretFits);
+    Ok(())
+}
+
+// HMAC fills a short key with zero bytes, so the two passwords give the same keys.
+#[test]
+fn zero_bytes_at_the_end_of_a_password(rt: HostRuntime) -> Result<(), Fail> {
+    let alloc = rt.alloc();
+    let secrets = two_secrets(b"abc", b"abc\0")?;
+    let short = sealed(alloc, "a", b"abc", b"plain")?;
+    assert_decrypts(&rt, alloc, short.as_slice(), &secrets, b"plain", 1)?;
+    let long = sealed(alloc, "a", b"abc\0", b"plain")?;
+    assert_decrypts(&rt, alloc, long.as_slice(), &secrets, b"plain", 1)
+}
+
+#[test]
+fn damaged_envelopes(rt: HostRuntime) -> Result<(), Fail> {
+    let alloc = rt.alloc();
+    let secrets = one_secret("a", b"one")?;
+    let (ciphertext, tag) = enciphered(alloc, b"one", b"fifteen bytes..")?;
+    let unpadded = enveloped(alloc, "a", &tag, ciphertext.as_slice())?;
+    assert_refuses(&rt, alloc, unpadded.as_slice(), &secrets, Fault::BadPadding);
+
+    let mut other_tag = tag;
+    other_tag[31] ^= 1;
+    let forged = enveloped(alloc, "a", &other_tag, ciphertext.as_slice())?;
+    assert_refuses(&rt, alloc, forged.as_slice(), &secrets, Fault::NoSecretFits);
+    assert_refuses(&rt, alloc, b"plain", &secrets, Fault::NotVault);
+    Ok(())
+}
