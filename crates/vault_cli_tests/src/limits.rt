@@ -59,10 +59,14 @@ fn take_the_longest_envelope(rt: HostRuntime) -> Result<(), Fail> {
     let alloc = rt.alloc();
     let plaintext = vec![in alloc; b'p'; 16_777_231]?;
     let vault = envelope(alloc, "default", b"one", &[7; 32], plaintext.as_slice())?;
-    let left = Left::success(plaintext.as_slice());
-    Trial::new(DECRYPT, ONE, &[])
-        .at_the_limit()
-        .assert_leaves(&rt, alloc, vault.as_slice(), left)
+    let trial = Trial::new(DECRYPT, ONE, &[]).at_the_limit();
+    for step in [1, 7, 4_096] {
+        let mut reader = CountingReader::new(vault.as_slice(), step);
+        let ran = trial.run_on_reader(alloc, &mut reader)?;
+        let left = Left::success(plaintext.as_slice());
+        assert!(rt; ran.left() == left, "in steps of {step}");
+    }
+    Ok(())
 }
 
 // The same vault under another password, label and salt: more than `encrypt` takes is sealed anew.

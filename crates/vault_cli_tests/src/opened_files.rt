@@ -1,5 +1,6 @@
 //! Which files a run opens, and in which order.
 use std::alloc::Global;
+use std::process::Abort;
 use std::test::Fail;
 use vault_cli::{MemFile, MemFiles, MemSource, Status};
 use vault_test_runs::{Ran, run_program};
@@ -31,6 +32,20 @@ fn run_over<'a>(alloc: Global, entries: &'a [MemFile<'a>], words: &[&str]) -> Re
         paths.push_str(" ")?;
     }
     Ok(Opened { ran, paths })
+}
+
+/// A run on these words opens these paths and has this status.
+fn assert_opens(
+    rt: &impl Abort,
+    alloc: Global,
+    words: &[&str],
+    paths: &str,
+    status: Status,
+) -> Result<(), Fail> {
+    let opened = run_over(alloc, &entries(), words)?;
+    assert_eq!(rt; opened.ran.status, status, "{words:?}");
+    assert_eq!(rt; opened.paths.as_str(), paths, "{words:?}");
+    Ok(())
 }
 
 const ENCRYPT: &[&str] = &[
@@ -73,9 +88,7 @@ fn opens_in_order(rt: HostRuntime) -> Result<(), Fail> {
         (&["rekey", "--vault-id=f"], "", Status::Refused),
     ];
     for (words, paths, status) in cases {
-        let opened = run_over(rt.alloc(), &entries(), words)?;
-        assert_eq!(rt; opened.ran.status, status, "{words:?}");
-        assert_eq!(rt; opened.paths.as_str(), paths, "{words:?}");
+        assert_opens(&rt, rt.alloc(), words, paths, status)?;
     }
     Ok(())
 }
@@ -96,9 +109,7 @@ fn opens_nothing_after_a_missing_file(rt: HostRuntime) -> Result<(), Fail> {
         (&["view", "--vault-id=f", "none"], "f none "),
     ];
     for (words, paths) in cases {
-        let opened = run_over(rt.alloc(), &entries(), words)?;
-        assert_eq!(rt; opened.ran.status, Status::DeviceFailed, "{words:?}");
-        assert_eq!(rt; opened.paths.as_str(), paths, "{words:?}");
+        assert_opens(&rt, rt.alloc(), words, paths, Status::DeviceFailed)?;
     }
     Ok(())
 }
