@@ -368,8 +368,8 @@ module _ (result : Status) (files new_files : StoreState) (src new_src : source.
   drives-ends (inr (seen, all_found, (opened, driven))) =
       let (log, logged, ends) = ends-behind seen all_found opened driven in
       ends-given result files new_files log out new_out err new_err unbegun empty
-      (access_of requested) (output_path requested) src new_src not_ended (stdin_needed requested found)
-      (answer_to requested found)
+      (access_of requested) (output_path requested) src new_src not_ended
+      (stdin_needed requested found) (answer_to requested found)
       (answer-prefix requested found) ends
 
   -- so much of its input was taken

@@ -28,8 +28,8 @@ const REKEY_REQUIRED: &[&str] = &[
     "--require-id-match",
 ];
 
-/// A vault of nothing, rekeyed to the label `prod`, the password `two` and a salt of ones, is opened
-/// by that password alone.
+/// A vault of nothing, rekeyed to the label `prod`, the password `two` and a salt of ones, is
+/// opened by that password alone.
 fn assert_rekeyed(rt: &impl Abort, alloc: Global, vault: &[u8]) -> Result<(), Fail> {
     let nothing = Left::success(b"");
     let refused = Left::refused(NO_SECRET_FITS);
