@@ -1,4 +1,5 @@
 //! Envelopes that are damaged.
+use crate::leaving::assert_leaves;
 use std::alloc::Global;
 use std::process::Abort;
 use std::test::Fail;
@@ -17,7 +18,7 @@ const FIRST: &[&[u8]] = &[b"first\n"];
 fn assert_refused(rt: &impl Abort, alloc: Global, input: &[u8], text: &str) -> Result<(), Fail> {
     let line = format!(in alloc; "ERROR! {text}\n")?;
     let trial = Trial::new(DECRYPT, FIRST, &[]).at_the_limit();
-    trial.assert_leaves(rt, alloc, input, Left::refused(line.as_str()))
+    assert_leaves(rt, alloc, &trial, input, Left::refused(line.as_str()))
 }
 
 /// These bytes as ciphertext under the tests' password and salt, without padding.

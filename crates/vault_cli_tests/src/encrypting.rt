@@ -1,4 +1,5 @@
 //! Runs of `encrypt` and `encrypt_string`.
+use crate::leaving::assert_leaves;
 use std::alloc::{AllocError, Global};
 use std::process::Abort;
 use std::test::Fail;
@@ -28,6 +29,12 @@ fn line_lengths(alloc: Global, text: &[u8]) -> Result<Vec<usize>, AllocError> {
         .collect(alloc)
 }
 
+/// The password of `f1` decrypts the vault to this plaintext.
+fn assert_decrypts(rt: &impl Abort, alloc: Global, vault: &[u8], plain: &[u8]) -> Result<(), Fail> {
+    let trial = Trial::new(DECRYPT, FIRST, b"");
+    assert_leaves(rt, alloc, &trial, vault, Left::success(plain))
+}
+
 #[test]
 fn encrypts_nothing(rt: HostRuntime) -> Result<(), Fail> {
     let alloc = rt.alloc();
@@ -38,7 +45,7 @@ fn encrypts_nothing(rt: HostRuntime) -> Result<(), Fail> {
     let lengths = line_lengths(alloc, vault)?;
     assert_eq!(rt; lengths.as_slice(), [25, 80, 80, 80, 80, 4, 0].as_slice());
     assert!(rt; vault.starts_with(UNDER_ZEROS));
-    Trial::new(DECRYPT, FIRST, b"").assert_leaves(&rt, alloc, vault, Left::success(b""))
+    assert_decrypts(&rt, alloc, vault, b"")
 }
 
 /// Encrypting these bytes gives an envelope that is so long and begins so, and that decrypts to
@@ -55,7 +62,7 @@ fn assert_encrypts<'a>(
     let vault = ran.output.as_slice();
     assert_eq!(rt; vault.len(), length, "{words:?}");
     assert!(rt; vault.starts_with(prefix), "{words:?}");
-    Trial::new(DECRYPT, FIRST, b"").assert_leaves(rt, alloc, vault, Left::success(plain))
+    assert_decrypts(rt, alloc, vault, plain)
 }
 
 #[test]
@@ -123,11 +130,13 @@ const REFUSED: [Refused<'static>; 6] = [
 fn refuses_to_encrypt(rt: HostRuntime) -> Result<(), Fail> {
     let alloc = rt.alloc();
     for (words, files, salt, input, line) in REFUSED {
-        Trial::new(words, files, salt).assert_leaves(&rt, alloc, input, Left::refused(line))?;
+        let trial = Trial::new(words, files, salt);
+        assert_leaves(&rt, alloc, &trial, input, Left::refused(line))?;
     }
     let long = vec![in alloc; b'a'; 65_537]?;
     let too_long = Left::refused("ERROR! input is longer than the limit\n");
-    Trial::new(ENCRYPT, FIRST, ZEROS).assert_leaves(&rt, alloc, long.as_slice(), too_long)
+    let trial = Trial::new(ENCRYPT, FIRST, ZEROS);
+    assert_leaves(&rt, alloc, &trial, long.as_slice(), too_long)
 }
 
 #[test]
@@ -142,7 +151,8 @@ fn chooses_a_secret(rt: HostRuntime) -> Result<(), Fail> {
     let ran = Trial::new(&words, TWO, ZEROS).run_on(alloc, b"text")?;
     let vault = ran.output.as_slice();
     assert!(rt; vault.starts_with(b"$ANSIBLE_VAULT;1.2;AES256;b\n"));
-    Trial::new(DECRYPT, &[b"two\n"], b"").assert_leaves(&rt, alloc, vault, Left::success(b"text"))
+    let trial = Trial::new(DECRYPT, &[b"two\n"], b"");
+    assert_leaves(&rt, alloc, &trial, vault, Left::success(b"text"))
 }
 
 // The salt is the text itself, of any length, and no salt is drawn.
@@ -157,7 +167,7 @@ fn takes_a_salt_text(rt: HostRuntime) -> Result<(), Fail> {
     let lengths = line_lengths(alloc, vault)?;
     assert_eq!(rt; lengths.as_slice(), [25, 80, 80, 80, 80, 80, 0].as_slice());
     assert!(rt; vault.starts_with(b"$ANSIBLE_VAULT;1.1;AES256\n3631363236330a"));
-    Trial::new(DECRYPT, FIRST, b"").assert_leaves(&rt, alloc, vault, Left::success(plain))
+    assert_decrypts(&rt, alloc, vault, plain)
 }
 
 #[test]

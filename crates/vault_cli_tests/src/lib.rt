@@ -11,6 +11,8 @@ mod encrypting;
 #[cfg(test)]
 mod failures;
 #[cfg(test)]
+mod leaving;
+#[cfg(test)]
 mod limits;
 #[cfg(test)]
 mod long_ciphertext;

@@ -1,4 +1,5 @@
 //! Inputs at the limits of length: what is answered, and how many bytes are read.
+use crate::leaving::{assert_leaves, assert_leaves_in_steps};
 use std::alloc::Global;
 use std::test::Fail;
 use vault_cli::Status;
@@ -77,9 +78,8 @@ fn rekey_the_longest_envelope(rt: HostRuntime) -> Result<(), Fail> {
     let vault = envelope(alloc, "default", b"one", &[7; 32], plaintext.as_slice())?;
     let rekeyed = envelope(alloc, "prod", b"two", &[1; 32], plaintext.as_slice())?;
     let left = Left::success(rekeyed.as_slice());
-    Trial::new(REKEY, TWO, &[1; 32])
-        .at_the_limit()
-        .assert_leaves_in_steps(&rt, alloc, vault.as_slice(), 4_096, left)
+    let trial = Trial::new(REKEY, TWO, &[1; 32]).at_the_limit();
+    assert_leaves_in_steps(&rt, alloc, &trial, vault.as_slice(), 4_096, left)
 }
 
 // A limit of one MiB would end before it.
@@ -89,9 +89,8 @@ fn take_more_than_a_mib(rt: HostRuntime) -> Result<(), Fail> {
     let plaintext = vec![in alloc; b'a'; 1_048_592]?;
     let vault = envelope(alloc, "default", b"one", &[7; 32], plaintext.as_slice())?;
     let left = Left::success(plaintext.as_slice());
-    Trial::new(DECRYPT, ONE, &[])
-        .at_the_limit()
-        .assert_leaves_in_steps(&rt, alloc, vault.as_slice(), 4_096, left)
+    let trial = Trial::new(DECRYPT, ONE, &[]).at_the_limit();
+    assert_leaves_in_steps(&rt, alloc, &trial, vault.as_slice(), 4_096, left)
 }
 
 /// An input: some bytes, and line feeds after them up to a length.
@@ -224,7 +223,7 @@ fn take_the_longest_label(rt: HostRuntime) -> Result<(), Fail> {
     let trial = Trial::new(DECRYPT, ONE, &[]).at_the_limit();
     for (length, left) in cases {
         let vault = vault_under(alloc, length)?;
-        trial.assert_leaves(&rt, alloc, vault.as_slice(), left)?;
+        assert_leaves(&rt, alloc, &trial, vault.as_slice(), left)?;
     }
     Ok(())
 }

@@ -2,6 +2,7 @@
 ghost use Rattle.std.specs.Prelude.{◌≡◌, ◌<◌, IfOk, length, vec_len};
 ghost use Rattle.vault_text.specs.declared.limits.TheConstants.{CIPHERTEXT_LIMIT};
 
+use crate::leaving::assert_leaves_in_steps;
 use std::alloc::{AllocError, Global};
 use std::process::Abort;
 use std::test::Fail;
@@ -57,7 +58,7 @@ fn is_refused(rt: HostRuntime) -> Result<(), Fail> {
         let vault = ended(&prefix, end)?;
         let trial = Trial::new(DECRYPT, FIRST, &[]).at_the_limit();
         let vault = vault.as_slice();
-        trial.assert_leaves_in_steps(&rt, alloc, vault, 4_096, Left::refused(line))?;
+        assert_leaves_in_steps(&rt, alloc, &trial, vault, 4_096, Left::refused(line))?;
     }
     Ok(())
 }

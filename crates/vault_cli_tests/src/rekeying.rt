@@ -1,4 +1,5 @@
 //! Runs of `rekey`, and of commands with a label that is required.
+use crate::leaving::assert_leaves;
 use std::alloc::Global;
 use std::process::Abort;
 use std::test::Fail;
@@ -50,7 +51,8 @@ fn assert_rekeyed(rt: &impl Abort, alloc: Global, vault: &[u8]) -> Result<(), Fa
         ),
     ];
     for (words, file, left) in cases {
-        Trial::new(words, &[file], &[1; 32]).assert_leaves(rt, alloc, vault, left)?;
+        let trial = Trial::new(words, &[file], &[1; 32]);
+        assert_leaves(rt, alloc, &trial, vault, left)?;
     }
     Ok(())
 }
@@ -65,7 +67,7 @@ fn rekeys(rt: HostRuntime) -> Result<(), Fail> {
     for words in [REKEY, REKEY_REQUIRED] {
         let trial = Trial::new(words, &[b"one\n", b"two\n"], &[1; 32]);
         let left = Left::success(rekeyed.as_slice());
-        trial.assert_leaves(&rt, alloc, vault.as_slice(), left)?;
+        assert_leaves(&rt, alloc, &trial, vault.as_slice(), left)?;
     }
     assert_rekeyed(&rt, alloc, rekeyed.as_slice())
 }
@@ -88,8 +90,8 @@ fn requires_a_label(rt: HostRuntime) -> Result<(), Fail> {
     for (label, password) in [("a", b"two".as_slice()), ("c", b"one".as_slice())] {
         let vault = envelope(alloc, label, password, &[7; 32], b"text")?;
         let vault = vault.as_slice();
-        hint.assert_leaves(&rt, alloc, vault, Left::success(b"text"))?;
-        required.assert_leaves(&rt, alloc, vault, Left::refused(NO_SECRET_FITS))?;
+        assert_leaves(&rt, alloc, &hint, vault, Left::success(b"text"))?;
+        assert_leaves(&rt, alloc, &required, vault, Left::refused(NO_SECRET_FITS))?;
     }
     Ok(())
 }
@@ -100,8 +102,10 @@ fn requires_the_default_label(rt: HostRuntime) -> Result<(), Fail> {
     let vault = envelope(alloc, "default", b"one", &[0; 32], b"")?;
     let vault = vault.as_slice();
     let words = ["decrypt", "--vault-password-file=f1", "--require-id-match"];
-    Trial::new(&words, &[b"one\n"], b"").assert_leaves(&rt, alloc, vault, Left::success(b""))?;
+    let trial = Trial::new(&words, &[b"one\n"], b"");
+    assert_leaves(&rt, alloc, &trial, vault, Left::success(b""))?;
     let words = ["decrypt", "--vault-id=x@f1", "--require-id-match"];
     let refused = Left::refused(NO_SECRET_FITS);
-    Trial::new(&words, &[b"one\n"], b"").assert_leaves(&rt, alloc, vault, refused)
+    let trial = Trial::new(&words, &[b"one\n"], b"");
+    assert_leaves(&rt, alloc, &trial, vault, refused)
 }

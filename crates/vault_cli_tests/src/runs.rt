@@ -1,4 +1,5 @@
 //! Runs that give the plaintext.
+use crate::leaving::assert_leaves;
 use std::test::Fail;
 use vault_cli::{MemFile, MemFiles, MemSink, MemSource, ReadSource, Status};
 use vault_test_data::{CountingReader, EMPTY_ENVELOPE, envelope};
@@ -65,9 +66,9 @@ fn refuses_without_secrets(rt: HostRuntime) -> Result<(), Fail> {
     let alloc = rt.alloc();
     let trial = Trial::new(&["view"], &[], &[]);
     let no_vault = Left::refused("ERROR! input is not vault encrypted data\n");
-    trial.assert_leaves(&rt, alloc, b"", no_vault)?;
+    assert_leaves(&rt, alloc, &trial, b"", no_vault)?;
     let no_secret = Left::refused("ERROR! no secret decrypts this vault\n");
-    trial.assert_leaves(&rt, alloc, EMPTY_ENVELOPE, no_secret)
+    assert_leaves(&rt, alloc, &trial, EMPTY_ENVELOPE, no_secret)
 }
 
 #[test]
@@ -93,5 +94,5 @@ fn gives_empty_plaintext(rt: HostRuntime) -> Result<(), Fail> {
     let alloc = rt.alloc();
     let vault = envelope(alloc, "default", b"first", &[7; 32], b"")?;
     let trial = Trial::new(DECRYPT, &[b"first"], &[]);
-    trial.assert_leaves(&rt, alloc, vault.as_slice(), Left::success(b""))
+    assert_leaves(&rt, alloc, &trial, vault.as_slice(), Left::success(b""))
 }

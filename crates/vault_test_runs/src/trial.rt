@@ -1,9 +1,8 @@
 //! Runs of one request.
 ghost use Rattle.std.specs.Prelude.{◌≡◌, ◌≤◌, IfOk, vec_len};
 
-use crate::ran::{Left, Ran, left_by};
+use crate::ran::{Ran, left_by};
 use std::alloc::{AllocError, Global};
-use std::process::Abort;
 use std::test::Fail;
 use vault_cli::{MemSink, MemSource, Status, parse, run, settle};
 use vault_test_data::{CountingReader, line_of};
@@ -51,37 +50,6 @@ impl<'a> Trial<'a> {
         requires { 1 ≤ step }
     {
         self.run_from(alloc, &mut MemSource::new(input, step))
-    }
-
-    /// Runs the request on these bytes, which come in steps, and asserts what that leaves.
-    pub fn assert_leaves_in_steps(
-        &self,
-        rt: &impl Abort,
-        alloc: Global,
-        input: &[u8],
-        step: usize,
-        expected: Left<'_>,
-    ) -> Result<(), Fail>
-        requires { 1 ≤ step }
-    {
-        let words = self.words;
-        let ran = self.run_in_steps(alloc, input, step)?;
-        assert_eq!(rt; ran.left(), expected, "{words:?} in steps of {step}");
-        Ok(())
-    }
-
-    /// The same at three steps.
-    pub fn assert_leaves(
-        &self,
-        rt: &impl Abort,
-        alloc: Global,
-        input: &[u8],
-        expected: Left<'_>,
-    ) -> Result<(), Fail> {
-        for step in [1, 7, 4_096] {
-            self.assert_leaves_in_steps(rt, alloc, input, step, expected)?;
-        }
-        Ok(())
     }
 
     /// Runs the request on what the reader gives.
