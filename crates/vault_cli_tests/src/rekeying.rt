@@ -51,7 +51,8 @@ fn assert_rekeyed(rt: &impl Abort, alloc: Global, vault: &[u8]) -> Result<(), Fa
         ),
     ];
     for (words, file, left) in cases {
-        let trial = Trial::new(words, &[file], &[1; 32]);
+        let files = [file];
+        let trial = Trial::new(words, &files, &[1; 32]);
         assert_leaves(rt, alloc, &trial, vault, left)?;
     }
     Ok(())
