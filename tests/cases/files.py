@@ -185,6 +185,10 @@ def test_order(cases: Cases) -> None:
                 Fault.SECRET_NOT_OPENED,
             ),
             (
+                "a folder as a password, then a missing one", [*sample.words, *by_file("/"), *by_file(missing)],
+                Fault.SECRET_NOT_READ,
+            ),
+            (
                 "a missing input, then an empty password", [*sample.words, *by_file(empty), missing],
                 Fault.INPUT_NOT_OPENED,
             ),
