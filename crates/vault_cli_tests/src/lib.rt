@@ -1,15 +1,11 @@
 //! Tests of whole runs: what each command answers; envelopes that are damaged, or spelled otherwise
-//! than they are written; inputs at the limits; password files that are none; devices that fail.
+//! than they are written; inputs at the limits; password files that are none.
 #![tactic(auto)]
 
 #[cfg(test)]
 mod damage;
 #[cfg(test)]
-mod each_call;
-#[cfg(test)]
 mod encrypting;
-#[cfg(test)]
-mod failures;
 #[cfg(test)]
 mod leaving;
 #[cfg(test)]
@@ -26,5 +22,3 @@ mod rekeying;
 mod runs;
 #[cfg(test)]
 mod spellings;
-#[cfg(test)]
-mod watched;
