@@ -1,5 +1,6 @@
 -- The definitions at the vectors of the standards.
 use Rattle.std.proofs.Common.{◌≡◌, ℕ, List, [], ◌∷◌, ◌++◌, refl, replicate, slice_index}
+use Rattle.std.specs.Prelude.{⊤}
 use Rattle.std.specs.List.{range_with_len}
 use Rattle.vault_aes.specs.Field.{polynomial_product, remainder, mul, repeated_square}
 use Rattle.vault_aes.specs.Field.{product_of_squares, inverse}
@@ -10,31 +11,33 @@ use Rattle.vault_aes.specs.KeyExpansion.{first_words, key_schedule, next_word, p
 use Rattle.vault_aes.specs.KeyExpansion.{round_constant, schedule_step, sub_word}
 use Rattle.vault_aes.specs.CounterMode.{counter_block, keystream_byte, xor_keystream}
 
+-- what is computed at literals
+on_literals : ⊤
+unfolding polynomial_product remainder mul repeated_square product_of_squares inverse number_of_bits
+    s_box add_round_key cipher mix_columns round rounds shift_rows sub_bytes first_words
+    key_schedule next_word power_of_x rot_word round_constant schedule_step sub_word counter_block
+    keystream_byte
+on_literals = tt
+
 -- FIPS 197, appendix C.3: the key is 00 01 .. 1f
 pub cipher-counting_key : cipher (key_schedule (range_with_len 0 32)) (
     0x00 ∷ 0x11 ∷ 0x22 ∷ 0x33 ∷ 0x44 ∷ 0x55 ∷ 0x66 ∷ 0x77 ∷
     0x88 ∷ 0x99 ∷ 0xaa ∷ 0xbb ∷ 0xcc ∷ 0xdd ∷ 0xee ∷ 0xff ∷ []) ≡
     0x8e ∷ 0xa2 ∷ 0xb7 ∷ 0xca ∷ 0x51 ∷ 0x67 ∷ 0x45 ∷ 0xbf ∷
     0xea ∷ 0xfc ∷ 0x49 ∷ 0x90 ∷ 0x4b ∷ 0x49 ∷ 0x60 ∷ 0x89 ∷ []
-unfolding polynomial_product remainder mul repeated_square product_of_squares inverse number_of_bits
-    s_box add_round_key cipher mix_columns round rounds shift_rows sub_bytes first_words
-    key_schedule next_word power_of_x rot_word round_constant schedule_step sub_word
+unfolding on_literals
 cipher-counting_key = refl
 
 pub cipher-zeros : cipher (key_schedule (replicate 32 0)) (replicate 16 0) ≡
     0xdc ∷ 0x95 ∷ 0xc0 ∷ 0x78 ∷ 0xa2 ∷ 0x40 ∷ 0x89 ∷ 0x89 ∷
     0xad ∷ 0x48 ∷ 0xa2 ∷ 0x14 ∷ 0x92 ∷ 0x84 ∷ 0x20 ∷ 0x87 ∷ []
-unfolding polynomial_product remainder mul repeated_square product_of_squares inverse number_of_bits
-    s_box add_round_key cipher mix_columns round rounds shift_rows sub_bytes first_words
-    key_schedule next_word power_of_x rot_word round_constant schedule_step sub_word
+unfolding on_literals
 cipher-zeros = refl
 
 pub cipher-one : cipher (key_schedule (replicate 32 0)) (replicate 15 0 ++ 1 ∷ []) ≡
     0x53 ∷ 0x0f ∷ 0x8a ∷ 0xfb ∷ 0xc7 ∷ 0x45 ∷ 0x36 ∷ 0xb9 ∷
     0xa9 ∷ 0x63 ∷ 0xb4 ∷ 0xf1 ∷ 0xc4 ∷ 0xcb ∷ 0x73 ∷ 0x8b ∷ []
-unfolding polynomial_product remainder mul repeated_square product_of_squares inverse number_of_bits
-    s_box add_round_key cipher mix_columns round rounds shift_rows sub_bytes first_words
-    key_schedule next_word power_of_x rot_word round_constant schedule_step sub_word
+unfolding on_literals
 cipher-one = refl
 
 -- the key of FIPS 197, appendix A.3, and of SP 800-38A, F.5.5
@@ -62,9 +65,7 @@ pub key_schedule-example_key : key_schedule example_key ≡
     0x749c47ab ∷ 0x18501dda ∷ 0xe2757e4f ∷ 0x7401905a ∷
     0xcafaaae3 ∷ 0xe4d59b34 ∷ 0x9adf6ace ∷ 0xbd10190d ∷
     0xfe4890d1 ∷ 0xe6188d0b ∷ 0x046df344 ∷ 0x706c631e ∷ []
-unfolding polynomial_product remainder mul repeated_square product_of_squares inverse number_of_bits
-    s_box add_round_key cipher mix_columns round rounds shift_rows sub_bytes first_words
-    key_schedule next_word power_of_x rot_word round_constant schedule_step sub_word
+unfolding on_literals
 key_schedule-example_key = refl
 
 -- a block of the input with block j of the key stream of SP 800-38A, F.5.5, added
@@ -79,9 +80,7 @@ with_example_block-0 : with_example_block 0 (
     0xe9 ∷ 0x3d ∷ 0x7e ∷ 0x11 ∷ 0x73 ∷ 0x93 ∷ 0x17 ∷ 0x2a ∷ []) ≡
     0x60 ∷ 0x1e ∷ 0xc3 ∷ 0x13 ∷ 0x77 ∷ 0x57 ∷ 0x89 ∷ 0xa5 ∷
     0xb7 ∷ 0xa7 ∷ 0xf5 ∷ 0x04 ∷ 0xbb ∷ 0xf3 ∷ 0xd2 ∷ 0x28 ∷ []
-unfolding polynomial_product remainder mul repeated_square product_of_squares inverse number_of_bits
-    s_box add_round_key cipher mix_columns round rounds shift_rows sub_bytes first_words
-    key_schedule next_word power_of_x rot_word round_constant schedule_step sub_word counter_block
+unfolding on_literals
 with_example_block-0 = refl
 
 with_example_block-1 : with_example_block 1 (
@@ -89,9 +88,7 @@ with_example_block-1 : with_example_block 1 (
     0x9e ∷ 0xb7 ∷ 0x6f ∷ 0xac ∷ 0x45 ∷ 0xaf ∷ 0x8e ∷ 0x51 ∷ []) ≡
     0xf4 ∷ 0x43 ∷ 0xe3 ∷ 0xca ∷ 0x4d ∷ 0x62 ∷ 0xb5 ∷ 0x9a ∷
     0xca ∷ 0x84 ∷ 0xe9 ∷ 0x90 ∷ 0xca ∷ 0xca ∷ 0xf5 ∷ 0xc5 ∷ []
-unfolding polynomial_product remainder mul repeated_square product_of_squares inverse number_of_bits
-    s_box add_round_key cipher mix_columns round rounds shift_rows sub_bytes first_words
-    key_schedule next_word power_of_x rot_word round_constant schedule_step sub_word counter_block
+unfolding on_literals
 with_example_block-1 = refl
 
 with_example_block-2 : with_example_block 2 (
@@ -99,9 +96,7 @@ with_example_block-2 : with_example_block 2 (
     0xe5 ∷ 0xfb ∷ 0xc1 ∷ 0x19 ∷ 0x1a ∷ 0x0a ∷ 0x52 ∷ 0xef ∷ []) ≡
     0x2b ∷ 0x09 ∷ 0x30 ∷ 0xda ∷ 0xa2 ∷ 0x3d ∷ 0xe9 ∷ 0x4c ∷
     0xe8 ∷ 0x70 ∷ 0x17 ∷ 0xba ∷ 0x2d ∷ 0x84 ∷ 0x98 ∷ 0x8d ∷ []
-unfolding polynomial_product remainder mul repeated_square product_of_squares inverse number_of_bits
-    s_box add_round_key cipher mix_columns round rounds shift_rows sub_bytes first_words
-    key_schedule next_word power_of_x rot_word round_constant schedule_step sub_word counter_block
+unfolding on_literals
 with_example_block-2 = refl
 
 with_example_block-3 : with_example_block 3 (
@@ -109,24 +104,19 @@ with_example_block-3 : with_example_block 3 (
     0xad ∷ 0x2b ∷ 0x41 ∷ 0x7b ∷ 0xe6 ∷ 0x6c ∷ 0x37 ∷ 0x10 ∷ []) ≡
     0xdf ∷ 0xc9 ∷ 0xc5 ∷ 0x8d ∷ 0xb6 ∷ 0x7a ∷ 0xad ∷ 0xa6 ∷
     0x13 ∷ 0xc2 ∷ 0xdd ∷ 0x08 ∷ 0x45 ∷ 0x79 ∷ 0x41 ∷ 0xa6 ∷ []
-unfolding polynomial_product remainder mul repeated_square product_of_squares inverse number_of_bits
-    s_box add_round_key cipher mix_columns round rounds shift_rows sub_bytes first_words
-    key_schedule next_word power_of_x rot_word round_constant schedule_step sub_word counter_block
+unfolding on_literals
 with_example_block-3 = refl
 
 -- the last byte of output block 2 of SP 800-38A, F.5.5
 keystream_byte-31 : keystream_byte (key_schedule example_key) (range_with_len 0xf0 16) 31 ≡ 0x94
-unfolding polynomial_product remainder mul repeated_square product_of_squares inverse number_of_bits
-    s_box add_round_key cipher mix_columns round rounds shift_rows sub_bytes first_words
-    key_schedule next_word power_of_x rot_word round_constant schedule_step sub_word counter_block
-    keystream_byte
+unfolding on_literals
 keystream_byte-31 = refl
 
 -- after the counter 2^128 - 1 come 0 and 1
 counter_block-wraps : counter_block (replicate 16 0xff) 1 ≡ replicate 16 0
-unfolding counter_block
+unfolding on_literals
 counter_block-wraps = refl
 
 counter_block-after_wrap : counter_block (replicate 16 0xff) 2 ≡ replicate 15 0 ++ 1 ∷ []
-unfolding counter_block
+unfolding on_literals
 counter_block-after_wrap = refl

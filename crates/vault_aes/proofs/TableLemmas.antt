@@ -1,5 +1,6 @@
 -- The tables of src/tables.rt, at every entry.
 use Rattle.std.proofs.Common.{◌≡◌, ℕ, ◌<◌, ◌==◌, Bool, true, ◌&&◌, List, [], ◌∷◌, refl, slice_index}
+use Rattle.std.specs.Prelude.{⊤}
 use Rattle.std.proofs.lemmas.Bool.{and_parts, eqb-true}
 use Rattle.std.specs.Int.{w32, to_be_bytes}
 use Rattle.vault_aes.specs.declared.tables.TheConstants.{TE0_WORDS, TE3_WORDS}
@@ -12,12 +13,17 @@ use Rattle.vault_aes.specs.Cipher.{entry, mixing_matrix, word_byte}
 use Rattle.vault_aes.specs.Columns.{mixed_column}
 use Rattle.vault_aes.proofs.FieldLemmas.{all_below, all_below-at}
 
+-- what is computed at literals
+on_literals : ⊤
+unfolding polynomial_product remainder mul repeated_square product_of_squares inverse number_of_bits
+    s_box
+on_literals = tt
+
 abbrev is_substituted : ℕ → Bool
 is_substituted x = slice_index S_BOX x == s_box x
 
 is_substituted-all : all_below is_substituted 256 ≡ true
-unfolding polynomial_product remainder mul repeated_square product_of_squares inverse number_of_bits
-    s_box
+unfolding on_literals
 is_substituted-all = refl
 
 pub slice_index-S_BOX : (x : ℕ) → x < 256 → slice_index S_BOX x ≡ s_box x
@@ -61,8 +67,7 @@ to_be_bytes-is_mixed table k x all lt =
     (all_below-at (is_mixed table k) 256 x all lt)
 
 is_mixed-TE0_WORDS : all_below (is_mixed TE0_WORDS 0) 256 ≡ true
-unfolding polynomial_product remainder mul repeated_square product_of_squares inverse number_of_bits
-    s_box
+unfolding on_literals
 is_mixed-TE0_WORDS = refl
 
 pub to_be_bytes-TE0_WORDS : (x : ℕ) → x < 256
@@ -71,8 +76,7 @@ to_be_bytes-TE0_WORDS x lt =
     to_be_bytes-is_mixed TE0_WORDS 0 x is_mixed-TE0_WORDS lt
 
 is_mixed-TE1_WORDS : all_below (is_mixed TE1_WORDS 1) 256 ≡ true
-unfolding polynomial_product remainder mul repeated_square product_of_squares inverse number_of_bits
-    s_box
+unfolding on_literals
 is_mixed-TE1_WORDS = refl
 
 pub to_be_bytes-TE1_WORDS : (x : ℕ) → x < 256
@@ -81,8 +85,7 @@ to_be_bytes-TE1_WORDS x lt =
     to_be_bytes-is_mixed TE1_WORDS 1 x is_mixed-TE1_WORDS lt
 
 is_mixed-TE2_WORDS : all_below (is_mixed TE2_WORDS 2) 256 ≡ true
-unfolding polynomial_product remainder mul repeated_square product_of_squares inverse number_of_bits
-    s_box
+unfolding on_literals
 is_mixed-TE2_WORDS = refl
 
 pub to_be_bytes-TE2_WORDS : (x : ℕ) → x < 256
@@ -91,8 +94,7 @@ to_be_bytes-TE2_WORDS x lt =
     to_be_bytes-is_mixed TE2_WORDS 2 x is_mixed-TE2_WORDS lt
 
 is_mixed-TE3_WORDS : all_below (is_mixed TE3_WORDS 3) 256 ≡ true
-unfolding polynomial_product remainder mul repeated_square product_of_squares inverse number_of_bits
-    s_box
+unfolding on_literals
 is_mixed-TE3_WORDS = refl
 
 pub to_be_bytes-TE3_WORDS : (x : ℕ) → x < 256
@@ -104,8 +106,7 @@ abbrev is_unit : ℕ → Bool
 is_unit x = mul 1 (s_box x) == s_box x
 
 is_unit-all : all_below is_unit 256 ≡ true
-unfolding polynomial_product remainder mul repeated_square product_of_squares inverse number_of_bits
-    s_box
+unfolding on_literals
 is_unit-all = refl
 
 -- 1 is the unit of the product, at the bytes of the S-box
