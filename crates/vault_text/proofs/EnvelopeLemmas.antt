@@ -15,8 +15,7 @@ use Rattle.vault_text.specs.InnerText.{Parts, cut, part_bytes, parts_of}
 use Rattle.vault_text.specs.Limits.{ciphertext_limit, envelope_limit}
 use Rattle.vault_text.specs.Steps.{◌>>=◌}
 use Rattle.vault_text.specs.declared.fault.TextFault.{TextFault}
-use Rattle.vault_text.specs.declared.fault.TextFault.TheVariants.{TooLong, BadHex, BadPayload}
-use Rattle.vault_text.specs.declared.fault.TextFault.TheVariants.{CipherTooLong}
+use Rattle.vault_text.specs.declared.fault.TextFault.TheVariants.{BadHex, BadPayload}
 
 -- ---- what steps answer
 
@@ -30,11 +29,6 @@ pub IfOk-if : {A : Type 0} (b : Bool) (x : A) (fault : TextFault) (P : A → Typ
     → IfOk (if b then Ok x else Err fault) P
 IfOk-if true x fault P h = h
 IfOk-if false x fault P h = tt
-
-IfOk-unless : {A : Type 0} (b : Bool) (fault : TextFault) (r : Result A TextFault) (P : A → Type 0)
-    → IfOk r P → IfOk (if b then Err fault else r) P
-IfOk-unless true fault r P h = tt
-IfOk-unless false fault r P h = h
 
 -- ---- the ciphertext
 
@@ -63,30 +57,26 @@ pub record HasFittingCipher (limit : ℕ) (payload : Payload) : Type 0 where
   pub bytes : IsBytes payload.cipher
   pub fits : length payload.cipher ≤ ciphertext_limit limit
 
-by_length : (limit : ℕ) (label : List ℕ) (parts : Parts) → IsBytes parts.cipher
-    → IfOk (if nat_lt (ciphertext_limit limit) (length parts.cipher) then Err CipherTooLong
-    else Ok (record { label = label; salt = parts.salt; tag = parts.tag; cipher = parts.cipher }))
-    (HasFittingCipher limit)
-by_length limit label parts bytes =
-    elim (cases_Bool (nat_lt (ciphertext_limit limit) (length parts.cipher))) [
-      | inl long ↦ rw long tt
-      | inr short ↦
-          let fits : length parts.cipher ≤ ciphertext_limit limit = grind (arith, nat_tests) in
-          rw short (record { bytes = bytes; fits = fits })
-    ]
-
 read_body-fits : (limit : ℕ) (label digits : List ℕ)
     → IfOk (read_body limit label digits) (HasFittingCipher limit)
 unfolding read_body
 read_body-fits limit label digits =
     IfOk-steps (ok_or (unhex digits) BadHex) _ (HasFittingCipher limit) (λ inner _.
     IfOk-steps (parts_of inner) _ (HasFittingCipher limit) (λ parts found.
-    by_length limit label parts (rw found at (parts_of-bytes inner))))
+    elim (cases_Bool (nat_lt (ciphertext_limit limit) (length parts.cipher))) [
+      | inl long ↦ rw long tt
+      | inr short ↦
+          let fits : length parts.cipher ≤ ciphertext_limit limit = grind (arith, nat_tests) in
+          rw short (record { bytes = rw found at (parts_of-bytes inner); fits = fits })
+    ]))
 
 pub read_within-fits : (limit : ℕ) (input : List ℕ)
     → IfOk (read_within limit input) (HasFittingCipher limit)
 unfolding read_within
 read_within-fits limit input =
-    IfOk-unless (nat_lt (envelope_limit limit) (length input)) TooLong _ (HasFittingCipher limit) (
-    IfOk-steps (read_head input) _ (HasFittingCipher limit)
-    (λ header _. read_body-fits limit header.label (body input)))
+    elim (cases_Bool (nat_lt (envelope_limit limit) (length input))) [
+      | inl long ↦ rw long tt
+      | inr short ↦
+          rw short (IfOk-steps (read_head input) _ (HasFittingCipher limit)
+          (λ header _. read_body-fits limit header.label (body input)))
+    ]

@@ -1,35 +1,32 @@
 -- What is kept of an envelope, and what it answers at its end.
-use Rattle.std.proofs.Common.{◌≡◌, ℕ, ◌+◌, ◌-◌, ◌^◌, ◌<◌, ◌≤◌, true, false, not, List, [], ◌++◌}
-use Rattle.std.proofs.Common.{length, take, drop, min, Some, None, Result, Ok, Err, refl, sym, ap}
-use Rattle.std.proofs.Common.{◌∙◌, arith, inl, inr, append_assoc, length-append, ◌==◌, Bool, ◌∷◌}
-use Rattle.std.proofs.Common.{Option}
-use Rattle.std.specs.Prelude.{if◌then◌else◌, nat_lt, nat_eq, IsOk, OnOk, IfSome}
+use Rattle.std.proofs.Common.{◌≡◌, ℕ, ◌+◌, ◌-◌, ◌^◌, ◌<◌, ◌≤◌, true, false, not, List, ◌++◌}
+use Rattle.std.proofs.Common.{length, take, drop, min, Some, Result, Ok, Err, refl, sym, ap}
+use Rattle.std.proofs.Common.{◌∙◌, arith, inl, inr, append_assoc, length-append, ◌==◌}
+use Rattle.std.specs.Prelude.{if◌then◌else◌, nat_lt, nat_eq, IsOk, OnOk}
 use Rattle.std.specs.List.{starts_with, list_all}
 use Rattle.std.proofs.lemmas.Bool.{cases_lt, cases_Bool, eqb-true}
 use Rattle.std.proofs.lemmas.Bool.Decides.{nat_tests}
 use Rattle.std.proofs.lemmas.List.{append-nil, drop-append-le, drop-drop, drop_all, drop_at}
 use Rattle.std.proofs.lemmas.List.{take-append-le, take-append-drop, length-take}
 use Rattle.std.proofs.lemmas.List.Elements.{filter-append}
-use Rattle.vault_text.specs.Envelope.{body, read_body, read_head, read_inner, read_within}
-use Rattle.vault_text.specs.Envelope.{without_line_ends}
+use Rattle.vault_text.specs.Envelope.{body, read_body, read_head, read_within, without_line_ends}
 use Rattle.vault_text.specs.EnvelopeReader.{BodyHas, BodyState, IsKept, LineHas, LineState}
 use Rattle.vault_text.specs.EnvelopeReader.{ReaderState, HasRead}
 use Rattle.vault_text.specs.Header.{Header, header_line, is_line_end, marker, read_header}
-use Rattle.vault_text.specs.Hexadecimal.{DecoderState, Decodes, new_decoder, unhex_on, unhex}
+use Rattle.vault_text.specs.Hexadecimal.{DecoderState, Decodes, new_decoder, unhex}
 use Rattle.vault_text.specs.InnerReader.{InnerHas, InnerState}
 use Rattle.vault_text.specs.Limits.{ciphertext_limit, envelope_limit}
 use Rattle.vault_text.specs.Pieces.{TakesPiece, TakesUpTo}
 use Rattle.vault_text.specs.Steps.{◌>>=◌}
 use Rattle.vault_text.specs.declared.limits.TheConstants.{HEADER_LIMIT, PLAINTEXT_LIMIT}
 use Rattle.vault_text.specs.declared.fault.TextFault.{TextFault}
-use Rattle.vault_text.specs.declared.fault.TextFault.TheVariants.{TooLong, BadHex, NotVault}
-use Rattle.hex.specs.Hex.{hex_digit_value}
-use Rattle.vault_text.proofs.HexadecimalLemmas.{Decodes-more, Decodes-whole, byte_of, byte_of-pair}
-use Rattle.vault_text.proofs.HexadecimalLemmas.{cons_found, pair_found, spelled_bytes}
-use Rattle.vault_text.proofs.HexadecimalLemmas.{unhex-spelled_bytes}
+use Rattle.vault_text.specs.declared.fault.TextFault.TheVariants.{TooLong, NotVault}
+use Rattle.hex.specs.Hex.{is_hex_digit}
+use Rattle.vault_text.proofs.HexadecimalBlockLemmas.{spelled_bytes-bad}
+use Rattle.vault_text.proofs.HexadecimalLemmas.{Decodes-more, unhex-spelled_bytes}
 use Rattle.vault_text.proofs.HeaderLemmas.{header_line-ended, header_line-goes_on}
 use Rattle.vault_text.proofs.HeaderLemmas.{header_line-whole, starts_with-header_line}
-use Rattle.vault_text.proofs.ListLemmas.{filter-clean}
+use Rattle.vault_text.proofs.ListLemmas.{filter-clean, list_all-weaker}
 
 -- ---- the header line
 
@@ -154,36 +151,17 @@ BodyHas-more limit old new inner next digits bytes decoded taken text has = reco
   inner = taken has.spelled has.inner;
 }
 
-module _ (limit : ℕ) (label digits : List ℕ) (state : BodyState)
-    (has : BodyHas (ciphertext_limit limit) state digits) where
-  pub read_body-bad : unhex_on state.decoder [] ≡ None → Err BadHex ≡ read_body limit label digits
-  unfolding read_body
-  read_body-bad bad = rw (Decodes-whole digits has.spelled state.decoder has.decoded, bad) refl
-
-  pub read_body-good : unhex_on state.decoder [] ≡ Some []
-      → read_inner limit label has.spelled ≡ read_body limit label digits
-  unfolding read_body
-  read_body-good good =
-      rw (Decodes-whole digits has.spelled state.decoder has.decoded, good, append-nil has.spelled)
-      refl
-
 -- ---- the whole envelope
 
-pub HasRead-nothing : (limit : ℕ) (line : LineState) (state : BodyState) → LineHas line []
-    → BodyHas (ciphertext_limit limit) state []
-    → HasRead (record { limit = limit; fed = 0; line = line; body = state }) []
-HasRead-nothing limit line state has_line has_body =
-    record { no_more = omega arith; exact = λ within. refl; line = has_line; body = has_body }
-
 -- a reader that took a piece stands for what it stood for, and the piece
-pub HasRead-piece : (old new : ReaderState) (input piece text : List ℕ)
+pub HasRead-piece : (old new : ReaderState) (input piece text : List ℕ) → HasRead old input
     → old.limit ≤ PLAINTEXT_LIMIT
     → new.limit ≡ old.limit → new.fed ≡ min (old.fed + length piece) (2 ^ 64 - 1)
     → LineHas new.line (input ++ piece)
     → body (input ++ piece) ≡ body input ++ without_line_ends text
     → ((limit : ℕ) → TakesPiece (BodyHas limit) old.body (without_line_ends text) new.body)
-    → HasRead old input → HasRead new (input ++ piece)
-HasRead-piece old new input piece text bound same_limit fed line digits taken stands =
+    → HasRead new (input ++ piece)
+HasRead-piece old new input piece text stands bound same_limit fed line digits taken =
     let size = length-append input piece in
     let before = stands.no_more in
     record {
@@ -225,43 +203,14 @@ on_ok (Err e) ok holds = cc
 
 -- ---- digits are no line ends
 
-line_end-is_no_digit : (b : ℕ) → is_line_end b ≡ true → hex_digit_value b ≡ None
-line_end-is_no_digit b end =
+digit-no_line_end : (b : ℕ) → is_hex_digit b ≡ true → not (is_line_end b) ≡ true
+digit-no_line_end b digit =
     elim (cases_Bool (b == 10)) [
-      | inl feed ↦ rw (eqb-true b 10 feed) refl
+      | inl feed ↦ let clash : false ≡ true = rw (eqb-true b 10 feed) at digit in cc
       | inr other ↦
-          let return : (b == 13) ≡ true = rw other at end in
-          rw (eqb-true b 13 return) refl
-    ]
-
-pair_found-none : (high : Option ℕ) → pair_found high None ≡ None
-pair_found-none (Some h) = refl
-pair_found-none None = refl
-
-cons_found-clean : (byte : Option ℕ) (bytes : Option (List ℕ)) (clean rest : Bool) → clean ≡ true
-    → IfSome bytes (λ found. rest ≡ true) → IfSome (cons_found byte bytes) (λ found. rest ≡ true)
-cons_found-clean None bytes clean rest e later = tt
-cons_found-clean (Some byte) None clean rest e later = tt
-cons_found-clean (Some byte) (Some bytes) clean rest e later = later
-
-spelled_bytes-clean : (text : List ℕ)
-    → IfSome (spelled_bytes text) (λ found. list_all (λ b. not (is_line_end b)) text ≡ true)
-spelled_bytes-clean [] = refl
-spelled_bytes-clean (digit ∷ []) = tt
-spelled_bytes-clean (high ∷ low ∷ rest) =
-    elim (cases_Bool (is_line_end high)) [
-      | inl end ↦ rw (byte_of-pair high low, line_end-is_no_digit high end) tt
-      | inr first ↦
-          elim (cases_Bool (is_line_end low)) [
-            | inl end ↦
-                rw (
-                  byte_of-pair high low,
-                  line_end-is_no_digit low end,
-                  pair_found-none (hex_digit_value high),
-                ) tt
-            | inr second ↦
-                rw (first, second) (cons_found-clean (byte_of high low) (spelled_bytes rest) true _
-                refl (spelled_bytes-clean rest))
+          elim (cases_Bool (b == 13)) [
+            | inl return ↦ let clash : false ≡ true = rw (eqb-true b 13 return) at digit in cc
+            | inr last ↦ rw (other, last) refl
           ]
     ]
 
@@ -269,8 +218,13 @@ spelled_bytes-clean (high ∷ low ∷ rest) =
 without_line_ends-digits : (digits bytes : List ℕ) → unhex digits ≡ Some bytes
     → without_line_ends digits ≡ digits
 without_line_ends-digits digits bytes spelled =
-    let found : spelled_bytes digits ≡ Some bytes = rw (unhex-spelled_bytes digits) at spelled in
-    filter-clean (λ b. not (is_line_end b)) digits (rw found at (spelled_bytes-clean digits))
+    elim (cases_Bool (list_all is_hex_digit digits)) [
+      | inl all ↦
+          filter-clean (λ b. not (is_line_end b)) digits
+          (list_all-weaker is_hex_digit _ digit-no_line_end digits all)
+      | inr bad ↦
+          let none = unhex-spelled_bytes digits ∙ spelled_bytes-bad digits bad in absurd cc
+    ]
 
 -- ---- the body
 

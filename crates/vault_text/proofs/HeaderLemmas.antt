@@ -10,9 +10,6 @@ use Rattle.vault_text.specs.Envelope.{without_line_ends}
 
 -- ---- one byte more
 
-header_line-end : (b : ℕ) (text : List ℕ) → is_line_end b ≡ true → header_line (b ∷ text) ≡ []
-header_line-end b text end = rw end refl
-
 header_line-other : (b : ℕ) (text : List ℕ) → is_line_end b ≡ false
     → header_line (b ∷ text) ≡ b ∷ header_line text
 header_line-other b text other =
@@ -32,7 +29,7 @@ pub header_line-ended : (text more : List ℕ) → length (header_line text) < l
 header_line-ended [] more inside = absurd (omega arith)
 header_line-ended (b ∷ text) more inside =
     elim (cases_Bool (is_line_end b)) [
-      | inl end ↦ rw (header_line-end b (text ++ more) end, header_line-end b text end) refl
+      | inl end ↦ rw end refl
       | inr other ↦
           let shorter = rw (header_line-other b text other) at inside in
           rw (header_line-other b (text ++ more) other, header_line-other b text other)
@@ -45,8 +42,7 @@ pub header_line-goes_on : (text more : List ℕ) → length text ≤ length (hea
 header_line-goes_on [] more past = refl
 header_line-goes_on (b ∷ text) more past =
     elim (cases_Bool (is_line_end b)) [
-      | inl end ↦
-          let short = rw (header_line-end b text end) at past in absurd (omega (arith, short))
+      | inl end ↦ let short = rw end at past in absurd (omega (arith, short))
       | inr other ↦
           let long = rw (header_line-other b text other) at past in
           rw (header_line-other b (text ++ more) other)
@@ -70,7 +66,7 @@ without_line_ends-run [] (suc n) = refl
 without_line_ends-run (b ∷ text) zero = refl
 without_line_ends-run (b ∷ text) (suc n) =
     elim (cases_Bool (is_line_end b)) [
-      | inl end ↦ rw (header_line-end b (take n text) end) refl
+      | inl end ↦ let none : header_line (b ∷ take n text) ≡ [] = rw end refl in rw none refl
       | inr other ↦
           rw (header_line-other b (take n text) other, without_line_ends-other b text other)
           (ap (λ rest. b ∷ rest) (without_line_ends-run text n))
@@ -87,14 +83,12 @@ starts_with-header_line (m ∷ needle) [] none = refl
 starts_with-header_line (m ∷ needle) (b ∷ text) none =
     let parts = and_parts (not (is_line_end m)) _ none in
     elim (cases_Bool (is_line_end b)) [
-      | inl end ↦ rw (header_line-end b text end, differs m b parts.0 end) refl
+      | inl end ↦
+          let differs = false_from_ne_true (nat_eq m b) (λ same.
+          let ends : is_line_end m ≡ true = rw (eqb-true m b same) end in
+          let clash : not true ≡ true = rw ends at parts.0 in cc) in
+          rw (end, differs) refl
       | inr other ↦
           rw (header_line-other b text other)
           (ap (λ rest. nat_eq m b && rest) (starts_with-header_line needle text parts.1))
     ]
-  where
-    differs : (m b : ℕ) → not (is_line_end m) ≡ true → is_line_end b ≡ true → nat_eq m b ≡ false
-    differs m b other end =
-        false_from_ne_true (nat_eq m b) (λ same.
-        let ends : is_line_end m ≡ true = rw (eqb-true m b same) end in
-        let clash : not true ≡ true = rw ends at other in cc)

@@ -1,25 +1,23 @@
 -- Blocks of hexadecimal digits, whose values are found before any two are joined to a byte.
 use Rattle.std.proofs.Common.{◌≡◌, ℕ, ◌+◌, ◌-◌, ◌*◌, ◌%◌, ◌<◌, ◌≤◌, Bool, true, false, List, []}
 use Rattle.std.proofs.Common.{◌∷◌, ◌++◌, length, take, drop, map, set, get_or, Option, Some, None}
-use Rattle.std.proofs.Common.{refl, sym, ap, ◌∙◌, arith, inl, inr, length-append}
-use Rattle.std.proofs.Common.{length-drop, length-take}
+use Rattle.std.proofs.Common.{refl, sym, ap, ◌∙◌, arith, inl, inr, length-take}
 use Rattle.std.specs.List.{list_all}
 use Rattle.std.specs.Prelude.{◌&&◌, nat_le, IfSome, is_some, unwrap_or}
 use Rattle.std.specs.Int.Bits.{bit_or}
 use Rattle.std.proofs.Math.Seq.{take-add}
 use Rattle.std.proofs.lemmas.Bool.{cases_lt, le-leb, lt-leb}
 use Rattle.std.proofs.lemmas.List.{get_or-map, map_more, take_more_set}
-use Rattle.std.proofs.lemmas.List.Elements.{All-get_or}
 use Rattle.std.proofs.lemmas.List.Folds.{list_all_more}
-use Rattle.std.proofs.lemmas.List.Sums.{AllPass-from_list_all}
 use Rattle.std.proofs.lemmas.Nat.{le_or_l, le_or_r, or_lt}
 use Rattle.std.proofs.lemmas.Slice.{take-put_mid}
 use Rattle.hex.specs.Hex.{hex_digit_value, is_hex_digit}
 use Rattle.vault_text.specs.Hexadecimal.{unhex, value_or_invalid}
 use Rattle.vault_text.proofs.HexadecimalDigitLemmas.{decoded_next, found_if, hex_digit_value-small}
-use Rattle.vault_text.proofs.HexadecimalLemmas.{both_found, byte_of-pair, cons_found, pair_found}
+use Rattle.vault_text.proofs.HexadecimalLemmas.{both_found, cons_found, pair_found}
 use Rattle.vault_text.proofs.HexadecimalLemmas.{spelled_bytes, unhex-append, unhex-spelled_bytes}
-use borrow.Rule.Slice.PartMut.{post_of, put_mid}
+use Rattle.vault_text.proofs.ListLemmas.{passes_at}
+use borrow.Rule.Slice.PartMut.{put_mid}
 
 -- ---- the values of digits
 
@@ -77,8 +75,7 @@ digit-found : (digits : List ℕ) (i : ℕ) → list_all is_hex_digit digits ≡
 digit-found digits i all inside =
     let digit = get_or digits i 0 in
     value-found (hex_digit_value digit)
-    (All-get_or (λ d. is_hex_digit d ≡ true) digits i 0 inside
-    (AllPass-from_list_all is_hex_digit digits all))
+    (passes_at is_hex_digit digits i 0 all inside)
     ∙ ap Some (sym (get_or-map value_or_invalid digits i 0 0 inside))
 
 -- the byte of two values more
@@ -104,14 +101,13 @@ bad_pair (Some h) None rest all bad later = refl
 bad_pair (Some h) (Some l) rest true bad later = cc
 bad_pair (Some h) (Some l) rest false bad later = rw (later refl) refl
 
-spelled_bytes-bad : (text : List ℕ) → list_all is_hex_digit text ≡ false
+pub spelled_bytes-bad : (text : List ℕ) → list_all is_hex_digit text ≡ false
     → spelled_bytes text ≡ None
 spelled_bytes-bad [] bad = cc
 spelled_bytes-bad (digit ∷ []) bad = refl
 spelled_bytes-bad (high ∷ low ∷ rest) bad =
-    rw (byte_of-pair high low)
-    (bad_pair (hex_digit_value high) (hex_digit_value low) (spelled_bytes rest)
-    (list_all is_hex_digit rest) bad (spelled_bytes-bad rest))
+    bad_pair (hex_digit_value high) (hex_digit_value low) (spelled_bytes rest)
+    (list_all is_hex_digit rest) bad (spelled_bytes-bad rest)
 
 -- what a block spells, whether all its digits are good or not
 pub unhex-block : (digits bytes : List ℕ) (is_good : Bool)
@@ -142,23 +138,11 @@ pieces_next pairs bytes piece done end a b inside len forward so_far more fits =
     let to : 2 * done + (2 * end - 2 * done) ≡ 2 * end = omega arith in
     let even : length (take (2 * done) pairs) % 2 ≡ 0 =
     omega (arith, length-take (2 * done) pairs) in
-    ap unhex
-    (ap (λ (n : ℕ). take n pairs) (sym to) ∙ take-add (2 * done) (2 * end - 2 * done) pairs)
-    ∙ unhex-append (take (2 * done) pairs) (take (2 * end - 2 * done) (drop (2 * done) pairs)) even
-    ∙ rw (so_far, more) (both_found-if a b (take done bytes) piece)
-    ∙ ap (found_if (a && b))
-    (sym (take-put_mid done (end - done) bytes piece end (omega arith) inside))
-
--- a buffer keeps its length where a part of it was written
-pub length-part_written : (done k : ℕ) (bytes piece : List ℕ) → done + k ≤ length bytes
-    → length piece ≡ k → length (put_mid done k bytes piece) ≡ length bytes
-length-part_written done k bytes piece inside len =
-    omega (
-      arith,
-      length-append (take done bytes) (piece ++ post_of done k bytes),
-      length-append piece (post_of done k bytes),
-      length-take done bytes,
-      length-drop k (drop done bytes),
-      length-drop done bytes,
-      len,
-    )
+    rw (
+      ← to,
+      take-add (2 * done) (2 * end - 2 * done) pairs,
+      unhex-append (take (2 * done) pairs) (take (2 * end - 2 * done) (drop (2 * done) pairs)) even,
+      so_far,
+      more,
+      take-put_mid done (end - done) bytes piece end (omega arith) inside,
+    ) (both_found-if a b (take done bytes) piece)

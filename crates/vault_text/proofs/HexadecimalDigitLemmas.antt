@@ -12,7 +12,7 @@ use Rattle.std.proofs.lemmas.Nat.{or_shifted}
 use Rattle.hex.specs.Hex.{decode_pairs, decode_sized, digit_or_error, hex_digit_value, ◌>>=◌}
 use Rattle.hex.specs.declared.error.FromHexError.{FromHexError}
 use Rattle.vault_text.specs.Hexadecimal.{unhex}
-use Rattle.vault_text.proofs.HexadecimalLemmas.{both_found, byte_of-pair, cons_found, pair_found}
+use Rattle.vault_text.proofs.HexadecimalLemmas.{both_found, cons_found, pair_found}
 use Rattle.vault_text.proofs.HexadecimalLemmas.{unhex-append, unhex-spelled_bytes}
 
 -- ---- one digit
@@ -104,6 +104,5 @@ decoded_next pairs bytes place is_good fits inside so_far =
       unhex-append (take (2 * place) pairs) (a ∷ b ∷ []) even,
       so_far,
       unhex-spelled_bytes (a ∷ b ∷ []),
-      byte_of-pair a b,
     )
     (sym next)

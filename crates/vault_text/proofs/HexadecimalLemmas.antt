@@ -11,9 +11,14 @@ use Rattle.hex.specs.Hex.{decode_pairs, digit_or_error, hex_digit_value, pair_va
 use Rattle.hex.specs.declared.error.FromHexError.{FromHexError}
 use Rattle.vault_text.specs.Hexadecimal.{DecoderState, new_decoder, unhex, unhex_on, Decodes}
 
+abbrev pub pair_found : Option ℕ → Option ℕ → Option ℕ
+pair_found (Some h) (Some l) = Some (h * 16 + l)
+pair_found (Some h) None = None
+pair_found None l = None
+
 -- the byte of two digits
 abbrev pub byte_of : ℕ → ℕ → Option ℕ
-byte_of high low = result_ok (pair_value high low 0)
+byte_of high low = pair_found (hex_digit_value high) (hex_digit_value low)
 
 abbrev pub cons_found : Option ℕ → Option (List ℕ) → Option (List ℕ)
 cons_found (Some byte) (Some bytes) = Some (byte ∷ bytes)
@@ -26,11 +31,6 @@ spelled_bytes [] = Some []
 spelled_bytes (digit ∷ []) = None
 spelled_bytes (high ∷ low ∷ rest) = cons_found (byte_of high low) (spelled_bytes rest)
 
-abbrev pub pair_found : Option ℕ → Option ℕ → Option ℕ
-pair_found (Some h) (Some l) = Some (h * 16 + l)
-pair_found (Some h) None = None
-pair_found None l = None
-
 result_ok-pair : (high low i : ℕ) (h l : Option ℕ)
     → result_ok
     (digit_or_error high i h >>= (λ a. digit_or_error low (i + 1) l >>= (λ b. Ok (a * 16 + b))))
@@ -38,16 +38,6 @@ result_ok-pair : (high low i : ℕ) (h l : Option ℕ)
 result_ok-pair high low i (Some h) (Some l) = refl
 result_ok-pair high low i (Some h) None = refl
 result_ok-pair high low i None l = refl
-
-pub byte_of-pair : (high low : ℕ)
-    → byte_of high low ≡ pair_found (hex_digit_value high) (hex_digit_value low)
-byte_of-pair high low = result_ok-pair high low 0 (hex_digit_value high) (hex_digit_value low)
-
--- where a pair stands changes only its error
-byte_of-anywhere : (high low i : ℕ) → result_ok (pair_value high low i) ≡ byte_of high low
-byte_of-anywhere high low i =
-    result_ok-pair high low i (hex_digit_value high) (hex_digit_value low)
-    ∙ sym (result_ok-pair high low 0 (hex_digit_value high) (hex_digit_value low))
 
 result_ok-cons : (r : Result ℕ FromHexError) (s : Result (List ℕ) FromHexError)
     → result_ok (r >>= (λ byte. s >>= (λ bytes. Ok (byte ∷ bytes))))
@@ -63,17 +53,20 @@ decode_pairs-spelled_bytes i [] = refl
 decode_pairs-spelled_bytes i (digit ∷ []) = refl
 decode_pairs-spelled_bytes i (high ∷ low ∷ rest) =
     result_ok-cons (pair_value high low i) (decode_pairs (i + 2) rest)
-    ∙ rw (byte_of-anywhere high low i, decode_pairs-spelled_bytes (i + 2) rest) refl
-
-cons_found-none : (o : Option ℕ) → cons_found o None ≡ None
-cons_found-none (Some b) = refl
-cons_found-none None = refl
+    ∙ rw (
+      result_ok-pair high low i (hex_digit_value high) (hex_digit_value low),
+      decode_pairs-spelled_bytes (i + 2) rest,
+    ) refl
 
 spelled_bytes-odd : (text : List ℕ) → length text % 2 ≡ 1 → spelled_bytes text ≡ None
 spelled_bytes-odd [] odd = absurd (omega arith)
 spelled_bytes-odd (digit ∷ []) odd = refl
 spelled_bytes-odd (high ∷ low ∷ rest) odd =
-    rw (spelled_bytes-odd rest (omega arith)) (cons_found-none (byte_of high low))
+    rw (spelled_bytes-odd rest (omega arith)) (none (byte_of high low))
+  where
+    none : (o : Option ℕ) → cons_found o None ≡ None
+    none (Some b) = refl
+    none None = refl
 
 pub unhex-spelled_bytes : (text : List ℕ) → unhex text ≡ spelled_bytes text
 unhex-spelled_bytes text =
@@ -110,13 +103,8 @@ spelled_bytes-append (high ∷ low ∷ rest) more even =
 pub unhex-append : (pairs more : List ℕ) → length pairs % 2 ≡ 0
     → unhex (pairs ++ more) ≡ both_found (unhex pairs) (unhex more)
 unhex-append pairs more even =
-    unhex-spelled_bytes (pairs ++ more) ∙ spelled_bytes-append pairs more even
-    ∙ rw (unhex-spelled_bytes pairs, unhex-spelled_bytes more) refl
-
--- where no digit waits, the text stands alone
-unhex_on-aligned : (decoder : DecoderState) (text : List ℕ) → decoder.high ≡ None
-    → unhex_on decoder text ≡ (if decoder.is_bad then None else unhex text)
-unhex_on-aligned decoder text aligned = rw aligned refl
+    rw (unhex-spelled_bytes (pairs ++ more), unhex-spelled_bytes pairs, unhex-spelled_bytes more)
+    (spelled_bytes-append pairs more even)
 
 unless_bad : (is_bad is_good : Bool) (bytes : List ℕ) (whole pairs more : Option (List ℕ))
     → whole ≡ both_found pairs more
@@ -135,29 +123,18 @@ pub Decodes-pairs : (decoder : DecoderState) (pairs bytes : List ℕ) (is_good :
     (record { high = decoder.high; is_bad = decoder.is_bad || not is_good })
 Decodes-pairs decoder pairs bytes is_good aligned found even = record {
   spelled = λ more.
-      unhex_on-aligned decoder (pairs ++ more) aligned
-      ∙ unless_bad decoder.is_bad is_good bytes _ (unhex pairs) (unhex more)
-      (unhex-append pairs more even) found
-      ∙ ap (option_map (λ rest. bytes ++ rest))
-      (sym (unhex_on-aligned
-      (record { high = decoder.high; is_bad = decoder.is_bad || not is_good }) more aligned));
+      rw aligned
+      (unless_bad decoder.is_bad is_good bytes _ (unhex pairs) (unhex more)
+      (unhex-append pairs more even) found);
 }
 
 -- a digit that waits for its second
 pub Decodes-waits : (decoder : DecoderState) (rest : List ℕ) → decoder.high ≡ None → length rest ≤ 1
     → Decodes decoder rest [] (record { high = slice_get rest 0; is_bad = decoder.is_bad })
 Decodes-waits decoder [] aligned one =
-    record {
-      spelled = λ more.
-          unhex_on-aligned decoder more aligned
-          ∙ sym (option_map-nil (if decoder.is_bad then None else unhex more));
-    }
+    record { spelled = λ more. rw aligned (sym (option_map-nil _)) }
 Decodes-waits decoder (digit ∷ []) aligned one =
-    record {
-      spelled = λ more.
-          unhex_on-aligned decoder (digit ∷ more) aligned
-          ∙ sym (option_map-nil (if decoder.is_bad then None else unhex (digit ∷ more)));
-    }
+    record { spelled = λ more. rw aligned (sym (option_map-nil _)) }
 Decodes-waits decoder (digit ∷ next ∷ rest) aligned one = absurd (omega arith)
 
 option_map-append : (xs ys : List ℕ) (o : Option (List ℕ))

@@ -1,5 +1,5 @@
 -- What is kept of the inner text, and what it answers at its end.
-use Rattle.std.proofs.Common.{◌≡◌, ℕ, ◌+◌, ◌<◌, ◌≤◌, Bool, true, false, not, List, [], ◌∷◌, ◌++◌}
+use Rattle.std.proofs.Common.{◌≡◌, ℕ, ◌+◌, ◌<◌, ◌≤◌, Bool, true, not, List, [], ◌∷◌, ◌++◌}
 use Rattle.std.proofs.Common.{length, Option, Some, None, refl, ap, ◌∙◌, arith, inl, inr}
 use Rattle.std.proofs.Common.{append_assoc, length-append}
 use Rattle.std.specs.Prelude.{IfSome}
@@ -10,23 +10,11 @@ use Rattle.vault_text.specs.Hexadecimal.{DecoderState, Decodes, new_decoder, unh
 use Rattle.vault_text.specs.InnerReader.{InnerHas, InnerState, IsCut, IsOneLine, PartHas, PartState}
 use Rattle.vault_text.specs.InnerReader.{next_part}
 use Rattle.vault_text.specs.InnerText.{Parts, is_line_feed}
-use Rattle.vault_text.specs.declared.limits.TheConstants.{SALT_LIMIT, TAG_LENGTH}
 use Rattle.vault_text.specs.declared.reader.inner_text.Part.{Part}
 use Rattle.vault_text.specs.declared.reader.inner_text.Part.TheVariants.{Salt, Tag, Cipher}
-use Rattle.vault_text.proofs.HexadecimalLemmas.{Decodes-more, Decodes-nothing, Decodes-whole}
+use Rattle.vault_text.proofs.HexadecimalLemmas.{Decodes-more, Decodes-whole}
 
 -- ---- one part
-
-pub PartHas-nothing : (limit : ℕ)
-    → PartHas limit (record { bytes = []; decoder = new_decoder; limit = limit; is_long = false })
-    []
-PartHas-nothing limit = record {
-  same_limit = refl;
-  spelled = [];
-  decoded = Decodes-nothing;
-  long = λ e. cc;
-  whole = λ e. (refl, omega arith);
-}
 
 -- the bytes that the digits complete have room after those of the part
 pub PartHas-fits : (limit room : ℕ) (bytes digits out text : List ℕ) (old new : DecoderState)
@@ -93,19 +81,6 @@ pub one_line-append : (xs ys : List ℕ) → IsOneLine xs → IsOneLine ys → I
 one_line-append xs ys p q = rw (list_all-append (λ b. not (is_line_feed b)) xs ys, p, q) refl
 
 module _ (limit : ℕ) where
-  -- nothing of a text
-  pub InnerHas-nothing : (salt tag cipher : PartState) → PartHas SALT_LIMIT salt []
-      → PartHas TAG_LENGTH tag [] → PartHas limit cipher []
-      → InnerHas limit (record { part = Salt; salt = salt; tag = tag; cipher = cipher }) []
-  InnerHas-nothing salt tag cipher a b c =
-      record {
-        digits = record { salt = []; tag = []; cipher = [] };
-        cut = (refl, refl, refl, refl);
-        salt = a;
-        tag = b;
-        cipher = c;
-      }
-
   -- an LF ends the salt or the tag
   cut-end : (part : Part) (text : List ℕ) (parts : Parts) → (part ≡ Cipher → ⊥)
       → IsCut part text parts → IsCut (next_part part) (text ++ 10 ∷ []) parts

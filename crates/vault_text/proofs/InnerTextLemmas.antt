@@ -3,9 +3,9 @@ use Rattle.std.proofs.Common.{◌≡◌, ◌≢◌, ℕ, ◌+◌, ◌<◌, ◌�
 use Rattle.std.proofs.Common.{◌++◌, length, Option, Some, None, Result, Ok, Err, cond, refl, ap}
 use Rattle.std.proofs.Common.{subst, ◌∙◌, eq-eqb, arith, inl, inr}
 use Rattle.std.specs.Prelude.{if◌then◌else◌, nat_lt, nat_le, IfSome}
-use Rattle.std.specs.List.{after_first, before_first, count_by, list_all}
+use Rattle.std.specs.List.{count_by, list_all}
 use Rattle.std.specs.Option.{ok_or}
-use Rattle.std.proofs.lemmas.Bool.{and_parts, cases_Bool}
+use Rattle.std.proofs.lemmas.Bool.{and_parts, cases_Bool, not-true}
 use Rattle.std.proofs.lemmas.Bool.Decides.{nat_tests}
 use Rattle.std.proofs.lemmas.List.{append-nil}
 use Rattle.std.proofs.lemmas.List.Sums.{sum_by-cons}
@@ -20,7 +20,7 @@ use Rattle.vault_text.specs.declared.fault.TextFault.{TextFault}
 use Rattle.vault_text.specs.declared.fault.TextFault.TheVariants.{BadPayload, CipherTooLong}
 use Rattle.vault_text.specs.declared.reader.inner_text.Part.{Part}
 use Rattle.vault_text.specs.declared.reader.inner_text.Part.TheVariants.{Salt, Tag, Cipher}
-use Rattle.vault_text.proofs.ListLemmas.{after_first-clean, before_first-clean, not_true}
+use Rattle.vault_text.proofs.ListLemmas.{first-clean}
 
 -- ---- the text, cut
 
@@ -35,40 +35,24 @@ count_by-line (x ∷ xs) ys line =
     let later = count_by-line xs ys parts.1 in
     rw (
       sum_by-cons (λ b. cond (is_line_feed b) 1 0) x (xs ++ ys),
-      not_true (is_line_feed x) parts.0,
+      not-true (is_line_feed x) parts.0,
     ) (omega (arith, later))
-
-cut-known : (text x rest y z : List ℕ) → nat_lt (count_by is_line_feed text) 2 ≡ false
-    → before_first is_line_feed text ≡ x → after_first is_line_feed text ≡ rest
-    → before_first is_line_feed rest ≡ y → after_first is_line_feed rest ≡ z
-    → cut text ≡ Some (record { salt = x; tag = y; cipher = z })
-unfolding cut
-cut-known text x rest y z many before after between behind =
-    rw (many, before, after, between, behind) refl
 
 -- a text of three lines, of which the last may go on
 pub cut-lines : (x y z : List ℕ) → IsOneLine x → IsOneLine y
     → cut (x ++ 10 ∷ (y ++ 10 ∷ z)) ≡ Some (record { salt = x; tag = y; cipher = z })
+unfolding cut
 cut-lines x y z first second =
     let rest = y ++ 10 ∷ z in
     let text = x ++ 10 ∷ rest in
-    let before = before_first-clean is_line_feed x 10 rest first refl in
-    let after = after_first-clean is_line_feed x 10 rest first refl in
-    let between = before_first-clean is_line_feed y 10 z second refl in
-    let behind = after_first-clean is_line_feed y 10 z second refl in
+    let salt = first-clean is_line_feed x 10 rest first refl in
+    let tag = first-clean is_line_feed y 10 z second refl in
     let count = count_by-line x (10 ∷ rest) first in
     let one = count_by-end rest in
     let later = count_by-line y (10 ∷ z) second in
     let two = count_by-end z in
     let many : nat_lt (count_by is_line_feed text) 2 ≡ false = grind (arith, nat_tests) in
-    cut-known text x rest y z many before after between behind
-
--- a text with fewer LF
-cut-early : (text : List ℕ) → count_by is_line_feed text ≤ 1 → cut text ≡ None
-unfolding cut
-cut-early text few =
-    let test : nat_lt (count_by is_line_feed text) 2 ≡ true = grind (arith, nat_tests) in
-    rw test refl
+    rw (many, salt.0, salt.1, tag.0, tag.1) refl
 
 -- before the ciphertext there is at most one LF
 early-few : (part : Part) (text : List ℕ) (parts : Parts) → part ≢ Cipher → IsCut part text parts
@@ -147,9 +131,11 @@ module _ (limit : ℕ) (label : List ℕ) where
 
   pub read_inner-cut_off : (text : List ℕ) (inner : InnerState) → InnerHas room inner text
       → inner.part ≢ Cipher → read_inner limit label text ≡ Err BadPayload
-  unfolding parts_of
+  unfolding parts_of cut
   read_inner-cut_off text inner has early =
-      rw (cut-early text (early-few inner.part text has.digits early has.cut)) refl
+      let few = early-few inner.part text has.digits early has.cut in
+      let test : nat_lt (count_by is_line_feed text) 2 ≡ true = grind (arith, nat_tests) in
+      rw test refl
 
   pub read_inner-parts : (text : List ℕ) (inner : InnerState) (has : InnerHas room inner text)
       → inner.part ≡ Cipher

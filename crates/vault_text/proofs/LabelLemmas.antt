@@ -5,12 +5,11 @@ use Rattle.std.specs.List.{list_all}
 use Rattle.std.specs.Str.{IsAscii, IsUtf8}
 use Rattle.std.proofs.lemmas.Bool.{and_parts, cases_lt, false_from_ne_true}
 use Rattle.std.proofs.lemmas.List.{get_or_past}
-use Rattle.std.proofs.lemmas.List.Elements.{All-get_or}
-use Rattle.std.proofs.lemmas.List.Sums.{AllPass-from_list_all}
 use Rattle.std.proofs.lemmas.Bool.Decides.{nat_tests}
 use Rattle.std.proofs.lemmas.Str.{IsUtf8-from_ascii}
 use Rattle.vault_text.specs.Header.{named_label}
 use Rattle.vault_text.specs.Label.{is_label, is_label_character}
+use Rattle.vault_text.proofs.ListLemmas.{passes_at}
 
 character-ascii : (c : ℕ) → is_label_character c ≡ true → c < 128
 character-ascii c h = grind (arith, nat_tests)
@@ -19,8 +18,7 @@ characters-ascii : (text : List ℕ) → list_all is_label_character text ≡ tr
 characters-ascii text h i =
     elim (cases_lt i (length text)) [
       | inl inside ↦
-          character-ascii (get_or text i 0) (All-get_or (λ c. is_label_character c ≡ true) text i 0
-          inside (AllPass-from_list_all is_label_character text h))
+          character-ascii (get_or text i 0) (passes_at is_label_character text i 0 h inside)
       | inr past ↦ rw (get_or_past text i 0 past) (omega arith)
     ]
 

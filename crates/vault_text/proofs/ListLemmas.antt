@@ -1,20 +1,15 @@
 -- Text, cut at the first of some bytes, and text in which a byte does not occur.
-use Rattle.std.proofs.Common.{◌≡◌, ℕ, ◌+◌, ◌-◌, ◌<◌, ◌≤◌, ◌==◌, Bool, true, false, not, List, []}
+use Rattle.std.proofs.Common.{◌≡◌, ℕ, ◌+◌, ◌-◌, ◌<◌, ◌==◌, Bool, true, not, List, []}
 use Rattle.std.proofs.Common.{◌∷◌, ◌++◌, length, take, drop, get_or, suc, inl, inr, arith, refl}
 use Rattle.std.proofs.Common.{◌/◌, ◌%◌, append_assoc, length-append}
 use Rattle.std.specs.List.{position_or_len, slice_split, before_first, list_all, after_first}
 use Rattle.std.specs.List.{filter}
 use Rattle.std.proofs.lemmas.Bool.{cases_Bool, eqb-true, and_parts, cases_lt}
 use Rattle.std.proofs.lemmas.List.{take_rest, drop_at, get_or_past, take_at}
-use Rattle.std.proofs.lemmas.List.Sums.{passes_at_first, prefix_len_passes, split_at_first}
-use Rattle.std.proofs.lemmas.List.Sums.{AllPass-from_list_all}
-use Rattle.std.proofs.lemmas.List.Splits.{slice_split_none, slice_split_first}
+use Rattle.std.proofs.lemmas.List.Sums.{passes_at_first, split_at_first, AllPass-from_list_all}
+use Rattle.std.proofs.lemmas.List.Splits.{slice_split_first}
 use Rattle.std.proofs.lemmas.List.Elements.{All-get_or}
 use Rattle.hex.specs.Hex.{encode_lower, encode_with, lower_digits}
-
-pub not_true : (b : Bool) → not b ≡ true → b ≡ false
-not_true true h = cc h
-not_true false h = refl
 
 -- the part before the place, and the parts of what follows it
 pub slice_split-cut : (p : ℕ → Bool) (line : List ℕ) (place : ℕ) → place ≡ position_or_len p line
@@ -24,15 +19,6 @@ pub slice_split-cut : (p : ℕ → Bool) (line : List ℕ) (place : ℕ) → pla
 slice_split-cut p line place e inside =
     let first = slice_split_first p line 0 (omega arith) in
     rw (take_rest, e) first
-
--- one part, where there is no such place
-pub slice_split-whole : (p : ℕ → Bool) (line : List ℕ) (place : ℕ) → place ≡ position_or_len p line
-    → length line ≤ place
-    → slice_split p line ≡ line ∷ []
-slice_split-whole p line place e past =
-    slice_split_none p line
-    (λ k d inside.
-    not_true (p (get_or line k d)) (prefix_len_passes (λ x. not (p x)) line k d (omega arith)))
 
 -- a text is what comes before the first such byte, the byte, and what comes after it
 pub byte_found : (byte : ℕ) (text : List ℕ) (place : ℕ)
@@ -57,7 +43,7 @@ before_first-clean_prefix p (x ∷ rest) =
     ]
 
 -- the first place at which a test passes, after elements that do not pass it
-pub position_or_len-clean : (p : ℕ → Bool) (xs : List ℕ) (y : ℕ) (ys : List ℕ)
+position_or_len-clean : (p : ℕ → Bool) (xs : List ℕ) (y : ℕ) (ys : List ℕ)
     → list_all (λ b. not (p b)) xs ≡ true → p y ≡ true
     → position_or_len p (xs ++ y ∷ ys) ≡ length xs
 position_or_len-clean p [] y ys clean found = rw found refl
@@ -66,18 +52,23 @@ position_or_len-clean p (x ∷ xs) y ys clean found =
     let later = position_or_len-clean p xs y ys parts.1 found in
     rw parts.0 (omega (arith, later))
 
-pub before_first-clean : (p : ℕ → Bool) (xs : List ℕ) (y : ℕ) (ys : List ℕ)
+pub first-clean : (p : ℕ → Bool) (xs : List ℕ) (y : ℕ) (ys : List ℕ)
     → list_all (λ b. not (p b)) xs ≡ true → p y ≡ true
-    → before_first p (xs ++ y ∷ ys) ≡ xs
-before_first-clean p xs y ys clean found =
-    rw (position_or_len-clean p xs y ys clean found) (take_at xs (y ∷ ys) (length xs) refl)
+    → (before_first p (xs ++ y ∷ ys) ≡ xs) × (after_first p (xs ++ y ∷ ys) ≡ ys)
+first-clean p xs y ys clean found =
+    let place = position_or_len-clean p xs y ys clean found in (
+      rw place (take_at xs (y ∷ ys) (length xs) refl),
+      rw (place, ← append_assoc xs (y ∷ []) ys)
+          (drop_at (xs ++ y ∷ []) ys (length xs + 1) (length-append xs (y ∷ []))),
+    )
 
-pub after_first-clean : (p : ℕ → Bool) (xs : List ℕ) (y : ℕ) (ys : List ℕ)
-    → list_all (λ b. not (p b)) xs ≡ true → p y ≡ true
-    → after_first p (xs ++ y ∷ ys) ≡ ys
-after_first-clean p xs y ys clean found =
-    rw (position_or_len-clean p xs y ys clean found, ← append_assoc xs (y ∷ []) ys)
-    (drop_at (xs ++ y ∷ []) ys (length xs + 1) (length-append xs (y ∷ [])))
+-- a test that passes wherever another does
+pub list_all-weaker : (p q : ℕ → Bool) → ((b : ℕ) → p b ≡ true → q b ≡ true) → (xs : List ℕ)
+    → list_all p xs ≡ true → list_all q xs ≡ true
+list_all-weaker p q passes [] all = refl
+list_all-weaker p q passes (x ∷ xs) all =
+    let parts = and_parts (p x) (list_all p xs) all in
+    rw (passes x parts.0, list_all-weaker p q passes xs parts.1) refl
 
 -- what passes a test is kept by its filter
 pub filter-clean : (p : ℕ → Bool) (xs : List ℕ) → list_all p xs ≡ true → filter p xs ≡ xs
@@ -86,14 +77,18 @@ filter-clean p (x ∷ xs) clean =
     let parts = and_parts (p x) (list_all p xs) clean in
     rw (parts.0, filter-clean p xs parts.1) refl
 
+-- each element passes
+pub passes_at : (p : ℕ → Bool) (xs : List ℕ) (k d : ℕ) → list_all p xs ≡ true → k < length xs
+    → p (get_or xs k d) ≡ true
+passes_at p xs k d all inside =
+    All-get_or (λ b. p b ≡ true) xs k d inside (AllPass-from_list_all p xs all)
+
 -- a digit, or 0 past the digits
 lower_digit-clean : (p : ℕ → Bool) → list_all p lower_digits ≡ true → p 0 ≡ true → (k : ℕ)
     → p (get_or lower_digits k 0) ≡ true
 lower_digit-clean p clean none k =
     elim (cases_lt k 16) [
-      | inl inside ↦
-          All-get_or (λ b. p b ≡ true) lower_digits k 0 inside
-          (AllPass-from_list_all p lower_digits clean)
+      | inl inside ↦ passes_at p lower_digits k 0 clean inside
       | inr past ↦ rw (get_or_past lower_digits k 0 past) none
     ]
 

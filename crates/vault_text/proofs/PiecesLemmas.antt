@@ -11,8 +11,7 @@ module _ {State : Type 0} (WasGiven : State → List ℕ → Type 0) where
   TakesUpTo-more old between new text middle rest p q = (
     p.0 ++ q.0,
     p.1 ∙ ap (λ more. p.0 ++ more) q.1 ∙ sym (append_assoc p.0 q.0 rest),
-    λ before given.
-        subst (WasGiven new) (append_assoc before p.0 q.0) (q.2 (before ++ p.0) (p.2 before given)),
+    λ before given. rw (← append_assoc before p.0 q.0) (q.2 (before ++ p.0) (p.2 before given)),
   )
 
   -- nothing is left

@@ -66,11 +66,7 @@ body_lines-step digits some =
     ap (λ (n : ℕ). take n digits) many ∙ take_min 80 digits in
     let later = map-later (body_line digits) (body_line (drop 80 digits)) 0
     ((length (drop 80 digits) + 80 - 1) / 80) (body_line-later digits) in
-    rw count
-    (ap (λ (line : List ℕ). line
-    ∷ map (body_line digits) (range_with_len (0 + 1) ((length (drop 80 digits) + 80 - 1) / 80)))
-    first
-    ∙ ap (λ (lines : List (List ℕ)). take 80 digits ∷ lines) later)
+    rw (count, first, later) refl
 
 -- the lines of whole lines, and of the digits after them
 body_lines-whole : (lines : ℕ) (xs ys : List ℕ) → length xs ≡ 80 * lines
@@ -125,80 +121,68 @@ pub body_text-step : (indentation digits : List ℕ) → 0 < length digits
 body_text-step indentation digits some =
     rw (body_lines-step digits some, ← text_of_lines-cons, text_of_lines-one) refl
 
--- the text of whole lines of digits, and of the digits after them
-pub body_text-append : (indentation xs ys : List ℕ) → length xs % 80 ≡ 0
-    → text_of_lines indentation (body_lines xs) ++ text_of_lines indentation (body_lines ys)
-    ≡ text_of_lines indentation (body_lines (xs ++ ys))
-body_text-append indentation xs ys whole =
-    let lines = body_lines-whole (length xs / 80) xs ys (omega arith) in
-    rw (lines, text_of_lines-append indentation (body_lines xs) (body_lines ys)) refl
-
--- the bytes of one more line
-taken-line : (bytes : List ℕ) (line start end : ℕ) → start ≡ line * 40 → start < length bytes
-    → end ≡ min (length bytes) (start + 40)
-    → take start bytes ++ take (end - start) (drop start bytes) ≡ take ((line + 1) * 40) bytes
-taken-line bytes line start end at inside until =
-    let to : start + (end - start) ≡ min ((line + 1) * 40) (length bytes) = omega arith in
-    sym (take-add start (end - start) bytes)
-    ∙ ap (λ (n : ℕ). take n bytes) to
-    ∙ take_min ((line + 1) * 40) bytes
+-- a prefix of a text, and what follows it up to `end`
+take-until : (bytes : List ℕ) (start end : ℕ) → start ≤ end
+    → take start bytes ++ take (end - start) (drop start bytes) ≡ take end bytes
+take-until bytes start end forward =
+    let to : start + (end - start) ≡ end = omega arith in
+    rw (← take-add start (end - start) bytes, to) refl
 
 -- the lines of two texts, where the first fills whole lines unless the second is empty
 body_text-parts : (indentation xs ys : List ℕ) → (length xs % 80 ≡ 0) ⊎ (ys ≡ [])
     → text_of_lines indentation (body_lines xs) ++ text_of_lines indentation (body_lines ys)
     ≡ text_of_lines indentation (body_lines (xs ++ ys))
-body_text-parts indentation xs ys (inl whole) = body_text-append indentation xs ys whole
+body_text-parts indentation xs ys (inl whole) =
+    let lines = body_lines-whole (length xs / 80) xs ys (omega arith) in
+    rw (lines, text_of_lines-append indentation (body_lines xs) (body_lines ys)) refl
 body_text-parts indentation xs ys (inr none) =
     rw (none, body_text-nil, append-nil xs) (append-nil (text_of_lines indentation (body_lines xs)))
 
+-- at most one line of digits, after whole lines
+body_text-line : (indentation xs piece : List ℕ) → length xs % 80 ≡ 0 → 0 < length piece
+    → length piece ≤ 80
+    → text_of_lines indentation (body_lines xs) ++ (indentation ++ piece ++ 10 ∷ [])
+    ≡ text_of_lines indentation (body_lines (xs ++ piece))
+body_text-line indentation xs piece whole some few =
+    rw (← text_of_lines-one indentation piece, ← body_lines-one piece some few)
+    (body_text-parts indentation xs piece (inl whole))
+
 -- one more line of a text whose lines each spell 40 bytes
-pub body_text-next : (indentation bytes : List ℕ) (line start end : ℕ) → start ≡ line * 40
-    → start < length bytes → end ≡ min (length bytes) (start + 40)
-    → hexadecimal_lines indentation (take start bytes)
-    ++ (indentation ++ encode_lower (take (end - start) (drop start bytes)) ++ 10 ∷ [])
+pub body_text-next : (indentation bytes : List ℕ) (line end : ℕ) → line * 40 < length bytes
+    → end ≡ min (length bytes) (line * 40 + 40)
+    → hexadecimal_lines indentation (take (line * 40) bytes)
+    ++ (indentation ++ encode_lower (take (end - line * 40) (drop (line * 40) bytes)) ++ 10 ∷ [])
     ≡ hexadecimal_lines indentation (take ((line + 1) * 40) bytes)
-body_text-next indentation bytes line start end at inside until =
-    let prefix = length-encode_lower (take start bytes) in
-    let before = length-take-le start bytes (omega arith) in
-    let piece = take (end - start) (drop start bytes) in
-    let left = length-drop start bytes in
-    let size = length-take (end - start) (drop start bytes) in
+body_text-next indentation bytes line end inside until =
+    let piece = take (end - line * 40) (drop (line * 40) bytes) in
+    let before = length-encode_lower (take (line * 40) bytes) in
+    let prefix = length-take-le (line * 40) bytes (omega arith) in
+    let left = length-drop (line * 40) bytes in
+    let size = length-take (end - line * 40) (drop (line * 40) bytes) in
     let digits = length-encode_lower piece in
-    let one = body_lines-one (encode_lower piece) (omega arith) (omega arith) in
-    let text = text_of_lines-one indentation (encode_lower piece) in
-    let both = body_text-append indentation (encode_lower (take start bytes)) (encode_lower piece)
-    (omega arith) in
-    let joined : take start bytes ++ piece ≡ take ((line + 1) * 40) bytes =
-    taken-line bytes line start end at inside until in
-    rw (← text, ← one) (both ∙ ap (λ (d : List ℕ). text_of_lines indentation (body_lines d))
-    (sym (encode_lower-append (take start bytes) piece) ∙ ap encode_lower joined))
+    let to : end ≡ min ((line + 1) * 40) (length bytes) = omega arith in
+    let joined = take-until bytes (line * 40) end (omega arith) in
+    rw (
+      body_text-line indentation (encode_lower (take (line * 40) bytes)) (encode_lower piece)
+          (omega arith) (omega arith) (omega arith),
+      ← encode_lower-append,
+      joined,
+      to,
+      take_min,
+    ) refl
 
 -- the digits of one more piece
 pub encode_lower-next : (bytes : List ℕ) (done end : ℕ) → done ≤ end
     → encode_lower (take done bytes) ++ encode_lower (take (end - done) (drop done bytes))
     ≡ encode_lower (take end bytes)
 encode_lower-next bytes done end forward =
-    let to : done + (end - done) ≡ end = omega arith in
-    sym (encode_lower-append (take done bytes) (take (end - done) (drop done bytes)))
-    ∙ ap encode_lower (sym (take-add done (end - done) bytes) ∙ ap (λ (n : ℕ). take n bytes) to)
+    rw (← encode_lower-append, take-until bytes done end forward) refl
 
 -- ---- the inner text
 
--- the digits of the ciphertext stand at the end
-pub inner_text-append : (salt tag cipher : List ℕ)
-    → inner_text salt tag [] ++ encode_lower cipher ≡ inner_text salt tag cipher
-inner_text-append salt tag cipher = rw (encode_lower-nil) (simp append_assoc)
-
 pub length-inner_text : (salt tag cipher : List ℕ)
     → length (inner_text salt tag cipher) ≡ 2 * length salt + 2 * length tag + 2 * length cipher + 2
-length-inner_text salt tag cipher =
-    let a = length-encode_lower salt in
-    let b = length-encode_lower tag in
-    let c = length-encode_lower cipher in
-    let rest = length-append (encode_lower tag) (10 ∷ encode_lower cipher) in
-    let all =
-    length-append (encode_lower salt) (10 ∷ (encode_lower tag ++ 10 ∷ encode_lower cipher)) in
-    omega arith
+length-inner_text salt tag cipher = simp (length-append, length-encode_lower) (omega arith)
 
 -- a part of the ciphertext, and what follows it
 pub inner_text-split : (salt tag cipher loaded inner prefix rest : List ℕ)
@@ -206,11 +190,8 @@ pub inner_text-split : (salt tag cipher loaded inner prefix rest : List ℕ)
     → prefix ++ rest ≡ cipher
     → inner ++ encode_lower rest ≡ inner_text salt tag cipher
 inner_text-split salt tag cipher loaded inner prefix rest start spells both =
-    rw (spells, start)
-    (append_assoc (inner_text salt tag []) (encode_lower prefix) (encode_lower rest))
-    ∙ ap (λ (text : List ℕ). inner_text salt tag [] ++ text)
-    (sym (encode_lower-append prefix rest) ∙ ap encode_lower both)
-    ∙ inner_text-append salt tag cipher
+    rw (spells, start, append_assoc, ← encode_lower-append, both)
+    (rw encode_lower-nil (simp append_assoc))
 
 -- the text of a body whose first lines spell the inner text as far as the rest of the ciphertext
 pub body_text-split : (indentation salt tag cipher inner rest : List ℕ)
@@ -224,28 +205,30 @@ body_text-split indentation salt tag cipher inner rest all full =
       | inl batch ↦ inl (omega arith)
       | inr none ↦ inr (rw (none, encode_lower-nil, encode_lower-nil) refl)
     ] in
-    body_text-parts indentation (encode_lower inner) (encode_lower (encode_lower rest)) whole
-    ∙ ap (λ (text : List ℕ). text_of_lines indentation (body_lines text))
-    (sym (encode_lower-append inner (encode_lower rest)) ∙ ap encode_lower all)
+    rw (
+      body_text-parts indentation (encode_lower inner) (encode_lower (encode_lower rest)) whole,
+      ← encode_lower-append,
+      all,
+    ) refl
 
 -- ---- the ciphertext
 
 pub cipher_text-nil : (indentation : List ℕ) → hexadecimal_lines indentation (encode_lower []) ≡ []
 cipher_text-nil indentation = rw (encode_lower-nil, encode_lower-nil, body_text-nil) refl
 
--- ciphertext that fills whole lines, and what follows it
-pub cipher_text-append : (indentation xs ys : List ℕ) → length xs % 20 ≡ 0
+-- the lines of two texts, where the first fills whole lines unless the second is empty
+pub cipher_text-parts : (indentation xs ys : List ℕ) → (length xs % 20 ≡ 0) ⊎ (ys ≡ [])
     → hexadecimal_lines indentation (encode_lower xs)
     ++ hexadecimal_lines indentation (encode_lower ys)
     ≡ hexadecimal_lines indentation (encode_lower (xs ++ ys))
-cipher_text-append indentation xs ys whole =
+cipher_text-parts indentation xs ys (inl whole) =
     let digits = length-encode_lower xs in
     let twice = length-encode_lower (encode_lower xs) in
-    body_text-append indentation (encode_lower (encode_lower xs)) (encode_lower (encode_lower ys))
-    (omega arith)
-    ∙ ap (λ (text : List ℕ). text_of_lines indentation (body_lines text))
-    (sym (encode_lower-append (encode_lower xs) (encode_lower ys))
-    ∙ ap encode_lower (sym (encode_lower-append xs ys)))
+    simp encode_lower-append (body_text-parts indentation (encode_lower (encode_lower xs))
+    (encode_lower (encode_lower ys)) (inl (omega arith)))
+cipher_text-parts indentation xs ys (inr none) =
+    rw (none, cipher_text-nil indentation, append-nil xs)
+    (append-nil (hexadecimal_lines indentation (encode_lower xs)))
 
 -- one more piece of the ciphertext
 pub cipher_text-next : (indentation cipher : List ℕ) (done end : ℕ) → done ≤ length cipher
@@ -255,11 +238,8 @@ pub cipher_text-next : (indentation cipher : List ℕ) (done end : ℕ) → done
     ≡ hexadecimal_lines indentation (encode_lower (take end cipher))
 cipher_text-next indentation cipher done end inside whole forward =
     let prefix = length-take-le done cipher inside in
-    let to : done + (end - done) ≡ end = omega arith in
-    cipher_text-append indentation (take done cipher) (take (end - done) (drop done cipher))
-    (omega arith)
-    ∙ ap (λ (bytes : List ℕ). hexadecimal_lines indentation (encode_lower bytes))
-    (sym (take-add done (end - done) cipher) ∙ ap (λ (n : ℕ). take n cipher) to)
+    rw (← take-until cipher done end forward)
+    (cipher_text-parts indentation (take done cipher) _ (inl (omega arith)))
 
 -- the pieces so far, and the rest of the ciphertext
 pub cipher_text-rest : (indentation cipher : List ℕ) (end : ℕ) → end ≤ length cipher → end % 20 ≡ 0
@@ -268,49 +248,37 @@ pub cipher_text-rest : (indentation cipher : List ℕ) (end : ℕ) → end ≤ l
     ≡ hexadecimal_lines indentation (encode_lower cipher)
 cipher_text-rest indentation cipher end inside whole =
     let prefix = length-take-le end cipher inside in
-    cipher_text-append indentation (take end cipher) (drop end cipher) (omega arith)
-    ∙ ap (λ (bytes : List ℕ). hexadecimal_lines indentation (encode_lower bytes))
-    (take-append-drop end cipher)
-
--- the same of two texts, where the first fills whole lines unless the second is empty
-pub cipher_text-parts : (indentation xs ys : List ℕ) → (length xs % 20 ≡ 0) ⊎ (ys ≡ [])
-    → hexadecimal_lines indentation (encode_lower xs)
-    ++ hexadecimal_lines indentation (encode_lower ys)
-    ≡ hexadecimal_lines indentation (encode_lower (xs ++ ys))
-cipher_text-parts indentation xs ys (inl whole) = cipher_text-append indentation xs ys whole
-cipher_text-parts indentation xs ys (inr none) =
-    rw (none, cipher_text-nil indentation, append-nil xs)
-    (append-nil (hexadecimal_lines indentation (encode_lower xs)))
-
--- the digits of at most one line
-cipher_text-one : (indentation piece : List ℕ) → 0 < length piece → length piece ≤ 20
-    → hexadecimal_lines indentation (encode_lower piece)
-    ≡ indentation ++ encode_lower (encode_lower piece) ++ 10 ∷ []
-cipher_text-one indentation piece some few =
-    let digits = length-encode_lower piece in
-    let twice = length-encode_lower (encode_lower piece) in
-    rw (body_lines-one (encode_lower (encode_lower piece)) (omega arith) (omega arith))
-    (text_of_lines-one indentation (encode_lower (encode_lower piece)))
+    rw (
+      cipher_text-parts indentation (take end cipher) (drop end cipher) (inl (omega arith)),
+      take-append-drop,
+    ) refl
 
 -- one more line
-pub cipher_text-line : (indentation cipher : List ℕ) (line start end : ℕ) → start ≡ line * 20
-    → start < length cipher → end ≡ min (length cipher) (start + 20)
-    → hexadecimal_lines indentation (encode_lower (take start cipher))
+pub cipher_text-line : (indentation cipher : List ℕ) (line end : ℕ) → line * 20 < length cipher
+    → end ≡ min (length cipher) (line * 20 + 20)
+    → hexadecimal_lines indentation (encode_lower (take (line * 20) cipher))
     ++ (indentation
-    ++ encode_lower (encode_lower (take (end - start) (drop start cipher)))
+    ++ encode_lower (encode_lower (take (end - line * 20) (drop (line * 20) cipher)))
     ++ 10 ∷ [])
     ≡ hexadecimal_lines indentation (encode_lower (take ((line + 1) * 20) cipher))
-cipher_text-line indentation cipher line start end at inside until =
-    let piece = take (end - start) (drop start cipher) in
-    let left = length-drop start cipher in
-    let size = length-take (end - start) (drop start cipher) in
-    let one = cipher_text-one indentation piece (omega arith) (omega arith) in
-    let next = cipher_text-next indentation cipher start end (omega arith) (omega arith)
-    (omega arith) in
+cipher_text-line indentation cipher line end inside until =
+    let prefix = take (line * 20) cipher in
+    let piece = take (end - line * 20) (drop (line * 20) cipher) in
+    let before = length-take-le (line * 20) cipher (omega arith) in
+    let left = length-drop (line * 20) cipher in
+    let size = length-take (end - line * 20) (drop (line * 20) cipher) in
+    let digits : (xs : List ℕ) → length (encode_lower (encode_lower xs)) ≡ 4 * length xs =
+    λ xs. rw (length-encode_lower (encode_lower xs), length-encode_lower xs) (omega arith) in
+    let a = digits prefix in
+    let b = digits piece in
     let to : end ≡ min ((line + 1) * 20) (length cipher) = omega arith in
-    let taken : take end cipher ≡ take ((line + 1) * 20) cipher =
-    ap (λ (n : ℕ). take n cipher) to ∙ take_min ((line + 1) * 20) cipher in
-    ap (λ (text : List ℕ). hexadecimal_lines indentation (encode_lower (take start cipher)) ++ text)
-    (sym one)
-    ∙ next
-    ∙ ap (λ (bytes : List ℕ). hexadecimal_lines indentation (encode_lower bytes)) taken
+    let joined = take-until cipher (line * 20) end (omega arith) in
+    rw (
+      body_text-line indentation (encode_lower (encode_lower prefix))
+          (encode_lower (encode_lower piece)) (omega arith) (omega arith) (omega arith),
+      ← encode_lower-append,
+      ← encode_lower-append,
+      joined,
+      to,
+      take_min,
+    ) refl

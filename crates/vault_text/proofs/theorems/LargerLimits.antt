@@ -1,14 +1,14 @@
 -- What reading answers under two limits.
-use Rattle.std.proofs.Common.{◌≡◌, ◌≢◌, ℕ, ◌+◌, ◌*◌, ◌≤◌, Bool, true, false, not, List, [], ◌∷◌}
-use Rattle.std.proofs.Common.{length, drop, suc, Option, Some, None, Result, Ok, Err, refl, ap, ◌∙◌}
+use Rattle.std.proofs.Common.{◌≡◌, ℕ, ◌*◌, ◌≤◌, false, not, List, [], ◌∷◌}
+use Rattle.std.proofs.Common.{length, drop, suc, Option, Some, None, Result, Ok, Err, refl, ap}
 use Rattle.std.proofs.Common.{arith, inl, inr, length-drop}
-use Rattle.std.specs.Prelude.{if◌then◌else◌, nat_lt, IfOk, IfSome}
-use Rattle.std.specs.List.{after_first, count_by, position_or_len}
+use Rattle.std.specs.Prelude.{nat_lt, IfOk, IfSome}
+use Rattle.std.specs.List.{count_by}
 use Rattle.std.specs.Option.{ok_or}
 use Rattle.std.proofs.lemmas.Bool.{cases_Bool}
 use Rattle.std.proofs.lemmas.Bool.Decides.{nat_tests}
 use Rattle.std.proofs.lemmas.List.Sums.{count_by-le-length, length-filter}
-use Rattle.vault_text.specs.Envelope.{Payload, body, read_body, read_head, read_within}
+use Rattle.vault_text.specs.Envelope.{body, read_body, read_head, read_within}
 use Rattle.vault_text.specs.Header.{Header, header_line, is_line_end}
 use Rattle.vault_text.specs.Hexadecimal.{unhex}
 use Rattle.vault_text.specs.InnerText.{Parts, cut, is_line_feed, part_bytes, parts_of}
@@ -16,19 +16,12 @@ use Rattle.vault_text.specs.Laws.{LargerLimits, ShortInputs}
 use Rattle.vault_text.specs.Limits.{ciphertext_limit, envelope_limit}
 use Rattle.vault_text.specs.Steps.{◌>>=◌}
 use Rattle.vault_text.specs.declared.fault.TextFault.{TextFault}
-use Rattle.vault_text.specs.declared.fault.TextFault.TheVariants.{TooLong, BadHex, BadPayload}
-use Rattle.vault_text.specs.declared.fault.TextFault.TheVariants.{CipherTooLong}
+use Rattle.vault_text.specs.declared.fault.TextFault.TheVariants.{BadHex, BadPayload}
 use Rattle.vault_text.proofs.EnvelopeLemmas.{IfOk-if, IfOk-steps}
 use Rattle.vault_text.proofs.HexadecimalLemmas.{byte_of, cons_found, spelled_bytes}
 use Rattle.vault_text.proofs.HexadecimalLemmas.{unhex-spelled_bytes}
 
 -- ---- two limits that give one answer
-
--- the payload of the parts, where the ciphertext may have so many bytes
-abbrev payload_within : ℕ → List ℕ → Parts → Result Payload TextFault
-payload_within room label parts =
-    if nat_lt room (length parts.cipher) then Err CipherTooLong
-    else Ok (record { label = label; salt = parts.salt; tag = parts.tag; cipher = parts.cipher })
 
 ok_or-found : {A : Type 0} (o : Option A) (fault : TextFault) (x : A) → ok_or o fault ≡ Ok x
     → o ≡ Some x
@@ -40,17 +33,19 @@ steps-same : {A B : Type 0} (r : Result A TextFault) (f g : A → Result B TextF
 steps-same (Ok x) f g same = same x refl
 steps-same (Err fault) f g same = refl
 
--- a body whose parts have one answer
-read_body-same : (smaller larger : ℕ) (label digits : List ℕ)
+-- a body whose ciphertext has room under the smaller limit
+read_body-same : (smaller larger : ℕ) (label digits : List ℕ) → smaller ≤ larger
     → ((inner : List ℕ) (parts : Parts) → unhex digits ≡ Some inner → parts_of inner ≡ Ok parts
-    → payload_within (ciphertext_limit larger) label parts
-    ≡ payload_within (ciphertext_limit smaller) label parts)
+    → nat_lt (ciphertext_limit smaller) (length parts.cipher) ≡ false)
     → read_body larger label digits ≡ read_body smaller label digits
 unfolding read_body
-read_body-same smaller larger label digits same =
+read_body-same smaller larger label digits more fits =
     steps-same (ok_or (unhex digits) BadHex) _ _ (λ inner spelled.
-    steps-same (parts_of inner) _ _
-    (λ parts known. same inner parts (ok_or-found (unhex digits) BadHex inner spelled) known))
+    steps-same (parts_of inner) _ _ (λ parts known.
+    let short = fits inner parts (ok_or-found (unhex digits) BadHex inner spelled) known in
+    let shorter : nat_lt (ciphertext_limit larger) (length parts.cipher) ≡ false =
+    grind (arith, nat_tests) in
+    rw (short, shorter) refl))
 
 -- an envelope whose body has one answer
 read_within-same : (smaller larger : ℕ) (input : List ℕ)
@@ -66,52 +61,18 @@ read_within-same smaller larger input short more same =
 
 -- ---- a larger limit
 
-read_within-long : (limit : ℕ) (input : List ℕ)
-    → nat_lt (envelope_limit limit) (length input) ≡ true → read_within limit input ≡ Err TooLong
-unfolding read_within
-read_within-long limit input long = rw long refl
-
-read_within-body : (limit : ℕ) (input : List ℕ) (header : Header)
-    → nat_lt (envelope_limit limit) (length input) ≡ false → read_head input ≡ Ok header
-    → read_within limit input ≡ read_body limit header.label (body input)
-unfolding read_within
-read_within-body limit input header short names = rw (short, names) refl
-
-read_body-long : (limit : ℕ) (label digits inner : List ℕ) (parts : Parts)
-    → unhex digits ≡ Some inner → parts_of inner ≡ Ok parts
-    → nat_lt (ciphertext_limit limit) (length parts.cipher) ≡ true
-    → read_body limit label digits ≡ Err CipherTooLong
-unfolding read_body
-read_body-long limit label digits inner parts spelled known long = rw (spelled, known, long) refl
-
-payload_within-fits : (smaller larger : ℕ) (label : List ℕ) (parts : Parts) → smaller ≤ larger
-    → nat_lt (ciphertext_limit smaller) (length parts.cipher) ≡ false
-    → payload_within (ciphertext_limit larger) label parts
-    ≡ payload_within (ciphertext_limit smaller) label parts
-payload_within-fits smaller larger label parts more short =
-    let shorter : nat_lt (ciphertext_limit larger) (length parts.cipher) ≡ false =
-    grind (arith, nat_tests) in
-    rw (short, shorter) refl
-
-read_body-larger : (smaller larger : ℕ) (label digits : List ℕ) → smaller ≤ larger
-    → read_body smaller label digits ≢ Err CipherTooLong
-    → read_body larger label digits ≡ read_body smaller label digits
-read_body-larger smaller larger label digits more fits =
-    read_body-same smaller larger label digits (λ inner parts spelled known.
-    elim (cases_Bool (nat_lt (ciphertext_limit smaller) (length parts.cipher))) [
-      | inl long ↦
-          absurd (fits (read_body-long smaller label digits inner parts spelled known long))
-      | inr short ↦ payload_within-fits smaller larger label parts more short
-    ])
-
 pub larger_limits : LargerLimits
+unfolding read_within read_body
 larger_limits smaller larger input more not_long fits =
     elim (cases_Bool (nat_lt (envelope_limit smaller) (length input))) [
-      | inl long ↦ absurd (not_long (read_within-long smaller input long))
+      | inl long ↦ absurd (not_long (rw long refl))
       | inr short ↦
           read_within-same smaller larger input short more (λ header names.
-          read_body-larger smaller larger header.label (body input) more (λ refused.
-          fits (read_within-body smaller input header short names ∙ refused)))
+          read_body-same smaller larger header.label (body input) more (λ inner parts spelled known.
+          elim (cases_Bool (nat_lt (ciphertext_limit smaller) (length parts.cipher))) [
+            | inl long ↦ absurd (fits (rw (short, names, spelled, known, long) refl))
+            | inr fitting ↦ fitting
+          ]))
     ]
 
 -- ---- a short input
@@ -134,20 +95,13 @@ spelled_bytes-short (high ∷ low ∷ rest) =
 unhex-short : (text : List ℕ) → IfSome (unhex text) (λ found. 2 * length found ≤ length text)
 unhex-short text = rw (unhex-spelled_bytes text) (spelled_bytes-short text)
 
-after_first-short : (p : ℕ → Bool) (text : List ℕ) → length (after_first p text) ≤ length text
-after_first-short p text = omega (arith, length-drop (position_or_len p text + 1) text)
-
 cut-short : (text : List ℕ) → IfSome (cut text) (λ parts. length parts.cipher ≤ length text)
 unfolding cut
 cut-short text =
-    let rest = after_first-short is_line_feed text in
-    let cipher = after_first-short is_line_feed (after_first is_line_feed text) in
-    unless_lacking (nat_lt (count_by is_line_feed text) 2) _ (omega arith)
-  where
-    unless_lacking : (lacking : Bool) (parts : Parts) → length parts.cipher ≤ length text
-        → IfSome (if lacking then None else Some parts) (λ found. length found.cipher ≤ length text)
-    unless_lacking true parts short = tt
-    unless_lacking false parts short = short
+    elim (cases_Bool (nat_lt (count_by is_line_feed text) 2)) [
+      | inl few ↦ rw few tt
+      | inr many ↦ rw many (omega (arith, length-drop {A = ℕ}))
+    ]
 
 parts_of-short : (text : List ℕ)
     → IfOk (parts_of text) (λ parts. 2 * length parts.cipher ≤ length text)
@@ -172,20 +126,13 @@ body-short input =
     let left = length-drop (length (header_line input)) input in
     omega arith
 
-read_body-short : (smaller larger : ℕ) (label digits : List ℕ) → length digits ≤ 4 * smaller
-    → smaller ≤ larger
-    → read_body larger label digits ≡ read_body smaller label digits
-read_body-short smaller larger label digits few more =
-    read_body-same smaller larger label digits (λ inner parts spelled known.
-    let inner_short : 2 * length inner ≤ length digits = rw spelled at (unhex-short digits) in
-    let parts_short : 2 * length parts.cipher ≤ length inner = rw known at (parts_of-short inner) in
-    let short : nat_lt (ciphertext_limit smaller) (length parts.cipher) ≡ false =
-    grind (arith, nat_tests) in
-    payload_within-fits smaller larger label parts more short)
-
 pub short_inputs : ShortInputs
 short_inputs smaller larger input few more =
     let short : nat_lt (envelope_limit smaller) (length input) ≡ false = grind (arith, nat_tests) in
     let body_few = body-short input in
     read_within-same smaller larger input short more (λ header names.
-    read_body-short smaller larger header.label (body input) (omega arith) more)
+    read_body-same smaller larger header.label (body input) more (λ inner parts spelled known.
+    let inner_short : 2 * length inner ≤ length (body input) = rw spelled
+    at (unhex-short (body input)) in
+    let parts_short : 2 * length parts.cipher ≤ length inner = rw known at (parts_of-short inner) in
+    grind (arith, nat_tests)))

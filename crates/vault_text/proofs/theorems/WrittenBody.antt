@@ -1,26 +1,25 @@
 -- What is read in a body that was written.
-use Rattle.std.proofs.Common.{◌≡◌, ℕ, zero, suc, ◌+◌, ◌*◌, ◌≤◌, ◌==◌, Bool, true, false, not, List}
+use Rattle.std.proofs.Common.{◌≡◌, ℕ, zero, suc, ◌+◌, ◌*◌, ◌≤◌, Bool, true, false, not, List}
 use Rattle.std.proofs.Common.{[], ◌∷◌, ◌++◌, length, take, drop, inl, inr, arith, ap, sym, ◌∙◌}
 use Rattle.std.proofs.Common.{refl, Ok, Some, length-append, length-drop, length-take}
 use Rattle.std.specs.List.{filter, list_all}
-use Rattle.std.specs.Prelude.{nat_le, nat_lt}
+use Rattle.std.specs.Prelude.{nat_lt}
 use Rattle.std.specs.Result.{result_ok}
 use Rattle.std.proofs.lemmas.Bool.{cases_lt, le-leb, lt-leb, ltb-true}
 use Rattle.std.proofs.lemmas.Bool.Decides.{Decides-eqb}
 use Rattle.std.proofs.lemmas.List.{append-nil, get_or_past, take-append-drop}
-use Rattle.std.proofs.lemmas.List.Elements.{All-get_or, filter-append}
+use Rattle.std.proofs.lemmas.List.Elements.{filter-append}
 use Rattle.std.proofs.lemmas.List.Folds.{list_all-append}
-use Rattle.std.proofs.lemmas.List.Sums.{AllPass-from_list_all}
 use Rattle.hex.specs.Hex.{IsBytes, encode_lower}
 use Rattle.hex.proofs.HexLemmas.{decode_of-encode_lower}
 use Rattle.vault_text.specs.Envelope.{read_body}
 use Rattle.vault_text.specs.Hexadecimal.{unhex}
-use Rattle.vault_text.specs.InnerText.{Parts, cut, is_line_feed, parts_of}
+use Rattle.vault_text.specs.InnerText.{is_line_feed, parts_of}
 use Rattle.vault_text.specs.Limits.{ciphertext_limit}
 use Rattle.vault_text.specs.declared.limits.TheConstants.{SALT_LIMIT, TAG_LENGTH}
 use Rattle.vault_text.specs.Written.{body_lines, inner_text, text_of_lines}
 use Rattle.vault_text.proofs.WrittenLemmas.{body_text-nil, body_text-step}
-use Rattle.vault_text.proofs.ListLemmas.{encode_lower-clean}
+use Rattle.vault_text.proofs.ListLemmas.{encode_lower-clean, passes_at}
 use Rattle.vault_text.proofs.InnerTextLemmas.{cut-lines}
 
 -- ---- lines
@@ -30,23 +29,16 @@ pub body_text-short : (lines : ℕ) (digits : List ℕ) → length digits ≤ 80
     → length (text_of_lines [] (body_lines digits)) ≤ length digits + lines
 body_text-short zero [] few = rw (body_text-nil []) (omega arith)
 body_text-short zero (d ∷ digits) few = absurd (omega arith)
-body_text-short (suc lines) digits few =
-    elim (cases_lt 0 (length digits)) [
-      | inl some ↦
-          let left = length-drop 80 digits in
-          let later = body_text-short lines (drop 80 digits) (omega arith) in
-          let first = length-append (take 80 digits) (10 ∷ []) in
-          let size = length-take 80 digits in
-          let both = length-append (take 80 digits ++ 10 ∷ [])
-          (text_of_lines [] (body_lines (drop 80 digits))) in
-          rw (body_text-step [] digits some) (omega arith)
-      | inr none ↦ body_text-short-none lines digits none
-    ]
-  where
-    body_text-short-none : (lines : ℕ) (digits : List ℕ) → length digits ≤ 0
-        → length (text_of_lines [] (body_lines digits)) ≤ length digits + suc lines
-    body_text-short-none lines [] none = rw (body_text-nil []) (omega arith)
-    body_text-short-none lines (d ∷ digits) none = absurd (omega arith)
+body_text-short (suc lines) [] few = rw (body_text-nil []) (omega arith)
+body_text-short (suc lines) (d ∷ digits) few =
+    let all : List ℕ = d ∷ digits in
+    let left = length-drop 80 all in
+    let later = body_text-short lines (drop 80 all) (omega arith) in
+    let first = length-append (take 80 all) (10 ∷ []) in
+    let size = length-take 80 all in
+    let both = length-append (take 80 all ++ 10 ∷ [])
+    (text_of_lines [] (body_lines (drop 80 all))) in
+    rw (body_text-step [] all (omega arith)) (omega arith)
 
 -- the digits are what stands on the lines
 pub filter-body_text : (p : ℕ → Bool) → p 10 ≡ false → (lines : ℕ) (digits : List ℕ)
@@ -71,73 +63,46 @@ filter-body_text p end (suc lines) (d ∷ digits) few =
 bytes_from_test : (xs : List ℕ) → list_all (λ b. nat_lt b 256) xs ≡ true → IsBytes xs
 bytes_from_test xs pass i =
     elim (cases_lt i (length xs)) [
-      | inl inside ↦
-          ltb-true _ _ (All-get_or (λ b. nat_lt b 256 ≡ true) xs i 0 inside
-          (AllPass-from_list_all (λ b. nat_lt b 256) xs pass))
+      | inl inside ↦ ltb-true _ _ (passes_at (λ b. nat_lt b 256) xs i 0 pass inside)
       | inr past ↦ rw (get_or_past xs i 0 past) (omega arith)
     ]
 
 pub inner_text-bytes : (salt tag cipher : List ℕ) → IsBytes (inner_text salt tag cipher)
 inner_text-bytes salt tag cipher =
     let p : ℕ → Bool = λ b. nat_lt b 256 in
-    let a = encode_lower-clean (λ b. nat_lt b 256) refl refl salt in
-    let b = encode_lower-clean (λ b. nat_lt b 256) refl refl tag in
-    let c = encode_lower-clean (λ b. nat_lt b 256) refl refl cipher in
-    bytes_from_test (inner_text salt tag cipher)
-    (rw (
-      list_all-append p (encode_lower salt) (10 ∷ (encode_lower tag ++ 10 ∷ encode_lower cipher)),
-      a,
-      list_all-append p (encode_lower tag) (10 ∷ encode_lower cipher),
-      b,
-      c,
-    ) refl)
+    bytes_from_test (inner_text salt tag cipher) (simp (
+      list_all-append,
+      encode_lower-clean p refl refl salt,
+      encode_lower-clean p refl refl tag,
+      encode_lower-clean p refl refl cipher,
+    ))
 
 no_line_feed : (xs : List ℕ) → list_all (λ b. not (is_line_feed b)) (encode_lower xs) ≡ true
 no_line_feed xs = encode_lower-clean (λ b. not (is_line_feed b)) refl refl xs
-
-cut-inner_text : (salt tag cipher : List ℕ)
-    → cut (inner_text salt tag cipher)
-    ≡ Some
-    (record { salt = encode_lower salt; tag = encode_lower tag; cipher = encode_lower cipher })
-cut-inner_text salt tag cipher =
-    cut-lines (encode_lower salt) (encode_lower tag) (encode_lower cipher) (no_line_feed salt)
-    (no_line_feed tag)
 
 -- ---- reading
 
 unhex-encode_lower : (xs : List ℕ) → IsBytes xs → unhex (encode_lower xs) ≡ Some xs
 unhex-encode_lower xs bytes = ap result_ok (decode_of-encode_lower xs bytes)
 
-parts_of-known : (text salt tag cipher digits_salt digits_tag digits_cipher : List ℕ)
-    → cut text ≡ Some (record { salt = digits_salt; tag = digits_tag; cipher = digits_cipher })
-    → unhex digits_salt ≡ Some salt → unhex digits_tag ≡ Some tag
-    → unhex digits_cipher ≡ Some cipher
-    → nat_le (length salt) SALT_LIMIT ≡ true → (length tag == TAG_LENGTH) ≡ true
-    → parts_of text ≡ Ok (record { salt = salt; tag = tag; cipher = cipher })
-unfolding parts_of
-parts_of-known text salt tag cipher digits_salt digits_tag digits_cipher parts a b c short whole =
-    rw (parts, a, b, c, short, whole) refl
-
-read_body-known : (limit : ℕ) (label digits inner : List ℕ) (parts : Parts)
-    → unhex digits ≡ Some inner → parts_of inner ≡ Ok parts
-    → nat_lt (ciphertext_limit limit) (length parts.cipher) ≡ false
-    → read_body limit label digits
-    ≡ Ok (record { label = label; salt = parts.salt; tag = parts.tag; cipher = parts.cipher })
-unfolding read_body
-read_body-known limit label digits inner parts spells known short = rw (spells, known, short) refl
-
 pub body-reads : (limit : ℕ) (label salt tag cipher : List ℕ) → IsBytes salt
     → length salt ≤ SALT_LIMIT → IsBytes tag → length tag ≡ TAG_LENGTH
     → IsBytes cipher → length cipher ≤ ciphertext_limit limit
     → read_body limit label (encode_lower (inner_text salt tag cipher))
     ≡ Ok (record { label = label; salt = salt; tag = tag; cipher = cipher })
+unfolding parts_of read_body
 body-reads limit label salt tag cipher salt_bytes salt_short tag_bytes tag_whole cipher_bytes
     cipher_short =
-    let inner =
-    unhex-encode_lower (inner_text salt tag cipher) (inner_text-bytes salt tag cipher) in
-    let parts = parts_of-known (inner_text salt tag cipher) salt tag cipher _ _ _
-    (cut-inner_text salt tag cipher)
-    (unhex-encode_lower salt salt_bytes) (unhex-encode_lower tag tag_bytes)
-    (unhex-encode_lower cipher cipher_bytes)
-    (le-leb _ _ salt_short) ((Decides-eqb (length tag) TAG_LENGTH).1 tag_whole) in
-    read_body-known limit label _ _ _ inner parts (lt-leb _ _ (omega arith))
+    let short : nat_lt (ciphertext_limit limit) (length cipher) ≡ false =
+    lt-leb _ _ (omega arith) in
+    rw (
+      unhex-encode_lower (inner_text salt tag cipher) (inner_text-bytes salt tag cipher),
+      cut-lines (encode_lower salt) (encode_lower tag) (encode_lower cipher) (no_line_feed salt)
+          (no_line_feed tag),
+      unhex-encode_lower salt salt_bytes,
+      unhex-encode_lower tag tag_bytes,
+      unhex-encode_lower cipher cipher_bytes,
+      le-leb (length salt) SALT_LIMIT salt_short,
+      (Decides-eqb (length tag) TAG_LENGTH).1 tag_whole,
+      short,
+    ) refl

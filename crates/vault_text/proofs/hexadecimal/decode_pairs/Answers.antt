@@ -1,8 +1,9 @@
 use Rattle.std.proofs.Common.{◌≡◌, ◌+◌, ◌-◌, ◌*◌, ◌≤◌, ℕ, [], length, arith}
 use Rattle.std.proofs.Common.{length-drop, length-take}
 use Rattle.std.proofs.lemmas.List.{take_all}
-use Rattle.vault_text.proofs.HexadecimalBlockLemmas.{length-part_written, pieces_next}
+use Rattle.vault_text.proofs.HexadecimalBlockLemmas.{pieces_next}
 use Rattle.vault_text.proofs.HexadecimalLemmas.{unhex-spelled_bytes}
+use Rattle.vault_text.proofs.SourceLemmas.{length-part_written}
 use Rattle.vault_text.proofs.hexadecimal.decode_pairs.Goals as goal
 use borrow.Rule.Slice.PartMut.{put_mid}
 
@@ -15,13 +16,7 @@ loop-bytes-preserved c =
     let end = l.done + 20 in
     let piece = c.decode_block-is_good.new.bytes in
     let len : length piece ≡ end - l.done =
-    omega (
-      arith,
-      c.decode_block-is_good.auto.bytes,
-      c.loop-bytes-test.true,
-      length-take {A = ℕ},
-      length-drop {A = ℕ},
-    ) in
+    omega (arith, c.loop-bytes-test.true, length-take {A = ℕ}, length-drop {A = ℕ}) in
     let inside : l.done + (end - l.done) ≤ length l.bytes = omega (arith, c.loop-bytes-test.true) in
     let same = length-part_written l.done (end - l.done) l.bytes piece inside len in (
       omega (arith, same, inside),

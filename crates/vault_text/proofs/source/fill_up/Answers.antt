@@ -1,4 +1,4 @@
-use Rattle.std.proofs.Common.{rules, ◌-◌, take, drop, length, arith, length-take, length-drop}
+use Rattle.std.proofs.Common.{ℕ, rules, ◌-◌, take, length, arith, length-take, length-drop}
 use Rattle.std.proofs.lemmas.Result.{MatchResult-from_err}
 use Rattle.vault_text.proofs.SinkLemmas.{taken_none}
 use Rattle.vault_text.proofs.SourceLemmas.{given_none, given_next, length-written}
@@ -20,14 +20,7 @@ pub loop-filled-preserved : goal.loop-filled-preserved
 loop-filled-preserved g c =
     let l = c.loop-filled in
     let whole = length-written l.filled l.buf c.fill.new.buf l.invariant.0 c.fill.auto.buf in (
-      omega (
-        arith,
-        whole,
-        c.in_ok-n.ensures.bound,
-        c.fill.auto.buf,
-        length-take (length l.buf - l.filled) (drop l.filled l.buf),
-        length-drop l.filled l.buf,
-      ),
+      omega (arith, whole, c.in_ok-n.ensures.bound, length-take {A = ℕ}, length-drop {A = ℕ}),
       given_next g.S.Source.gives g.met.S.Source.gives_more _ _ _ l.filled c.in_ok-n.n
           (length l.buf - l.filled) l.buf c.fill.new.buf l.invariant.0 c.in_ok-n.ensures.bound
           l.invariant.1 c.in_ok-n.ensures.gives,

@@ -15,19 +15,9 @@ returns-clause-decoded c =
     let room = rw (← c.self.view_is, c.in-Some.is, digits_are) at c.requires in
     let len : length first ≡ 1 =
     omega (arith, room, c.decode_pairs.auto.bytes, length-take {A = ℕ}) in
-    let inside : 1 ≤ length (first ++ drop 1 old) =
-    omega (arith, length-append first (drop 1 old)) in
+    let inside : 1 ≤ length (first ++ drop 1 old) = omega (arith, length-append {A = ℕ}) in
     let fits : n ≤ length rest =
-    omega (
-      arith,
-      room,
-      c.decode_aligned-2.ensures.count,
-      c.decode_aligned-2.auto.bytes,
-      length-append first (drop 1 old),
-      length-drop 1 old,
-      length-take {A = ℕ},
-      length-drop {A = ℕ},
-    ) in
+    omega (arith, room, length-append {A = ℕ}, length-take {A = ℕ}, length-drop {A = ℕ}) in
     let pair = Decodes-pairs (record { high = None; is_bad = c.self.inside.is_bad })
     c.as_slice.result.now first c.decode_pairs.result refl c.decode_pairs.ensures
     (rw c.as_slice.ensures refl) in

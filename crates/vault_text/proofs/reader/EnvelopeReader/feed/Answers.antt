@@ -6,19 +6,6 @@ pub returns-clause-taken : goal.returns-clause-taken
 returns-clause-taken c input stands =
     let line = c.extend-rest.ensures in
     let here = rw (← c.self.view_is) at stands in
-    HasRead-piece
-    (record {
-      limit = c.self.inside.limit;
-      fed = c.self.inside.fed;
-      line = c.self.inside.line;
-      body = c.self.inside.body;
-    })
-    (record {
-      limit = c.self.inside.limit;
-      fed = c.saturating_add-self-inside.result;
-      line = c.extend-rest.new.self;
-      body = c.extend.new.self;
-    })
-    input c.args.piece.now c.extend-rest.result.now c.self.invariant refl
+    HasRead-piece _ _ input c.args.piece.now c.extend-rest.result.now here c.self.invariant refl
     c.saturating_add-self-inside.ensures
-    (line.line input here.line) (line.body input here.line) c.extend.ensures here
+    (line.line input here.line) (line.body input here.line) c.extend.ensures

@@ -1,30 +1,26 @@
-use Rattle.std.proofs.Common.{◌<◌, ◌≤◌, arith, sym, ◌∙◌}
+use Rattle.std.proofs.Common.{arith, sym, ◌∙◌}
 use Rattle.std.proofs.lemmas.Result.{err_from_is_err_and}
-use Rattle.vault_text.specs.Limits.{envelope_limit}
 use Rattle.vault_text.proofs.EnvelopeReaderLemmas.{read-long, read-short}
 use Rattle.vault_text.proofs.reader.EnvelopeReader.finish.Goals as goal
 
 pub returns-then-fed-envelope_limit : goal.returns-then-fed-envelope_limit
 returns-then-fed-envelope_limit c input stands =
-    let long : envelope_limit c.self.inside.limit < c.self.inside.fed =
-    omega (arith, c.if-fed-envelope_limit.true, c.envelope_limit.ensures.value) in
-    rw (← c.self.view_is) (read-long _ input (rw (← c.self.view_is) at stands) long)
+    rw (← c.self.view_is) (read-long _ input (rw (← c.self.view_is) at stands)
+    (omega (arith, c.if-fed-envelope_limit.true, c.envelope_limit.ensures.value)))
 
 pub returns-in_err-header : goal.returns-in_err-header
 returns-in_err-header c input stands =
-    let short : c.self.inside.fed ≤ envelope_limit c.self.inside.limit =
-    omega (arith, c.if-fed-envelope_limit.false, c.envelope_limit.ensures.value) in
     let here = rw (← c.self.view_is) at stands in
     let p = err_from_is_err_and c.from_residual.result c.from_residual.ensures.1 in
     rw (p.1, p.2, ← c.self.view_is)
     (rw (sym (c.finish.ensures input here.line) ∙ c.in_err-header.was)
-    at (read-short _ input here short))
+    at (read-short _ input here
+    (omega (arith, c.if-fed-envelope_limit.false, c.envelope_limit.ensures.value))))
 
 pub returns : goal.returns
 returns c input stands =
-    let short : c.self.inside.fed ≤ envelope_limit c.self.inside.limit =
-    omega (arith, c.if-fed-envelope_limit.false, c.envelope_limit.ensures.value) in
     let here = rw (← c.self.view_is) at stands in
     rw (c.finish-2.ensures _ _ here.body, c.into_label.ensures, ← c.self.view_is)
     (rw (sym (c.finish.ensures input here.line) ∙ c.in_ok-header.was)
-    at (read-short _ input here short))
+    at (read-short _ input here
+    (omega (arith, c.if-fed-envelope_limit.false, c.envelope_limit.ensures.value))))

@@ -10,9 +10,8 @@ returns-clause-text c =
     let both : c.split_at.result.0.now ++ c.split_at.result.1.now ≡ parts.ciphertext.now =
     rw (c.split_at.ensures.front, c.split_at.ensures.back)
     (take-append-drop c.min.result parts.ciphertext.now) in
-    inner_text-split parts.salt.now parts.tag.now parts.ciphertext.now
-    c.salt_and_tag-inner.result.items c.append_hexadecimal.new.text.items c.split_at.result.0.now
-    c.split_at.result.1.now c.salt_and_tag-inner.ensures.text c.append_hexadecimal.ensures.text both
+    inner_text-split _ _ _ _ _ _ _ c.salt_and_tag-inner.ensures.text
+    c.append_hexadecimal.ensures.text both
 
 pub returns-clause-full : goal.returns-clause-full
 returns-clause-full c =

@@ -1,7 +1,5 @@
-use Rattle.std.proofs.Common.{◌++◌, take, drop, ◌-◌, arith, refl, ◌∙◌, append_assoc, ap}
-use Rattle.std.proofs.Common.{length-drop, length-take, List, ℕ}
+use Rattle.std.proofs.Common.{drop, ◌-◌, arith, refl, ◌∙◌, append_assoc, length-drop, length-take}
 use Rattle.std.proofs.lemmas.List.{append-nil}
-use Rattle.hex.specs.Hex.{encode_lower}
 use Rattle.vault_text.proofs.WrittenLemmas.{encode_lower-next, encode_lower-nil}
 use Rattle.vault_text.proofs.writing.lines.append_hexadecimal.Goals as goal
 
@@ -24,11 +22,6 @@ loop-done-preserved c =
     let rest = length-drop l.done bytes in
     let next = encode_lower-next bytes l.done end (omega arith) in (
       omega arith,
-      c.append_digits.ensures.text
-          ∙ ap (λ (text : List ℕ). text ++ encode_lower (take (end - l.done) (drop l.done bytes)))
-          l.invariant.1
-          ∙ append_assoc c.args.text.now.items (encode_lower (take l.done bytes))
-          (encode_lower (take (end - l.done) (drop l.done bytes)))
-          ∙ ap (λ (digits : List ℕ). c.args.text.now.items ++ digits) next,
+      c.append_digits.ensures.text ∙ rw (l.invariant.1, append_assoc, next) refl,
       omega arith,
     )

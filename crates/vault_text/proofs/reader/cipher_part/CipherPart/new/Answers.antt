@@ -1,5 +1,13 @@
-use Rattle.vault_text.proofs.InnerReaderLemmas.{PartHas-nothing}
+use Rattle.std.proofs.Common.{[], refl, arith}
+use Rattle.vault_text.proofs.HexadecimalLemmas.{Decodes-nothing}
 use Rattle.vault_text.proofs.reader.cipher_part.CipherPart.new.Goals as goal
 
 pub returns : goal.returns
-returns c = rw (c.requires, c.new.ensures) (PartHas-nothing c.args.memory.limit)
+returns c =
+    rw (c.requires, c.new.ensures) (record {
+      same_limit = refl;
+      spelled = [];
+      decoded = Decodes-nothing;
+      long = λ e. cc;
+      whole = λ e. (refl, omega arith);
+    })

@@ -1,7 +1,5 @@
-use Rattle.std.proofs.Common.{◌≢◌, length, Ok, Err, sym, ◌∙◌, arith}
-use Rattle.std.specs.Prelude.{IfSome}
+use Rattle.std.proofs.Common.{Ok, Err, sym, ◌∙◌, arith}
 use Rattle.vault_text.specs.Hexadecimal.{unhex}
-use Rattle.vault_text.specs.declared.limits.TheConstants.{TAG_LENGTH}
 use Rattle.std.proofs.lemmas.Option.{IfSome_then}
 use Rattle.std.proofs.lemmas.Result.{err_from_is_err_and}
 use Rattle.vault_text.proofs.InnerTextLemmas.{payload_of-bad_salt, payload_of-ciphertext}
@@ -19,9 +17,8 @@ returns-in_err-finish c limit text has =
     let here = rw (← c.self.view_is) at has in
     let p = err_from_is_err_and c.from_residual.result c.from_residual.ensures.1 in
     let salt = c.in_err-finish.ensures here.digits.salt here.salt in
-    rw (p.1, p.2, salt.0)
-    (sym (read_inner-parts limit c.args.label text _ here c.in-Cipher.is
-    ∙ payload_of-bad_salt limit c.args.label _ _ _ salt.1))
+    rw (p.1, p.2, salt.0, read_inner-parts limit c.args.label text _ here c.in-Cipher.is)
+    (sym (payload_of-bad_salt limit c.args.label _ _ _ salt.1))
 
 pub returns-in_default-new : goal.returns-in_default-new
 returns-in_default-new c limit text has =
@@ -36,11 +33,9 @@ returns-in_err-finish-2 c limit text has =
     let p = err_from_is_err_and c.from_residual-in_err-finish-2.result
     c.from_residual-in_err-finish-2.ensures.1 in
     let tag = c.in_err-finish-2.ensures here.digits.tag here.tag in
-    let odd : IfSome (unhex here.digits.tag) (λ t. length t ≢ TAG_LENGTH) =
-    IfSome_then (unhex here.digits.tag) tag.1 (λ t long same. omega (arith, long, same)) in
-    rw (p.1, p.2, tag.0)
-    (sym (read_inner-parts limit c.args.label text _ here c.in-Cipher.is
-    ∙ payload_of-bad_tag limit c.args.label _ _ _ odd))
+    rw (p.1, p.2, tag.0, read_inner-parts limit c.args.label text _ here c.in-Cipher.is)
+    (sym (payload_of-bad_tag limit c.args.label _ _ _ (IfSome_then (unhex here.digits.tag) tag.1
+    (λ t long same. omega (arith, long, same)))))
 
 pub returns-in_default-try_from : goal.returns-in_default-try_from
 returns-in_default-try_from c limit text has =
