@@ -1,9 +1,9 @@
 -- A parse by the command line of the program.
-use Rattle.std.proofs.Common.{◌≡◌, ◌∙◌, List, true, Result, Ok, Err, ap, refl}
-use Rattle.std.proofs.Common.{subst}
+use Rattle.std.proofs.Common.{◌≡◌, List, true, Result, refl}
 use Rattle.std.proofs.lemmas.Bool.{and_parts}
+use Rattle.std.proofs.lemmas.Result.{IfOk-weaker}
 use Rattle.std.specs.Prelude.{IfOk}
-use Rattle.clap.specs.Words.{App, FailsBy, HasMatchesOf, Text, fault_of, is_simple, subcommand_of}
+use Rattle.clap.specs.Words.{App, FailsBy, HasMatchesOf, Text, fault_of, subcommand_of}
 use Rattle.clap.specs.Words.{subcommand_rows_of}
 use Rattle.clap.specs.Faults.{is_simple_and_free}
 use Rattle.clap.specs.declared.error.Error.{Error}
@@ -19,15 +19,11 @@ vault_app-simple = refl
 pub parsed_as : (app : App) (words : List Text) (r : Result ArgMatches Error) → app ≡ vault_app
     → IfOk r (HasMatchesOf app words)
     → IfOk r (λ m. subcommand_rows_of m ≡ subcommand_of vault_app words)
-parsed_as app words (Ok m) e h =
-    (h (ap is_simple e ∙ (and_parts _ _ vault_app-simple).0)).1
-    ∙ ap (λ (a : App). subcommand_of a words) e
-parsed_as app words (Err error) e h = tt
+parsed_as app words r e h =
+    IfOk-weaker r _ _ (λ m has. (has (and_parts _ _ vault_app-simple).0).1) (rw e at h)
 
 -- the kinds of its errors
 pub fails_as : (app : App) (words : List Text) (r : Result ArgMatches Error) → app ≡ vault_app
     → (is_simple_and_free app ≡ true → FailsBy (fault_of app words) r)
     → FailsBy (fault_of vault_app words) r
-fails_as app words r e h =
-    subst (λ (a : App). FailsBy (fault_of a words) r) e
-    (h (ap is_simple_and_free e ∙ vault_app-simple))
+fails_as app words r e h = (rw e at h) vault_app-simple

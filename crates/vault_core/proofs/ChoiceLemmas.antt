@@ -1,7 +1,8 @@
 -- The answers of a choice, by how many secrets there are.
-use Rattle.std.proofs.Common.{◌≡◌, ◌≢◌, ℕ, ◌<◌, List, [], ◌∷◌, length, Option, Some, None, Result}
-use Rattle.std.proofs.Common.{Ok, Err, arith, refl, sym}
-use Rattle.std.specs.Prelude.{IfOk, position}
+use Rattle.std.proofs.Common.{◌≡◌, ◌==◌, ℕ, ◌<◌, List, [], ◌∷◌, length, Option, Some, None, Result}
+use Rattle.std.proofs.Common.{Ok, Err, arith, refl}
+use Rattle.std.specs.Prelude.{IfOk, if◌then◌else◌, position}
+use Rattle.std.proofs.lemmas.Bool.{ne_eqb}
 use Rattle.std.proofs.lemmas.List.Quantifiers.{position-Some}
 use Rattle.std.specs.Option.{ok_or}
 use Rattle.vault_core.specs.Choice.{chosen_index}
@@ -11,57 +12,43 @@ use Rattle.vault_core.specs.declared.choice.ChoiceFault.TheVariants.{NoEncryptSe
 use Rattle.vault_core.specs.declared.choice.ChoiceFault.TheVariants.{ManyEncryptSecrets}
 use Rattle.vault_core.specs.declared.choice.ChoiceFault.TheVariants.{UnknownEncryptId}
 
-pub chosen_index-of_none : (secrets : List Secret) (label : Option (List ℕ)) → length secrets ≡ 0
-    → chosen_index secrets label ≡ Err NoEncryptSecret
-unfolding chosen_index
-chosen_index-of_none [] label none = refl
-chosen_index-of_none (first ∷ others) label none = absurd (omega arith)
+-- the choice from some secrets
+abbrev pub choice_of : List Secret → Option (List ℕ) → Result ℕ ChoiceFault
+choice_of secrets None = if length secrets == 1 then Ok 0 else Err ManyEncryptSecrets
+choice_of secrets (Some label) = ok_or (position (has_label label) secrets) UnknownEncryptId
 
-pub chosen_index-of_one : (secrets : List Secret) → length secrets ≡ 1
-    → chosen_index secrets None ≡ Ok 0
+pub chosen_index-is : (secrets : List Secret) (label : Option (List ℕ))
+    → chosen_index secrets label
+    ≡ (if length secrets == 0 then Err NoEncryptSecret else choice_of secrets label)
 unfolding chosen_index
-chosen_index-of_one [] one = absurd (omega arith)
-chosen_index-of_one (only ∷ []) one = refl
-chosen_index-of_one (first ∷ second ∷ others) one = absurd (omega arith)
-
-pub chosen_index-of_many : (secrets : List Secret) → length secrets ≢ 0 → length secrets ≢ 1
-    → chosen_index secrets None ≡ Err ManyEncryptSecrets
-unfolding chosen_index
-chosen_index-of_many [] not_none not_one = absurd (not_none refl)
-chosen_index-of_many (only ∷ []) not_none not_one = absurd (not_one refl)
-chosen_index-of_many (first ∷ second ∷ others) not_none not_one = refl
-
-pub chosen_index-by_label : (secrets : List Secret) (label : List ℕ) → length secrets ≢ 0
-    → chosen_index secrets (Some label)
-    ≡ ok_or (position (has_label label) secrets) UnknownEncryptId
-unfolding chosen_index
-chosen_index-by_label [] label not_none = absurd (not_none refl)
-chosen_index-by_label (only ∷ []) label not_none = refl
-chosen_index-by_label (first ∷ second ∷ others) label not_none = refl
+chosen_index-is [] label = refl
+chosen_index-is (only ∷ []) None = refl
+chosen_index-is (only ∷ []) (Some label) = refl
+chosen_index-is (first ∷ second ∷ others) None =
+    let n = length (first ∷ second ∷ others) in
+    rw (ne_eqb n 0 (omega arith), ne_eqb n 1 (omega arith)) refl
+chosen_index-is (first ∷ second ∷ others) (Some label) =
+    rw (ne_eqb (length (first ∷ second ∷ others)) 0 (omega arith)) refl
 
 -- an index that is found lies within the list
-found-within : (secrets : List Secret) (label : List ℕ) (index : ℕ) → (found : Option ℕ)
+found-within : (secrets : List Secret) (label : List ℕ) (found : Option ℕ)
     → position (has_label label) secrets ≡ found
-    → ok_or found UnknownEncryptId ≡ Ok index → index < length secrets
-found-within secrets label index None known is = absurd cc
-found-within secrets label index (Some at) known is =
-    let same : at ≡ index = cc in
-    let empty : Secret = record { label = []; password = [] } in
-    rw same at ((position-Some (has_label label) secrets at empty known).0)
+    → IfOk (ok_or found UnknownEncryptId) (λ index. index < length secrets)
+found-within secrets label None known = tt
+found-within secrets label (Some index) known =
+    (position-Some (has_label label) secrets index (record { label = []; password = [] }) known).0
 
-pub chosen_index-within : (secrets : List Secret) (label : Option (List ℕ)) (index : ℕ)
-    → chosen_index secrets label ≡ Ok index → index < length secrets
+chosen_index-within : (secrets : List Secret) (label : Option (List ℕ))
+    → IfOk (chosen_index secrets label) (λ index. index < length secrets)
 unfolding chosen_index
-chosen_index-within [] label index is = absurd cc
-chosen_index-within (only ∷ []) None index is = let first : 0 ≡ index = cc in omega (arith, first)
-chosen_index-within (first ∷ second ∷ others) None index is = absurd cc
-chosen_index-within (only ∷ []) (Some label) index is =
-    found-within (only ∷ []) label index _ refl is
-chosen_index-within (first ∷ second ∷ others) (Some label) index is =
-    found-within (first ∷ second ∷ others) label index _ refl is
+chosen_index-within [] label = tt
+chosen_index-within (only ∷ []) None = omega arith
+chosen_index-within (first ∷ second ∷ others) None = tt
+chosen_index-within (only ∷ []) (Some label) = found-within (only ∷ []) label _ refl
+chosen_index-within (first ∷ second ∷ others) (Some label) =
+    found-within (first ∷ second ∷ others) label _ refl
 
 pub IfOk-within : (secrets : List Secret) (label : Option (List ℕ)) (answer : Result ℕ ChoiceFault)
     → answer ≡ chosen_index secrets label
     → IfOk answer (λ index. index < length secrets)
-IfOk-within secrets label (Ok index) is = chosen_index-within secrets label index (sym is)
-IfOk-within secrets label (Err fault) is = tt
+IfOk-within secrets label answer is = rw is (chosen_index-within secrets label)

@@ -4,8 +4,7 @@ pub mod ChoiceLemmas
 pub mod DecryptionLemmas
 pub mod EncryptionLemmas
 pub mod UnsealingLemmas
-pub mod UnsealingPlaintextLemmas
+pub mod InputLemmas
 pub mod RekeyingLemmas
 pub mod SealingByteLemmas
-pub mod SealingLemmas
 pub mod theorems

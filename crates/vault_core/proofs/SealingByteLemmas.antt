@@ -1,7 +1,7 @@
 -- What is sealed has bytes alone.
 use Rattle.std.proofs.Common.{ℕ, ◌+◌, ◌*◌, ◌-◌, ◌%◌, ◌<◌, List, length, lit<, arith, inl, inr}
 use Rattle.std.proofs.Common.{replicate, take}
-use Rattle.std.specs.Prelude.{bit_xor, slice_index}
+use Rattle.std.specs.Prelude.{slice_index}
 use Rattle.std.specs.List.{All, range_with_len}
 use Rattle.std.specs.Int.{to_be_bytes, w32}
 use Rattle.std.proofs.lemmas.Bool.{cases_lt}
@@ -28,9 +28,6 @@ IsBytes-from_All xs all i = elim (cases_lt i (length xs)) [
 
 All-from_IsBytes : (xs : List ℕ) → IsBytes xs → AllBytes xs
 All-from_IsBytes xs bytes i d within = rw (get_or_default xs i d 0 within) (bytes i)
-
-bit_xor-byte : (a b : ℕ) → a < 256 → b < 256 → bit_xor a b < 256
-bit_xor-byte a b = xor_lt 8 a b
 
 -- ---- the cipher of AES
 
@@ -71,7 +68,7 @@ add_round_key-bytes : (words : List ℕ) (n : ℕ) (state : List ℕ) → IsByte
     → IsBytes (add_round_key words n state)
 unfolding add_round_key
 add_round_key-bytes words n state bytes =
-    matrix-bytes _ (λ r c. bit_xor-byte (entry state r c) _ (bytes (r + 4 * c))
+    matrix-bytes _ (λ r c. xor_lt 8 (entry state r c) _ (bytes (r + 4 * c))
     (word_byte-byte (slice_index words (4 * n + c)) r))
 
 cipher-bytes : (words block : List ℕ) → IsBytes (cipher words block)
@@ -89,7 +86,7 @@ pub counter_mode-bytes : (words iv input : List ℕ) → IsBytes input
 unfolding counter_mode
 counter_mode-bytes words iv input bytes =
     IsBytes-from_All _ (All-map (λ b. b < 256) _ (range_with_len 0 (length input))
-    (λ k d inside. bit_xor-byte _ _ (bytes _) (keystream_byte-byte words iv _)))
+    (λ k d inside. xor_lt 8 _ _ (bytes _) (keystream_byte-byte words iv _)))
 
 pub padded-bytes : (plain : List ℕ) → IsBytes plain → IsBytes (padded plain)
 unfolding padded

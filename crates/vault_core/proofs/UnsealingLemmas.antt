@@ -1,31 +1,60 @@
--- The three ways in which opening an envelope ends.
-use Rattle.std.proofs.Common.{◌≡◌, ℕ, List, Some, None, Ok, Err, refl}
+-- How opening an envelope ends: what an opened plaintext is, bytes, and with their padding as many
+-- as the ciphertext has, or a fault.
+use Rattle.std.proofs.Common.{◌≡◌, ℕ, ◌≤◌, List, length, Some, ap, arith}
 use Rattle.std.specs.Prelude.{find}
+use Rattle.vault_aes.specs.KeyExpansion.{key_schedule}
+use Rattle.vault_aes.specs.Padding.{padded_length}
+use Rattle.vault_aes.proofs.CounterModeLemmas.{length-counter_mode}
+use Rattle.vault_aes.proofs.PaddingLemmas.{length-padded, padded-without_padding, take-padded}
+use Rattle.vault_kdf.specs.declared.keys.Keys.{Keys}
 use Rattle.vault_text.specs.Envelope.{Payload}
-use Rattle.vault_core.specs.TriedSecrets.{matches, tries}
-use Rattle.vault_core.specs.Unsealing.{unsealing, plaintext_of}
+use Rattle.vault_text.specs.Limits.{ciphertext_limit}
+use Rattle.vault_text.proofs.EnvelopeLemmas.{HasFittingCipher}
+use Rattle.vault_core.specs.TriedSecrets.{matches, keys_of}
+use Rattle.vault_core.specs.Laws.{IsBytes}
+use Rattle.vault_core.specs.Unsealing.{deciphered_by, unsealing, plaintext_of}
+use Rattle.vault_core.specs.Ready.{Ready}
 use Rattle.vault_core.specs.Secrets.{Secret, SecretList, tried_order}
 use Rattle.vault_fault.specs.declared.fault.Fault.TheVariants.{NoSecretFits, BadPadding}
+use Rattle.vault_core.proofs.InputLemmas.{HasAnswered, HasAnswered-ok_or, HasAnswered-steps}
+use Rattle.vault_core.proofs.SealingByteLemmas.{counter_mode-bytes, take-bytes}
 
-module _ (secrets : SecretList) (payload : Payload) where
-  pub unsealing-no_secret : find (matches payload) (tried_order secrets payload.label) ≡ None
-      → unsealing secrets payload ≡ Err NoSecretFits
-  unfolding unsealing
-  unsealing-no_secret none = rw none refl
+-- the plaintext fits under its limit again
+pub record FitsAgain (limit : ℕ) (plain : List ℕ) : Type 0 where
+  pub bytes : IsBytes plain
+  pub fits : padded_length (length plain) ≤ ciphertext_limit limit
 
-  pub unsealing-bad_padding : (secret : Secret)
-      → find (matches payload) (tried_order secrets payload.label) ≡ Some secret
-      → plaintext_of payload secret ≡ None → unsealing secrets payload ≡ Err BadPadding
-  unfolding unsealing
-  unsealing-bad_padding secret found none = rw (found, none) refl
+-- what comes before the padding of deciphered bytes
+FitsAgain-plain : (limit : ℕ) (payload : Payload) (secret : Secret) (plain : List ℕ)
+    → HasFittingCipher limit payload
+    → plaintext_of payload secret ≡ Some plain → FitsAgain limit plain
+FitsAgain-plain limit payload secret plain ciphertext found =
+    let keys : Keys = keys_of payload secret in
+    let text : List ℕ = deciphered_by keys payload.cipher in
+    let padding = padded-without_padding plain text found in
+    let deciphered =
+    counter_mode-bytes (key_schedule keys.cipher) keys.iv payload.cipher ciphertext.bytes in
+    record {
+      bytes =
+          rw (rw padding at (take-padded plain)) at (take-bytes (length plain) text deciphered);
+      fits = omega (
+        arith,
+        ap length padding,
+        length-padded plain,
+        length-counter_mode (key_schedule keys.cipher) keys.iv payload.cipher,
+        ciphertext.fits,
+      );
+    }
 
-  pub unsealing-plain : (secret : Secret) (plain : List ℕ)
-      → find (matches payload) (tried_order secrets payload.label) ≡ Some secret
-      → plaintext_of payload secret ≡ Some plain
-      → unsealing secrets payload
-      ≡ Ok (record {
-        output = plain;
-        tried = tries payload (tried_order secrets payload.label);
-      })
-  unfolding unsealing
-  unsealing-plain secret plain found some = rw (found, some) refl
+pub unsealing-answers : (limit : ℕ) (secrets : SecretList) (payload : Payload)
+    → HasFittingCipher limit payload
+    → HasAnswered (unsealing secrets payload) (λ ready. FitsAgain limit ready.output)
+unfolding unsealing
+unsealing-answers limit secrets payload ciphertext =
+    let Fits : Ready → Type 0 = λ ready. FitsAgain limit ready.output in
+    let found = find (matches payload) (tried_order secrets payload.label) in
+    HasAnswered-steps _ _ (λ secret. found ≡ Some secret) Fits
+    (HasAnswered-ok_or found NoSecretFits (λ read. cc)) (λ secret _ _.
+    HasAnswered-steps _ _ (λ plain. plaintext_of payload secret ≡ Some plain) Fits
+    (HasAnswered-ok_or (plaintext_of payload secret) BadPadding (λ read. cc)) (λ plain _ some.
+    FitsAgain-plain limit payload secret plain ciphertext some))

@@ -1,6 +1,5 @@
 -- A short input gets one answer under a limit and under every larger one.
 use Rattle.std.proofs.Common.{◌≡◌, ℕ, ◌*◌, ◌≤◌, List, length, arith, ap, refl}
-use Rattle.std.specs.Prelude.{nat_lt, false}
 use Rattle.std.specs.Result.{result_map_both}
 use Rattle.std.proofs.lemmas.Bool.{le-ltb}
 use Rattle.vault_text.proofs.theorems.LargerLimits.{short_inputs}
@@ -18,9 +17,7 @@ module _ (smaller larger : ℕ) (input : List ℕ) (more : smaller ≤ larger) w
       ≡ encryption smaller secrets index form salt input
   unfolding encryption
   encryption-short short secrets index form salt =
-      let fits : nat_lt smaller (length input) ≡ false = le-ltb _ _ short in
-      let fits_more : nat_lt larger (length input) ≡ false = le-ltb _ _ (omega arith) in
-      rw (fits, fits_more) refl
+      rw (le-ltb smaller _ short, le-ltb larger (length input) (omega arith)) refl
 
 module _ (smaller larger : ℕ) (input : List ℕ) (more : smaller ≤ larger)
     (short : length input ≤ 4 * smaller) where

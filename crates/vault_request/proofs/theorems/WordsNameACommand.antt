@@ -1,10 +1,10 @@
 -- Arguments without a fault name a command.
-use Rattle.std.proofs.Common.{◌≡◌, List, [], ◌∷◌, Bool, true, false, Option, Some, None, Result, Ok}
-use Rattle.std.proofs.Common.{Err, refl, sym, ap, ◌∙◌}
-use Rattle.std.proofs.lemmas.Bool.{false≢true}
+use Rattle.std.proofs.Common.{◌≡◌, ◌≢◌, List, [], ◌∷◌, Bool, true, false, Option, Some, None}
+use Rattle.std.proofs.Common.{Result, Ok, Err, refl, sym, ap, ◌∙◌, inl, inr}
+use Rattle.std.proofs.lemmas.Bool.{cases_Bool, false≢true}
 use Rattle.std.specs.List.{AllByRecursion, find}
 use Rattle.std.specs.Option.{option_map}
-use Rattle.std.specs.Prelude.{cond, is_some, IfOk}
+use Rattle.std.specs.Prelude.{is_some, IfOk}
 use Rattle.clap.specs.Faults.{built_fault, check_fault, defaults_fault, entered_fault, settle_fault}
 use Rattle.clap.specs.Faults.{walk_fault}
 use Rattle.clap.specs.Kinds.{Kinds, check_kinds, or_else}
@@ -24,18 +24,15 @@ use Rattle.vault_request.proofs.SettledLemmas.{is_some-map}
 
 -- ---- a level without a fault has its subcommand, where one is required
 
-last-of-five : (a b c d e : Kinds) → or_else a (or_else b (or_else c (or_else d e))) ≡ [] → e ≡ []
-last-of-five [] [] [] [] e h = h
-last-of-five (k ∷ ks) b c d e h = absurd cc
-last-of-five [] (k ∷ ks) c d e h = absurd cc
-last-of-five [] [] (k ∷ ks) d e h = absurd cc
-last-of-five [] [] [] (k ∷ ks) e h = absurd cc
+later : (first last : Kinds) → or_else first last ≡ [] → last ≡ []
+later [] last h = h
+later (kind ∷ kinds) last h = absurd cc
 
 missing : (help required argument : Bool) → required ≡ true
-    → check_kinds help required argument ≡ [] → ⊥
-missing true required argument e h = absurd cc
-missing false true argument e h = absurd cc
-missing false false argument e h = false≢true e
+    → check_kinds help required argument ≢ []
+missing true required argument is e = cc
+missing false true argument is e = cc
+missing false false argument is e = false≢true is
 
 check-required : (s : Shape) (rows : List Row) (has : Bool) → s.subcommand_required ≡ true
     → check_fault s rows has ≡ [] → has ≡ true
@@ -50,9 +47,10 @@ has-command a words required e =
     let rules = a.top.rules in
     let end = walk rules names nothing_held words in
     check-required a.top (finished rules end.held) _ required
-    (last-of-five (walk_fault a.top names (walk_from nothing_held) words)
-    (entered_fault a end.stopped) (settle_fault rules a.top.args_override_self end.held)
-    (defaults_fault (settled rules end.held).rows rules) _ e)
+    (later (defaults_fault (settled rules end.held).rows rules) _
+    (later (settle_fault rules a.top.args_override_self end.held) _
+    (later (entered_fault a end.stopped) _
+    (later (walk_fault a.top names (walk_from nothing_held) words) _ e))))
 
 -- ---- each subcommand is a command
 
@@ -65,21 +63,16 @@ named-requested s rows e =
     sym (is_some-map _ (command_in (Some (s.name, rows)))) ∙ sym (is_some-map _ (command_of s.name))
     ∙ e
 
-find-next : (here : Bool) (s : Shape) (rest : Option Shape) (words : List Text) → NamesCommand s
-    → (is_some (option_map (λ s. rows_at s words) rest) ≡ true
-    → is_some (requested (option_map (λ s. rows_at s words) rest)) ≡ true)
-    → is_some (option_map (λ s. rows_at s words) (cond here (Some s) rest)) ≡ true
-    → is_some (requested (option_map (λ s. rows_at s words) (cond here (Some s) rest))) ≡ true
-find-next true s rest words named later some = named-requested s (rows_at s words).1 named
-find-next false s rest words named later some = later some
-
 find-requested : (test : Shape → Bool) (subs : List Shape) (words : List Text)
     → AllByRecursion NamesCommand subs
     → is_some (option_map (λ s. rows_at s words) (find test subs)) ≡ true
     → is_some (requested (option_map (λ s. rows_at s words) (find test subs))) ≡ true
-find-requested test [] words all some = absurd (false≢true some)
-find-requested test (s ∷ subs) words (named, others) some =
-    find-next (test s) s (find test subs) words named (find-requested test subs words others) some
+find-requested test [] words all = λ some. absurd (false≢true some)
+find-requested test (s ∷ subs) words (named, others) =
+    elim (cases_Bool (test s)) [
+      | inl here ↦ rw here (λ _. named-requested s (rows_at s words).1 named)
+      | inr other ↦ rw other (find-requested test subs words others)
+    ]
 
 entered-requested : (a : App) (stop : Option (Text × List Text))
     → AllByRecursion NamesCommand a.subs

@@ -1,10 +1,9 @@
-use Rattle.std.proofs.Common.{◌≡◌, ◌+◌, arith, inl, inr, refl, sym, ◌∙◌}
+use Rattle.std.proofs.Common.{arith, refl, sym, ◌∙◌}
 use Rattle.std.proofs.lemmas.Result.{err_from_is_err_and}
 use Rattle.vault_text.specs.Limits.{limit_of}
-use Rattle.vault_core.specs.Decryption.{decryption_derivations}
-use Rattle.vault_core.proofs.DecryptionLemmas.{UnlessUnreadable-from, decryption-Err, decryption-Ok}
-use Rattle.vault_core.proofs.DecryptionLemmas.{decryption_derivations-Err}
-use Rattle.vault_core.proofs.DecryptionLemmas.{decryption_derivations-Ok, unsealing-is_no_read}
+use Rattle.vault_core.proofs.DecryptionLemmas.{decryption-answers, decryption-of}
+use Rattle.vault_core.proofs.DecryptionLemmas.{decryption_derivations-of}
+use Rattle.vault_core.proofs.InputLemmas.{UnlessUnreadable-Err, UnlessUnreadable-from}
 use Rattle.vault_core.proofs.decryption.prepare_decrypt_in.Goals as goal
 
 pub returns-in_err-payload-clause-answer : goal.returns-in_err-payload-clause-answer
@@ -17,15 +16,14 @@ returns-in_err-payload-clause-answer g c =
       read.0,
       read.1,
       read.2,
-      elim read.3 [
-        | inl unreadable ↦ inl (unreadable.0, (unreadable.1, refl))
-        | inr refused ↦
-            let none : c.args.meter.now
-            ≡ c.args.meter.now + decryption_derivations limit secrets read.0 =
-            omega (arith, decryption_derivations-Err limit secrets read.0 _ refused.1.1) in
-            let answer = sym (decryption-Err limit secrets read.0 _ refused.1.1) in
-            inr (refused.0, (refused.1.0, (answer, none)))
-      ],
+      UnlessUnreadable-Err read.3 (λ within. (within, refl))
+          (λ refused. (
+            refused.0,
+            (
+              sym (decryption-of limit secrets read.0 _ refused.1),
+              omega (arith, decryption_derivations-of limit secrets read.0 _ refused.1),
+            ),
+          )),
     )
 
 pub returns-clause-answer : goal.returns-clause-answer
@@ -33,22 +31,20 @@ returns-clause-answer g c =
     let read = c.in_ok-payload.ensures.input in
     let limit = limit_of c.args.memory.limit in
     let secrets = c.args.secrets.now in
-    let payload = c.in_ok-payload.payload in (
+    let answer = c.decrypt_payload.ensures.answer
+    ∙ sym (decryption-of limit secrets read.0 _ read.3.1.1) in (
       read.0,
       read.1,
       read.2,
-      UnlessUnreadable-from _ _ _ _ c.decrypt_payload.result
-          (λ fault refused. unsealing-is_no_read secrets payload fault
-          (sym c.decrypt_payload.ensures.answer ∙ refused))
-          read.3.0 (
+      UnlessUnreadable-from _ _ _ _ _ c.decrypt_payload.result
+          (rw (← answer) at (decryption-answers limit secrets read.0)) read.3.0 (
             read.3.1.0,
             (
-              c.decrypt_payload.ensures.answer
-                  ∙ sym (decryption-Ok limit secrets read.0 payload read.3.1.1),
+              answer,
               omega (
                 arith,
                 c.decrypt_payload.ensures.counted,
-                decryption_derivations-Ok limit secrets read.0 payload read.3.1.1,
+                decryption_derivations-of limit secrets read.0 _ read.3.1.1,
               ),
             ),
           ),

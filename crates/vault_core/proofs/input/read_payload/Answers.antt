@@ -1,4 +1,4 @@
-use Rattle.std.proofs.Common.{ap, inr, [], ◌∙◌}
+use Rattle.std.proofs.Common.{ap, inr, []}
 use Rattle.std.specs.Result.{result_map_both}
 use Rattle.std.proofs.lemmas.Result.{err_from_is_err_and}
 use Rattle.vault_fault.specs.Fault.{of_text}
@@ -9,33 +9,30 @@ pub returns-in_err-finish-clause-input : goal.returns-in_err-finish-clause-input
 returns-in_err-finish-clause-input g c =
     let p = err_from_is_err_and c.from_residual-in_err-finish.result
     c.from_residual-in_err-finish.ensures.1 in
+    let new = c.in_memory-reader.ensures in
     let read = c.in_ok-feed_input.ensures.fed in
-    let new = c.in_memory-reader.ensures.limit in
-    let fed = c.in_ok-feed_input.ensures.limit ∙ new in
-    let answer =
-    rw fed at (c.in_err-finish.ensures read.0 (read.4 [] c.in_memory-reader.ensures.nothing)) in
+    let answer = rw (c.in_ok-feed_input.ensures.limit, new.limit) at
+    (c.in_err-finish.ensures read.0 (read.4 [] new.nothing)) in
+    let refused = ap (result_map_both (λ payload. payload) of_text) answer in
     rw (p.1, p.2) (
       read.0,
       read.1,
-      rw new at read.2,
+      rw new.limit at read.2,
       inr (
         (of_text-is_no_read _, c.in_ok-feed_input.ensures.failed),
-        (rw new at read.3, ap (result_map_both (λ payload. payload) of_text) answer),
+        (rw new.limit at read.3, refused),
       ),
     )
 
 pub returns-clause-input : goal.returns-clause-input
 returns-clause-input g c =
+    let new = c.in_memory-reader.ensures in
     let read = c.in_ok-feed_input.ensures.fed in
-    let new = c.in_memory-reader.ensures.limit in
-    let fed = c.in_ok-feed_input.ensures.limit ∙ new in
-    let answer =
-    rw fed at (c.in_ok-finish.ensures read.0 (read.4 [] c.in_memory-reader.ensures.nothing)) in (
+    let answer = rw (c.in_ok-feed_input.ensures.limit, new.limit) at
+    (c.in_ok-finish.ensures read.0 (read.4 [] new.nothing)) in
+    let payload = ap (result_map_both (λ payload. payload) of_text) answer in (
       read.0,
       read.1,
-      rw new at read.2,
-      (
-        c.in_ok-feed_input.ensures.failed,
-        (rw new at read.3, ap (result_map_both (λ payload. payload) of_text) answer),
-      ),
+      rw new.limit at read.2,
+      (c.in_ok-feed_input.ensures.failed, (rw new.limit at read.3, payload)),
     )

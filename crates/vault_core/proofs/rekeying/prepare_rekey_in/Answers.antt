@@ -1,11 +1,9 @@
-use Rattle.std.proofs.Common.{◌≡◌, ◌+◌, arith, inl, inr, refl, sym, ◌∙◌}
+use Rattle.std.proofs.Common.{arith, refl, sym, ◌∙◌}
 use Rattle.std.proofs.lemmas.Result.{err_from_is_err_and}
 use Rattle.vault_text.specs.Limits.{limit_of}
-use Rattle.vault_core.specs.Decryption.{decryption_derivations}
-use Rattle.vault_core.proofs.DecryptionLemmas.{UnlessUnreadable-from, decryption_derivations-Err}
-use Rattle.vault_core.proofs.DecryptionLemmas.{decryption_derivations-Ok}
-use Rattle.vault_core.proofs.RekeyingLemmas.{rekeying-no_payload, rekeying-payload}
-use Rattle.vault_core.proofs.RekeyingLemmas.{resealing-is_no_read}
+use Rattle.vault_core.proofs.DecryptionLemmas.{decryption_derivations-of}
+use Rattle.vault_core.proofs.InputLemmas.{UnlessUnreadable-Err, UnlessUnreadable-from}
+use Rattle.vault_core.proofs.RekeyingLemmas.{rekeying-answers, rekeying-of}
 use Rattle.vault_core.proofs.rekeying.prepare_rekey_in.Goals as goal
 
 pub returns-in_err-payload-clause-answer : goal.returns-in_err-payload-clause-answer
@@ -14,21 +12,18 @@ returns-in_err-payload-clause-answer g c =
     let read = c.in_err-payload.ensures.input in
     let limit = limit_of c.args.memory.limit in
     let secrets = c.args.secrets.now in
-    let new = c.args.new.now in
-    let salt = c.args.salt.now in
     rw (p.1, p.2) (
       read.0,
       read.1,
       read.2,
-      elim read.3 [
-        | inl unreadable ↦ inl (unreadable.0, (unreadable.1, refl))
-        | inr refused ↦
-            let none : c.args.meter.now
-            ≡ c.args.meter.now + decryption_derivations limit secrets read.0 + 0 =
-            omega (arith, decryption_derivations-Err limit secrets read.0 _ refused.1.1) in
-            let answer = sym (rekeying-no_payload limit secrets new salt read.0 _ refused.1.1) in
-            inr (refused.0, (refused.1.0, (answer, none)))
-      ],
+      UnlessUnreadable-Err read.3 (λ within. (within, refl))
+          (λ refused. (
+            refused.0,
+            (
+              sym (rekeying-of limit secrets c.args.new.now c.args.salt.now read.0 _ refused.1),
+              omega (arith, decryption_derivations-of limit secrets read.0 _ refused.1),
+            ),
+          )),
     )
 
 pub returns-clause-answer : goal.returns-clause-answer
@@ -38,22 +33,20 @@ returns-clause-answer g c =
     let secrets = c.args.secrets.now in
     let new = c.args.new.now in
     let salt = c.args.salt.now in
-    let payload = c.in_ok-payload.payload in (
+    let answer = c.rekey_payload.ensures.answer
+    ∙ sym (rekeying-of limit secrets new salt read.0 _ read.3.1.1) in (
       read.0,
       read.1,
       read.2,
-      UnlessUnreadable-from _ _ _ _ c.rekey_payload.result
-          (λ fault refused. resealing-is_no_read secrets new salt payload fault
-          (sym c.rekey_payload.ensures.answer ∙ refused))
-          read.3.0 (
+      UnlessUnreadable-from _ _ _ _ _ c.rekey_payload.result
+          (rw (← answer) at (rekeying-answers limit secrets new salt read.0)) read.3.0 (
             read.3.1.0,
             (
-              c.rekey_payload.ensures.answer
-                  ∙ sym (rekeying-payload limit secrets new salt read.0 payload read.3.1.1),
+              answer,
               omega (
                 arith,
                 c.rekey_payload.ensures.counted,
-                decryption_derivations-Ok limit secrets read.0 payload read.3.1.1,
+                decryption_derivations-of limit secrets read.0 _ read.3.1.1,
               ),
             ),
           ),

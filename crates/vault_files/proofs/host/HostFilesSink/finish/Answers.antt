@@ -1,9 +1,10 @@
-use Rattle.std.proofs.Common.{◌≡◌, ◌∙◌, sym, ap, refl, arith, true, false}
+use Rattle.std.proofs.Common.{◌≡◌, ◌∙◌, sym, ap, refl, arith, [], true, false}
 use Rattle.std.specs.Result.{is_ok}
 use Rattle.std.proofs.lemmas.Bool.{false≢true}
+use Rattle.vault_text.specs.declared.sink.Stage.TheVariants.{Begun, Finished}
+use Rattle.vault_files.specs.Host.OutputCalls.{none, finishes, fails_to_finish}
 use Rattle.vault_files.specs.HostProofs.{HostTakes-none}
-use Rattle.vault_files.proofs.HostLemmas.{finished, unfinished, rises}
-use Rattle.vault_files.proofs.HostLemmas.{if_failed-ok, if_failed-err}
+use Rattle.vault_files.proofs.HostLemmas.{by_calls, if_failed-is, rises}
 use Rattle.vault_files.proofs.host.HostFilesSink.finish.Goals as goal
 use Rattle.vault_files.proofs.host.HostFilesSink.finish.Goals.{in-Some, in-None}
 
@@ -14,18 +15,15 @@ returns-then-is_last-clause-takes g c = HostTakes-none g.D.System.executes
 pub returns-then-not-synced-clause-takes : goal.returns-then-not-synced-clause-takes
 returns-then-not-synced-clause-takes g c =
     let stage = ap (λ s. s.stage) c.self.view_is ∙ c.requires in
-    let unstopped = c.if-is_last.ensures.last in
     elim c.match-self.branch [
       | in-Some w ↦
-          let call = w.sync.ensures in
           let made : is_ok w.sync.result ≡ false =
           grind (arith, w.is_ok-synced.ensures, w.synced-is, c.if-not-synced.true) in
-          let executed = rw (if_failed-err _ made) at call in
-          let raised = c.raise.ensures.risen in
-          let counted = rw w.self-inside-is at raised in
-          rw (← c.self.view_is, w.self-inside-is)
-          (unfinished g.D.System.executes _ _ executed stage stage (rises _ _ unstopped counted)
-          refl)
+          let risen = rw w.self-inside-is at c.raise.ensures.risen in
+          rw (← c.self.view_is, w.self-inside-is) (by_calls g.D.System.executes _ _ _ _ _ _ _
+          (fails_to_finish [] [] 0 Begun (none Begun))
+          (rw (if_failed-is w.sync.result, made) at w.sync.ensures) stage stage
+          (rises _ _ c.if-is_last.ensures.last risen) refl)
       | in-None w ↦
           let never : true ≡ false = rw (stage, w.in-None.is) at c.self.invariant in
           absurd (false≢true (sym never))
@@ -36,12 +34,11 @@ returns-clause-takes g c =
     let stage = ap (λ s. s.stage) c.self.view_is ∙ c.requires in
     elim c.match-self.branch [
       | in-Some w ↦
-          let call = w.sync.ensures in
           let made : is_ok w.sync.result ≡ true =
           grind (arith, w.is_ok-synced.ensures, w.synced-is, c.if-not-synced.false) in
-          let executed = rw (if_failed-ok _ made) at call in
-          rw (← c.self.view_is, w.self-inside-is)
-          (finished g.D.System.executes _ _ executed stage refl (omega arith) refl)
+          rw (← c.self.view_is, w.self-inside-is) (by_calls g.D.System.executes _ _ _ _ _ _ _
+          (finishes [] [] 0 Finished (none Finished))
+          (rw (if_failed-is w.sync.result, made) at w.sync.ensures) stage refl (omega arith) refl)
       | in-None w ↦
           let never : false ≡ true = grind (arith, w.synced-is, c.if-not-synced.false) in
           absurd (false≢true never)
