@@ -14,7 +14,7 @@ use Rattle.vault_fault.specs.declared.fault.Fault.{Fault}
 use Rattle.vault_fault.specs.declared.fault.Fault.TheVariants.{Memory, Read}
 use Rattle.vault_fault.specs.declared.fault.Role.TheVariants.{Input}
 use Rattle.vault_cli.specs.Call.{SinkCall, SourceCall, StoreCall, files_from}
-use Rattle.vault_cli.specs.Drive.{AllFound, Drives}
+use Rattle.vault_cli.specs.Drive.{Drives}
 use Rattle.vault_cli.specs.runs.Ending.{Ends, EndsUnread, Finishes, Output, to_path}
 use Rattle.vault_cli.specs.runs.FileContents.{AtPath, request_paths, fault_in, secret_paths}
 use Rattle.vault_cli.specs.Loaded.{ContentsFound, RefusedBy, SaltFound}
@@ -22,9 +22,8 @@ use Rattle.vault_cli.specs.runs.ReportLine.{line_of}
 use Rattle.vault_cli.specs.runs.Answer.{Answer, answered, input_needed_by, input_needed}
 use Rattle.vault_cli.specs.runs.Answer.{input_limit}
 use Rattle.vault_cli.specs.runs.Answer.{run_answer, run_answer_within, ready_by, reported}
-use Rattle.vault_cli.specs.OpenedPaths.{opened_paths}
 use Rattle.vault_cli.specs.Program.{Files, access_of, answer_to, input_in, can_open_input}
-use Rattle.vault_cli.specs.Program.{output_access, output_path, task_over, unless_file}
+use Rattle.vault_cli.specs.Program.{output_access, output_path, unless_file}
 use Rattle.vault_cli.specs.runs.Reports.{Says}
 use Rattle.vault_request.specs.Request.{Request}
 use Rattle.vault_request.specs.Settled.{Settles}
@@ -40,30 +39,6 @@ use Rattle.vault_cli.proofs.ProgramLemmas.{opening-broken, opening-read, task-fo
 unless_file-none : (file : Option FileState) → unless_file file None ≡ None
 unless_file-none None = refl
 unless_file-none (Some file) = refl
-
--- ---- the files of a request
-
-module _ (finds : List ℕ → FileState → Type 0) (request : Request) (contents : List (List ℕ))
-    (salt : List ℕ)
-    (read : ContentsFound finds (secret_paths request) (Ok contents))
-    (salted : SaltFound finds request.salt_path (Ok salt)) where
-  -- with an input file that may be found there and can be opened, or none, they prepare what the
-  -- request does
-  pub found-with : (input : Option FileState) → AtPath finds request.input input
-      → can_open_input input ≡ Ok tt
-      → (found : Files) × AllFound finds (Some (Ok request)) found × (found.input ≡ input)
-      × (task_over request found ≡ planned request contents salt)
-      × (opened_paths (Some (Ok request)) found ≡ request_paths request)
-  found-with input seen opening =
-      let (secrets, secrets_found, gave) = read in
-      let (salt_file, salt_found, has_salt) = salted in
-      let found : Files = record { secrets = secrets; salt = salt_file; input = input } in (
-        found,
-        (secrets_found, salt_found, seen),
-        refl,
-        task-found request found contents salt gave has_salt opening,
-        opened-all finds request found contents secrets_found gave salt has_salt,
-      )
 
 -- what a reader of a file gave
 module _ {R : Type 0} (finds : List ℕ → FileState → Type 0) (opened : List ℕ → R → Type 0)
@@ -143,24 +118,21 @@ module _ {F R S K E : Type 0} (files : StoreCall F R) (src : SourceCall S) (out 
         (ready_by PLAINTEXT_LIMIT task request.string
         (input_in (input_limit PLAINTEXT_LIMIT request.command + 1) input stdin)))
 
+    -- with an input file that may be found there and can be opened, or none
     drives-with : (input : Option FileState) → AtPath (files.finds files.old) request.input input
         → can_open_input input ≡ Ok tt
         → EndsWith input (planned request contents salt) → RequestDrives (Some (Ok request))
     drives-with input input_found opening ends =
-        let (found, seen, is, same, all) = found-with (files.finds files.old) request contents salt
-        read salted input input_found opening in
-        inr (
-          found,
-          seen,
-          (
-            opened,
-            (
-              subst (λ (paths : List (List ℕ)). files.opens files.old paths opened) (sym all) went,
-              subst (λ (file : Option FileState). EndsWith file (task_over request found)) (sym is)
-                  (subst (λ (task : Result Task Fault). EndsWith input task) (sym same) ends),
-            ),
-          ),
-        )
+        let (secrets, secrets_found, gave) = read in
+        let (salt_file, salt_found, has_salt) = salted in
+        let found : Files = record { secrets = secrets; salt = salt_file; input = input } in
+        let all = opened-all (files.finds files.old) request found contents secrets_found gave salt
+        has_salt in
+        let same = task-found request found contents salt gave has_salt opening in
+        let all_went =
+        subst (λ (paths : List (List ℕ)). files.opens files.old paths opened) (sym all) went in
+        let ends_so = subst (λ (task : Result Task Fault). EndsWith input task) (sym same) ends in
+        inr (found, (secrets_found, salt_found, input_found), (opened, (all_went, ends_so)))
 
     -- of standard input
     pub drives-stdin : (reads : List ℕ → R → Type 0) → AtPath reads request.input None
@@ -194,13 +166,11 @@ module _ {F R S K E : Type 0} (files : StoreCall F R) (src : SourceCall S) (out 
           → FileSent plans string → FileEnds plans string
       file-ends (Err fault) string (unread, done) =
           let (file, seen, opening, same) = input-read (files.finds files.old) reads reader
-          prefix_law
-          request.input reader.old [] 0 at none (omega arith) (inr refl) refl in
+          prefix_law request.input reader.old [] 0 at none (omega arith) (inr refl) refl in
           (file, seen, opening, done)
       file-ends (Ok task) (Some string) (unread, done) =
           let (file, seen, opening, same) = input-read (files.finds files.old) reads reader
-          prefix_law
-          request.input reader.old [] 0 at none (omega arith) (inr refl) refl in
+          prefix_law request.input reader.old [] 0 at none (omega arith) (inr refl) refl in
           (file, seen, opening, done)
       file-ends (Ok task) None (input, (given, fits, inl (u, short))) =
           let (file, seen, opening, same) = input-broken (files.finds files.old) reads reader
@@ -210,27 +180,15 @@ module _ {F R S K E : Type 0} (files : StoreCall F R) (src : SourceCall S) (out 
             file,
             seen,
             opening,
-            subst
-                (λ (text : Result (List ℕ) Fault). Finishes SentTo err result
-                (answered (ready_by PLAINTEXT_LIMIT (Ok task) None text)))
-                (sym (same []))
-                (inl
+            rw (same []) (inl
                 (record
                 { status = u.status; unfailed = u.unfailed; output = u.output; line = u.line })),
           )
       file-ends (Ok task) None (input, (given, fits, inr ((stay, whole), done))) =
           let (file, seen, opening, same) = input-read (files.finds files.old) reads reader
-          prefix_law
-          request.input reader.new input
-          (input_limit PLAINTEXT_LIMIT request.command + 1) at given fits whole stay in (
-            file,
-            seen,
-            opening,
-            subst
-                (λ (text : Result (List ℕ) Fault). Finishes SentTo err result
-                (answered (ready_by PLAINTEXT_LIMIT (Ok task) None text)))
-                (sym (same [])) done,
-          )
+          prefix_law request.input reader.new input
+          (input_limit PLAINTEXT_LIMIT request.command + 1) at given fits whole stay in
+          (file, seen, opening, rw (same []) done)
 
       pub drives-file : SentFrom reader → RequestDrives (Some (Ok request))
       unfolding run_answer_within
@@ -261,29 +219,8 @@ module _ {F R S K E : Type 0} (files : StoreCall F R) (src : SourceCall S) (out 
         fault
         → result ≡ status_of fault → Says err (line_of fault) → RequestDrives (Some (Ok request))
     drives-refused request fault (found, seen, refused_so, went) status line =
-        let to = to_path request.output (output_access request.command)
-        (files_from opened files) out in
-        inr (
-          found,
-          seen,
-          (
-            opened,
-            (
-              went,
-              subst
-                  (λ (task : Result Task Fault). Ends to err result src
-                  (unless_file found.input
-                  (input_needed_by task request.string
-                  (input_limit PLAINTEXT_LIMIT request.command)))
-                  (λ stdin. answered (ready_by PLAINTEXT_LIMIT task request.string
-                  (input_in (input_limit PLAINTEXT_LIMIT request.command + 1) found.input stdin))))
-                  (sym refused_so)
-                  (subst (λ (limit : Option ℕ). Ends to err result src limit (λ _. reported fault))
-                  (sym (unless_file-none found.input))
-                  (answered-alone (Some (Ok request)) (reported fault) refl status line)),
-            ),
-          ),
-        )
+        let alone = answered-alone (Some (Ok request)) (reported fault) refl status line in
+        inr (found, seen, (opened, (went, simp (refused_so, unless_file-none) alone)))
 
   -- ---- and before any file was opened
 
@@ -315,18 +252,9 @@ module _ {F R S K E : Type 0} (files : StoreCall F R) (src : SourceCall S) (out 
         drives-no_memory (Some (Ok request)) (status ∙ ap status_of memory) (rw memory at line)
     drives-unsettled fresh unopened (Some (Err other)) fault is settles status line =
         let same : fault ≡ other = cc in
-        inr (
-          record { secrets = []; salt = None; input = None },
-          tt,
-          (
-            files.old,
-            (
-              unopened,
-              answered-alone files.old fresh same_files same_out kept (Some (Err other))
-                  (reported other) refl (status ∙ ap status_of same) (rw same at line),
-            ),
-          ),
-        )
+        let alone = answered-alone files.old fresh same_files same_out kept (Some (Err other))
+        (reported other) refl (status ∙ ap status_of same) (rw same at line) in
+        inr (record { secrets = []; salt = None; input = None }, tt, (files.old, (unopened, alone)))
 
   -- ---- a request that was settled
 

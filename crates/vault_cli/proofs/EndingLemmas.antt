@@ -6,7 +6,7 @@ use Rattle.vault_files.specs.declared.access.Access.{Access}
 use Rattle.vault_files.specs.declared.file_system.FileSystem.{Ghosts as StoreTerms}
 use Rattle.vault_cli.specs.Call.{SinkCall, SourceCall, StoreCall, sink}
 use Rattle.vault_cli.specs.runs.Ending.{Ends, Finishes, IsAnswered, Output, Receives, to_path}
-use Rattle.vault_cli.specs.runs.Ending.{to_sink}
+use Rattle.vault_cli.specs.runs.Ending.{SourceFails, to_sink}
 use Rattle.vault_cli.specs.runs.Answer.{Answer}
 use Rattle.vault_cli.specs.runs.Reports.{Says}
 use Rattle.vault_cli.specs.declared.runs.status.Status.{Status}
@@ -20,8 +20,7 @@ pub record CarriesOver (there here : Output) : Type 0 where
   pub unfailed : there.unfailed → here.unfailed
 
 module _ {E : Type 0} (there here : Output) (carries_over : CarriesOver there here)
-    (err : SinkCall E)
-    (result : Status) where
+    (err : SinkCall E) (result : Status) where
   reported-output : (output : Option (List ℕ)) → Receives there output → Receives here output
   reported-output None h = carries_over.untouched h
   reported-output (Some bytes) h = (carries_over.wrote bytes h.0, carries_over.finished h.1)
@@ -46,23 +45,15 @@ module _ {E : Type 0} (there here : Output) (carries_over : CarriesOver there he
       (answers : List ℕ → Answer)
       → Ends there err result src requested answers → Ends here err result src requested answers
   reported-ends src None answers (unread, done) = (unread, reported-finishes (answers []) done)
-  reported-ends src (Some limit) answers (input, (given, fits, inl (u, short))) = (
-    input,
-    (
-      given,
-      fits,
-      inl (
-        record {
-          status = u.status;
-          failed = u.failed;
-          unfailed = carries_over.unfailed u.unfailed;
-          output = carries_over.untouched u.output;
-          line = u.line;
-        },
-        short,
-      ),
-    ),
-  )
+  reported-ends src (Some limit) answers (input, (given, fits, inl (u, short))) =
+      let fails : SourceFails here err result src = record {
+        status = u.status;
+        failed = u.failed;
+        unfailed = carries_over.unfailed u.unfailed;
+        output = carries_over.untouched u.output;
+        line = u.line;
+      } in
+      (input, (given, fits, inl (fails, short)))
   reported-ends src (Some limit) answers (input, (given, fits, inr (all, done))) =
       (input, (given, fits, inr (all, reported-finishes (answers input) done)))
 
@@ -74,13 +65,11 @@ store_between output terms old new = record { output = output; terms = terms; ol
 module _ {F R K : Type 0} (files : StoreCall F R) (out : SinkCall K)
     (access : Access) (fresh : files.stage files.old ≡ Unbegun) (same_files : files.new ≡ files.old)
     (same_out : out.new ≡ out.old) where
-  pub path-untouched : (path : Option (List ℕ)) → (to_path path access files out).untouched
-  path-untouched None = (same_out, same_files)
-  path-untouched (Some path) = (same_out, ap files.stage same_files ∙ fresh, inl same_files)
-
-  pub path-unfailed : (path : Option (List ℕ)) → (to_path path access files out).unfailed
-  path-unfailed None = ap out.failures same_out
-  path-unfailed (Some path) = ap files.failures same_files
+  path-alone : (path : Option (List ℕ))
+      → (to_path path access files out).untouched × (to_path path access files out).unfailed
+  path-alone None = ((same_out, same_files), ap out.failures same_out)
+  path-alone (Some path) =
+      ((same_out, ap files.stage same_files ∙ fresh, inl same_files), ap files.failures same_files)
 
   module _ {E : Type 0} (err : SinkCall E) (result : Status) (path : Option (List ℕ)) where
     pub alone-answered : (answer : Answer) → answer.output ≡ None → result ≡ answer.status
@@ -88,8 +77,8 @@ module _ {F R K : Type 0} (files : StoreCall F R) (out : SinkCall K)
         → IsAnswered (to_path path access files out) err result answer
     alone-answered answer none status line = record {
       status = status;
-      unfailed = path-unfailed path;
-      output = rw none (path-untouched path);
+      unfailed = (path-alone path).1;
+      output = rw none (path-alone path).0;
       line = line;
     }
 
@@ -103,8 +92,7 @@ module _ {F R K E S : Type 0} (access : Access) (files : StoreCall F R) (out : S
   ends-out path is kept ends =
       subst
       (λ (p : Option (List ℕ)). Ends (to_path p access files out) err result src requested answers)
-      is
-      (reported-ends (to_sink out) (to_path None access files out) (record {
+      is (reported-ends (to_sink out) (to_path None access files out) (record {
         untouched = λ same. (same, kept);
         wrote = λ bytes took. (took, kept);
         finished = λ h. h;
@@ -123,8 +111,7 @@ module _ {F R K E S : Type 0} (access : Access) (files : StoreCall F R) (out : S
   ends-file path chosen_path chosen is at fresh stay alone ends =
       subst
       (λ (p : Option (List ℕ)). Ends (to_path p access files out) err result src requested answers)
-      is
-      (reported-ends (to_sink (sink files.output chosen files.new))
+      is (reported-ends (to_sink (sink files.output chosen files.new))
       (to_path (Some chosen_path) access files out) (record {
         untouched = λ same. (alone, ap files.stage same ∙ fresh, inr (rw same at));
         wrote = λ bytes took. (alone, (chosen, at, took));

@@ -1,8 +1,7 @@
 -- An error of the parser, by its kind.
-use Rattle.std.proofs.Common.{◌≡◌, ◌⊎◌, inl, inr, [], sym, ◌∙◌}
+use Rattle.std.proofs.Common.{◌≡◌, ◌⊎◌, inl, inr, []}
 use Rattle.clap.specs.Words.{IsAmong, Kinds}
 use Rattle.clap.specs.declared.error.kind.ErrorKind.{ErrorKind}
-use Rattle.clap.specs.declared.error.kind.ErrorKind.TheVariants.{DisplayHelp, DisplayVersion}
 use Rattle.clap.specs.declared.error.kind.ErrorKind.TheVariants.{OutOfMemory}
 use Rattle.vault_cli.specs.Call.{SinkCall}
 use Rattle.vault_cli.specs.Explained.{Explains, ExplainsOneOf, HasNoMemory, IsHelp}
@@ -10,10 +9,8 @@ use Rattle.vault_cli.specs.declared.runs.status.Status.{Status}
 
 -- memory is no help
 no-help : (kind : ErrorKind) → kind ≡ OutOfMemory → IsHelp kind → ⊥
-no-help kind memory (inl help) =
-    let wrong : OutOfMemory ≡ DisplayHelp = sym memory ∙ help in absurd cc
-no-help kind memory (inr version) =
-    let wrong : OutOfMemory ≡ DisplayVersion = sym memory ∙ version in absurd cc
+no-help kind memory (inl help) = cc
+no-help kind memory (inr version) = cc
 
 module _ {K E : Type 0} (out : SinkCall K) (err : SinkCall E) (result : Status) where
   pub explains-one : (kinds : Kinds) (kind : ErrorKind) → (kind ≡ OutOfMemory) ⊎ IsAmong kind kinds

@@ -35,24 +35,6 @@ with_contents-more : (prefix : List (List ℕ)) (bytes : List ℕ) (rest : Resul
 with_contents-more prefix bytes (Ok rest) = ap Ok (sym (append_assoc prefix (bytes ∷ []) rest))
 with_contents-more prefix bytes (Err fault) = refl
 
-contents_of-first : (file : FileState) (files : List FileState) → contents_of (file ∷ files)
-    ≡ (prefix_in Secret (PASSWORD_FILE_LIMIT + 1) file >>= λ bytes. contents_of files >>=
-    λ contents.
-    Ok (bytes ∷ contents))
-unfolding contents_of
-contents_of-first file files = refl
-
-contents_of-none : contents_of [] ≡ Ok []
-unfolding contents_of
-contents_of-none = refl
-
-opened_secrets-first : (path : List ℕ) (paths : List (List ℕ)) (file : FileState)
-    (files : List FileState)
-    → opened_secrets (path ∷ paths) (file ∷ files)
-    ≡ path ∷ behind (prefix_in Secret (PASSWORD_FILE_LIMIT + 1) file) (opened_secrets paths files)
-unfolding opened_secrets
-opened_secrets-first path paths file files = refl
-
 -- these paths are opened of these files, whatever comes after them
 abbrev pub Opens : List (List ℕ) → List FileState → Type 0
 Opens paths files =
@@ -67,16 +49,14 @@ Gives files contents =
 
 module _ (finds : List ℕ → FileState → Type 0) where
   Found-append : (ps qs : List (List ℕ)) (fs gs : List FileState) → Found finds ps fs
-      → Found finds qs gs
-      → Found finds (ps ++ qs) (fs ++ gs)
+      → Found finds qs gs → Found finds (ps ++ qs) (fs ++ gs)
   Found-append [] qs [] gs p q = q
   Found-append [] qs (f ∷ fs) gs p q = absurd p
   Found-append (x ∷ ps) qs [] gs p q = absurd p
   Found-append (x ∷ ps) qs (f ∷ fs) gs p q = (p.0, Found-append ps qs fs gs p.1 q)
 
   pub Found-some : ((path : List ℕ) → (file : FileState) × finds path file)
-      → (paths : List (List ℕ))
-      → (files : List FileState) × Found finds paths files
+      → (paths : List (List ℕ)) → (files : List FileState) × Found finds paths files
   Found-some some [] = ([], tt)
   Found-some some (path ∷ paths) =
       ((some path).0 ∷ (Found-some some paths).0, ((some path).1, (Found-some some paths).1))
@@ -99,6 +79,7 @@ module _ (finds : List ℕ → FileState → Type 0) where
       → (file : FileState) × finds path file
       × (prefix_in Secret (PASSWORD_FILE_LIMIT + 1) file ≡ Ok bytes)
       → GivesPrefix paths (i + 1) (contents ++ bytes ∷ [])
+  unfolding contents_of opened_secrets
   GivesPrefix-more paths i contents path bytes at (files, seen, given, opened)
       (file, found, same) = (
         files ++ file ∷ [],
@@ -107,8 +88,7 @@ module _ (finds : List ℕ → FileState → Type 0) where
             ap contents_of (append_assoc files (file ∷ []) more)
             ∙ given (file ∷ more)
             ∙ ap (with_contents contents)
-            (contents_of-first file more
-            ∙ ap (λ r. r >>= λ bytes. contents_of more >>= λ contents. Ok (bytes ∷ contents)) same)
+            (ap (λ r. r >>= λ bytes. contents_of more >>= λ contents. Ok (bytes ∷ contents)) same)
             ∙ with_contents-more contents bytes (contents_of more),
         rw at (λ later more.
             ap (λ (fs : List FileState). opened_secrets ((take i paths ++ path ∷ []) ++ later) fs)
@@ -117,8 +97,7 @@ module _ (finds : List ℕ → FileState → Type 0) where
             (append_assoc (take i paths) (path ∷ []) later)
             ∙ opened (path ∷ later) (file ∷ more)
             ∙ ap (λ (ps : List (List ℕ)). take i paths ++ ps)
-            (opened_secrets-first path later file more
-            ∙ ap (λ r. path ∷ behind r (opened_secrets later more)) same)
+            (ap (λ r. path ∷ behind r (opened_secrets later more)) same)
             ∙ sym (append_assoc (take i paths) (path ∷ []) (opened_secrets later more))),
       )
 
@@ -126,11 +105,12 @@ module _ (finds : List ℕ → FileState → Type 0) where
   pub ContentsFound-all : (paths : List (List ℕ)) (i : ℕ) (contents : List (List ℕ))
       → length paths ≤ i
       → GivesPrefix paths i contents → ContentsFound finds paths (Ok contents)
+  unfolding contents_of
   ContentsFound-all paths i contents past (files, seen, given, opened) = (
     files,
     rw (take_all i paths past) at seen,
     ap contents_of (sym (append-nil files)) ∙ given []
-        ∙ ap (with_contents contents) contents_of-none ∙ ap Ok (append-nil contents),
+        ∙ ap Ok (append-nil contents),
   )
 
   -- the paths after the index, at which some files may be found
@@ -140,47 +120,32 @@ module _ (finds : List ℕ → FileState → Type 0) where
       (at : paths ≡ take i paths ++ path ∷ drop (i + 1) paths)
       (prefix : GivesPrefix paths i contents)
     where
-      with-file : (file : FileState) → finds path file
-          → (files : List FileState) × Found finds paths files
-          × (contents_of files ≡ with_contents contents
-          (contents_of (file ∷ (Found-some some (drop (i + 1) paths)).0)))
-          × (opened_secrets paths files
-          ≡ take i paths ++ opened_secrets (path ∷ drop (i + 1) paths)
-          (file ∷ (Found-some some (drop (i + 1) paths)).0))
-      with-file file found =
-          let (files, seen, given, opened) = prefix in
-          let others = Found-some some (drop (i + 1) paths) in (
-            files ++ file ∷ others.0,
-            subst (λ (all : List (List ℕ)). Found finds all (files ++ file ∷ others.0)) (sym at)
-                (Found-append (take i paths) (path ∷ drop (i + 1) paths) files (file ∷ others.0)
-                seen
-                (found, others.1)),
-            given (file ∷ others.0),
-            ap (λ (all : List (List ℕ)). opened_secrets all (files ++ file ∷ others.0)) at ∙ opened
-                (path ∷ drop (i + 1) paths) (file ∷ others.0),
-          )
-
       -- a file that gives no bytes refuses all
       pub secrets-refuse : (fault : Fault)
           → (file : FileState) × finds path file
           × (prefix_in Secret (PASSWORD_FILE_LIMIT + 1) file ≡ Err fault)
           → opens old (take i paths ++ path ∷ []) new
           → SecretsRefuse finds (λ opened. opens old opened new) paths fault
+      unfolding contents_of opened_secrets
       secrets-refuse fault (file, found, same) went =
-          let others = Found-some some (drop (i + 1) paths) in
-          let (files, seen, gave, opened) = with-file file found in
-          let first : opened_secrets (path ∷ drop (i + 1) paths) (file ∷ others.0) ≡ path ∷ [] =
-          opened_secrets-first path (drop (i + 1) paths) file others.0
-          ∙ ap (λ r. path ∷ behind r (opened_secrets (drop (i + 1) paths) others.0)) same in (
-            files,
-            seen,
-            gave ∙ ap (with_contents contents)
-                (contents_of-first file others.0
-                ∙ ap
-                (λ r. r >>= λ bytes. contents_of others.0 >>= λ contents. Ok (bytes ∷ contents))
+          let (files, seen, given, opened) = prefix in
+          let rest = drop (i + 1) paths in
+          let (others, others_found) = Found-some some rest in (
+            files ++ file ∷ others,
+            subst (λ (all : List (List ℕ)). Found finds all (files ++ file ∷ others)) (sym at)
+                (Found-append (take i paths) (path ∷ rest) files (file ∷ others) seen
+                (found, others_found)),
+            given (file ∷ others)
+                ∙ ap (with_contents contents)
+                (ap (λ r. r >>= λ bytes. contents_of others >>= λ contents. Ok (bytes ∷ contents))
                 same),
             subst (λ (ps : List (List ℕ)). opens old ps new)
-                (sym (opened ∙ ap (λ (ps : List (List ℕ)). take i paths ++ ps) first)) went,
+                (sym
+                (ap (λ (all : List (List ℕ)). opened_secrets all (files ++ file ∷ others)) at
+                ∙ opened (path ∷ rest) (file ∷ others)
+                ∙ ap (λ (ps : List (List ℕ)). take i paths ++ ps)
+                (ap (λ r. path ∷ behind r (opened_secrets rest others)) same)))
+                went,
           )
 
 -- the path of the file at the index
@@ -222,7 +187,6 @@ at_limit finds role room limit answer e (file, found, same) =
 pub PrefixFound-back : (finds later : FileState → Type 0)
     → ((file : FileState) → later file → finds file)
     → (role : Role) (limit : ℕ) (answer : Result (List ℕ) Fault)
-    → PrefixFound later role limit answer
-    → PrefixFound finds role limit answer
+    → PrefixFound later role limit answer → PrefixFound finds role limit answer
 PrefixFound-back finds later back role limit answer (file, found, same) =
     (file, back file found, same)

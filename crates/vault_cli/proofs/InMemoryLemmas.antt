@@ -94,13 +94,6 @@ written-stands files new_files output_file bytes path empty took begun =
     let held : new_files.output.held ≡ bytes = took.output.appended ∙ ap (λ l. l ++ bytes) empty in
     rw (begun, took.output_file, held, took.entries) refl
 
--- after opens the files are those before, but for the log
-log-behind : (files opened : StoreState) (paths : List (List ℕ))
-    → StoreOpens files paths opened
-    → (log : Option (List (List ℕ))) × (opened ≡ record files { log = log })
-    × Logs files.log paths log
-log-behind files opened paths opens = (opened.log, opens.rest, opens.log)
-
 -- there was no memory
 ends-out_of_memory : (result : Status) (files new_files : StoreState)
     (out new_out err new_err : MemSinkState)
@@ -145,22 +138,23 @@ module _ (result : Status) (files new_files : StoreState) (log : Option (List (L
   OutputAt path = to_path path access (memory_store opened new_files) (memory_sink out new_out)
 
   -- nothing was written
-  kept : (path : Option (List ℕ)) → (OutputAt path).untouched → KeptSo
-  kept None (same_out, same) p =
-      ap (λ (s : StoreState). stands_at s p) same ∙ unbegun-stands files p unbegun
-  kept (Some output_file) (same_out, fresh, inl same) p =
-      ap (λ (s : StoreState). stands_at s p) same ∙ unbegun-stands files p unbegun
-  kept (Some output_file) (same_out, fresh, inr chosen) p =
-      unbegun-stands new_files p fresh
-      ∙ ap (λ (s : StoreState). file_at s.entries p) chosen
-
-  left-alone : (path : Option (List ℕ)) → (OutputAt path).untouched → new_out ≡ out
-  left-alone None untouched = untouched.0
-  left-alone (Some output_file) untouched = untouched.0
-
-  received-none : (path : Option (List ℕ)) → new_out ≡ out → Received path None (change out new_out)
-  received-none None same = same
-  received-none (Some p) same = same
+  kept : (path : Option (List ℕ)) → (OutputAt path).untouched
+      → KeptSo × Received path None (change out new_out) × (new_files.log ≡ log)
+  kept None (same_out, same) = (
+    λ p. ap (λ (s : StoreState). stands_at s p) same ∙ unbegun-stands files p unbegun,
+    same_out,
+    ap (λ (s : StoreState). s.log) same,
+  )
+  kept (Some output_file) (same_out, fresh, inl same) = (
+    λ p. ap (λ (s : StoreState). stands_at s p) same ∙ unbegun-stands files p unbegun,
+    same_out,
+    ap (λ (s : StoreState). s.log) same,
+  )
+  kept (Some output_file) (same_out, fresh, inr chosen) = (
+    λ p. unbegun-stands new_files p fresh ∙ ap (λ (s : StoreState). file_at s.entries p) chosen,
+    same_out,
+    ap (λ (s : StoreState). s.log) chosen,
+  )
 
   -- what was written stands at its path, or is held
   wrote : (path : Option (List ℕ)) (bytes : List ℕ) → (OutputAt path).wrote bytes
@@ -176,13 +170,22 @@ module _ (result : Status) (files new_files : StoreState) (log : Option (List (L
       let into = subst (λ (s : StoreState). StoreTakes s bytes new_files) at took in
       (λ p. written-stands opened new_files output_file bytes p empty into begun, same_out)
 
+  -- the log stays
+  log-wrote : (path : Option (List ℕ)) (bytes : List ℕ) → (OutputAt path).wrote bytes
+      → new_files.log ≡ log
+  log-wrote None bytes (took, same) = ap (λ (s : StoreState). s.log) same
+  log-wrote (Some output_file) bytes (same_out, (chosen, at, took)) =
+      took.log ∙ ap (λ (s : StoreState). s.log) at
+
   written : (path output : Option (List ℕ))
       → Receives (OutputAt path) output
-      → StandsSo (stands_after (file_at files.entries) path output)
-      × Received path output (change out new_out)
+      → (StandsSo (stands_after (file_at files.entries) path output)
+      × Received path output (change out new_out))
+      × (new_files.log ≡ log)
   written path None untouched =
-      (kept path untouched, received-none path (left-alone path untouched))
-  written path (Some bytes) (took, finished) = wrote path bytes took finished
+      let (stands, received, logged) = kept path untouched in ((stands, received), logged)
+  written path (Some bytes) (took, finished) =
+      (wrote path bytes took finished, log-wrote path bytes took)
 
   finishes : (path output : Option (List ℕ)) → Receives (OutputAt path) output
       → IsFinished result (change files new_files) (change out new_out) (change err new_err) path
@@ -198,8 +201,7 @@ module _ (result : Status) (files new_files : StoreState) (log : Option (List (L
       ⊎ ((m : ℕ) × StandsSo
       (stands_after (file_at files.entries) (Some output_file) (Some (take m bytes))))
   cut-at output_file bytes n Unbegun is took =
-      inl (λ p. unbegun-stands new_files p is
-      ∙ ap (λ entries. file_at entries p) took.entries)
+      inl (λ p. unbegun-stands new_files p is ∙ ap (λ entries. file_at entries p) took.entries)
   cut-at output_file bytes n Begun is took =
       let begun : has_begun new_files.output.stage ≡ true = rw is refl in
       inr (n, λ p. written-stands opened new_files output_file (take n bytes) p empty took begun)
@@ -209,8 +211,7 @@ module _ (result : Status) (files new_files : StoreState) (log : Option (List (L
 
   cut-to : (path : Option (List ℕ)) (bytes : List ℕ) (n : ℕ) → (OutputAt path).failed
       → (OutputAt path).wrote (take n bytes)
-      → IsCut result (change files new_files) (change out new_out) (change err new_err)
-      path bytes
+      → IsCut result (change files new_files) (change out new_out) (change err new_err) path bytes
   cut-to None bytes n failed (took, same) = (
     (failed, (n, took.0.appended)),
     λ p. ap (λ (s : StoreState). stands_at s p) same ∙ unbegun-stands files p unbegun,
@@ -219,24 +220,6 @@ module _ (result : Status) (files new_files : StoreState) (log : Option (List (L
       let into = subst (λ (s : StoreState). StoreTakes s (take n bytes) new_files) at took in
       (failed, same_out, cut-at output_file bytes n new_files.output.stage refl into)
 
-  -- the log stays
-  log-untouched : (path : Option (List ℕ)) → (OutputAt path).untouched → new_files.log ≡ log
-  log-untouched None (same_out, same) = ap (λ (s : StoreState). s.log) same
-  log-untouched (Some output_file) (same_out, fresh, inl same) = ap (λ (s : StoreState). s.log) same
-  log-untouched (Some output_file) (same_out, fresh, inr chosen) = ap (λ (s : StoreState). s.log)
-      chosen
-
-  log-wrote : (path : Option (List ℕ)) (bytes : List ℕ) → (OutputAt path).wrote bytes
-      → new_files.log ≡ log
-  log-wrote None bytes (took, same) = ap (λ (s : StoreState). s.log) same
-  log-wrote (Some output_file) bytes (same_out, (chosen, at, took)) =
-      took.log ∙ ap (λ (s : StoreState). s.log) at
-
-  log-written : (path output : Option (List ℕ))
-      → Receives (OutputAt path) output → new_files.log ≡ log
-  log-written path None untouched = log-untouched path untouched
-  log-written path (Some bytes) (took, finished) = log-wrote path bytes took
-
   module _ (path : Option (List ℕ)) where
     abbrev EndsSo : Answer → Type 0
     EndsSo answer =
@@ -244,41 +227,28 @@ module _ (result : Status) (files new_files : StoreState) (log : Option (List (L
         path answer
 
     ends-done : (answer : Answer)
-        → Finishes (OutputAt path) (memory_sink err new_err) result answer → EndsSo answer
+        → Finishes (OutputAt path) (memory_sink err new_err) result answer
+        → EndsSo answer × (new_files.log ≡ log)
     ends-done answer (inl done) =
-        let (stands, received) = written path answer.output done.output in
-        inl (record {
-          status = done.status;
-          stands = stands;
-          finished = finishes path answer.output done.output;
-          output = received;
-          line = said err new_err
-              answer.line done.line;
-        })
-    ends-done answer (inr fails) = inr (inr (record {
-      status = fails.status;
-      cut = let (bytes, is, (n, took)) = fails.output in
-          (bytes, is, cut-to path bytes n fails.failed took);
-      line = said err new_err (line_of Write) fails.line;
-    }))
-
-    log-done : (answer : Answer) → Finishes (OutputAt path) (memory_sink err new_err) result answer
-        → new_files.log ≡ log
-    log-done answer (inl done) = log-written path answer.output done.output
-    log-done answer (inr fails) =
-        let (bytes, is, (n, took)) = fails.output in log-wrote path (take n bytes) took
-
-    log-kept : (src new_src : source.MemSourceState) (requested : Option ℕ)
-        (answers : List ℕ → Answer)
-        → Ends (OutputAt path) (memory_sink err new_err) result (memory_source src new_src)
-        requested
-        answers
-        → new_files.log ≡ log
-    log-kept src new_src None answers (unread, done) = log-done (answers []) done
-    log-kept src new_src (Some limit) answers (input, (given, fits, inl (failed, short))) =
-        log-untouched path failed.output
-    log-kept src new_src (Some limit) answers (input, (given, fits, inr (all, done))) =
-        log-done (answers input) done
+        let ((stands, received), logged) = written path answer.output done.output in (
+          inl (record {
+            status = done.status;
+            stands = stands;
+            finished = finishes path answer.output done.output;
+            output = received;
+            line = said err new_err answer.line done.line;
+          }),
+          logged,
+        )
+    ends-done answer (inr fails) =
+        let (bytes, is, (n, took)) = fails.output in (
+          inr (inr (record {
+            status = fails.status;
+            cut = (bytes, is, cut-to path bytes n fails.failed took);
+            line = said err new_err (line_of Write) fails.line;
+          })),
+          log-wrote path (take n bytes) took,
+        )
 
     module _ (src new_src : source.MemSourceState) (not_ended : src.ended ≡ false) where
       -- nothing is left where the end was reported
@@ -288,37 +258,30 @@ module _ (result : Status) (files new_files : StoreState) (log : Option (List (L
           given.0.end_is_real
           (λ ended. let never : IsTrue false = rw not_ended at ended in absurd (false≢true never))
 
-      -- the answer to what was given is the answer to all that was there
+      -- the answer to what was given is the answer to all that was there, and so much was taken
       ends-given : (requested : Option ℕ) (answers : List ℕ → Answer) → IsOfPrefix requested answers
           → Ends (OutputAt path) (memory_sink err new_err) result (memory_source src new_src)
-          requested
-          answers
-          → EndsSo (answers src.left)
+          requested answers
+          → EndsSo (answers src.left) × Taken requested (change src new_src)
+          × (new_files.log ≡ log)
       ends-given None answers same (unread, done) =
-          subst EndsSo (same src.left) (ends-done (answers []) done)
+          let (ends, logged) = ends-done (answers []) done in
+          (subst EndsSo (same src.left) ends, unread, logged)
       ends-given (Some limit) answers same (input, (given, fits, inl (failed, short))) =
           absurd (omega (arith, failed.failed))
       ends-given (Some limit) answers same (input, (given, fits, inr ((stay, whole), done))) =
-          subst EndsSo
-          (same new_src.ended src.left input new_src.left given.0.consumed (at-end input given)
-          whole)
-          (ends-done (answers input) done)
-
-      -- so much of the input was taken
-      taken : (requested : Option ℕ) (answers : List ℕ → Answer)
-          → Ends (OutputAt path) (memory_sink err new_err) result (memory_source src new_src)
-          requested
-          answers
-          → Taken requested (change src new_src)
-      taken None answers (unread, done) = unread
-      taken (Some limit) answers (input, (given, fits, inl (failed, short))) =
-          absurd (omega (arith, failed.failed))
-      taken (Some limit) answers (input, (given, fits, inr ((stay, whole), done))) =
-          left-behind src.left input new_src.left limit given.0.consumed fits
-          (elim whole [
-            | inl ended ↦ inl (at-end input given ended)
-            | inr exact ↦ inr exact
-          ])
+          let (ends, logged) = ends-done (answers input) done in (
+            subst EndsSo
+                (same new_src.ended src.left input new_src.left given.0.consumed
+                (at-end input given) whole)
+                ends,
+            left-behind src.left input new_src.left limit given.0.consumed fits
+                (elim whole [
+                  | inl ended ↦ inl (at-end input given ended)
+                  | inr exact ↦ inr exact
+                ]),
+            logged,
+          )
 
 -- ---- how the program ends over files in memory
 
@@ -334,61 +297,48 @@ module _ (result : Status) (files new_files : StoreState) (src new_src : source.
   abbrev found : Files
   found = files_in (file_at files.entries) requested
 
-  -- after a log of the paths that were opened
-  abbrev EndsBehind : Option (List (List ℕ)) → Type 0
-  EndsBehind log =
-      Ends (to_path (output_path requested) (access_of requested)
-      (memory_store (record files { log = log }) new_files) (memory_sink out new_out))
-      (memory_sink err new_err) result (memory_source src new_src) (stdin_needed requested found)
-      (answer_to requested found)
+  abbrev EndsSoAs : Type 0
+  EndsSoAs =
+      EndsInMemory result (change files new_files) (change out new_out) (change err new_err)
+      (output_path requested) (answer_to requested found src.left)
 
-  ends-behind : (seen : Files)
+  drives-all : (seen : Files)
       → AllFound (λ path file. file ≡ file_at files.entries path) requested seen
       → (opened : StoreState)
       → IsDriven (memory_store files new_files) (memory_source src new_src)
       (memory_sink out new_out) (memory_sink err new_err) result requested (answer_to requested)
       seen opened
-      → (log : Option (List (List ℕ))) × Logs files.log (opened_paths requested found) log
-      × EndsBehind log
-  ends-behind seen all_found opened driven =
+      → EndsSoAs × Taken (stdin_needed requested found) (change src new_src)
+      × Logs files.log (opened_paths requested found) new_files.log
+  drives-all seen all_found opened driven =
       let (went, ends) = drives-in (memory_store files new_files) (memory_source src new_src)
       (memory_sink out new_out) (memory_sink err new_err) result (file_at files.entries) opened
-      requested
-      seen all_found driven in
-      let (log, same, logged) = log-behind files opened (opened_paths requested found) went in
-      (log, logged, rw same at ends)
+      requested seen all_found driven in
+      -- after opens the files are those before, but for the log
+      let (so, taken, stays) = ends-given result files new_files opened.log out new_out err new_err
+      unbegun empty (access_of requested) (output_path requested) src new_src not_ended
+      (stdin_needed requested found) (answer_to requested found) (answer-prefix requested found)
+      (rw went.rest at ends) in
+      (so, taken, rw stays went.log)
 
   -- it ends as the answer to all of its input
-  pub drives-ends : DrivesSo
-      → EndsInMemory result (change files new_files) (change out new_out) (change err new_err)
-      (output_path requested) (answer_to requested found src.left)
+  pub drives-ends : DrivesSo → EndsSoAs
   drives-ends (inl (same, unread, memory)) =
       ends-out_of_memory result files new_files out new_out err new_err unbegun same memory
       (output_path requested) (answer_to requested found src.left)
   drives-ends (inr (seen, all_found, (opened, driven))) =
-      let (log, logged, ends) = ends-behind seen all_found opened driven in
-      ends-given result files new_files log out new_out err new_err unbegun empty
-      (access_of requested) (output_path requested) src new_src not_ended
-      (stdin_needed requested found) (answer_to requested found)
-      (answer-prefix requested found) ends
+      (drives-all seen all_found opened driven).0
 
   -- so much of its input was taken
   pub drives-taken : DrivesSo → result ≢ OutOfMemory
       → Taken (stdin_needed requested found) (change src new_src)
   drives-taken (inl (same, unread, memory)) fits = absurd (fits memory.status)
   drives-taken (inr (seen, all_found, (opened, driven))) fits =
-      let (log, logged, ends) = ends-behind seen all_found opened driven in
-      taken result files new_files log out new_out err new_err unbegun empty (access_of requested)
-      (output_path requested) src new_src not_ended (stdin_needed requested found)
-      (answer_to requested found) ends
+      (drives-all seen all_found opened driven).1
 
   -- these paths were opened
   pub drives-logged : DrivesSo → result ≢ OutOfMemory
       → Logs files.log (opened_paths requested found) new_files.log
   drives-logged (inl (same, unread, memory)) fits = absurd (fits memory.status)
   drives-logged (inr (seen, all_found, (opened, driven))) fits =
-      let (log, logged, ends) = ends-behind seen all_found opened driven in
-      let stays = log-kept result files new_files log out new_out err new_err unbegun empty
-      (access_of requested) (output_path requested) src new_src (stdin_needed requested found)
-      (answer_to requested found) ends in
-      rw stays logged
+      (drives-all seen all_found opened driven).2

@@ -76,8 +76,7 @@ keeps-salt None salt size bytes other =
     (take SEALING_SALT_LENGTH salt)
     (record {
       bytes = take-bytes SEALING_SALT_LENGTH salt other;
-      limit =
-          omega (arith, length-take SEALING_SALT_LENGTH salt);
+      limit = omega (arith, length-take SEALING_SALT_LENGTH salt);
     })
 
 abbrev IsLabelled : Secret → Type 0

@@ -1,6 +1,6 @@
 -- The steps of loading the files of a request, by what each answers and opens.
 use Rattle.std.proofs.Common.{◌≡◌, ℕ, List, ◌++◌, Option, Some, None, Result, Ok, Err, Vec, Global}
-use Rattle.std.proofs.Common.{refl, subst, sym, ap, ◌∙◌}
+use Rattle.std.proofs.Common.{refl, subst, sym, ◌∙◌}
 use Rattle.std.specs.Prelude.{option_to_list, IfErr, IfOk}
 use Rattle.std.proofs.lemmas.List.{append-nil}
 use Rattle.vault_files.specs.File.{FileState}
@@ -9,7 +9,7 @@ use Rattle.vault_fault.specs.declared.fault.Fault.{Fault}
 use Rattle.vault_fault.specs.declared.fault.Fault.TheVariants.{CannotOpen}
 use Rattle.vault_fault.specs.declared.fault.Role.TheVariants.{Input, Salt}
 use Rattle.vault_request.specs.Request.{Request}
-use Rattle.vault_cli.specs.runs.FileContents.{AtPath, prefix_in, secret_paths}
+use Rattle.vault_cli.specs.runs.FileContents.{AtPath, secret_paths}
 use Rattle.vault_cli.specs.Loaded.{ContentsFound, PrefixFound, RefusedBy, SaltFound, SecretsRefuse}
 use Rattle.vault_cli.specs.OpenedPaths.{opened_paths, opened_secrets}
 use Rattle.vault_cli.specs.Program.{Files, can_open_input}
@@ -34,19 +34,12 @@ module _ (finds : List ℕ → FileState → Type 0) where
   one-some some (Some path) = (Some (some path).0, (some path).1)
 
   -- the salt file that was found
-  salt-prefix : (path : List ℕ) (room : ℕ) (answer : Result (List ℕ) Fault)
-      → room ≡ SEALING_SALT_LENGTH
-      → PrefixFound (finds path) Salt room answer → SaltFound finds (Some path) answer
-  salt-prefix path room answer e (file, seen, same) =
-      (Some file, seen, ap (λ (n : ℕ). prefix_in Salt n file) (sym e) ∙ same)
-
   pub salt-read : (path : List ℕ) (at : Option (List ℕ)) (room : ℕ)
       (read : Result (Vec ℕ Global) Fault) → Some path ≡ at → room ≡ SEALING_SALT_LENGTH
       → IfOk read (λ bytes. PrefixFound (finds path) Salt room (Ok bytes.items))
       → IfOk read (λ bytes. SaltFound finds at (Ok bytes.items))
-  salt-read path at room (Ok bytes) is e seen =
-      subst (λ (p : Option (List ℕ)). SaltFound finds p (Ok bytes.items)) is
-      (salt-prefix path room (Ok bytes.items) e seen)
+  salt-read path at room (Ok bytes) is e (file, seen, same) =
+      rw (← is) (Some file, seen, rw e at same)
   salt-read path at room (Err fault) is e seen = tt
 
   pub salt-unread : (path : List ℕ) (at : Option (List ℕ)) (room : ℕ)
@@ -54,9 +47,8 @@ module _ (finds : List ℕ → FileState → Type 0) where
       → IfErr read (λ fault. PrefixFound (finds path) Salt room (Err fault))
       → IfErr read (λ fault. SaltFound finds at (Err fault))
   salt-unread path at room (Ok bytes) is e seen = tt
-  salt-unread path at room (Err fault) is e seen =
-      subst (λ (p : Option (List ℕ)). SaltFound finds p (Err fault)) is
-      (salt-prefix path room (Err fault) e seen)
+  salt-unread path at room (Err fault) is e (file, seen, same) =
+      rw (← is) (Some file, seen, rw e at same)
 
   missing-found : (path : Option (List ℕ)) → AtPath finds path (Some Missing)
       → (file : Option FileState) × AtPath finds path file
@@ -80,8 +72,7 @@ module _ {F : Type 0} (finds : F → List ℕ → FileState → Type 0)
     (back : (s t : F) (paths : List (List ℕ)) (path : List ℕ) (file : FileState) → opens s paths t
     → finds t path file → finds s path file)
     (old : F) (some : (path : List ℕ) → (file : FileState) × finds old path file)
-    (request : Request)
-    (fault : Fault) (new : F) where
+    (request : Request) (fault : Fault) (new : F) where
   abbrev RefusedSo : Type 0
   RefusedSo = RefusedBy (finds old) (λ paths. opens old paths new) request fault
 
@@ -144,8 +135,7 @@ module _ {F : Type 0} (finds : F → List ℕ → FileState → Type 0)
       let (input, input_found, no_input) = missing-found (finds old) request.input
       (at_path-back (finds old) (finds last)
       (λ path file. back old last (secret_paths request ++ option_to_list request.salt_path)
-      path file both)
-      request.input (Some Missing) gone) in
+      path file both) request.input (Some Missing) gone) in
       let found : Files = record { secrets = files; salt = salt_file; input = input } in
       let all = opened-behind (finds old) request found contents seen same in (
         found,

@@ -22,8 +22,7 @@ all-behind (Ok bytes) (Err fault) contents opened paths e h = absurd cc
 all-behind (Err fault) rest contents opened paths e h = absurd cc
 
 opened-secrets : (finds : List ℕ → FileState → Type 0) (paths : List (List ℕ))
-    (files : List FileState)
-    (contents : List (List ℕ))
+    (files : List FileState) (contents : List (List ℕ))
     → Found finds paths files → contents_of files ≡ Ok contents → opened_secrets paths files ≡ paths
 unfolding opened_secrets contents_of
 opened-secrets finds [] files contents found e = refl
@@ -44,12 +43,10 @@ module _ (finds : List ℕ → FileState → Type 0) (request : Request) (files 
       ++ behind (salt_in files.salt) (option_to_list request.input)
   opened-behind =
       rw (opened-secrets finds (secret_paths request) files.secrets contents found read, read)
-      (sym
-      (append_assoc (secret_paths request) (option_to_list request.salt_path)
+      (sym (append_assoc (secret_paths request) (option_to_list request.salt_path)
       (behind (salt_in files.salt) (option_to_list request.input))))
 
   -- all that is asked for
   pub opened-all : (salt : List ℕ) → salt_in files.salt ≡ Ok salt
       → opened_paths (Some (Ok request)) files ≡ request_paths request
-  opened-all salt salted =
-      opened-behind ∙ rw salted refl
+  opened-all salt salted = opened-behind ∙ rw salted refl

@@ -93,8 +93,7 @@ module _ {S K E : Type 0} (src : SourceCall S) (out : SinkCall K) (err : SinkCal
         → (answer : Result Ready Fault) → Performs src limit task answer request.string
         → FinishesBy answer → EndsWithin
     ends-performed task found answer performs done =
-        ends-after (Ok task) found
-        (rw (← limit-planned limit request contents salt task found)
+        ends-after (Ok task) found (rw (← limit-planned limit request contents salt task found)
         (ends-text limit task answer request.string performs done))
 
     -- steps 1 to 3 refused
@@ -102,8 +101,7 @@ module _ {S K E : Type 0} (src : SourceCall S) (out : SinkCall K) (err : SinkCal
         → result ≡ status_of fault → src.new ≡ src.old → out.new ≡ out.old
         → Says err (line_of fault) → EndsWithin
     ends-unplanned fault refusal status unread unwritten line =
-        ends-after (Err fault) refusal
-        (unread, finishes-refused fault status unwritten line)
+        ends-after (Err fault) refusal (unread, finishes-refused fault status unwritten line)
 
 -- a task whose output is ready did not see its source fail
 pub performed-unfailed : {S : Type 0} (src : SourceCall S) (limit : ℕ) (task : Task) (ready : Ready)

@@ -117,9 +117,7 @@ all-in at [] [] seen = refl
 all-in at [] (file ∷ files) seen = absurd seen
 all-in at (path ∷ paths) [] seen = absurd seen
 all-in at (path ∷ paths) (file ∷ files) seen =
-    let first : file ≡ at path = seen.0 in
-    let others : files ≡ map at paths = all-in at paths files seen.1 in
-    rw (first, others) refl
+    rw (seen.0, all-in at paths files seen.1) refl
 
 one-in : (at : List ℕ → FileState) (path : Option (List ℕ)) (file : Option FileState)
     → AtPath (λ path file. file ≡ at path) path file → file ≡ option_map at path
@@ -130,8 +128,7 @@ one-in at (Some path) (Some file) seen = ap Some seen
 
 -- where one file stands at each path, the files that are found are those
 module _ {F R S K E : Type 0} (files : StoreCall F R) (src : SourceCall S) (out : SinkCall K)
-    (err : SinkCall E) (result : Status)
-    (at : List ℕ → FileState) (opened : F) where
+    (err : SinkCall E) (result : Status) (at : List ℕ → FileState) (opened : F) where
   pub drives-in : (requested : Option (Result Request Fault)) (found : Files)
       → AllFound (λ path file. file ≡ at path) requested found
       → IsDriven files src out err result requested (answer_to requested) found opened
@@ -143,8 +140,7 @@ module _ {F R S K E : Type 0} (files : StoreCall F R) (src : SourceCall S) (out 
       let same : found ≡ files_in at (Some (Ok request)) =
       rw (
         ← all-in at (secret_paths request) found.secrets seen.0,
-        ← one-in at request.salt_path
-            found.salt seen.1,
+        ← one-in at request.salt_path found.salt seen.1,
         ← one-in at request.input found.input seen.2,
       ) refl in
       subst

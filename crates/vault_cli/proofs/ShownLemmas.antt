@@ -27,14 +27,12 @@ kept-shown before byte after kept = grind arith
 
 escape-shown : (byte : ℕ) → byte < 256 → All IsShown (escape byte)
 escape-shown byte small =
-    let high : byte / 16 < 16 = omega arith in
-    let low : byte % 16 < 16 = omega arith in
     let last = digit_of (byte % 16) ∷ [] in
     let digits = digit_of (byte / 16) ∷ last in
     All-cons IsShown 92 (120 ∷ digits) (inr refl)
     (All-cons IsShown 120 digits (inr refl)
-    (All-cons IsShown (digit_of (byte / 16)) last (digit-shown (byte / 16) high)
-    (All-cons IsShown (digit_of (byte % 16)) [] (digit-shown (byte % 16) low)
+    (All-cons IsShown (digit_of (byte / 16)) last (digit-shown (byte / 16) (omega arith))
+    (All-cons IsShown (digit_of (byte % 16)) [] (digit-shown (byte % 16) (omega arith))
     (All-nil IsShown))))
 
 between-shown : (before byte after : ℕ) → All IsShown (shown_between before byte after)

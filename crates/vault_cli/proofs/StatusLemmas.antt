@@ -10,10 +10,9 @@ use Rattle.vault_text.specs.declared.fault.TextFault.TheVariants as text
 use Rattle.vault_text.specs.Steps.{◌>>=◌}
 use Rattle.vault_fault.specs.Fault.{of_text}
 use Rattle.vault_fault.specs.declared.fault.Fault.{Fault}
-use Rattle.vault_fault.specs.declared.fault.Fault.TheVariants.{AlreadyVault, BadPadding}
-use Rattle.vault_fault.specs.declared.fault.Fault.TheVariants.{EmptyString, NeedNewSecret}
-use Rattle.vault_fault.specs.declared.fault.Fault.TheVariants.{NoSecretFits, SaltShort}
-use Rattle.vault_fault.specs.declared.fault.Fault.TheVariants.{SecretEmpty, TooLong, CannotOpen}
+use Rattle.vault_fault.specs.declared.fault.Fault.TheVariants.{AlreadyVault, NeedNewSecret, TooLong}
+use Rattle.vault_fault.specs.declared.fault.Fault.TheVariants.{EmptyString, NoSecretFits, SaltShort}
+use Rattle.vault_fault.specs.declared.fault.Fault.TheVariants.{BadPadding, SecretEmpty, CannotOpen}
 use Rattle.vault_fault.specs.declared.fault.Fault.TheVariants.{Memory, Read, Write}
 use Rattle.vault_core.specs.TriedSecrets.{matches}
 use Rattle.vault_core.specs.Choice.{chosen_index, of_choice}
@@ -106,40 +105,26 @@ opens secrets payload =
 reads : (limit : ℕ) (input : List ℕ) → IsRefusedAlone (payload_of limit input)
 reads limit input = named _ of_text (read_within limit input) status-text
 
-decrypts : (limit : ℕ) (secrets : SecretList) (input : List ℕ)
-    → IsRefusedAlone (decryption limit secrets input)
-unfolding decryption
-decrypts limit secrets input = next (payload_of limit input) _ (reads limit input) (opens secrets)
-
-encrypts : (limit : ℕ) (secrets : List Secret) (index : ℕ) (form : Form) (salt input : List ℕ)
-    → IsRefusedAlone (encryption limit secrets index form salt input)
-unfolding encryption
-encrypts limit secrets index form salt input =
+-- steps 4 and 5
+pub alone-performed : (limit : ℕ) (task : Task) (input : List ℕ)
+    → IsRefusedAlone (performed limit task input)
+unfolding encryption decryption rekeying resealing
+alone-performed limit (Encrypt secrets index form salt) input =
     unless (nat_lt limit (length input)) TooLong _ refl
     (unless (is_block form && length input == 0) EmptyString _ refl
     (unless (is_vault input) AlreadyVault _ refl (alone-ok _)))
-
-rekeys : (limit : ℕ) (secrets : SecretList) (new : Secret) (salt input : List ℕ)
-    → IsRefusedAlone (rekeying limit secrets new salt input)
-unfolding rekeying resealing
-rekeys limit secrets new salt input =
+alone-performed limit (Decrypt secrets) input =
+    next (payload_of limit input) _ (reads limit input) (opens secrets)
+alone-performed limit (Rekey secrets new salt) input =
     next (payload_of limit input) _ (reads limit input)
     (λ payload. next (unsealing secrets payload) _ (opens secrets payload)
     (λ opened. unless (is_vault opened.output) AlreadyVault _ refl (alone-ok _)))
 
--- steps 4 and 5
-pub alone-performed : (limit : ℕ) (task : Task) (input : List ℕ)
-    → IsRefusedAlone (performed limit task input)
-alone-performed limit (Encrypt secrets index form salt) input =
-    encrypts limit secrets index form salt input
-alone-performed limit (Decrypt secrets) input = decrypts limit secrets input
-alone-performed limit (Rekey secrets new salt) input = rekeys limit secrets new salt input
-
-alone-password : (bytes : List ℕ) → IsRefusedAlone (password_in bytes)
-alone-password bytes = named (λ password. password) of_secret (password_of bytes) status-secret
-
 alone-secret : (file : SecretFile) (bytes : List ℕ) → IsRefusedAlone (secret_in file bytes)
-alone-secret file bytes = next (password_in bytes) _ (alone-password bytes) (λ password. alone-ok _)
+alone-secret file bytes =
+    next (password_in bytes) _
+    (named (λ password. password) of_secret (password_of bytes) status-secret)
+    (λ password. alone-ok _)
 
 alone-secrets : (files : List SecretFile) (contents : List (List ℕ))
     → IsRefusedAlone (secrets_of files contents)
@@ -187,8 +172,7 @@ alone-planned request contents salt =
     let last = slice_index_or contents (length request.secrets) [] in
     next (secret_list_of request contents) _
     (next (secrets_of request.secrets contents) _ (alone-secrets request.secrets contents)
-    (λ secrets. alone-ok _)) (λ list.
-    alone-task request.command request list last salt)
+    (λ secrets. alone-ok _)) (λ list. alone-task request.command request list last salt)
 
 -- a fault is no success
 pub fault-fails : (fault : Fault) → status_of fault ≢ Success

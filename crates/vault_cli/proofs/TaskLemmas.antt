@@ -30,26 +30,17 @@ use Rattle.vault_cli.specs.runs.Task.{secret_list_of, secrets_of, task_of}
 use Rattle.vault_core.proofs.EncryptionLemmas.{encryption-too_long}
 
 -- an input that is too long is refused as such
-decryption-too_long : (limit : ℕ) (secrets : SecretList) (input : List ℕ)
-    → nat_lt (envelope_limit limit) (length input) ≡ true
-    → decryption limit secrets input ≡ Err TooLong
-unfolding decryption read_within
-decryption-too_long limit secrets input long = rw long refl
-
-rekeying-too_long : (limit : ℕ) (secrets : SecretList) (new : Secret) (salt input : List ℕ)
-    → nat_lt (envelope_limit limit) (length input) ≡ true
-    → rekeying limit secrets new salt input ≡ Err TooLong
-unfolding rekeying read_within
-rekeying-too_long limit secrets new salt input long = rw long refl
-
 pub performed-too_long : (limit : ℕ) (task : Task) (input : List ℕ)
     → task_limit limit task < length input → performed limit task input ≡ Err TooLong
+unfolding decryption rekeying read_within
 performed-too_long limit (Encrypt secrets index form salt) input long =
     encryption-too_long limit secrets index form salt input long
 performed-too_long limit (Decrypt secrets) input long =
-    decryption-too_long limit secrets input (search (rules, tests))
+    let over : nat_lt (envelope_limit limit) (length input) ≡ true = search (rules, tests) in
+    rw over refl
 performed-too_long limit (Rekey secrets new salt) input long =
-    rekeying-too_long limit secrets new salt input (search (rules, tests))
+    let over : nat_lt (envelope_limit limit) (length input) ≡ true = search (rules, tests) in
+    rw over refl
 
 -- how much the task takes that was found
 pub record HasLimit (limit amount : ℕ) (r : Result Task Fault) : Type 0 where
@@ -93,8 +84,7 @@ unfolding planned
 limit-planned limit request contents salt task e =
     let last = slice_index_or contents (length request.secrets) [] in
     (limit-next limit (input_limit limit request.command) (secret_list_of request contents) _
-    (λ list.
-    limit-task limit request.command request list last salt)).is task e
+    (λ list. limit-task limit request.command request list last salt)).is task e
 
 -- a text of which so much was read that no more is taken, or all
 pub performed-prefix : (limit : ℕ) (task : Task) (ended : Bool) (text prefix left : List ℕ)
@@ -134,30 +124,9 @@ abbrev pub with_prefix : List Secret → Result (List Secret) Fault → Result (
 with_prefix prefix (Ok rest) = Ok (prefix ++ rest)
 with_prefix prefix (Err fault) = Err fault
 
--- the first file's secret, and those of the other files
-pub secrets_of-first : (file : SecretFile) (files : List SecretFile) (bytes : List ℕ)
-    (contents : List (List ℕ))
-    → secrets_of (file ∷ files) (bytes ∷ contents)
-    ≡ (secret_in file bytes >>= λ secret. secrets_of files contents >>= λ secrets. Ok
-    (secret ∷ secrets))
-unfolding secrets_of
-secrets_of-first file files bytes contents = refl
-
 -- what is read past the end
 abbrev pub no_file : SecretFile
 no_file = record { label = []; path = [] }
-
--- the secret of the file at the index, and those of the files after it
-pub secrets_of-more : (files : List SecretFile) (contents : List (List ℕ)) (i : ℕ) (bytes : List ℕ)
-    → i < length files → i < length contents → bytes ≡ get_or contents i bytes
-    → secrets_of (drop i files) (drop i contents)
-    ≡ (secret_in (get_or files i no_file) bytes >>= λ secret. secrets_of (drop (i + 1) files)
-    (drop (i + 1) contents) >>= λ secrets. Ok (secret ∷ secrets))
-secrets_of-more files contents i bytes in_files in_contents read =
-    ap₂ secrets_of (drop_more files i no_file in_files)
-    (drop_more contents i bytes in_contents
-    ∙ ap (λ (b : List ℕ). b ∷ drop (i + 1) contents) (sym read))
-    ∙ secrets_of-first (get_or files i no_file) (drop (i + 1) files) bytes (drop (i + 1) contents)
 
 -- one more secret before them
 pub with_prefix-more : (prefix : List Secret) (secret : Secret) (rest : Result (List Secret) Fault)
@@ -171,15 +140,20 @@ module _ (files : List SecretFile) (vectors : List (Vec ℕ Global)) (i : ℕ) (
     abbrev contents : List (List ℕ)
     contents = map (λ v. v.items) vectors
 
-    -- the content of the file at the index
-    read_at : i < length vectors → vector ≡ get_or vectors i vector
-        → vector.items ≡ get_or contents i vector.items
-    read_at inside read =
-        ap (λ (v : Vec ℕ Global). v.items) read
-        ∙ sym (get_or-map (λ (v : Vec ℕ Global). v.items) vectors i vector vector.items inside)
-
-    fits : i < length vectors → i < length contents
-    fits inside = omega (arith, length-map vectors (λ (v : Vec ℕ Global). v.items))
+    -- the secret of the file at the index, and those of the files after it
+    secrets_of-more : i < length files → i < length vectors → vector ≡ get_or vectors i vector
+        → secrets_of (drop i files) (drop i contents)
+        ≡ (secret_in (get_or files i no_file) vector.items >>= λ secret. secrets_of
+        (drop (i + 1) files) (drop (i + 1) contents) >>= λ secrets. Ok (secret ∷ secrets))
+    unfolding secrets_of
+    secrets_of-more in_files inside read =
+        let fits : i < length contents =
+        omega (arith, length-map vectors (λ (v : Vec ℕ Global). v.items)) in
+        ap₂ secrets_of (drop_more files i no_file in_files)
+        (drop_more contents i vector.items fits
+        ∙ ap (λ (b : List ℕ). b ∷ drop (i + 1) contents)
+        (get_or-map (λ (v : Vec ℕ Global). v.items) vectors i vector vector.items inside
+        ∙ ap (λ (v : Vec ℕ Global). v.items) (sym read)))
 
     -- a password file that is refused refuses all
     pub secrets_of-refused : (prefix : List Secret) (fault : Fault) → i < length files
@@ -189,8 +163,7 @@ module _ (files : List SecretFile) (vectors : List (Vec ℕ Global)) (i : ℕ) (
         ≡ secrets_of files contents
         → Err fault ≡ secrets_of files contents
     secrets_of-refused prefix fault in_files inside read refused e =
-        let at = secrets_of-more files contents i vector.items in_files (fits inside)
-        (read_at inside read) in
+        let at = secrets_of-more in_files inside read in
         let none : secrets_of (drop i files) (drop i contents) ≡ Err fault = rw refused at at in
         sym (ap (with_prefix prefix) none) ∙ e
 
@@ -204,12 +177,9 @@ module _ (files : List SecretFile) (vectors : List (Vec ℕ Global)) (i : ℕ) (
         → with_prefix (prefix ++ record { label = label; password = password } ∷ [])
         (secrets_of (drop (i + 1) files) (drop (i + 1) contents)) ≡ secrets_of files contents
     secrets_of-added prefix label password in_files inside read under found e =
-        let at = secrets_of-more files contents i vector.items in_files (fits inside)
-        (read_at inside read) in
+        let at = secrets_of-more in_files inside read in
         let some = rw found at at in
-        rw under
-        (sym
-        (with_prefix-more prefix
+        rw under (sym (with_prefix-more prefix
         (record { label = (get_or files i no_file).label; password = password })
         (secrets_of (drop (i + 1) files) (drop (i + 1) contents)))
         ∙ sym (ap (with_prefix prefix) some) ∙ e)
@@ -229,10 +199,10 @@ pub label_at : (files more : List SecretFile) (i : ℕ) (label : List ℕ) → i
     → label ≡ (get_or files i no_file).label
 label_at files more i label inside e =
     let within : i < length (files ++ more) = omega (arith, length-append files more) in
-    let some : Some ((get_or (files ++ more) i no_file).label) ≡ Some label =
-    rw (slice_get-get_or (files ++ more) i no_file within) at e in
-    let found : Some ((get_or files i no_file).label) ≡ Some label =
-    rw (get_or_append_left files more no_file i inside) at some in
+    let some = rw (
+      slice_get-get_or (files ++ more) i no_file within,
+      get_or_append_left files more no_file i inside,
+    ) at e in
     cc
 
 -- each secret of a list has a content of its own

@@ -22,8 +22,7 @@ use Rattle.vault_cli.proofs.LawsLemmas.{answered-some, sound-planned, text-input
 use Rattle.vault_cli.proofs.AnswerLemmas.{run_answer-performed, ready-text}
 use Rattle.vault_cli.specs.declared.runs.status.Status.TheVariants.{Refused, Success}
 use Rattle.vault_core.specs.Ready.{Ready}
-use Rattle.vault_cli.proofs.StatusLemmas.{IsRefusedAlone, alone-err, alone-performed}
-use Rattle.vault_cli.proofs.StatusLemmas.{alone-planned}
+use Rattle.vault_cli.proofs.StatusLemmas.{IsRefusedAlone, alone-err, alone-performed, alone-planned}
 use Rattle.vault_cli.proofs.TaskLemmas.{limit-planned}
 
 -- what a request that opens answers
@@ -52,8 +51,7 @@ encrypt_then_decrypt law limit encrypting decrypting contents other_contents sal
     let (label, used_salt) = sound-planned encrypting known salt text_bytes salt_bytes contents
     (Encrypt list index Envelope used) sealed in
     let out = run_answer-performed encrypting contents salt limit input
-    (Encrypt list index Envelope used)
-    sealed in
+    (Encrypt list index Envelope used) sealed in
     let (ready, is, same) = answered-some
     (encryption limit list index Envelope used (text_of_request encrypting input)) envelope
     (sym (ap (λ (o : Answer). o.output) out) ∙ written) in

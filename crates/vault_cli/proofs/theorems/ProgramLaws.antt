@@ -114,8 +114,7 @@ module _ (settles : SettledRequests) where
       input_bytes sealed written opens first =
       program_is_run decrypting
       ∙ law PLAINTEXT_LIMIT encrypting.request decrypting.request encrypting.contents
-      decrypting.contents
-      encrypting.salt decrypting.salt encrypting.input decrypting.input
+      decrypting.contents encrypting.salt decrypting.salt encrypting.input decrypting.input
       list index used secrets (is-request encrypting) encrypts text_bytes salt_bytes input_bytes
       sealed (output-of encrypting decrypting.input written) opens first
 

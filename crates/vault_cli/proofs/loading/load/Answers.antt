@@ -9,8 +9,7 @@ returns-in_err-secret_files-clause-refused g c =
     (refused-secrets g.F.FileSystem.finds g.F.FileSystem.opens g.met.F.FileSystem.opens_more
     g.met.F.FileSystem.opens_finds
     c.args.files.now (g.met.F.FileSystem.finds_some c.args.files.now) c.args.request.now _
-    c.read_secret_files.new.files
-    c.in_err-secret_files.ensures.refused)
+    c.read_secret_files.new.files c.in_err-secret_files.ensures.refused)
 
 pub returns-in_err-salt-clause-refused : goal.returns-in_err-salt-clause-refused
 returns-in_err-salt-clause-refused g c =

@@ -14,8 +14,7 @@ returns-in-Ok-clause-drives g c =
     (sink g.K.Sink c.args.out.now c.drive_request.new.out)
     (sink g.E.Sink c.args.err.now c.drive_request.new.err) c.drive_request.result
     (requested (subcommand_rows_of c.args.matches.now)) c.in-Ok.request
-    c.requires.requested
-    c.in-Ok.ensures c.drive_request.ensures.drives
+    c.requires.requested c.in-Ok.ensures c.drive_request.ensures.drives
 
 pub returns-in-Err-clause-drives : goal.returns-in-Err-clause-drives
 returns-in-Err-clause-drives g c =
@@ -24,5 +23,4 @@ returns-in-Err-clause-drives g c =
     (sink g.E.Sink c.args.err.now c.report.new.err) c.report.result refl refl refl
     c.requires.files_unbegun (g.met.F.FileSystem.opens_none c.args.files.now)
     (requested (subcommand_rows_of c.args.matches.now)) c.in-Err.fault
-    c.requires.requested
-    c.in-Err.ensures c.report.ensures.status c.report.ensures.line
+    c.requires.requested c.in-Err.ensures c.report.ensures.status c.report.ensures.line

@@ -19,8 +19,7 @@ returns-in-Err-load-clause-drives g c =
     drives-refused (store_between g.F.Sink g.F.FileSystem c.args.files.now c.load.new.files)
     (source g.S.Source c.args.src.now c.args.src.now) (sink g.K.Sink c.args.out.now c.args.out.now)
     (sink g.E.Sink c.args.err.now c.report-in-Err-load.new.err) c.report-in-Err-load.result
-    c.load.new.files
-    c.in-Err-load.ensures.unbegun refl refl refl
+    c.load.new.files c.in-Err-load.ensures.unbegun refl refl refl
     c.args.request.now c.in-Err-load.fault c.in-Err-load.ensures.refused
     c.report-in-Err-load.ensures.status c.report-in-Err-load.ensures.line
 
@@ -33,14 +32,12 @@ returns-in-Some-clause-drives g c =
     (map (λ file. file.items) c.as_slice-secret_files.result.now) c.as_slice-salt.result.now
     (rw c.as_slice-secret_files.ensures.value c.in-Ok-load.ensures.secrets)
     (rw c.as_slice-salt.ensures.value c.in-Ok-load.ensures.salt)
-    c.load.new.files c.in-Ok-load.ensures.opens
-    refl (g.F.FileSystem.opened c.args.files.now)
+    c.load.new.files c.in-Ok-load.ensures.opens refl (g.F.FileSystem.opened c.args.files.now)
     (source g.F.Reader.Source c.in-Some.reader c.run_to_output.new.src)
     (rw c.in-Some.is at c.in-Ok-load.ensures.input)
     (g.met.F.Reader.Source.gives_none c.in-Some.reader)
     (g.met.F.FileSystem.prefix_found c.args.files.now)
-    (g.met.F.FileSystem.break_found c.args.files.now)
-    c.run_to_output.ensures.ends
+    (g.met.F.FileSystem.break_found c.args.files.now) c.run_to_output.ensures.ends
 
 pub returns-clause-drives : goal.returns-clause-drives
 returns-clause-drives g c =

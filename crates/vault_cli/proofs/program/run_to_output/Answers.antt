@@ -37,8 +37,7 @@ returns-in-Some-clause-ends g c =
     let contents = map (λ file. file.items) c.args.job.secret_files.now in
     ends-file (output_access request.command)
     (store_between g.F.Sink g.F.FileSystem c.args.files.now c.run_job.new.out)
-    (sink g.K.Sink c.args.out.now c.args.out.now)
-    (sink g.E.Sink c.args.err.now c.run_job.new.err)
+    (sink g.K.Sink c.args.out.now c.args.out.now) (sink g.E.Sink c.args.err.now c.run_job.new.err)
     c.run_job.result (source g.S.Source c.args.src.now c.run_job.new.src)
     (input_needed PLAINTEXT_LIMIT request contents c.args.job.salt.now)
     (run_answer request contents c.args.job.salt.now) request.output
@@ -46,8 +45,7 @@ returns-in-Some-clause-ends g c =
     (sym (ap (option_map string_bytes) c.in-Some.is) ∙ c.requires.output)
     (subst
     (λ (access : Access). g.F.FileSystem.output_set c.args.files.now (string_bytes c.in-Some.path)
-    access
-    c.set_output.new.self)
+    access c.set_output.new.self)
     (c.output_access.ensures ∙ ap output_access c.command.ensures) c.set_output.ensures.output_set)
     c.set_output.ensures.unbegun c.set_output.ensures.failures refl
     (subst

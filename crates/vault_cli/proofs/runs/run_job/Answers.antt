@@ -6,16 +6,12 @@ use Rattle.vault_fault.specs.declared.fault.Role.TheVariants.{Input}
 use Rattle.vault_cli.specs.runs.Answer.{input_limit}
 use Rattle.vault_cli.specs.runs.Status.{status_of}
 use Rattle.vault_cli.specs.runs.StoredTask.{task_in}
-use Rattle.vault_cli.specs.declared.runs.status.Status.TheVariants.{DeviceFailed, OutOfMemory}
-use Rattle.vault_cli.specs.declared.runs.status.Status.TheVariants.{Refused, Success}
+use Rattle.vault_cli.specs.declared.runs.status.Status.TheVariants.{DeviceFailed, Success}
 use Rattle.vault_cli.specs.runs.Task.{planned}
-use Rattle.vault_cli.proofs.StatusLemmas.{alone-planned}
+use Rattle.vault_cli.proofs.StatusLemmas.{alone-planned, fault-fails}
 use Rattle.vault_cli.proofs.AnswerLemmas.{requested-no_string, requested-planned}
-use Rattle.vault_cli.proofs.PerformedLemmas.{ends-performed}
-use Rattle.vault_cli.proofs.PerformedLemmas.{ends-unplanned, finished}
-use Rattle.vault_cli.proofs.StatusLemmas.{fault-fails}
-use Rattle.vault_cli.proofs.PerformedLemmas.{finishes-refused, performed-refused}
-use Rattle.vault_cli.proofs.PerformedLemmas.{performed-unfailed}
+use Rattle.vault_cli.proofs.PerformedLemmas.{ends-performed, performed-refused, performed-unfailed}
+use Rattle.vault_cli.proofs.PerformedLemmas.{ends-unplanned, finished, finishes-refused}
 use Rattle.vault_cli.proofs.runs.run_job.Goals as goal
 
 pub returns-in-Err-clause-ends : goal.returns-in-Err-clause-ends
@@ -32,16 +28,14 @@ returns-in-Err-clause-memory_suffices g c = λ memory.
     let contents = map (λ file. file.items) c.args.job.secret_files.now in
     let alone = (alone-planned c.args.job.request.now contents c.args.job.salt.now).status
     c.in-Err.fault c.in-Err.ensures.refused in
-    let other : Refused ≡ OutOfMemory = sym alone ∙ sym c.report.ensures.status ∙ memory in
-    absurd cc
+    let status = c.report.ensures.status in absurd cc
 
 pub returns-in-Err-clause-device_failed : goal.returns-in-Err-clause-device_failed
 returns-in-Err-clause-device_failed g c = λ device.
     let contents = map (λ file. file.items) c.args.job.secret_files.now in
     let alone = (alone-planned c.args.job.request.now contents c.args.job.salt.now).status
     c.in-Err.fault c.in-Err.ensures.refused in
-    let other : Refused ≡ DeviceFailed = sym alone ∙ sym c.report.ensures.status ∙ device in
-    absurd cc
+    let status = c.report.ensures.status in absurd cc
 
 pub returns-in-Ok-perform-clause-ends : goal.returns-in-Ok-perform-clause-ends
 returns-in-Ok-perform-clause-ends g c =
@@ -59,10 +53,8 @@ returns-in-Ok-perform-clause-memory_suffices g c = λ memory.
     (sink g.K.Sink c.args.out.now c.deliver.new.out)
     (sink g.E.Sink c.args.err.now c.deliver.new.err) c.deliver.result c.in-Ok-perform.ready
     c.deliver.ensures.finishes) [
-      | inl (success, stayed) ↦
-          let wrong : Success ≡ OutOfMemory = sym success ∙ memory in absurd cc
-      | inr (failed, risen) ↦
-          let wrong : DeviceFailed ≡ OutOfMemory = sym failed ∙ memory in absurd cc
+      | inl (success, stayed) ↦ absurd cc
+      | inr (failed, risen) ↦ absurd cc
     ]
 
 pub returns-in-Ok-perform-clause-device_failed : goal.returns-in-Ok-perform-clause-device_failed
@@ -71,8 +63,7 @@ returns-in-Ok-perform-clause-device_failed g c = λ device.
     (sink g.K.Sink c.args.out.now c.deliver.new.out)
     (sink g.E.Sink c.args.err.now c.deliver.new.err) c.deliver.result c.in-Ok-perform.ready
     c.deliver.ensures.finishes) [
-      | inl (success, stayed) ↦
-          let wrong : Success ≡ DeviceFailed = sym success ∙ device in absurd cc
+      | inl (success, stayed) ↦ absurd cc
       | inr (failed, risen) ↦ inr risen
     ]
 
@@ -109,10 +100,8 @@ returns-in-Err-perform-clause-memory_suffices g c = λ memory.
     elim (performed-refused (source g.S.Source c.args.src.now c.perform.new.src)
     (limit_of c.args.job.memory.limit) (task_in c.in-Ok.task) c.in-Err-perform.fault
     c.args.job.request.now.string c.in-Err-perform.ensures.performs) [
-      | inl (alone, stay) ↦
-          let wrong : Refused ≡ OutOfMemory = sym alone ∙ sym status ∙ memory in absurd cc
-      | inr (device, risen) ↦
-          let wrong : DeviceFailed ≡ OutOfMemory = sym device ∙ sym status ∙ memory in absurd cc
+      | inl (alone, stay) ↦ absurd cc
+      | inr (device, risen) ↦ absurd cc
     ]
 
 pub returns-in-Err-perform-clause-device_failed : goal.returns-in-Err-perform-clause-device_failed
@@ -121,8 +110,7 @@ returns-in-Err-perform-clause-device_failed g c = λ device.
     elim (performed-refused (source g.S.Source c.args.src.now c.perform.new.src)
     (limit_of c.args.job.memory.limit) (task_in c.in-Ok.task) c.in-Err-perform.fault
     c.args.job.request.now.string c.in-Err-perform.ensures.performs) [
-      | inl (alone, stay) ↦
-          let wrong : Refused ≡ DeviceFailed = sym alone ∙ sym status ∙ device in absurd cc
+      | inl (alone, stay) ↦ absurd cc
       | inr (failed, risen) ↦ inl risen
     ]
 

@@ -1,8 +1,7 @@
 use Rattle.std.proofs.Common.{◌≡◌, [], length, arith, refl, take}
 use Rattle.std.proofs.lemmas.List.{take_all}
 use Rattle.std.specs.Prelude.{OnOk, Result, Ok, Err}
-use Rattle.vault_text.proofs.SinkLemmas.{prefix_second}
-use Rattle.vault_text.proofs.SinkLemmas.{taken_none}
+use Rattle.vault_text.proofs.SinkLemmas.{prefix_second, taken_none}
 use Rattle.vault_cli.proofs.runs.report_line.write_text.Goals as goal
 
 -- what holds in any case holds at Ok
