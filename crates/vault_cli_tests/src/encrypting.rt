@@ -77,62 +77,82 @@ fn pads_whole_blocks(rt: HostRuntime) -> Result<(), Fail> {
     assert_encrypts(&rt, alloc, &words, short, 359, labelled)
 }
 
-/// A request that is refused: its words, the contents of its password files, its salt, its input
-/// and its message.
-type Refused<'a> = (&'a [&'a str], &'a [&'a [u8]], &'a [u8], &'a [u8], &'a str);
+/// A request that is refused.
+#[derive(Clone, Copy)]
+struct Refused<'a> {
+    words: &'a [&'a str],
+    /// The contents of its password files.
+    files: &'a [&'a [u8]],
+    salt: &'a [u8],
+    input: &'a [u8],
+    /// What is written on standard error.
+    line: &'a str,
+}
 
 const REFUSED: [Refused<'static>; 6] = [
-    (
-        ENCRYPT,
-        FIRST,
-        ZEROS,
-        EMPTY_ENVELOPE,
-        "ERROR! the plaintext is already vault encrypted data\n",
-    ),
-    (
-        ENCRYPT,
-        FIRST,
-        &[0; 31],
-        b"",
-        "ERROR! the salt has fewer than 32 bytes\n",
-    ),
-    (
-        &["encrypt"],
-        &[],
-        ZEROS,
-        b"",
-        "ERROR! no secret was given to encrypt with\n",
-    ),
-    (
-        &["encrypt", "--vault-id=a@f1", "--vault-id=b@f2"],
-        TWO,
-        ZEROS,
-        b"",
-        "ERROR! several secrets were given; choose one with --encrypt-vault-id\n",
-    ),
-    (
-        &["encrypt", "--vault-id=a@f1", "--encrypt-vault-id=x"],
-        FIRST,
-        ZEROS,
-        b"",
-        "ERROR! no secret has the label of --encrypt-vault-id\n",
-    ),
-    (
-        &["encrypt_string", "--vault-id", "f1", ""],
-        FIRST,
-        ZEROS,
-        b"text",
-        "ERROR! the string to encrypt is empty\n",
-    ),
+    Refused {
+        words: ENCRYPT,
+        files: FIRST,
+        salt: ZEROS,
+        input: EMPTY_ENVELOPE,
+        line: "ERROR! the plaintext is already vault encrypted data\n",
+    },
+    Refused {
+        words: ENCRYPT,
+        files: FIRST,
+        salt: &[0; 31],
+        input: b"",
+        line: "ERROR! the salt has fewer than 32 bytes\n",
+    },
+    Refused {
+        words: &["encrypt"],
+        files: &[],
+        salt: ZEROS,
+        input: b"",
+        line: "ERROR! no secret was given to encrypt with\n",
+    },
+    Refused {
+        words: &["encrypt", "--vault-id=a@f1", "--vault-id=b@f2"],
+        files: TWO,
+        salt: ZEROS,
+        input: b"",
+        line: "ERROR! several secrets were given; choose one with --encrypt-vault-id\n",
+    },
+    Refused {
+        words: &["encrypt", "--vault-id=a@f1", "--encrypt-vault-id=x"],
+        files: FIRST,
+        salt: ZEROS,
+        input: b"",
+        line: "ERROR! no secret has the label of --encrypt-vault-id\n",
+    },
+    Refused {
+        words: &["encrypt_string", "--vault-id", "f1", ""],
+        files: FIRST,
+        salt: ZEROS,
+        input: b"text",
+        line: "ERROR! the string to encrypt is empty\n",
+    },
 ];
 
 #[test]
 fn refuses_to_encrypt(rt: HostRuntime) -> Result<(), Fail> {
     let alloc = rt.alloc();
-    for (words, files, salt, input, line) in REFUSED {
+    for Refused {
+        words,
+        files,
+        salt,
+        input,
+        line,
+    } in REFUSED {
         let trial = Trial::new(words, files, salt);
         assert_leaves(&rt, alloc, &trial, input, Left::refused(line))?;
     }
+    Ok(())
+}
+
+#[test]
+fn refuses_a_plaintext_over_the_limit(rt: HostRuntime) -> Result<(), Fail> {
+    let alloc = rt.alloc();
     let long = vec![in alloc; b'a'; 65_537]?;
     let too_long = Left::refused("ERROR! input is longer than the limit\n");
     let trial = Trial::new(ENCRYPT, FIRST, ZEROS);

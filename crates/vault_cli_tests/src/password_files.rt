@@ -8,7 +8,7 @@ use vault_test_runs::{Left, run_program};
 
 /// The program, run on these words over these files, leaves this. It reads nothing of its input,
 /// which is so many line feeds.
-fn assert_leaves<'a>(
+fn assert_program_leaves<'a>(
     rt: &impl Abort,
     alloc: Global,
     files: &'a [MemFile<'a>],
@@ -78,7 +78,7 @@ fn refuses_before_the_input_is_read(rt: HostRuntime) -> Result<(), Fail> {
             path,
         ];
         let left = Left::failure(status, line);
-        assert_leaves(&rt, rt.alloc(), &files, &words, usize::MAX, left)?;
+        assert_program_leaves(&rt, rt.alloc(), &files, &words, usize::MAX, left)?;
     }
     Ok(())
 }
@@ -89,7 +89,7 @@ fn asks_for_no_more_than_is_taken(rt: HostRuntime) -> Result<(), Fail> {
     let files = [MemFile::broken("endless", &[b'a'; 4_097])];
     let words = ["view", "--vault-id", "endless"];
     let left = Left::refused("ERROR! a password file is longer than 4096 bytes\n");
-    assert_leaves(&rt, rt.alloc(), &files, &words, usize::MAX, left)
+    assert_program_leaves(&rt, rt.alloc(), &files, &words, usize::MAX, left)
 }
 
 #[test]
@@ -97,7 +97,7 @@ fn opens_all_before_one_is_refused(rt: HostRuntime) -> Result<(), Fail> {
     let words = ["view", "--vault-id", "empty", "--vault-id", "missing"];
     let line = "ERROR! a password file cannot be opened\n";
     let left = Left::failure(Status::DeviceFailed, line);
-    assert_leaves(&rt, rt.alloc(), &files(), &words, usize::MAX, left)
+    assert_program_leaves(&rt, rt.alloc(), &files(), &words, usize::MAX, left)
 }
 
 // The input is empty, which only a run over a password finds out.
@@ -106,5 +106,5 @@ fn takes_the_longest_password(rt: HostRuntime) -> Result<(), Fail> {
     let files = [MemFile::whole("longest", &[b'a'; 4_096])];
     let words = ["view", "--vault-id", "longest"];
     let left = Left::refused("ERROR! input is not vault encrypted data\n");
-    assert_leaves(&rt, rt.alloc(), &files, &words, 0, left)
+    assert_program_leaves(&rt, rt.alloc(), &files, &words, 0, left)
 }
