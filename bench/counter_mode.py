@@ -1,7 +1,7 @@
 #!/usr/bin/env python3
 """Times counter mode over 16 MiB: this repository's, plain C by tables, and OpenSSL's.
 
-It builds the program crate bench_counter_mode, which proves it first, and compiles counter_mode.c.
+It builds the program crate vault_bench, which proves it first, and compiles counter_mode.c.
 A run over one pass is taken from a run over several, so that start-up and memory drop out, and of
 several rounds the best counts.
 """
@@ -15,8 +15,8 @@ import tempfile
 import time
 
 HERE = pathlib.Path(__file__).resolve().parent
-CRATE = HERE.parent / "crates" / "bench_counter_mode"
-PROGRAM = CRATE / "out" / "bench_counter_mode"
+CRATE = HERE.parent / "crates" / "vault_bench"
+PROGRAM = CRATE / "out" / "vault_bench"
 LENGTH = 16 * 1024 * 1024
 ROUNDS = 15
 # What OPENSSL_ia32cap takes to hide AES-NI and the vector instructions that replace it.
@@ -27,19 +27,19 @@ def best_seconds(commands):
     """The least time of one pass of each command, by rounds that take turns."""
     times = {}
     for _ in range(ROUNDS):
-        for name, program in commands.items():
+        for name, command in commands.items():
             for passes in (1, 2):
                 begin = time.perf_counter()
-                subprocess.run([program, str(LENGTH), str(passes)], check=True, stdout=subprocess.DEVNULL)
+                subprocess.run([*command, str(LENGTH), str(passes)], check=True, stdout=subprocess.DEVNULL)
                 taken = time.perf_counter() - begin
                 key = name, passes
                 times[key] = min(times.get(key, taken), taken)
     return {name: times[name, 2] - times[name, 1] for name in commands}
 
 
-def last_block(program):
-    """What a program prints of one pass over the length and three bytes."""
-    run = subprocess.run([program, str(LENGTH + 3), "1"], check=True, capture_output=True, text=True)
+def last_block(command):
+    """What a command prints of one pass over the length and three bytes."""
+    run = subprocess.run([*command, str(LENGTH + 3), "1"], check=True, capture_output=True, text=True)
     return run.stdout
 
 
@@ -52,17 +52,17 @@ def openssl_speed(environment):
 
 
 def main():
-    built = subprocess.run(["rt", "run", "--", "48", "1"], cwd=CRATE, capture_output=True, text=True)
+    built = subprocess.run(["rt", "run", "--", "counter-mode", "48", "1"], cwd=CRATE, capture_output=True, text=True)
     if built.returncode != 0:
         raise SystemExit(built.stdout + built.stderr)
     compiler = shutil.which("clang") or shutil.which("cc")
     with tempfile.TemporaryDirectory() as folder:
-        commands = {"this repository": str(PROGRAM)}
+        commands = {"this repository": [str(PROGRAM), "counter-mode"]}
         if compiler:
-            baseline = str(pathlib.Path(folder) / "counter_mode")
-            subprocess.run([compiler, "-O2", "-o", baseline, HERE / "counter_mode.c"], check=True)
+            baseline = [str(pathlib.Path(folder) / "counter_mode")]
+            subprocess.run([compiler, "-O2", "-o", *baseline, HERE / "counter_mode.c"], check=True)
             commands["C tables"] = baseline
-            if last_block(baseline) != last_block(str(PROGRAM)):
+            if last_block(baseline) != last_block(commands["this repository"]):
                 raise SystemExit("counter mode: the C program gives other bytes")
         seconds = best_seconds(commands)
     speeds = {name: LENGTH / 1e6 / taken for name, taken in seconds.items()}

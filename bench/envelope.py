@@ -11,8 +11,8 @@ import tempfile
 import time
 from pathlib import Path
 
-CRATE = Path(__file__).resolve().parent.parent / "crates" / "bench_envelope"
-PROGRAM = CRATE / "out" / "bench_envelope"
+CRATE = Path(__file__).resolve().parent.parent / "crates" / "vault_bench"
+PROGRAM = CRATE / "out" / "vault_bench"
 CIPHER_LENGTH = 1 << 20
 HEADER = b"$ANSIBLE_VAULT;1.1;AES256\n"
 REPEATS = 20

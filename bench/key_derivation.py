@@ -13,8 +13,8 @@ import ssl
 import subprocess
 from pathlib import Path
 
-CRATE = Path(__file__).resolve().parent.parent / "crates" / "bench_key_derivation"
-PROGRAM = CRATE / "out" / "bench_key_derivation"
+CRATE = Path(__file__).resolve().parent.parent / "crates" / "vault_bench"
+PROGRAM = CRATE / "out" / "vault_bench"
 PASSWORD = b"password"
 SALT = bytes(32)
 REPEATS = 5

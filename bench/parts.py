@@ -1,5 +1,5 @@
 #!/usr/bin/env -S python3 -B
-"""Says where the time of `view` and `encrypt` goes, by the programs of the other benchmarks.
+"""Says where the time of `view` and `encrypt` goes, by the program that does each part alone.
 
 Usage: parts.py PROGRAM. All is processor time, taken in turn in one run; of several rounds the least counts,
 since what else a machine does slows each part by another share.
@@ -31,13 +31,8 @@ DERIVATION = 60_000
 BLOCK = 64
 # What a part is repeated for: some MiB of it, and no more than so many times.
 REPEATED, MOST = 8 * MIB, 2_000
-CRATES = Path(__file__).resolve().parent.parent / "crates"
-# The crates of the other benchmarks' programs, with the words of a short run.
-BENCHMARKS = {
-    "bench_envelope": ["write", "1", "1"],
-    "bench_key_derivation": ["derive", "1"],
-    "bench_counter_mode": ["48", "1"],
-}
+CRATE = Path(__file__).resolve().parent.parent / "crates" / "vault_bench"
+BENCHMARK = str(CRATE / "out" / "vault_bench")
 
 
 class Used(NamedTuple):
@@ -88,22 +83,20 @@ def tag_compressions(size: int) -> int:
     return 1 + (size + 9 + BLOCK - 1) // BLOCK + 2
 
 
-def build() -> list[str]:
-    for crate, words in BENCHMARKS.items():
-        command = [os.environ.get("RT", "rt"), "run", "--", *words]
-        subprocess.run(command, cwd=CRATES / crate, capture_output=True, check=True)
-    return [str(CRATES / crate / "out" / crate) for crate in BENCHMARKS]
+def build() -> None:
+    command = [os.environ.get("RT", "rt"), "run", "--", "derive", "1"]
+    subprocess.run(command, cwd=CRATE, capture_output=True, check=True)
 
 
 class Parts:
     """What is measured, by its name: each part alone, and the whole runs of the program."""
 
     def __init__(self, program: str, folder: Path) -> None:
-        envelope, keys, counter_mode = build()
+        build()
         self.parts = {
-            "derivation": Part([keys, "derive"], 5),
-            "compressions": Part([keys, "compressions"], 5),
-            "tag": Part([keys, "tag"], 5),
+            "derivation": Part([BENCHMARK, "derive"], 5),
+            "compressions": Part([BENCHMARK, "compressions"], 5),
+            "tag": Part([BENCHMARK, "tag"], 5),
         }
         self.runs: dict[str, tuple[list[str], str]] = {}
         self.copies: dict[str, int] = {}
@@ -113,9 +106,9 @@ class Parts:
             text, vault = folder / f"text{size}", folder / f"vault{size}"
             text.write_bytes(bytes(size))
             vault.write_bytes(seal(PASSWORD, bytes(size)))
-            self.parts[f"read {name}"] = Part([envelope, "read"], times_for(size), str(vault))
-            self.parts[f"write {name}"] = Part([envelope, "write", str(size)], times_for(size))
-            self.parts[f"counter mode {name}"] = Part([counter_mode, str(size)], times_for(size))
+            self.parts[f"read {name}"] = Part([BENCHMARK, "read"], times_for(size), str(vault))
+            self.parts[f"write {name}"] = Part([BENCHMARK, "write", str(size)], times_for(size))
+            self.parts[f"counter mode {name}"] = Part([BENCHMARK, "counter-mode", str(size)], times_for(size))
             for command, stdin in (("view", vault), ("encrypt", text)):
                 words = [program, command, "--vault-password-file", str(password)]
                 self.runs[f"{command} {name}"] = words, str(stdin)

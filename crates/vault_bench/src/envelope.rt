@@ -1,14 +1,9 @@
-//! The work that the benchmark of envelopes times: `bench_envelope read N` reads the envelope on
-//! standard input N times, and `bench_envelope write LENGTH N` writes one of LENGTH bytes of
-//! ciphertext N times. Both print how many bytes the last one had: of ciphertext, or of text.
-#![tactic(auto)]
-
+//! Reading and writing of envelopes.
 ghost use Rattle.std.specs.Prelude.{◌≡◌, IfOk, length, vec_len};
 ghost use Rattle.vault_text.specs.declared.limits.TheConstants.{CIPHERTEXT_LIMIT};
 
 use std::alloc::{AllocError, Global};
-use std::io::{ErrorKind, Read, Write};
-use std::{env, io};
+use std::io::{self, Read, Write};
 use vault_text::{CIPHERTEXT_LIMIT, EnvelopeReader, Label, Salt, Sink, WriteSink, write_envelope};
 
 const PIECE: usize = 4096;
@@ -42,15 +37,16 @@ fn write_once(label: &Label, salt: &Salt, cipher: &[u8]) -> Count {
     sink.into_inner()
 }
 
-fn write(rt: &HostRuntime, length: usize, times: u32) -> io::Result<u64> {
-    let mut cipher = vec![in rt.alloc(); 0u8; length]?;
+/// Writes an envelope of so many bytes of ciphertext, so many times; gives the length of its text.
+pub(crate) fn write(alloc: Global, length: usize, times: u32) -> io::Result<u64> {
+    let mut cipher = vec![in alloc; 0u8; length]?;
     let mut state: u32 = 1;
     for byte in cipher.iter_mut() {
         state = state.wrapping_mul(1664525).wrapping_add(1013904223);
         *byte = (state >> 24) as u8;
     }
     let Some(salt) = Salt::new(&[7; 32]) else {
-        return Err(usage());
+        return Ok(0);
     };
     let mut count = Count { bytes: 0, sum: 0 };
     for _ in 0..times {
@@ -79,7 +75,8 @@ fn work_memory(alloc: Global) -> Result<Vec<u8>, AllocError>
     vec![in alloc; 0u8; CIPHERTEXT_LIMIT]
 }
 
-fn read(rt: &HostRuntime, times: u32) -> io::Result<u64> {
+/// Reads the envelope on standard input so many times; gives the length of its ciphertext.
+pub(crate) fn read(rt: &HostRuntime, times: u32) -> io::Result<u64> {
     let mut text = Vec::new(rt.alloc());
     rt.stdin().read_to_end(&mut text)?;
     let mut work = work_memory(rt.alloc())?;
@@ -88,32 +85,4 @@ fn read(rt: &HostRuntime, times: u32) -> io::Result<u64> {
         length = read_once(work.as_mut_slice(), text.as_slice());
     }
     Ok(length as u64)
-}
-
-fn usage() -> io::Error {
-    io::Error::new(
-        ErrorKind::InvalidInput,
-        "usage: bench_envelope read N, or bench_envelope write LENGTH N",
-    )
-}
-
-fn main(rt: HostRuntime) -> io::Result<()> {
-    let words: Vec<String> = env::args(&rt)?.collect(rt.alloc())?;
-    let bytes = match words.as_slice() {
-        [_, work, times] => {
-            let ("read", Ok(times)) = (work.as_str(), times.parse()) else {
-                return Err(usage());
-            };
-            read(&rt, times)?
-        }
-        [_, work, length, times] => {
-            let ("write", Ok(length), Ok(times)) = (work.as_str(), length.parse(), times.parse())
-            else {
-                return Err(usage());
-            };
-            write(&rt, length, times)?
-        }
-        _ => return Err(usage()),
-    };
-    println!(rt; "{}", bytes)
 }
