@@ -1,16 +1,15 @@
 //! The programs of docs/library.md, and tests that run them.
 #![tactic(auto)]
 
+#[cfg(test)]
 mod decrypting;
+#[cfg(test)]
 mod encrypting;
+#[cfg(test)]
 mod in_memory;
+#[cfg(test)]
 mod own_files;
+#[cfg(test)]
 mod requesting;
 #[cfg(test)]
 mod tests;
-
-pub use decrypting::decrypt;
-pub use encrypting::encrypt;
-pub use in_memory::rekey;
-pub use own_files::{OnePassword, decrypt_with};
-pub use requesting::encrypt_variable;

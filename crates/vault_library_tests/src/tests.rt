@@ -1,5 +1,9 @@
 //! Runs the programs of docs/library.md.
-use crate::{OnePassword, decrypt, decrypt_with, encrypt, encrypt_variable, rekey};
+use crate::decrypting::decrypt;
+use crate::encrypting::encrypt;
+use crate::in_memory::rekey;
+use crate::own_files::{OnePassword, decrypt_with};
+use crate::requesting::encrypt_variable;
 use std::alloc::Global;
 use std::process::Abort;
 use std::test::Fail;

@@ -8,12 +8,11 @@ mod disk_runs;
 mod examples;
 #[cfg(test)]
 mod in_memory;
+#[cfg(test)]
 mod mem_system;
+#[cfg(test)]
 mod on_disk;
 #[cfg(test)]
 mod program;
 #[cfg(test)]
 mod system;
-
-pub use mem_system::{MemSystem, SystemFile};
-pub use on_disk::drive_on_disk;
