@@ -1,114 +1,64 @@
 -- The tables of src/tables.rt, at every entry.
-use Rattle.std.proofs.Common.{◌≡◌, ℕ, ◌<◌, ◌==◌, Bool, true, ◌&&◌, List, [], ◌∷◌, refl, slice_index}
-use Rattle.std.specs.Prelude.{⊤}
-use Rattle.std.proofs.lemmas.Bool.{and_parts, eqb-true}
+use Rattle.std.proofs.Common.{◌≡◌, ℕ, ◌<◌, List, [], refl, sym, ap, ◌∙◌, arith, length, slice_index}
+use Rattle.std.specs.Prelude.{get_or, map}
 use Rattle.std.specs.Int.{w32, to_be_bytes}
-use Rattle.vault_aes.specs.declared.tables.TheConstants.{TE0_WORDS, TE3_WORDS}
-use Rattle.vault_aes.specs.declared.tables.TheConstants.{S_BOX, TE1_WORDS}
-use Rattle.vault_aes.specs.declared.tables.TheConstants.{TE2_WORDS}
-use Rattle.vault_aes.specs.Field.{polynomial_product, remainder, mul, repeated_square}
-use Rattle.vault_aes.specs.Field.{product_of_squares, inverse}
-use Rattle.vault_aes.specs.SubstitutionBox.{number_of_bits, s_box}
-use Rattle.vault_aes.specs.Cipher.{entry, mixing_matrix, word_byte}
+use Rattle.std.specs.List.{range_with_len}
+use Rattle.std.proofs.lemmas.List.{get_or-map}
+use Rattle.std.proofs.lemmas.List.FromFn.{get_or-map-range_with_len}
+use Rattle.vault_aes.specs.declared.tables.TheConstants.{S_BOX, TE0_WORDS, TE1_WORDS}
+use Rattle.vault_aes.specs.declared.tables.TheConstants.{TE2_WORDS, TE3_WORDS}
+use Rattle.vault_aes.specs.Field.{mul}
+use Rattle.vault_aes.specs.SubstitutionBox.{s_box}
+use Rattle.vault_aes.specs.Cipher.{column, entry, mixing_matrix}
 use Rattle.vault_aes.specs.Columns.{mixed_column}
-use Rattle.vault_aes.proofs.FieldLemmas.{all_below, all_below-at}
+use Rattle.vault_aes.proofs.FieldLemmas.{on_literals}
 
--- what is computed at literals
-on_literals : ⊤
-unfolding polynomial_product remainder mul repeated_square product_of_squares inverse number_of_bits
-    s_box
-on_literals = tt
-
-abbrev is_substituted : ℕ → Bool
-is_substituted x = slice_index S_BOX x == s_box x
-
-is_substituted-all : all_below is_substituted 256 ≡ true
+S_BOX-values : S_BOX ≡ map s_box (range_with_len 0 256)
 unfolding on_literals
-is_substituted-all = refl
+S_BOX-values = refl
 
 pub slice_index-S_BOX : (x : ℕ) → x < 256 → slice_index S_BOX x ≡ s_box x
-slice_index-S_BOX x lt = eqb-true _ _ (all_below-at is_substituted 256 x is_substituted-all lt)
+slice_index-S_BOX x lt =
+    ap (λ (table : List ℕ). slice_index table x) S_BOX-values
+    ∙ get_or-map-range_with_len s_box 0 256 x x 0 lt (omega arith)
 
--- the four bytes of a word
-abbrev has_bytes : ℕ → ℕ → ℕ → ℕ → ℕ → Bool
-has_bytes word a b c d =
-    (word_byte word 0 == a) && (word_byte word 1 == b) && (word_byte word 2 == c)
-    && (word_byte word 3 == d)
+-- the part of a column that MixColumns makes of the byte s in row k
+abbrev mixed : ℕ → ℕ → List ℕ
+mixed k s = column (λ r c. mul (entry mixing_matrix r k) s) 0
 
-to_be_bytes-has_bytes : (word a b c d : ℕ) → has_bytes word a b c d ≡ true
-    → to_be_bytes w32 word ≡ a ∷ b ∷ c ∷ d ∷ []
-to_be_bytes-has_bytes word a b c d all =
-    let three = and_parts
-    ((word_byte word 0 == a) && (word_byte word 1 == b) && (word_byte word 2 == c))
-    (word_byte word 3 == d) all in
-    let two = and_parts ((word_byte word 0 == a) && (word_byte word 1 == b)) (word_byte word 2 == c)
-    three.0 in
-    let one = and_parts (word_byte word 0 == a) (word_byte word 1 == b) two.0 in
-    let first = eqb-true (word_byte word 0) a one.0 in
-    let second = eqb-true (word_byte word 1) b one.1 in
-    let third = eqb-true (word_byte word 2) c two.1 in
-    let fourth = eqb-true (word_byte word 3) d three.1 in
-    (λ i. first i ∷ second i ∷ third i ∷ fourth i ∷ [])
+-- the words of a table are the columns of the entries of the S-box in row k
+abbrev pub IsMixed : List ℕ → ℕ → Type 0
+IsMixed table k = map (to_be_bytes w32) table ≡ map (mixed k) S_BOX
 
--- the entry of a table at x is the column of x in row k
-abbrev is_mixed : List ℕ → ℕ → ℕ → Bool
-is_mixed table k x =
-    has_bytes (slice_index table x) (mul (entry mixing_matrix 0 k) (s_box x))
-    (mul (entry mixing_matrix 1 k) (s_box x))
-    (mul (entry mixing_matrix 2 k) (s_box x)) (mul (entry mixing_matrix 3 k) (s_box x))
+pub IsMixed-TE0_WORDS : IsMixed TE0_WORDS 0
+unfolding on_literals
+IsMixed-TE0_WORDS = refl
 
-to_be_bytes-is_mixed : (table : List ℕ) (k x : ℕ) → all_below (is_mixed table k) 256 ≡ true
-    → x < 256
+pub IsMixed-TE1_WORDS : IsMixed TE1_WORDS 1
+unfolding on_literals
+IsMixed-TE1_WORDS = refl
+
+pub IsMixed-TE2_WORDS : IsMixed TE2_WORDS 2
+unfolding on_literals
+IsMixed-TE2_WORDS = refl
+
+pub IsMixed-TE3_WORDS : IsMixed TE3_WORDS 3
+unfolding on_literals
+IsMixed-TE3_WORDS = refl
+
+pub to_be_bytes-table : (table : List ℕ) (k x : ℕ) → length table ≡ 256 → IsMixed table k → x < 256
     → to_be_bytes w32 (slice_index table x) ≡ mixed_column x k
-to_be_bytes-is_mixed table k x all lt =
-    to_be_bytes-has_bytes (slice_index table x) (mul (entry mixing_matrix 0 k) (s_box x))
-    (mul (entry mixing_matrix 1 k) (s_box x))
-    (mul (entry mixing_matrix 2 k) (s_box x)) (mul (entry mixing_matrix 3 k) (s_box x))
-    (all_below-at (is_mixed table k) 256 x all lt)
+to_be_bytes-table table k x size is lt =
+    sym (get_or-map (to_be_bytes w32) table x 0 [] (omega arith))
+    ∙ ap (λ (words : List (List ℕ)). get_or words x []) is ∙ get_or-map (mixed k) S_BOX x 0 [] lt
+    ∙ ap (mixed k) (slice_index-S_BOX x lt)
 
-is_mixed-TE0_WORDS : all_below (is_mixed TE0_WORDS 0) 256 ≡ true
+mul-1-S_BOX : map (mul 1) S_BOX ≡ S_BOX
 unfolding on_literals
-is_mixed-TE0_WORDS = refl
-
-pub to_be_bytes-TE0_WORDS : (x : ℕ) → x < 256
-    → to_be_bytes w32 (slice_index TE0_WORDS x) ≡ mixed_column x 0
-to_be_bytes-TE0_WORDS x lt =
-    to_be_bytes-is_mixed TE0_WORDS 0 x is_mixed-TE0_WORDS lt
-
-is_mixed-TE1_WORDS : all_below (is_mixed TE1_WORDS 1) 256 ≡ true
-unfolding on_literals
-is_mixed-TE1_WORDS = refl
-
-pub to_be_bytes-TE1_WORDS : (x : ℕ) → x < 256
-    → to_be_bytes w32 (slice_index TE1_WORDS x) ≡ mixed_column x 1
-to_be_bytes-TE1_WORDS x lt =
-    to_be_bytes-is_mixed TE1_WORDS 1 x is_mixed-TE1_WORDS lt
-
-is_mixed-TE2_WORDS : all_below (is_mixed TE2_WORDS 2) 256 ≡ true
-unfolding on_literals
-is_mixed-TE2_WORDS = refl
-
-pub to_be_bytes-TE2_WORDS : (x : ℕ) → x < 256
-    → to_be_bytes w32 (slice_index TE2_WORDS x) ≡ mixed_column x 2
-to_be_bytes-TE2_WORDS x lt =
-    to_be_bytes-is_mixed TE2_WORDS 2 x is_mixed-TE2_WORDS lt
-
-is_mixed-TE3_WORDS : all_below (is_mixed TE3_WORDS 3) 256 ≡ true
-unfolding on_literals
-is_mixed-TE3_WORDS = refl
-
-pub to_be_bytes-TE3_WORDS : (x : ℕ) → x < 256
-    → to_be_bytes w32 (slice_index TE3_WORDS x) ≡ mixed_column x 3
-to_be_bytes-TE3_WORDS x lt =
-    to_be_bytes-is_mixed TE3_WORDS 3 x is_mixed-TE3_WORDS lt
-
-abbrev is_unit : ℕ → Bool
-is_unit x = mul 1 (s_box x) == s_box x
-
-is_unit-all : all_below is_unit 256 ≡ true
-unfolding on_literals
-is_unit-all = refl
+mul-1-S_BOX = refl
 
 -- 1 is the unit of the product, at the bytes of the S-box
 pub mul-1-s_box : (x : ℕ) → x < 256 → mul 1 (s_box x) ≡ s_box x
-mul-1-s_box x lt = eqb-true _ _ (all_below-at is_unit 256 x is_unit-all lt)
+mul-1-s_box x lt =
+    rw (← slice_index-S_BOX x lt) (sym (get_or-map (mul 1) S_BOX x 0 0 lt)
+    ∙ ap (λ (table : List ℕ). slice_index table x) mul-1-S_BOX)

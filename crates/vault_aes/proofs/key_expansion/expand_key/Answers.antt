@@ -1,6 +1,6 @@
-use Rattle.std.proofs.Common.{◌-◌, ◌∙◌, ap, arith, bit_xor, length-append, length-set, replicate}
-use Rattle.std.proofs.Common.{slice_index, sym, take_all, take_at}
-use Rattle.vault_aes.specs.KeyExpansion.{first_words, key_schedule}
+use Rattle.std.proofs.Common.{◌∙◌, ap, arith, length-append, length-set, replicate}
+use Rattle.std.proofs.Common.{sym, take_all, take_at}
+use Rattle.vault_aes.specs.KeyExpansion.{first_words, key_schedule, next_word}
 use Rattle.vault_aes.proofs.KeyExpansionLemmas.{first_words-more}
 use Rattle.vault_aes.proofs.key_expansion.expand_key.Goals as goal
 
@@ -15,12 +15,14 @@ loop-i-init c =
     )
 
 pub loop-i-preserved : goal.loop-i-preserved
+unfolding next_word
 loop-i-preserved c =
     let words = c.loop-i.words in
     let i = c.loop-i.i in (
       length-set words i _ ∙ c.loop-i.invariant.0,
-      first_words-more c.args.key.now words i _ c.loop-i.auto.i (omega arith) c.loop-i.invariant.1
-          (ap (bit_xor (slice_index words (i - 8))) c.schedule_step.ensures),
+      rw c.schedule_step.ensures
+          (first_words-more c.args.key.now words i c.loop-i.auto.i (omega arith)
+          c.loop-i.invariant.1),
     )
 
 pub returns : goal.returns
