@@ -3,7 +3,7 @@ use Rattle.std.proofs.Common.{◌≡◌, ℕ, ◌<◌, List, [], refl, sym, ap, 
 use Rattle.std.specs.Prelude.{get_or, map}
 use Rattle.std.specs.Int.{w32, to_be_bytes}
 use Rattle.std.specs.List.{range_with_len}
-use Rattle.std.proofs.lemmas.List.{get_or-map}
+use Rattle.std.proofs.lemmas.List.{get_or-map, length-map}
 use Rattle.std.proofs.lemmas.List.FromFn.{get_or-map-range_with_len}
 use Rattle.vault_aes.specs.declared.tables.TheConstants.{S_BOX, TE0_WORDS, TE1_WORDS}
 use Rattle.vault_aes.specs.declared.tables.TheConstants.{TE2_WORDS, TE3_WORDS}
@@ -46,9 +46,10 @@ pub IsMixed-TE3_WORDS : IsMixed TE3_WORDS 3
 unfolding on_literals
 IsMixed-TE3_WORDS = refl
 
-pub to_be_bytes-table : (table : List ℕ) (k x : ℕ) → length table ≡ 256 → IsMixed table k → x < 256
+pub to_be_bytes-table : (table : List ℕ) (k x : ℕ) → IsMixed table k → x < 256
     → to_be_bytes w32 (slice_index table x) ≡ mixed_column x k
-to_be_bytes-table table k x size is lt =
+to_be_bytes-table table k x is lt =
+    let size : length table ≡ 256 = sym (length-map table (to_be_bytes w32)) ∙ ap length is in
     sym (get_or-map (to_be_bytes w32) table x 0 [] (omega arith))
     ∙ ap (λ (words : List (List ℕ)). get_or words x []) is ∙ get_or-map (mixed k) S_BOX x 0 [] lt
     ∙ ap (mixed k) (slice_index-S_BOX x lt)

@@ -1,11 +1,14 @@
-use Rattle.vault_aes.proofs.ColumnsLemmas.{state_of-final_round}
+use Rattle.std.proofs.Common.{◌+◌, ◌++◌, ◌∙◌, slice_index}
+use Rattle.vault_aes.specs.Cipher.{add_round_key, shift_rows, sub_bytes}
+use Rattle.vault_aes.specs.Columns.{final_column}
+use Rattle.vault_aes.proofs.ColumnsLemmas.{shifted}
 use Rattle.vault_aes.proofs.rounds.final_round.Goals as goal
 
 pub returns : goal.returns
+unfolding add_round_key shift_rows sub_bytes
 returns c =
-    state_of-final_round c.args.words.now c.args.state c.to_be_bytes.result c.to_be_bytes-2.result
-    c.to_be_bytes-3.result c.to_be_bytes-4.result
-    c.final_column.result c.final_column-2.result c.final_column-3.result c.final_column-4.result
-    c.to_be_bytes.ensures c.to_be_bytes-2.ensures c.to_be_bytes-3.ensures c.to_be_bytes-4.ensures
-    c.final_column.ensures c.final_column-2.ensures c.final_column-3.ensures
-    c.final_column-4.ensures
+    (λ i. c.final_column.ensures i ++ c.final_column-2.ensures i ++ c.final_column-3.ensures i
+    ++ c.final_column-4.ensures i)
+    ∙ (λ i. shifted final_column (λ k. slice_index c.args.words.now (56 + k))
+    (c.to_be_bytes.ensures i) (c.to_be_bytes-2.ensures i) (c.to_be_bytes-3.ensures i)
+    (c.to_be_bytes-4.ensures i))

@@ -6,11 +6,8 @@ pub returns : goal.returns
 returns c = λ block held.
     let words = c.args.words.now in
     let n = c.args.n in
-    let one = rounds-more words block c.args.state c.round-state.result n (n + 1) (omega arith) held
-    c.round-state.ensures in
-    let two = rounds-more words block c.round-state.result c.round-state-2.result (n + 1) (n + 2)
-    (omega arith) one c.round-state-2.ensures in
-    let three = rounds-more words block c.round-state-2.result c.round-state-3.result (n + 2)
-    (n + 3) (omega arith) two c.round-state-3.ensures in
-    rounds-more words block c.round-state-3.result c.round.result (n + 3) (n + 4) (omega arith)
-    three c.round.ensures
+    let one = rounds-more words block n (n + 1) (omega arith) held c.round-state.ensures in
+    let two = rounds-more words block (n + 1) (n + 2) (omega arith) one c.round-state-2.ensures in
+    let three =
+    rounds-more words block (n + 2) (n + 3) (omega arith) two c.round-state-3.ensures in
+    rounds-more words block (n + 3) (n + 4) (omega arith) three c.round.ensures

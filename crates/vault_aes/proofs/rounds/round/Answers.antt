@@ -1,11 +1,15 @@
-use Rattle.vault_aes.proofs.ColumnsLemmas.{state_of-round}
+use Rattle.std.proofs.Common.{◌+◌, ◌*◌, ◌++◌, ◌∙◌, add-zero, slice_index}
+use Rattle.vault_aes.specs.Cipher.{add_round_key, mix_columns, round, shift_rows, sub_bytes}
+use Rattle.vault_aes.specs.Columns.{round_column}
+use Rattle.vault_aes.proofs.ColumnsLemmas.{shifted}
 use Rattle.vault_aes.proofs.rounds.round.Goals as goal
 
 pub returns : goal.returns
+unfolding add_round_key mix_columns round shift_rows sub_bytes
 returns c =
-    state_of-round c.args.words.now c.args.n c.args.state c.to_be_bytes.result
-    c.to_be_bytes-2.result c.to_be_bytes-3.result c.to_be_bytes-4.result
-    c.round_column.result c.round_column-2.result c.round_column-3.result c.round_column-4.result
-    c.to_be_bytes.ensures c.to_be_bytes-2.ensures c.to_be_bytes-3.ensures c.to_be_bytes-4.ensures
-    c.round_column.ensures c.round_column-2.ensures c.round_column-3.ensures
-    c.round_column-4.ensures
+    let first = rw (← add-zero (4 * c.args.n)) at c.round_column.ensures in
+    (λ i. first i ++ c.round_column-2.ensures i ++ c.round_column-3.ensures i
+    ++ c.round_column-4.ensures i)
+    ∙ (λ i. shifted round_column (λ k. slice_index c.args.words.now (4 * c.args.n + k))
+    (c.to_be_bytes.ensures i) (c.to_be_bytes-2.ensures i) (c.to_be_bytes-3.ensures i)
+    (c.to_be_bytes-4.ensures i))
