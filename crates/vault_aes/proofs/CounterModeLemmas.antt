@@ -87,19 +87,36 @@ completed-more stream n xs lt =
       drop_more xs n 0 lt,
     ) refl
 
--- one more part, with a block of the stream
-pub completed-part : (stream keystream : ℕ → ℕ) (start n : ℕ) (xs part : List ℕ) → start ≤ n
-    → n ≤ length xs → n ≤ start + 16
-    → ((k : ℕ) → k < 16 → keystream k ≡ stream (start + k))
-    → part ≡ xor_keystream keystream (take (n - start) (drop start xs))
-    → completed stream n (put_mid start (n - start) xs part) ≡ completed stream start xs
-completed-part stream keystream start n xs part low high near block_is is =
+-- a block of the key stream is the cipher of its counter block
+keystream_byte-block : (words iv : List ℕ) (j k : ℕ) → k < 16
+    → keystream_byte words iv (16 * j + k) ≡ slice_index (cipher words (counter_block iv j)) k
+unfolding keystream_byte
+keystream_byte-block words iv j k lt =
+    let number : (16 * j + k) / 16 ≡ j = omega arith in
+    let place : (16 * j + k) % 16 ≡ k = omega arith in
+    rw (number, place) refl
+
+-- one more part, with a block of the key stream
+pub completed-block : (words iv : List ℕ) (j n : ℕ) (xs : List ℕ) {counter : ℕ}
+    {bytes block part : List ℕ} → 16 * j ≤ n → n ≤ length xs → n ≤ 16 * j + 16
+    → counter ≡ (from_be_bytes w128 iv + j) % 2 ^ 128 → bytes ≡ to_be_bytes w128 counter
+    → block ≡ cipher words bytes
+    → part ≡ xor_keystream (slice_index block) (take (n - 16 * j) (drop (16 * j) xs))
+    → completed (keystream_byte words iv) n (put_mid (16 * j) (n - 16 * j) xs part)
+    ≡ completed (keystream_byte words iv) (16 * j) xs
+unfolding counter_block
+completed-block words iv j n xs {block = block} {part = part} low high near number bytes from is =
+    let stream = keystream_byte words iv in
+    let under : block ≡ cipher words (counter_block iv j) =
+    from ∙ ap (cipher words) (bytes ∙ ap (to_be_bytes w128) number) in
+    let start : ℕ = 16 * j in
     let source : List ℕ = take (n - start) (drop start xs) in
     let size : length source ≡ n - start = simp (length-take, length-drop) (omega arith) in
     let long : length part ≡ n - start =
-    ap length is ∙ length-xor_keystream keystream source ∙ size in
-    let added = is ∙ xor_keystream-added_from keystream stream start source
-    (λ k lt. block_is k (omega (arith, size))) in
+    ap length is ∙ length-xor_keystream (slice_index block) source ∙ size in
+    let added : part ≡ added_from stream start source =
+    is ∙ xor_keystream-added_from (slice_index block) stream start source (λ k lt.
+    rw under (sym (keystream_byte-block words iv j k (omega (arith, size))))) in
     rw (
       take-put_mid start (n - start) xs part n (omega (arith, long)) (omega arith),
       drop-put_mid start (n - start) xs part n (omega arith) (omega arith) long,
@@ -108,17 +125,6 @@ completed-part stream keystream start n xs part low high near block_is is =
       ← added_from-append stream start n source (drop n xs) (omega (arith, size)),
       ← drop_split xs start n low,
     ) refl
-
--- a block of the key stream is the cipher of its counter block
-pub slice_index-keystream_block : (words iv block : List ℕ) (counter j : ℕ)
-    → counter ≡ (from_be_bytes w128 iv + j) % 2 ^ 128
-    → block ≡ cipher words (to_be_bytes w128 counter)
-    → (k : ℕ) → k < 16 → slice_index block k ≡ keystream_byte words iv (16 * j + k)
-unfolding keystream_byte counter_block
-slice_index-keystream_block words iv block counter j counter_is block_is k lt =
-    let number : (16 * j + k) / 16 ≡ j = omega arith in
-    let place : (16 * j + k) % 16 ≡ k = omega arith in
-    rw (number, place, ← counter_is, block_is) refl
 
 -- ---- laws
 

@@ -1,9 +1,7 @@
-use Rattle.std.proofs.Common.{◌≡◌, ◌+◌, ◌-◌, ◌*◌, ◌/◌, ◌≤◌, ◌∙◌, ap, arith, length, length-append}
-use Rattle.std.proofs.Common.{length-drop, length-take, slice_index, sym}
-use Rattle.vault_aes.specs.Cipher.{cipher}
+use Rattle.std.proofs.Common.{◌≡◌, ◌+◌, ◌-◌, ◌*◌, ◌/◌, ◌≤◌, ◌∙◌, arith, length, length-append}
+use Rattle.std.proofs.Common.{length-drop, length-take, sym}
 use Rattle.vault_aes.specs.CounterMode.{counter_mode, keystream_byte}
-use Rattle.vault_aes.proofs.CounterModeLemmas.{completed-all, completed-none, completed-part}
-use Rattle.vault_aes.proofs.CounterModeLemmas.{slice_index-keystream_block}
+use Rattle.vault_aes.proofs.CounterModeLemmas.{completed-all, completed-block, completed-none}
 use Rattle.vault_aes.proofs.counter_mode.ctr_apply.Goals as goal
 use borrow.Rule.Slice.PartMut.{put_mid}
 
@@ -16,19 +14,13 @@ loop-j-init c = record {
 
 pub loop-j-preserved : goal.loop-j-preserved
 loop-j-preserved c =
-    let words = c.args.key.now in
-    let iv = c.args.iv.now in
     let j = c.loop-j.j in
     record {
       counter_is = omega (arith, c.loop-j.invariant.counter_is);
       added =
-          completed-part (keystream_byte words iv) (slice_index c.block-keystream.result) (16 * j)
-          (16 * (j + 1)) c.loop-j.bytes c.xor_keystream.new.bytes (omega arith) (omega arith)
-          (omega arith)
-          (slice_index-keystream_block words iv c.block-keystream.result c.loop-j.counter j
-          c.loop-j.invariant.counter_is
-          (c.block-keystream.ensures ∙ ap (cipher words) c.counter_block.ensures))
-          c.xor_keystream.ensures
+          completed-block c.args.key.now c.args.iv.now j (16 * (j + 1)) c.loop-j.bytes
+          (omega arith) (omega arith) (omega arith) c.loop-j.invariant.counter_is
+          c.counter_block.ensures c.block-keystream.ensures c.xor_keystream.ensures
           ∙ c.loop-j.invariant.added;
     }
 
@@ -36,22 +28,16 @@ pub returns-then-bytes-ne0 : goal.returns-then-bytes-ne0
 returns-then-bytes-ne0 c =
     let words = c.args.key.now in
     let iv = c.args.iv.now in
-    let end = length c.args.bytes.now in
-    let j = end / 16 in
-    let stream = keystream_byte words iv in
+    let j = length c.args.bytes.now / 16 in
     let all : c.loop-j.j ≡ j = omega arith in
-    let part = c.xor_keystream-then-bytes-ne0.new.bytes in
     let size = length c.loop-j.bytes in
-    let whole : length (put_mid (16 * j) (size - 16 * j) c.loop-j.bytes part) ≤ size =
+    let whole : length (put_mid (16 * j) (size - 16 * j) c.loop-j.bytes
+    c.xor_keystream-then-bytes-ne0.new.bytes) ≤ size =
     simp (length-append, length-drop, length-take) (omega arith) in
-    sym (completed-all stream size _ whole)
-    ∙ completed-part stream (slice_index c.block-keystream-then-bytes-ne0.result) (16 * j) size
-    c.loop-j.bytes part (omega arith) (omega arith) (omega arith)
-    (slice_index-keystream_block words iv c.block-keystream-then-bytes-ne0.result c.loop-j.counter j
-    (rw all at c.loop-j.invariant.counter_is)
-    (c.block-keystream-then-bytes-ne0.ensures
-    ∙ ap (cipher words) c.counter_block-then-bytes-ne0.ensures))
-    c.xor_keystream-then-bytes-ne0.ensures
+    sym (completed-all (keystream_byte words iv) size _ whole)
+    ∙ completed-block words iv j size c.loop-j.bytes (omega arith) (omega arith) (omega arith)
+    (rw all at c.loop-j.invariant.counter_is) c.counter_block-then-bytes-ne0.ensures
+    c.block-keystream-then-bytes-ne0.ensures c.xor_keystream-then-bytes-ne0.ensures
     ∙ rw all at c.loop-j.invariant.added
 
 pub returns-else-bytes-ne0 : goal.returns-else-bytes-ne0

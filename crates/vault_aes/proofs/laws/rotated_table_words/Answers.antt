@@ -1,4 +1,4 @@
-use Rattle.std.proofs.Common.{◌≡◌, ◌∙◌, [], ◌∷◌}
+use Rattle.std.proofs.Common.{◌∙◌, [], ◌∷◌}
 use Rattle.vault_aes.specs.Field.{mul}
 use Rattle.vault_aes.specs.SubstitutionBox.{s_box}
 use Rattle.vault_aes.proofs.TableLemmas.{mul-1-s_box}
@@ -8,13 +8,8 @@ pub returns : goal.returns
 returns c =
     let s = s_box c.args.x in
     let unit = mul-1-s_box c.args.x c.ranges.x.fits in
-    let second : c.to_be_bytes.result ≡ mul 3 s ∷ mul 2 s ∷ s ∷ s ∷ [] =
-    c.to_be_bytes.ensures ∙ c.te1.ensures
-    ∙ (λ i. mul 3 s ∷ mul 2 s ∷ unit i ∷ unit i ∷ []) in
-    let third : c.to_be_bytes-2.result ≡ s ∷ mul 3 s ∷ mul 2 s ∷ s ∷ [] =
-    c.to_be_bytes-2.ensures ∙ c.te2.ensures
-    ∙ (λ i. unit i ∷ mul 3 s ∷ mul 2 s ∷ unit i ∷ []) in
-    let fourth : c.to_be_bytes-3.result ≡ s ∷ s ∷ mul 3 s ∷ mul 2 s ∷ [] =
-    c.to_be_bytes-3.ensures ∙ c.te3.ensures
-    ∙ (λ i. unit i ∷ unit i ∷ mul 3 s ∷ mul 2 s ∷ []) in
-    λ i. second i ∷ third i ∷ fourth i ∷ []
+    (λ i. (c.to_be_bytes.ensures ∙ c.te1.ensures) i ∷ (c.to_be_bytes-2.ensures ∙ c.te2.ensures) i
+    ∷ (c.to_be_bytes-3.ensures ∙ c.te3.ensures) i ∷ [])
+    ∙ (λ i. (mul 3 s ∷ mul 2 s ∷ unit i ∷ unit i ∷ [])
+    ∷ (unit i ∷ mul 3 s ∷ mul 2 s ∷ unit i ∷ [])
+    ∷ (unit i ∷ unit i ∷ mul 3 s ∷ mul 2 s ∷ []) ∷ [])
