@@ -46,10 +46,6 @@ pub take-padded : (plain : List ℕ) → take (length plain) (padded plain) ≡ 
 unfolding padded
 take-padded plain = take_at plain (padding_of plain) (length plain) refl
 
-drop-padded : (plain : List ℕ) → drop (length plain) (padded plain) ≡ padding_of plain
-unfolding padded
-drop-padded plain = drop_at plain (padding_of plain) (length plain) refl
-
 -- the last byte of a text
 abbrev pub last_of : List ℕ → ℕ
 last_of text = slice_index text (length text - 1)
@@ -125,32 +121,25 @@ replicate-from_All value n xs long all =
     same_lists xs (replicate n value) (long ∙ sym (length-replicate n value))
     (λ k d lt. all k d lt ∙ sym (get_or-replicate n k value d (omega arith)))
 
--- a text whose last `count` bytes are `count`
-padded-from_tail : (text : List ℕ) (count : ℕ) → 1 ≤ count → count ≤ 16 → count ≤ length text
-    → length text % 16 ≡ 0
-    → All (λ x. x ≡ count) (drop (length text - count) text)
-    → padded (take (length text - count) text) ≡ text
-unfolding padded
-padded-from_tail text count low high within whole all =
-    let n : ℕ = length text - count in
-    let prefix = length-take-le n text (omega arith) in
-    let counted : count_of (take n text) ≡ count = omega (arith, prefix) in
-    let back : length (drop n text) ≡ count = length-drop n text ∙ omega arith in
-    rw (counted, ← replicate-from_All count count (drop n text) back all) (take-append-drop n text)
-
 -- what `unpad` answers once it has compared the last bytes
 pub then_some-without_padding : (text : List ℕ) (count : ℕ) (same : Bool) → count ≡ last_of text
     → 1 ≤ count → count ≤ 16 → 1 ≤ length text → length text % 16 ≡ 0
     → IsTrue same ↔ All (λ x. x ≡ count) (drop (length text - count) text)
     → option_map (λ n. take n text) (then_some same (length text - count)) ≡ without_padding text
+unfolding padded
 then_some-without_padding text count true last low high some whole all =
-    sym (without_padding-padded _ text
-    (padded-from_tail text count low high (omega arith) whole (all.0 refl)))
+    let n : ℕ = length text - count in
+    let prefix = length-take-le n text (omega arith) in
+    let counted : count_of (take n text) ≡ count = omega (arith, prefix) in
+    let back : length (drop n text) ≡ count = length-drop n text ∙ omega arith in
+    sym (without_padding-padded (take n text) text
+    (rw (counted, ← replicate-from_All count count (drop n text) back (all.0 refl))
+    (take-append-drop n text)))
 then_some-without_padding text count false last low high some whole all =
     without_padding-None text (λ plain is.
     let counted : count_of plain ≡ count = sym (rw is at (last-padded plain)) ∙ sym last in
     let size = rw is at (length-padded plain) in
     let start : length text - count ≡ length plain = omega (arith, size) in
     let tail : drop (length text - count) text ≡ replicate count count =
-    rw (start, ← is, ← counted) (drop-padded plain) in
+    rw (start, ← is, ← counted) (drop_at plain (padding_of plain) (length plain) refl) in
     cc (all.1 (rw tail (All-replicate (λ x. x ≡ count) count count refl))))

@@ -1,4 +1,4 @@
-use Rattle.std.proofs.Common.{◌≡◌, ◌≤◌, ◌%◌, ◌∙◌, arith, ap, length, rules, take, ◌-◌}
+use Rattle.std.proofs.Common.{◌≡◌, ◌∙◌, arith, ap, length, rules, take, ◌-◌}
 use Rattle.std.specs.Option.{option_map}
 use Rattle.std.proofs.lemmas.List.{take_rest}
 use Rattle.vault_aes.proofs.PaddingLemmas.{last-padded, last_of, length-padded}
@@ -23,9 +23,7 @@ pub returns-clause-plaintext : goal.returns-clause-plaintext
 returns-clause-plaintext c =
     let text = c.args.padded.now in
     let count = c.in_ok-count.field-0.now in
-    let low : 1 ≤ count = omega arith in
-    let whole : length text % 16 ≡ 0 = search rules in
     ap (option_map (λ n. take n text)) c.then_some.ensures
-    ∙ then_some-without_padding text count c.all_are.result (c.in_ok-count.ensures.item.3.1 0) low
-    (omega arith) (omega (arith, c.in_ok-count.ensures.item.3.0)) whole
+    ∙ then_some-without_padding text count c.all_are.result (c.in_ok-count.ensures.item.3.1 0)
+    (omega arith) (omega arith) (omega (arith, c.in_ok-count.ensures.item.3.0)) (search rules)
     (rw (take_rest text (length text - count)) at c.all_are.ensures)
