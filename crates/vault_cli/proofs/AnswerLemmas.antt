@@ -1,11 +1,14 @@
 -- The outcome of a request by what is prepared, and what follows where its input is asked for.
-use Rattle.std.proofs.Common.{◌≡◌, ℕ, List, Option, Some, None, Ok, Err, ap, refl, true, false}
-use Rattle.std.proofs.Common.{Result}
+use Rattle.std.proofs.Common.{◌≡◌, ◌≢◌, ℕ, List, Option, Some, None, Result, Ok, Err, refl, true}
+use Rattle.std.proofs.Common.{false}
 use Rattle.std.specs.Prelude.{unwrap_or, is_some}
 use Rattle.vault_fault.specs.declared.fault.Fault.{Fault}
+use Rattle.vault_core.specs.Ready.{Ready}
+use Rattle.vault_request.specs.Laws.{IsRequest}
 use Rattle.vault_request.specs.Request.{Request}
+use Rattle.vault_request.specs.declared.command_name.CommandName.TheVariants.{EncryptString}
 use Rattle.vault_cli.specs.runs.Answer.{answered, run_answer_within, performed, ready_by}
-use Rattle.vault_cli.specs.runs.Answer.{text_of_request, input_needed_by}
+use Rattle.vault_cli.specs.runs.Answer.{input_needed_by}
 use Rattle.vault_cli.specs.runs.Task.{Task, planned}
 
 -- a task is performed on the STRING, or else on the input
@@ -14,15 +17,26 @@ pub ready-text : (limit : ℕ) (task : Task) (string : Option (List ℕ)) (input
 ready-text limit task None input = refl
 ready-text limit task (Some string) input = refl
 
-module _ (request : Request) (contents : List (List ℕ)) (salt : List ℕ) where
-  -- steps 1 to 3 give a task
-  pub run_answer-performed : (limit : ℕ) (input : List ℕ) (task : Task)
-      → planned request contents salt ≡ Ok task
-      → run_answer_within limit request contents salt input
-      ≡ answered (performed limit task (text_of_request request input))
+-- an outcome with an output is an answer
+answered-some : (r : Result Ready Fault) (output : List ℕ) → (answered r).output ≡ Some output
+    → (ready : Ready) × (r ≡ Ok ready) × (ready.output ≡ output)
+answered-some (Ok ready) output e = (ready, refl, (cc))
+answered-some (Err fault) output e = absurd cc
+
+-- a request of another command than `encrypt_string`, which has no STRING
+module _ (limit : ℕ) (request : Request) (contents : List (List ℕ)) (salt input : List ℕ)
+    (known : IsRequest request) (other : request.command ≢ EncryptString)
+    (task : Task) (found : planned request contents salt ≡ Ok task) where
+  pub run_answer-performed : run_answer_within limit request contents salt input
+      ≡ answered (performed limit task input)
   unfolding run_answer_within
-  run_answer-performed limit input task e =
-      rw e (ap answered (ready-text limit task request.string input))
+  run_answer-performed = rw (found, known.string other)
+
+  pub run_answer-output : (output : List ℕ)
+      → (run_answer_within limit request contents salt input).output ≡ Some output
+      → (ready : Ready) × (performed limit task input ≡ Ok ready) × (ready.output ≡ output)
+  run_answer-output output written =
+      answered-some (performed limit task input) output (rw run_answer-performed at written)
 
 -- where a source is asked there is no STRING
 pub requested-no_string : (plans : Result Task Fault) (string : Option (List ℕ)) (limit : ℕ)
@@ -30,9 +44,3 @@ pub requested-no_string : (plans : Result Task Fault) (string : Option (List ℕ
 requested-no_string (Err fault) string limit requested = absurd cc
 requested-no_string (Ok task) (Some string) limit requested = absurd cc
 requested-no_string (Ok task) None limit requested = refl
-
--- and steps 1 to 3 do not refuse
-pub requested-planned : (plans : Result Task Fault) (string : Option (List ℕ)) (limit : ℕ)
-    (fault : Fault) → plans ≡ Err fault → is_some (input_needed_by plans string limit) ≡ true → ⊥
-requested-planned plans string limit fault refused requested =
-    let requested = rw refused at requested in absurd cc

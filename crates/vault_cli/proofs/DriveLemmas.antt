@@ -1,6 +1,6 @@
 -- From what was sent, and from the files that were found, to how the program ends.
 use Rattle.std.proofs.Common.{◌≡◌, ℕ, ◌+◌, ◌<◌, ◌≤◌, ◌⊎◌, inl, inr, List, [], true, Option, Some}
-use Rattle.std.proofs.Common.{None, Result, Ok, Err, IsTrue, length, arith, refl, sym, ap, ◌∙◌}
+use Rattle.std.proofs.Common.{◌≢◌, None, Result, Ok, Err, IsTrue, length, arith, refl, sym, ap, ◌∙◌}
 use Rattle.std.proofs.Common.{subst}
 use Rattle.std.specs.Prelude.{IfSome, is_some}
 use Rattle.std.specs.Result.{result_map_both}
@@ -9,19 +9,21 @@ use Rattle.vault_text.specs.Failures.{HasRisen}
 use Rattle.vault_text.specs.declared.limits.TheConstants.{PLAINTEXT_LIMIT}
 use Rattle.vault_text.specs.declared.sink.Stage.TheVariants.{Unbegun}
 use Rattle.vault_files.specs.File.{Answers, FileState}
-use Rattle.vault_files.specs.declared.fault.FileFault.TheVariants.{CannotRead}
+use Rattle.vault_files.specs.declared.fault.FileFault.{FileFault}
+use Rattle.vault_files.specs.declared.fault.FileFault.TheVariants.{CannotOpen, CannotRead}
 use Rattle.vault_fault.specs.declared.fault.Fault.{Fault}
-use Rattle.vault_fault.specs.declared.fault.Fault.TheVariants.{Memory, Read}
+use Rattle.vault_fault.specs.declared.fault.Fault.TheVariants.{Memory}
 use Rattle.vault_fault.specs.declared.fault.Role.TheVariants.{Input}
 use Rattle.vault_cli.specs.Call.{SinkCall, SourceCall, StoreCall, files_from}
 use Rattle.vault_cli.specs.Drive.{Drives}
 use Rattle.vault_cli.specs.runs.Ending.{Ends, EndsUnread, Finishes, Output, to_path}
-use Rattle.vault_cli.specs.runs.FileContents.{AtPath, request_paths, fault_in, secret_paths}
+use Rattle.vault_cli.specs.runs.FileContents.{AtPath, request_paths, fault_in, prefix_in}
+use Rattle.vault_cli.specs.runs.FileContents.{secret_paths}
 use Rattle.vault_cli.specs.Loaded.{ContentsFound, RefusedBy, SaltFound}
 use Rattle.vault_cli.specs.runs.ReportLine.{line_of}
 use Rattle.vault_cli.specs.runs.Answer.{Answer, answered, input_needed_by, input_needed}
-use Rattle.vault_cli.specs.runs.Answer.{input_limit}
-use Rattle.vault_cli.specs.runs.Answer.{run_answer, run_answer_within, ready_by, reported}
+use Rattle.vault_cli.specs.runs.Answer.{input_limit, performed, ready_by, reported, run_answer}
+use Rattle.vault_cli.specs.runs.Answer.{run_answer_within}
 use Rattle.vault_cli.specs.Program.{Files, access_of, answer_to, input_in, can_open_input}
 use Rattle.vault_cli.specs.Program.{output_access, output_path, unless_file}
 use Rattle.vault_cli.specs.runs.Reports.{Says}
@@ -31,9 +33,9 @@ use Rattle.vault_cli.specs.runs.Status.{status_of}
 use Rattle.vault_cli.specs.runs.Task.{Task, planned}
 use Rattle.vault_cli.specs.declared.runs.status.Status.{Status}
 use Rattle.vault_cli.specs.declared.runs.status.Status.TheVariants.{OutOfMemory}
-use Rattle.vault_cli.proofs.EndingLemmas.{alone-answered}
+use Rattle.vault_cli.proofs.EndingLemmas.{path-alone}
 use Rattle.vault_cli.proofs.OpenedPathsLemmas.{opened-all}
-use Rattle.vault_cli.proofs.ProgramLemmas.{opening-broken, opening-read, task-found}
+use Rattle.vault_cli.proofs.ProgramLemmas.{opening, task-found}
 
 -- no standard input is asked for beside a file
 unless_file-none : (file : Option FileState) → unless_file file None ≡ None
@@ -56,34 +58,25 @@ module _ {R : Type 0} (finds : List ℕ → FileState → Type 0) (opened : List
       → length xs < n
       → HasRisen (reader.failures r) (reader.failures t) → Answers (finds path) n (Err CannotRead)
 
-  -- a file that gives this, for each standard input
+  -- a file that can be opened, and gives this
   abbrev InputFound : Option (List ℕ) → ℕ → Result (List ℕ) Fault → Type 0
   InputFound path n answer =
       (file : FileState) × AtPath finds path (Some file) × (can_open_input (Some file) ≡ Ok tt)
-      × ((stdin : List ℕ) → input_in n (Some file) stdin ≡ answer)
+      × (prefix_in Input n file ≡ answer)
 
-  input-read : PrefixLaw → (path : Option (List ℕ)) (t : R) (xs : List ℕ) (n : ℕ)
-      → AtPath opened path (Some reader.old)
-      → reader.gives reader.old xs t → length xs ≤ n → IsTrue (reader.ended t) ⊎ (length xs ≡ n)
-      → reader.failures t ≡ reader.failures reader.old → InputFound path n (Ok xs)
-  input-read law None t xs n at given fits end unfailed = absurd at
-  input-read law (Some path) t xs n at given fits end unfailed =
-      let a = law path reader.old t xs n at given fits end unfailed in
-      let same : (stdin : List ℕ) → input_in n (Some a.file) stdin ≡ Ok xs =
-      λ stdin. ap (result_map_both (λ bytes. bytes) (fault_in Input)) a.same in
-      (a.file, a.found, opening-read a.file n [] xs (same []), same)
-
-  input-broken : BreakLaw → (path : Option (List ℕ)) (t : R) (xs : List ℕ) (n : ℕ)
-      → AtPath opened path (Some reader.old)
-      → reader.gives reader.old xs t → length xs < n
-      → HasRisen (reader.failures reader.old) (reader.failures t)
-      → InputFound path n (Err (Read Input))
-  input-broken law None t xs n at given fits risen = absurd at
-  input-broken law (Some path) t xs n at given fits risen =
-      let a = law path reader.old t xs n at given fits risen in
-      let same : (stdin : List ℕ) → input_in n (Some a.file) stdin ≡ Err (Read Input) =
-      λ stdin. ap (result_map_both (λ bytes. bytes) (fault_in Input)) a.same in
-      (a.file, a.found, opening-broken a.file n [] (same []), same)
+  -- what the reader answered is what a file at its path gives
+  input-found : (n : ℕ) (answer : Result (List ℕ) FileFault) → answer ≢ Err CannotOpen
+      → ((path : List ℕ) → opened path reader.old → Answers (finds path) n answer)
+      → (path : Option (List ℕ)) → AtPath opened path (Some reader.old)
+      → InputFound path n (result_map_both (λ bytes. bytes) (fault_in Input) answer)
+  input-found n answer opens law None at = absurd at
+  input-found n answer opens law (Some path) at =
+      let a = law path at in (
+        a.file,
+        a.found,
+        opening a.file n (λ missing. opens (sym a.same ∙ missing)),
+        ap (result_map_both (λ bytes. bytes) (fault_in Input)) a.same,
+      )
 
 unopened : {R : Type 0} (finds : List ℕ → FileState → Type 0) (opened : List ℕ → R → Type 0)
     (path : Option (List ℕ)) → AtPath opened path None → AtPath finds path None
@@ -129,10 +122,8 @@ module _ {F R S K E : Type 0} (files : StoreCall F R) (src : SourceCall S) (out 
         let all = opened-all (files.finds files.old) request found contents secrets_found gave salt
         has_salt in
         let same = task-found request found contents salt gave has_salt opening in
-        let all_went =
-        subst (λ (paths : List (List ℕ)). files.opens files.old paths opened) (sym all) went in
         let ends_so = subst (λ (task : Result Task Fault). EndsWith input task) (sym same) ends in
-        inr (found, (secrets_found, salt_found, input_found), (opened, (all_went, ends_so)))
+        inr (found, (secrets_found, salt_found, input_found), (opened, (rw all went, ends_so)))
 
     -- of standard input
     pub drives-stdin : (reads : List ℕ → R → Type 0) → AtPath reads request.input None
@@ -162,33 +153,39 @@ module _ {F R S K E : Type 0} (files : StoreCall F R) (src : SourceCall S) (out 
           (input_needed_by plans string (input_limit PLAINTEXT_LIMIT request.command))
           (λ input. answered (ready_by PLAINTEXT_LIMIT plans string (Ok input)))
 
+      -- where it was not asked for, it was opened
+      unread-ends : (answer : Answer) → Finishes SentTo err result answer
+          → (file : FileState) × AtPath (files.finds files.old) request.input (Some file)
+          × (can_open_input (Some file) ≡ Ok tt) × Finishes SentTo err result answer
+      unread-ends answer done =
+          let (file, seen, opens, same) = input-found (files.finds files.old) reads reader 0 (Ok [])
+          (λ missing. cc)
+          (λ path at. prefix_law path reader.old reader.old [] 0 at none (omega arith) (inr refl)
+          refl) request.input at in
+          (file, seen, opens, done)
+
       file-ends : (plans : Result Task Fault) (string : Option (List ℕ))
           → FileSent plans string → FileEnds plans string
-      file-ends (Err fault) string (unread, done) =
-          let (file, seen, opening, same) = input-read (files.finds files.old) reads reader
-          prefix_law request.input reader.old [] 0 at none (omega arith) (inr refl) refl in
-          (file, seen, opening, done)
+      file-ends (Err fault) string (unread, done) = unread-ends (reported fault) done
       file-ends (Ok task) (Some string) (unread, done) =
-          let (file, seen, opening, same) = input-read (files.finds files.old) reads reader
-          prefix_law request.input reader.old [] 0 at none (omega arith) (inr refl) refl in
-          (file, seen, opening, done)
+          unread-ends (answered (performed PLAINTEXT_LIMIT task string)) done
       file-ends (Ok task) None (input, (given, fits, inl (u, short))) =
-          let (file, seen, opening, same) = input-broken (files.finds files.old) reads reader
-          break_law request.input reader.new input
-          (input_limit PLAINTEXT_LIMIT request.command + 1) at given (omega (arith, short))
-          u.failed in (
+          let (file, seen, opens, same) = input-found (files.finds files.old) reads reader
+          (input_limit PLAINTEXT_LIMIT request.command + 1) (Err CannotRead) (λ missing. cc)
+          (λ path at. break_law path reader.old reader.new input _ at given (omega (arith, short))
+          u.failed) request.input at in (
             file,
             seen,
-            opening,
-            rw (same []) (inl
-                (record
+            opens,
+            rw same (inl (record
                 { status = u.status; unfailed = u.unfailed; output = u.output; line = u.line })),
           )
       file-ends (Ok task) None (input, (given, fits, inr ((stay, whole), done))) =
-          let (file, seen, opening, same) = input-read (files.finds files.old) reads reader
-          prefix_law request.input reader.new input
-          (input_limit PLAINTEXT_LIMIT request.command + 1) at given fits whole stay in
-          (file, seen, opening, rw (same []) done)
+          let (file, seen, opens, same) = input-found (files.finds files.old) reads reader
+          (input_limit PLAINTEXT_LIMIT request.command + 1) (Ok input) (λ missing. cc)
+          (λ path at. prefix_law path reader.old reader.new input _ at given fits whole stay)
+          request.input at in
+          (file, seen, opens, rw same done)
 
       pub drives-file : SentFrom reader → RequestDrives (Some (Ok request))
       unfolding run_answer_within
@@ -201,17 +198,15 @@ module _ {F R S K E : Type 0} (files : StoreCall F R) (src : SourceCall S) (out 
 
   module _ (opened : F) (fresh : files.stage opened ≡ Unbegun) (same_files : files.new ≡ opened)
       (same_out : out.new ≡ out.old) (kept : src.new ≡ src.old) where
-    answered-alone : (requested : Option (Result Request Fault)) (answer : Answer)
-        → answer.output ≡ None → result ≡ answer.status → Says err answer.line
+    reported-alone : (requested : Option (Result Request Fault)) (fault : Fault)
+        → result ≡ status_of fault → Says err (line_of fault)
         → EndsUnread (to_path (output_path requested) (access_of requested)
         (files_from opened files) out)
-        err result src answer
-    answered-alone requested answer none status line = (
-      kept,
-      inl (alone-answered (files_from opened files) out (access_of requested) fresh same_files
-          same_out
-          err result (output_path requested) answer none status line),
-    )
+        err result src (reported fault)
+    reported-alone requested fault status line =
+        let alone = path-alone (files_from opened files) out (access_of requested) fresh same_files
+        same_out (output_path requested) in
+        (kept, inl (record { status = status; unfailed = alone.1; output = alone.0; line = line }))
 
     -- the files refuse it
     pub drives-refused : (request : Request) (fault : Fault)
@@ -219,27 +214,13 @@ module _ {F R S K E : Type 0} (files : StoreCall F R) (src : SourceCall S) (out 
         fault
         → result ≡ status_of fault → Says err (line_of fault) → RequestDrives (Some (Ok request))
     drives-refused request fault (found, seen, refused_so, went) status line =
-        let alone = answered-alone (Some (Ok request)) (reported fault) refl status line in
+        let alone = reported-alone (Some (Ok request)) fault status line in
         inr (found, seen, (opened, (went, simp (refused_so, unless_file-none) alone)))
 
   -- ---- and before any file was opened
 
   module _ (same_files : files.new ≡ files.old) (same_out : out.new ≡ out.old)
       (kept : src.new ≡ src.old) where
-    -- there was no memory
-    pub drives-no_memory : (requested : Option (Result Request Fault)) → result ≡ OutOfMemory
-        → Says err (line_of Memory) → RequestDrives requested
-    drives-no_memory requested status line = inl (
-      same_files,
-      kept,
-      record {
-        status = status;
-        unfailed = ap out.failures same_out;
-        output = same_out;
-        line = line;
-      },
-    )
-
     -- the options are refused, or there was no memory for the request
     pub drives-unsettled : files.stage files.old ≡ Unbegun → files.opens files.old [] files.old
         → (requested : Option (Result Request Fault)) (fault : Fault) → is_some requested ≡ true
@@ -248,12 +229,20 @@ module _ {F R S K E : Type 0} (files : StoreCall F R) (src : SourceCall S) (out 
     drives-unsettled fresh unopened None fault is settles status line = absurd (false≢true is)
     drives-unsettled fresh unopened (Some (Ok request)) fault is (inl e) status line = absurd cc
     drives-unsettled fresh unopened (Some (Ok request)) fault is (inr e) status line =
-        let memory : fault ≡ Memory = cc in
-        drives-no_memory (Some (Ok request)) (status ∙ ap status_of memory) (rw memory at line)
+        let memory : fault ≡ Memory = cc in inl (
+          same_files,
+          kept,
+          record {
+            status = status ∙ ap status_of memory;
+            unfailed = ap out.failures same_out;
+            output = same_out;
+            line = rw memory at line;
+          },
+        )
     drives-unsettled fresh unopened (Some (Err other)) fault is settles status line =
         let same : fault ≡ other = cc in
-        let alone = answered-alone files.old fresh same_files same_out kept (Some (Err other))
-        (reported other) refl (status ∙ ap status_of same) (rw same at line) in
+        let alone = reported-alone files.old fresh same_files same_out kept (Some (Err other)) other
+        (status ∙ ap status_of same) (rw same at line) in
         inr (record { secrets = []; salt = None; input = None }, tt, (files.old, (unopened, alone)))
 
   -- ---- a request that was settled
@@ -266,6 +255,5 @@ module _ {F R S K E : Type 0} (files : StoreCall F R) (src : SourceCall S) (out 
   drives-settled None request some settles h = absurd (false≢true some)
   drives-settled (Some (Err fault)) request some settles h = absurd cc
   drives-settled (Some (Ok other)) request some (inl e) h =
-      let same : request ≡ other = cc in
-      subst (λ (r : Request). RequestDrives (Some (Ok r))) same h
+      let same : request ≡ other = cc in rw same at h
   drives-settled (Some (Ok other)) request some (inr e) h = absurd cc

@@ -1,14 +1,13 @@
 -- An ending over one output, told of another.
-use Rattle.std.proofs.Common.{◌≡◌, ℕ, inl, inr, List, [], Option, Some, None, take, ap, subst, ◌∙◌}
+use Rattle.std.proofs.Common.{◌≡◌, ℕ, inl, inr, List, [], Option, Some, None, take, ap, ◌∙◌}
 use Rattle.vault_text.specs.declared.sink.Sink.{Ghosts as SinkTerms}
 use Rattle.vault_text.specs.declared.sink.Stage.TheVariants.{Unbegun}
 use Rattle.vault_files.specs.declared.access.Access.{Access}
 use Rattle.vault_files.specs.declared.file_system.FileSystem.{Ghosts as StoreTerms}
 use Rattle.vault_cli.specs.Call.{SinkCall, SourceCall, StoreCall, sink}
-use Rattle.vault_cli.specs.runs.Ending.{Ends, Finishes, IsAnswered, Output, Receives, to_path}
+use Rattle.vault_cli.specs.runs.Ending.{Ends, Finishes, Output, Receives, to_path}
 use Rattle.vault_cli.specs.runs.Ending.{SourceFails, to_sink}
 use Rattle.vault_cli.specs.runs.Answer.{Answer}
-use Rattle.vault_cli.specs.runs.Reports.{Says}
 use Rattle.vault_cli.specs.declared.runs.status.Status.{Status}
 
 -- what became of the one output tells what became of the other
@@ -65,22 +64,11 @@ store_between output terms old new = record { output = output; terms = terms; ol
 module _ {F R K : Type 0} (files : StoreCall F R) (out : SinkCall K)
     (access : Access) (fresh : files.stage files.old ≡ Unbegun) (same_files : files.new ≡ files.old)
     (same_out : out.new ≡ out.old) where
-  path-alone : (path : Option (List ℕ))
+  pub path-alone : (path : Option (List ℕ))
       → (to_path path access files out).untouched × (to_path path access files out).unfailed
   path-alone None = ((same_out, same_files), ap out.failures same_out)
   path-alone (Some path) =
       ((same_out, ap files.stage same_files ∙ fresh, inl same_files), ap files.failures same_files)
-
-  module _ {E : Type 0} (err : SinkCall E) (result : Status) (path : Option (List ℕ)) where
-    pub alone-answered : (answer : Answer) → answer.output ≡ None → result ≡ answer.status
-        → Says err answer.line
-        → IsAnswered (to_path path access files out) err result answer
-    alone-answered answer none status line = record {
-      status = status;
-      unfailed = (path-alone path).1;
-      output = rw none (path-alone path).0;
-      line = line;
-    }
 
 module _ {F R K E S : Type 0} (access : Access) (files : StoreCall F R) (out : SinkCall K)
     (err : SinkCall E) (result : Status) (src : SourceCall S)
@@ -90,9 +78,7 @@ module _ {F R K E S : Type 0} (access : Access) (files : StoreCall F R) (out : S
       → Ends (to_sink out) err result src requested answers
       → Ends (to_path path access files out) err result src requested answers
   ends-out path is kept ends =
-      subst
-      (λ (p : Option (List ℕ)). Ends (to_path p access files out) err result src requested answers)
-      is (reported-ends (to_sink out) (to_path None access files out) (record {
+      rw (← is) (reported-ends (to_sink out) (to_path None access files out) (record {
         untouched = λ same. (same, kept);
         wrote = λ bytes took. (took, kept);
         finished = λ h. h;
@@ -109,9 +95,7 @@ module _ {F R K E S : Type 0} (access : Access) (files : StoreCall F R) (out : S
       → Ends (to_sink (sink files.output chosen files.new)) err result src requested answers
       → Ends (to_path path access files out) err result src requested answers
   ends-file path chosen_path chosen is at fresh stay alone ends =
-      subst
-      (λ (p : Option (List ℕ)). Ends (to_path p access files out) err result src requested answers)
-      is (reported-ends (to_sink (sink files.output chosen files.new))
+      rw (← is) (reported-ends (to_sink (sink files.output chosen files.new))
       (to_path (Some chosen_path) access files out) (record {
         untouched = λ same. (alone, ap files.stage same ∙ fresh, inr (rw same at));
         wrote = λ bytes took. (alone, (chosen, at, took));

@@ -4,11 +4,11 @@ pub mod InMemoryLemmas
 pub mod EndingLemmas
 pub mod ExplainedLemmas
 pub mod FileContentsLemmas
-pub mod LawsLemmas
 pub mod LoadedLemmas
 pub mod OpenedPathsLemmas
 pub mod AnswerLemmas
 pub mod PerformedLemmas
+pub mod PlannedLemmas
 pub mod ProgramLemmas
 pub mod ReservedLemmas
 pub mod ShownLemmas

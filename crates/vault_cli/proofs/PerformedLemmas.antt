@@ -1,5 +1,5 @@
 -- How a run ends, by what its task answered.
-use Rattle.std.proofs.Common.{◌≡◌, ◌⊎◌, ℕ, List, Option, Some, None, Result, Ok, Err, inl, inr, sym}
+use Rattle.std.proofs.Common.{◌≡◌, ◌≢◌, ℕ, List, Option, Some, None, Result, Ok, Err, inl, inr, sym}
 use Rattle.std.proofs.Common.{ap, subst, ◌∙◌}
 use Rattle.vault_text.specs.Failures.{HasRisen}
 use Rattle.vault_fault.specs.declared.fault.Fault.{Fault}
@@ -16,9 +16,21 @@ use Rattle.vault_cli.specs.runs.Reports.{Says}
 use Rattle.vault_cli.specs.runs.Status.{status_of}
 use Rattle.vault_cli.specs.runs.Task.{Task, planned}
 use Rattle.vault_cli.specs.declared.runs.status.Status.{Status}
-use Rattle.vault_cli.specs.declared.runs.status.Status.TheVariants.{DeviceFailed, Refused, Success}
+use Rattle.vault_cli.specs.declared.runs.status.Status.TheVariants.{DeviceFailed, OutOfMemory}
+use Rattle.vault_cli.specs.declared.runs.status.Status.TheVariants.{Refused, Success}
+use Rattle.vault_cli.proofs.PlannedLemmas.{keeps-planned}
 use Rattle.vault_cli.proofs.StatusLemmas.{alone-performed}
-use Rattle.vault_cli.proofs.TaskLemmas.{limit-planned}
+
+-- a status tells whether a device failed, which has had so many failures, and of no lack of memory
+abbrev pub TellsFailure : Status → ℕ → ℕ → Type 0
+TellsFailure result before after =
+    (result ≡ DeviceFailed → HasRisen before after) × (result ≢ DeviceFailed → after ≡ before)
+    × (result ≢ OutOfMemory)
+
+tells-refused : (result : Status) (before after : ℕ) → result ≡ Refused → after ≡ before
+    → TellsFailure result before after × (result ≢ Success)
+tells-refused result before after refused stay =
+    ((λ device. absurd cc, λ none. stay, λ memory. cc), λ succeeds. cc)
 
 module _ {S K E : Type 0} (src : SourceCall S) (out : SinkCall K) (err : SinkCall E)
     (result : Status) where
@@ -29,10 +41,10 @@ module _ {S K E : Type 0} (src : SourceCall S) (out : SinkCall K) (err : SinkCal
 
   -- a device that fails is an output that failed
   pub finished : (ready : Ready) → FinishesBy (Ok ready)
-      → ((result ≡ Success) × (out.failures out.new ≡ out.failures out.old))
-      ⊎ ((result ≡ DeviceFailed) × HasRisen (out.failures out.old) (out.failures out.new))
-  finished ready (inl done) = inl (done.status, done.unfailed)
-  finished ready (inr fails) = inr (fails.status, fails.failed)
+      → TellsFailure result (out.failures out.old) (out.failures out.new)
+  finished ready (inl done) = (λ device. absurd cc, λ none. done.unfailed, λ memory. cc)
+  finished ready (inr fails) =
+      (λ device. fails.failed, λ none. absurd (none fails.status), λ memory. cc)
 
   pub finishes-refused : (fault : Fault) → result ≡ status_of fault → out.new ≡ out.old
       → Says err (line_of fault) → FinishesBy (Err fault)
@@ -93,7 +105,8 @@ module _ {S K E : Type 0} (src : SourceCall S) (out : SinkCall K) (err : SinkCal
         → (answer : Result Ready Fault) → Performs src limit task answer request.string
         → FinishesBy answer → EndsWithin
     ends-performed task found answer performs done =
-        ends-after (Ok task) found (rw (← limit-planned limit request contents salt task found)
+        ends-after (Ok task) found
+        (rw (← (rw found at (keeps-planned request salt contents)).0 limit)
         (ends-text limit task answer request.string performs done))
 
     -- steps 1 to 3 refused
@@ -111,13 +124,17 @@ performed-unfailed src limit task ready (Some string) (unread, is) = ap src.fail
 performed-unfailed src limit task ready None (input, given, fits, (stay, read)) = stay
 
 -- one that answers a fault refuses alone, or its source failed
-pub performed-refused : {S : Type 0} (src : SourceCall S) (limit : ℕ) (task : Task) (fault : Fault)
-    (string : Option (List ℕ)) → Performs src limit task (Err fault) string
-    → ((status_of fault ≡ Refused) × (src.failures src.new ≡ src.failures src.old))
-    ⊎ ((status_of fault ≡ DeviceFailed) × HasRisen (src.failures src.old) (src.failures src.new))
-performed-refused src limit task fault (Some string) (unread, is) =
-    inl ((alone-performed limit task string).status fault (sym is), ap src.failures unread)
-performed-refused src limit task fault None (input, given, fits, inl ((unread, risen), short)) =
-    inr (ap status_of unread, risen)
-performed-refused src limit task fault None (input, given, fits, inr ((other, stay), (whole, is))) =
-    inl ((alone-performed limit task input).status fault (sym is), stay)
+pub performed-refused : {S : Type 0} (src : SourceCall S) (limit : ℕ) (task : Task)
+    (result : Status) (fault : Fault) → result ≡ status_of fault → (string : Option (List ℕ))
+    → Performs src limit task (Err fault) string
+    → TellsFailure result (src.failures src.old) (src.failures src.new) × (result ≢ Success)
+performed-refused src limit task result fault status (Some string) (unread, is) =
+    tells-refused result _ _ (status ∙ rw (sym is) at (alone-performed limit task string))
+    (ap src.failures unread)
+performed-refused src limit task result fault status None
+    (input, given, fits, inl ((unread, risen), short)) =
+    let failed = status ∙ ap status_of unread in
+    ((λ device. risen, λ none. absurd (none failed), λ memory. cc), λ succeeds. cc)
+performed-refused src limit task result fault status None
+    (input, given, fits, inr ((other, stay), (whole, is))) =
+    tells-refused result _ _ (status ∙ rw (sym is) at (alone-performed limit task input)) stay

@@ -1,79 +1,63 @@
 -- The task and the answer of the program over files, and files of which one stands at each path.
-use Rattle.std.proofs.Common.{◌≡◌, ℕ, List, [], ◌∷◌, ◌++◌, Option, Some, None, Result, Ok, Err}
-use Rattle.std.proofs.Common.{refl, subst, ap, map, Bool, IsTrue}
+use Rattle.std.proofs.Common.{◌≡◌, ◌≢◌, ℕ, List, [], ◌∷◌, ◌++◌, Option, Some, None, Result, Ok}
+use Rattle.std.proofs.Common.{Err, refl, ap, map, Bool, IsTrue}
 use Rattle.std.specs.Option.{option_map}
 use Rattle.vault_text.specs.declared.limits.TheConstants.{PLAINTEXT_LIMIT}
-use Rattle.vault_files.specs.File.{FileState, Found}
+use Rattle.vault_files.specs.File.{FileState, Found, prefix}
 use Rattle.vault_files.specs.File.FileState.{Missing, Whole, Broken}
+use Rattle.vault_files.specs.declared.fault.FileFault.TheVariants.{CannotOpen}
 use Rattle.vault_fault.specs.declared.fault.Fault.{Fault}
-use Rattle.vault_fault.specs.declared.fault.Fault.TheVariants.{CannotOpen, Read}
-use Rattle.vault_fault.specs.declared.fault.Role.TheVariants.{Input}
 use Rattle.vault_core.specs.Input.{IsReadToEndOrPastLimit}
 use Rattle.vault_request.specs.Request.{Request}
 use Rattle.vault_cli.specs.runs.FileContents.{AtPath, contents_of, secret_paths}
-use Rattle.vault_cli.specs.Program.{Files, input_in, can_open_input, salt_in, task_over}
+use Rattle.vault_cli.specs.Program.{Files, can_open_input, salt_in, task_over}
 use Rattle.vault_cli.specs.Program.{answer_to, files_in, stdin_needed}
 use Rattle.vault_cli.specs.runs.Task.{planned, Task}
 use Rattle.vault_cli.specs.Call.{SinkCall, SourceCall, StoreCall}
 use Rattle.vault_cli.specs.Drive.{AllFound, IsDriven}
 use Rattle.vault_cli.specs.declared.runs.status.Status.{Status}
+use Rattle.vault_text.specs.Steps.{◌>>=◌}
 use Rattle.vault_cli.specs.runs.Answer.{Answer, answered, input_needed_by, input_limit, ready_by}
-use Rattle.vault_cli.proofs.TaskLemmas.{HasLimit, limit-next, limit-planned, performed-prefix}
+use Rattle.vault_cli.specs.runs.Answer.{task_limit}
+use Rattle.vault_cli.proofs.PlannedLemmas.{keeps-planned}
+use Rattle.vault_cli.proofs.TaskLemmas.{performed-prefix}
 
 -- ---- the task of a request over files
 
--- a file that gave bytes can be opened
-pub opening-read : (file : FileState) (n : ℕ) (stdin given : List ℕ)
-    → input_in n (Some file) stdin ≡ Ok given → can_open_input (Some file) ≡ Ok tt
-opening-read Missing n stdin given e = absurd cc
-opening-read (Whole bytes) n stdin given e = refl
-opening-read (Broken bytes) n stdin given e = refl
+-- a file that was opened can be opened
+pub opening : (file : FileState) (n : ℕ) → prefix n file ≢ Err CannotOpen
+    → can_open_input (Some file) ≡ Ok tt
+opening Missing n opened = absurd (opened refl)
+opening (Whole bytes) n opened = refl
+opening (Broken bytes) n opened = refl
 
--- and one that breaks
-pub opening-broken : (file : FileState) (n : ℕ) (stdin : List ℕ)
-    → input_in n (Some file) stdin ≡ Err (Read Input) → can_open_input (Some file) ≡ Ok tt
-opening-broken Missing n stdin e = let other : CannotOpen Input ≡ Read Input = cc in absurd cc
-opening-broken (Whole bytes) n stdin e = refl
-opening-broken (Broken bytes) n stdin e = refl
-
-module _ (request : Request) (files : Files) where
-  -- the first fault
-  pub task-no_contents : (fault : Fault) → contents_of files.secrets ≡ Err fault
-      → task_over request files ≡ Err fault
-  unfolding task_over
-  task-no_contents fault e = rw e refl
-
-  pub task-no_salt : (contents : List (List ℕ)) (fault : Fault)
-      → contents_of files.secrets ≡ Ok contents → salt_in files.salt ≡ Err fault
-      → task_over request files ≡ Err fault
-  unfolding task_over
-  task-no_salt contents fault e f = rw (e, f) refl
-
-  module _ (contents : List (List ℕ)) (salt : List ℕ)
-      (read : contents_of files.secrets ≡ Ok contents) (salted : salt_in files.salt ≡ Ok salt) where
-    pub task-no_input : (fault : Fault) → can_open_input files.input ≡ Err fault
-        → task_over request files ≡ Err fault
-    unfolding task_over
-    task-no_input fault e = rw (read, salted, e) refl
-
-    -- or what steps 1 to 3 prepare
-    pub task-found : can_open_input files.input ≡ Ok tt
-        → task_over request files ≡ planned request contents salt
-    unfolding task_over
-    task-found e = rw (read, salted, e) refl
+-- what steps 1 to 3 prepare, where the files can be read
+pub task-found : (request : Request) (files : Files) (contents : List (List ℕ)) (salt : List ℕ)
+    → contents_of files.secrets ≡ Ok contents → salt_in files.salt ≡ Ok salt
+    → can_open_input files.input ≡ Ok tt → task_over request files ≡ planned request contents salt
+unfolding task_over
+task-found request files contents salt read salted opened = rw (read, salted, opened)
 
 -- ---- the answer to the prefix of standard input that is asked for is the answer to all of it
 
+-- what holds of each answer of the second step
+next-ok : {A B : Type 0} (P : B → Type 0) (r : Result A Fault) (f : A → Result B Fault)
+    → ((x : A) (y : B) → f x ≡ Ok y → P y) → (y : B) → (r >>= f) ≡ Ok y → P y
+next-ok P (Ok x) f holds y is = holds x y is
+next-ok P (Err fault) f holds y is = absurd cc
+
 -- the task that is found over files takes as much as its command
-pub limit-over : (limit : ℕ) (request : Request) (files : Files)
-    → HasLimit limit (input_limit limit request.command) (task_over request files)
+pub limit-over : (limit : ℕ) (request : Request) (files : Files) (task : Task)
+    → task_over request files ≡ Ok task
+    → task_limit limit task ≡ input_limit limit request.command
 unfolding task_over
 limit-over limit request files =
-    let amount = input_limit limit request.command in
-    limit-next limit amount (contents_of files.secrets) _ (λ contents.
-    limit-next limit amount (salt_in files.salt) _ (λ salt.
-    limit-next limit amount (can_open_input files.input) _ (λ opened.
-    record { is = λ task found. limit-planned limit request contents salt task found })))
+    let Takes : Task → Type 0 =
+    λ task. task_limit limit task ≡ input_limit limit request.command in
+    next-ok Takes (contents_of files.secrets) _ (λ contents.
+    next-ok Takes (salt_in files.salt) _ (λ salt.
+    next-ok Takes (can_open_input files.input) _ (λ opened task found.
+    (rw found at (keeps-planned request salt contents)).0 limit)))
 
 -- where none is asked for, the answer is the same for each; where so much is, the rest does not
 -- count
@@ -84,14 +68,14 @@ IsOfPrefix (Some limit) answers =
     → IsReadToEndOrPastLimit limit ended prefix → answers prefix ≡ answers text
 
 pub task-prefix : (limit amount : ℕ) (plans : Result Task Fault) (string : Option (List ℕ))
-    → HasLimit limit amount plans
+    → ((task : Task) → plans ≡ Ok task → task_limit limit task ≡ amount)
     → IsOfPrefix (input_needed_by plans string amount)
     (λ input. answered (ready_by limit plans string (Ok input)))
 task-prefix limit amount (Err fault) string has = λ input. refl
 task-prefix limit amount (Ok task) (Some string) has = λ input. refl
 task-prefix limit amount (Ok task) None has = λ ended text prefix left parts last whole.
     ap answered
-    (performed-prefix limit task ended text prefix left parts last (rw (has.is task refl) whole))
+    (performed-prefix limit task ended text prefix left parts last (rw (has task refl) whole))
 
 file-prefix : (request : Request) (secrets : List FileState) (salt input : Option FileState)
     → IsOfPrefix
@@ -143,6 +127,4 @@ module _ {F R S K E : Type 0} (files : StoreCall F R) (src : SourceCall S) (out 
         ← one-in at request.salt_path found.salt seen.1,
         ← one-in at request.input found.input seen.2,
       ) refl in
-      subst
-      (λ (f : Files). IsDriven files src out err result (Some (Ok request))
-      (answer_to (Some (Ok request))) f opened) same ends
+      rw same at ends

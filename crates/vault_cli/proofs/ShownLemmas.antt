@@ -1,16 +1,13 @@
 -- What is shown of a text has no control byte but line ends.
-use Rattle.std.proofs.Common.{◌≡◌, ◌<◌, ◌/◌, ◌%◌, ℕ, Bool, true, false, not, List, [], ◌∷◌, All}
+use Rattle.std.proofs.Common.{◌≡◌, ◌<◌, ◌/◌, ◌%◌, ℕ, true, false, not, List, [], ◌∷◌, All}
 use Rattle.std.proofs.Common.{arith, codes, if◌then◌else◌, inr, refl, slice_index}
+use Rattle.std.proofs.lemmas.Bool.{not-true}
 use Rattle.std.proofs.lemmas.List.Elements.{All-append, All-cons, All-nil}
 use Rattle.std.proofs.lemmas.List.Sums.{AllPass-from_list_all}
 use Rattle.vault_request.specs.Refusal.{is_control}
 use Rattle.vault_cli.specs.Explained.{IsShown}
 use Rattle.vault_cli.specs.Shown.{digit_of, escape, is_escaped, shown_behind, shown_between}
 use Rattle.vault_cli.specs.Shown.{shown_text}
-
-not-true : (b : Bool) → not b ≡ true → b ≡ false
-not-true true wrong = absurd cc
-not-true false same = refl
 
 digit-shown : (value : ℕ) → value < 16 → IsShown (digit_of value)
 digit-shown value small =

@@ -15,39 +15,34 @@ use Rattle.vault_command_line.specs.CommandLine.{vault_app}
 use Rattle.vault_cli.specs.InMemory.{stands_after}
 use Rattle.vault_cli.specs.Laws as run_answers
 use Rattle.vault_request.specs.Laws.{IsRequest, SettledRequests}
-use Rattle.vault_cli.specs.runs.Answer.{Answer, answered, input_needed_by, input_limit, run_answer}
-use Rattle.vault_cli.specs.runs.Answer.{run_answer_within, ready_by}
-use Rattle.vault_cli.specs.Program.{answer_to, files_in, input_in, can_open_input, output_path}
-use Rattle.vault_cli.specs.Program.{task_over}
+use Rattle.vault_cli.specs.runs.Answer.{Answer, answered, input_limit, performed, ready_by}
+use Rattle.vault_cli.specs.runs.Answer.{run_answer, run_answer_within, task_limit}
+use Rattle.vault_cli.specs.Program.{files_in, input_in, can_open_input, output_path}
 use Rattle.vault_cli.specs.ProgramLaws.{ProgramEncryptsThenDecrypts, IsInput, ProgramIsRun}
 use Rattle.vault_cli.specs.ProgramLaws.{ProgramKeepsThePlaintext, Run, WrittenIsRead, answer}
 use Rattle.vault_request.specs.Request.{Request}
 use Rattle.vault_request.specs.Settled.{requested, requested_by, command_in, settled}
-use Rattle.vault_cli.specs.runs.Task.{Task}
+use Rattle.vault_cli.specs.runs.Task.{Task, planned}
 use Rattle.vault_request.specs.declared.command_name.CommandName.{CommandName}
-use Rattle.vault_cli.proofs.ProgramLemmas.{IsOfPrefix, limit-over, task-prefix, task-found}
+use Rattle.vault_cli.proofs.PlannedLemmas.{keeps-planned}
+use Rattle.vault_cli.proofs.ProgramLemmas.{task-found}
+use Rattle.vault_cli.proofs.TaskLemmas.{performed-prefix}
 
 -- ---- the prefix of a file that is read is enough
 
-requested-amount : (plans : Result Task Fault) (string : Option (List ℕ)) (amount limit : ℕ)
-    → input_needed_by plans string amount ≡ Some limit → limit ≡ amount
-requested-amount (Err fault) string amount limit e = absurd cc
-requested-amount (Ok task) (Some string) amount limit e = absurd cc
-requested-amount (Ok task) None amount limit e = let same : amount ≡ limit = cc in sym same
-
-prefix-enough : (amount : ℕ) (requested : Option ℕ) (answers : List ℕ → Answer)
-    → IsOfPrefix requested answers
-    → ((limit : ℕ) → requested ≡ Some limit → limit ≡ amount) → (text : List ℕ)
-    → answers (take (amount + 1) text) ≡ answers text
-prefix-enough amount None answers same is text = sym (same (take (amount + 1) text)) ∙ same text
-prefix-enough amount (Some limit) answers same is text =
-    elim (cases_lt amount (length text)) [
-      | inl long ↦
-          same false text (take (amount + 1) text) (drop (amount + 1) text)
-          (sym (take-append-drop (amount + 1) text)) (λ ended. absurd cc)
-          (inr (omega (arith, long, length-take (amount + 1) text, is limit refl)))
-      | inr short ↦ ap answers (take_all (amount + 1) text (omega (arith, short)))
-    ]
+prefix-enough : (limit amount : ℕ) (plans : Result Task Fault) (string : Option (List ℕ))
+    (text : List ℕ) → ((task : Task) → plans ≡ Ok task → task_limit limit task ≡ amount)
+    → ready_by limit plans string (Ok (take (amount + 1) text))
+    ≡ ready_by limit plans string (Ok text)
+prefix-enough limit amount (Err fault) string text takes = refl
+prefix-enough limit amount (Ok task) (Some string) text takes = refl
+prefix-enough limit amount (Ok task) None text takes = elim (cases_lt amount (length text)) [
+  | inl long ↦
+      performed-prefix limit task false text (take (amount + 1) text) (drop (amount + 1) text)
+      (sym (take-append-drop (amount + 1) text)) (λ ended. absurd cc)
+      (inr (omega (arith, long, length-take (amount + 1) text, takes task refl)))
+  | inr short ↦ ap (performed limit task) (take_all (amount + 1) text (omega (arith, short)))
+]
 
 decrypting-fed : (file : Option FileState) (stdin input : List ℕ) → IsInput file stdin input
     → can_open_input file ≡ Ok tt
@@ -56,35 +51,25 @@ decrypting-fed (Some file) stdin input fed = rw fed refl
 
 fed-answer : (limit amount : ℕ) (plans : Result Task Fault) (string : Option (List ℕ))
     (file : Option FileState) (stdin input : List ℕ)
-    → IsOfPrefix (input_needed_by plans string amount)
-    (λ text. answered (ready_by limit plans string (Ok text))) → IsInput file stdin input
-    → answered (ready_by limit plans string (input_in (amount + 1) file stdin))
-    ≡ answered (ready_by limit plans string (Ok input))
-fed-answer limit amount plans string None stdin input same fed =
-    ap (λ (text : List ℕ). answered (ready_by limit plans string (Ok text))) fed
-fed-answer limit amount plans string (Some file) stdin input same fed =
-    ap
-    (λ (f : FileState). answered
-    (ready_by limit plans string (input_in (amount + 1) (Some f) stdin))) fed
-    ∙ prefix-enough amount (input_needed_by plans string amount)
-    (λ text. answered (ready_by limit plans string (Ok text))) same
-    (requested-amount plans string amount) input
+    → ((task : Task) → plans ≡ Ok task → task_limit limit task ≡ amount) → IsInput file stdin input
+    → ready_by limit plans string (input_in (amount + 1) file stdin)
+    ≡ ready_by limit plans string (Ok input)
+fed-answer limit amount plans string None stdin input takes fed = rw fed
+fed-answer limit amount plans string (Some file) stdin input takes fed =
+    rw fed (prefix-enough limit amount plans string input takes)
 
 pub program_is_run : ProgramIsRun
 unfolding run_answer_within
 program_is_run run =
-    let amount = input_limit PLAINTEXT_LIMIT run.request.command in
     let found = task-found run.request run.files run.contents run.salt run.secrets run.salted
     (decrypting-fed run.files.input run.stdin run.input run.fed) in
-    ap (λ (requested : Option (Result Request Fault)). answer_to requested run.files run.stdin)
-    run.requested
-    ∙ fed-answer PLAINTEXT_LIMIT amount (task_over run.request run.files) run.request.string
-    run.files.input run.stdin run.input
-    (task-prefix PLAINTEXT_LIMIT amount (task_over run.request run.files) run.request.string
-    (limit-over PLAINTEXT_LIMIT run.request run.files)) run.fed
-    ∙ ap
-    (λ (task : Result Task Fault). answered
-    (ready_by PLAINTEXT_LIMIT task run.request.string (Ok run.input))) found
+    rw (run.requested, found)
+    (ap answered
+    (fed-answer PLAINTEXT_LIMIT (input_limit PLAINTEXT_LIMIT run.request.command)
+    (planned run.request run.contents run.salt) run.request.string run.files.input run.stdin
+    run.input
+    (λ task is.
+    (rw is at (keeps-planned run.request run.salt run.contents)).0 PLAINTEXT_LIMIT) run.fed))
 
 -- ---- arguments make requests of which the laws speak
 

@@ -1,16 +1,16 @@
-use Rattle.std.proofs.Common.{rules, arith, ◌≡◌, ◌++◌, ◌+◌, ◌<◌, ◌∷◌, ◌∙◌, [], length, take, sym}
-use Rattle.std.proofs.Common.{ap, subst, List, ℕ, vec_len}
+use Rattle.std.proofs.Common.{rules, arith, ◌≡◌, ◌++◌, ◌+◌, ◌∷◌, ◌∙◌, [], length, sym, ap}
+use Rattle.std.proofs.Common.{vec_len}
 use Rattle.std.proofs.lemmas.List.{map-append, take_all}
+use Rattle.std.proofs.lemmas.List.Elements.{All-take}
 use Rattle.std.proofs.lemmas.Result.{err_from_is_err_and}
 use Rattle.vault_fault.specs.declared.fault.Role.TheVariants.{Secret}
 use Rattle.vault_core.specs.declared.limits.TheConstants.{PASSWORD_FILE_LIMIT}
 use Rattle.vault_cli.specs.runs.FileContents.{secret_paths}
 use Rattle.vault_request.specs.Request.{files_of}
-use Rattle.vault_cli.proofs.ReservedLemmas.{left-long, popped-long, popped-one}
-use Rattle.vault_cli.proofs.FileContentsLemmas.{at_limit, ContentsFound-all, PrefixFound-back}
-use Rattle.vault_cli.proofs.FileContentsLemmas.{GivesPrefix-more, GivesPrefix-none, length-paths}
-use Rattle.vault_cli.proofs.FileContentsLemmas.{path_at, secrets-refuse, split_at}
-use Rattle.vault_cli.proofs.FileContentsLemmas.{take_one_more}
+use Rattle.vault_cli.proofs.ReservedLemmas.{IsLong, last-long}
+use Rattle.vault_cli.proofs.FileContentsLemmas.{ContentsFound-all, GivesPrefix-more}
+use Rattle.vault_cli.proofs.FileContentsLemmas.{GivesPrefix-none, PrefixFound-before}
+use Rattle.vault_cli.proofs.FileContentsLemmas.{length-paths, next_path, secrets-refuse}
 use Rattle.vault_cli.proofs.loading.read_secret_files.Goals as goal
 
 pub loop-i-init : goal.loop-i-init
@@ -30,80 +30,60 @@ loop-i-init g c =
 
 pub returns-in_err-bytes-clause-refused : goal.returns-in_err-bytes-clause-refused
 returns-in_err-bytes-clause-refused g c =
-    let files = files_of c.args.request.now in
-    let paths = secret_paths c.args.request.now in
-    let inside : c.loop-i.i < length files =
-    omega (arith, c.loop-i-test.true, c.files-i-end.ensures.count) in
-    let within : c.loop-i.i < length paths = omega (arith, inside, length-paths files) in
-    let at = path_at files c.loop-i.i c.path.result.now inside c.path.ensures in
-    let one = popped-one c.loop-i.unread c.pop.new.self c.pop.result c.unwrap-buf.result
-    c.unwrap-buf.ensures c.pop.ensures.cases in
-    let long = popped-long c.loop-i.unread c.pop.new.self c.pop.result c.unwrap-buf.result
-    c.unwrap-buf.ensures c.loop-i.invariant.5 (search rules) (omega (arith, one))
-    (c.pop.ensures.value c.unwrap-buf.result (omega (arith, one))) in
+    let finds = g.F.FileSystem.finds in
+    let old = c.args.files.now in
+    let new = c.prefix_of.new.files in
+    let path = c.path.result.now in
+    let kept = c.loop-i.invariant in
+    let next = next_path (files_of c.args.request.now) c.loop-i.i path
+    (omega (arith, c.loop-i-test.true, c.files-i-end.ensures.count)) c.path.ensures in
+    let one = rw c.unwrap-buf.ensures at c.pop.ensures.cases in
+    let long = last-long c.loop-i.unread c.unwrap-buf.result kept.5 (search rules)
+    (omega (arith, one))
+    (sym c.unwrap-buf.ensures ∙ c.pop.ensures.value c.unwrap-buf.result (omega (arith, one))) in
     let p = err_from_is_err_and c.from_residual.result c.from_residual.ensures.1 in
-    rw (p.1, p.2)
-    (secrets-refuse (g.F.FileSystem.finds c.args.files.now) g.F.FileSystem.opens
-    c.args.files.now c.prefix_of.new.files
-    (g.met.F.FileSystem.finds_some c.args.files.now) paths c.loop-i.i _ c.path.result.now
-    (split_at paths c.loop-i.i c.path.result.now within at)
-    c.loop-i.invariant.1 c.in_err-bytes.field-0.0
-    (at_limit (g.F.FileSystem.finds c.args.files.now c.path.result.now) Secret
-    (vec_len c.unwrap-buf.result) (PASSWORD_FILE_LIMIT + 1) _
-    long
-    (PrefixFound-back (g.F.FileSystem.finds c.args.files.now c.path.result.now)
-    (g.F.FileSystem.finds c.loop-i.files c.path.result.now)
-    (λ file. g.met.F.FileSystem.opens_finds c.args.files.now c.loop-i.files _
-    c.path.result.now file c.loop-i.invariant.2) Secret _ _
-    c.in_err-bytes.ensures.refused))
-    (g.met.F.FileSystem.opens_more c.args.files.now c.loop-i.files c.prefix_of.new.files
-    (take c.loop-i.i paths) (c.path.result.now ∷ [])
-    c.loop-i.invariant.2 c.in_err-bytes.ensures.opens))
+    rw (p.1, p.2) (secrets-refuse (finds old) (secret_paths c.args.request.now) c.loop-i.i _ path
+    next.0 kept.1 (λ paths. g.F.FileSystem.opens old paths new)
+    (g.met.F.FileSystem.finds_some old) _
+    (PrefixFound-before (finds old path) (finds c.loop-i.files path)
+    (λ file. g.met.F.FileSystem.opens_finds old c.loop-i.files _ path file kept.2) Secret _
+    (PASSWORD_FILE_LIMIT + 1) _ long c.in_err-bytes.ensures.refused)
+    (g.met.F.FileSystem.opens_more old c.loop-i.files new _ _ kept.2 c.in_err-bytes.ensures.opens))
 
 pub loop-i-preserved : goal.loop-i-preserved
 loop-i-preserved g c =
-    let files = files_of c.args.request.now in
-    let paths = secret_paths c.args.request.now in
-    let inside : c.loop-i.i < length files =
-    omega (arith, c.loop-i-test.true, c.files-i-end.ensures.count) in
-    let within : c.loop-i.i < length paths = omega (arith, inside, length-paths files) in
-    let next = take_one_more paths c.loop-i.i c.path.result.now within
-    (path_at files c.loop-i.i c.path.result.now inside c.path.ensures) in
-    let one = popped-one c.loop-i.unread c.pop.new.self c.pop.result c.unwrap-buf.result
-    c.unwrap-buf.ensures c.pop.ensures.cases in
-    let long = popped-long c.loop-i.unread c.pop.new.self c.pop.result c.unwrap-buf.result
-    c.unwrap-buf.ensures c.loop-i.invariant.5 (search rules) (omega (arith, one))
-    (c.pop.ensures.value c.unwrap-buf.result (omega (arith, one))) in
-    let one_more = GivesPrefix-more (g.F.FileSystem.finds c.args.files.now) paths c.loop-i.i _
-    c.path.result.now c.in_ok-bytes.bytes.items next
-    c.loop-i.invariant.1
-    (at_limit (g.F.FileSystem.finds c.args.files.now c.path.result.now) Secret
-    (vec_len c.unwrap-buf.result) (PASSWORD_FILE_LIMIT + 1) _
-    long
-    (PrefixFound-back (g.F.FileSystem.finds c.args.files.now c.path.result.now)
-    (g.F.FileSystem.finds c.loop-i.files c.path.result.now)
-    (λ file. g.met.F.FileSystem.opens_finds c.args.files.now c.loop-i.files _ c.path.result.now file
-    c.loop-i.invariant.2) Secret _ _
-    c.in_ok-bytes.ensures.read)) in
-    let went = g.met.F.FileSystem.opens_more c.args.files.now c.loop-i.files c.prefix_of.new.files
-    (take c.loop-i.i paths) (c.path.result.now ∷ [])
-    c.loop-i.invariant.2 c.in_ok-bytes.ensures.opens in
+    let finds = g.F.FileSystem.finds in
+    let old = c.args.files.now in
+    let new = c.prefix_of.new.files in
+    let path = c.path.result.now in
+    let kept = c.loop-i.invariant in
+    let next = next_path (files_of c.args.request.now) c.loop-i.i path
+    (omega (arith, c.loop-i-test.true, c.files-i-end.ensures.count)) c.path.ensures in
+    let one = rw c.unwrap-buf.ensures at c.pop.ensures.cases in
+    let long = last-long c.loop-i.unread c.unwrap-buf.result kept.5 (search rules)
+    (omega (arith, one))
+    (sym c.unwrap-buf.ensures ∙ c.pop.ensures.value c.unwrap-buf.result (omega (arith, one))) in
+    let went = g.met.F.FileSystem.opens_more old c.loop-i.files new _ _ kept.2
+    c.in_ok-bytes.ensures.opens in
     let pushed : c.push.new.self.items ≡ c.loop-i.contents.items ++ c.in_ok-bytes.bytes ∷ [] =
     rw c.unwrap.ensures at c.push.ensures.items in
     let longer : vec_len c.push.new.self ≡ vec_len c.loop-i.contents + 1 =
     rw c.unwrap.ensures at c.push.ensures.len in (
-      omega (arith, longer, c.loop-i.invariant.0),
-      rw pushed
-          (rw (map-append (λ file. file.items) c.loop-i.contents.items (c.in_ok-bytes.bytes ∷ []))
-          one_more),
-      subst (λ (ps : List (List ℕ)). g.F.FileSystem.opens c.args.files.now ps c.prefix_of.new.files)
-          (sym next) went,
-      g.met.F.FileSystem.opens_stage c.args.files.now c.prefix_of.new.files _ went
-          ∙ c.requires.unbegun,
-      omega (arith, one, c.loop-i.invariant.4),
-      left-long c.loop-i.unread c.pop.new.self c.pop.result c.unwrap-buf.result c.unwrap-buf.ensures
-          c.loop-i.invariant.5 c.pop.ensures.rest,
-      omega (arith, c.push.ensures.capacity, c.loop-i.invariant.6),
+      omega (arith, longer, kept.0),
+      rw (
+        pushed,
+        map-append (λ file. file.items) c.loop-i.contents.items (c.in_ok-bytes.bytes ∷ []),
+      )
+          (GivesPrefix-more (finds old) (secret_paths c.args.request.now) c.loop-i.i _ path next.0
+          kept.1 c.in_ok-bytes.bytes.items next.1
+          (PrefixFound-before (finds old path) (finds c.loop-i.files path)
+          (λ file. g.met.F.FileSystem.opens_finds old c.loop-i.files _ path file kept.2) Secret _
+          (PASSWORD_FILE_LIMIT + 1) _ long c.in_ok-bytes.ensures.read)),
+      rw next.1 went,
+      g.met.F.FileSystem.opens_stage old new _ went ∙ c.requires.unbegun,
+      omega (arith, one, kept.4),
+      rw c.pop.ensures.rest (All-take IsLong _ c.loop-i.unread.items kept.5),
+      omega (arith, c.push.ensures.capacity, kept.6),
     )
 
 pub returns-in_err-bytes-clause-unbegun : goal.returns-in_err-bytes-clause-unbegun
@@ -113,21 +93,13 @@ returns-in_err-bytes-clause-unbegun g c =
 
 pub returns-clause-read : goal.returns-clause-read
 returns-clause-read g c =
-    let files = files_of c.args.request.now in
-    let paths = secret_paths c.args.request.now in
-    ContentsFound-all (g.F.FileSystem.finds c.args.files.now) paths c.loop-i.i _
-    (omega (arith, c.loop-i-test.false, c.files-i-end.ensures.count, length-paths files))
+    ContentsFound-all (g.F.FileSystem.finds c.args.files.now) (secret_paths c.args.request.now)
+    c.loop-i.i _
+    (omega (arith, c.loop-i-test.false, c.files-i-end.ensures.count, length-paths))
     c.loop-i.invariant.1
 
 pub returns-clause-opens : goal.returns-clause-opens
 returns-clause-opens g c =
-    let files = files_of c.args.request.now in
-    let paths = secret_paths c.args.request.now in
-    rw (take_all c.loop-i.i paths
-    (omega (
-      arith,
-      c.loop-i-test.false,
-      c.files-i-end.ensures.count,
-      length-paths
-          files,
-    ))) at c.loop-i.invariant.2
+    rw (take_all c.loop-i.i (secret_paths c.args.request.now)
+    (omega (arith, c.loop-i-test.false, c.files-i-end.ensures.count, length-paths))) at
+    c.loop-i.invariant.2

@@ -1,26 +1,19 @@
 use Rattle.std.proofs.Common.{refl}
 use Rattle.clap.specs.Words.{subcommand_rows_of}
-use Rattle.vault_cli.specs.Call.{sink, source}
+use Rattle.vault_cli.specs.Call.{source}
 use Rattle.vault_request.specs.Settled.{requested}
 use Rattle.vault_cli.proofs.DriveLemmas.{drives-settled, drives-unsettled}
-use Rattle.vault_cli.proofs.EndingLemmas.{store_between}
 use Rattle.vault_cli.proofs.program.drive_matches.Goals as goal
 
 pub returns-in-Ok-clause-drives : goal.returns-in-Ok-clause-drives
 returns-in-Ok-clause-drives g c =
-    drives-settled
-    (store_between g.F.Sink g.F.FileSystem c.args.files.now c.drive_request.new.files)
-    (source g.S.Source c.args.src.now c.drive_request.new.src)
-    (sink g.K.Sink c.args.out.now c.drive_request.new.out)
-    (sink g.E.Sink c.args.err.now c.drive_request.new.err) c.drive_request.result
+    drives-settled _ (source g.S.Source c.args.src.now c.drive_request.new.src) _ _ _
     (requested (subcommand_rows_of c.args.matches.now)) c.in-Ok.request
     c.requires.requested c.in-Ok.ensures c.drive_request.ensures.drives
 
 pub returns-in-Err-clause-drives : goal.returns-in-Err-clause-drives
 returns-in-Err-clause-drives g c =
-    drives-unsettled (store_between g.F.Sink g.F.FileSystem c.args.files.now c.args.files.now)
-    (source g.S.Source c.args.src.now c.args.src.now) (sink g.K.Sink c.args.out.now c.args.out.now)
-    (sink g.E.Sink c.args.err.now c.report.new.err) c.report.result refl refl refl
+    drives-unsettled _ (source g.S.Source c.args.src.now c.args.src.now) _ _ _ refl refl refl
     c.requires.files_unbegun (g.met.F.FileSystem.opens_none c.args.files.now)
     (requested (subcommand_rows_of c.args.matches.now)) c.in-Err.fault
     c.requires.requested c.in-Err.ensures c.report.ensures.status c.report.ensures.line

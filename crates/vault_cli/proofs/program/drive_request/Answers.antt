@@ -1,34 +1,31 @@
-use Rattle.std.proofs.Common.{Ok, Some, ap, map, refl, ◌∙◌}
-use Rattle.vault_cli.specs.Call.{sink, source}
+use Rattle.std.proofs.Common.{ap, inl, map, refl, ◌∙◌}
+use Rattle.vault_cli.specs.Call.{source}
 use Rattle.vault_cli.specs.runs.Status.{status_of}
-use Rattle.vault_cli.proofs.DriveLemmas.{drives-file, drives-no_memory, drives-refused}
-use Rattle.vault_cli.proofs.DriveLemmas.{drives-stdin}
-use Rattle.vault_cli.proofs.EndingLemmas.{store_between}
+use Rattle.vault_cli.proofs.DriveLemmas.{drives-file, drives-refused, drives-stdin}
 use Rattle.vault_cli.proofs.program.drive_request.Goals as goal
 
 pub returns-in-Err-clause-drives : goal.returns-in-Err-clause-drives
-returns-in-Err-clause-drives g c =
-    drives-no_memory (store_between g.F.Sink g.F.FileSystem c.args.files.now c.args.files.now)
-    (source g.S.Source c.args.src.now c.args.src.now) (sink g.K.Sink c.args.out.now c.args.out.now)
-    (sink g.E.Sink c.args.err.now c.report.new.err) c.report.result refl refl refl
-    (Some (Ok c.args.request.now)) (c.report.ensures.status ∙ ap status_of c.from.ensures)
-    (rw c.from.ensures at c.report.ensures.line)
+returns-in-Err-clause-drives g c = inl (
+  refl,
+  refl,
+  record {
+    status = c.report.ensures.status ∙ ap status_of c.from.ensures;
+    unfailed = refl;
+    output = refl;
+    line = rw c.from.ensures at c.report.ensures.line;
+  },
+)
 
 pub returns-in-Err-load-clause-drives : goal.returns-in-Err-load-clause-drives
 returns-in-Err-load-clause-drives g c =
-    drives-refused (store_between g.F.Sink g.F.FileSystem c.args.files.now c.load.new.files)
-    (source g.S.Source c.args.src.now c.args.src.now) (sink g.K.Sink c.args.out.now c.args.out.now)
-    (sink g.E.Sink c.args.err.now c.report-in-Err-load.new.err) c.report-in-Err-load.result
+    drives-refused _ (source g.S.Source c.args.src.now c.args.src.now) _ _ _
     c.load.new.files c.in-Err-load.ensures.unbegun refl refl refl
     c.args.request.now c.in-Err-load.fault c.in-Err-load.ensures.refused
     c.report-in-Err-load.ensures.status c.report-in-Err-load.ensures.line
 
 pub returns-in-Some-clause-drives : goal.returns-in-Some-clause-drives
 returns-in-Some-clause-drives g c =
-    drives-file (store_between g.F.Sink g.F.FileSystem c.args.files.now c.run_to_output.new.files)
-    (source g.S.Source c.args.src.now c.args.src.now)
-    (sink g.K.Sink c.args.out.now c.run_to_output.new.out)
-    (sink g.E.Sink c.args.err.now c.run_to_output.new.err) c.run_to_output.result c.args.request.now
+    drives-file _ (source g.S.Source c.args.src.now c.args.src.now) _ _ _ c.args.request.now
     (map (λ file. file.items) c.as_slice-secret_files.result.now) c.as_slice-salt.result.now
     (rw c.as_slice-secret_files.ensures.value c.in-Ok-load.ensures.secrets)
     (rw c.as_slice-salt.ensures.value c.in-Ok-load.ensures.salt)
@@ -41,13 +38,9 @@ returns-in-Some-clause-drives g c =
 
 pub returns-clause-drives : goal.returns-clause-drives
 returns-clause-drives g c =
-    drives-stdin
-    (store_between g.F.Sink g.F.FileSystem c.args.files.now c.run_to_output-in-None.new.files)
-    (source g.S.Source c.args.src.now c.run_to_output-in-None.new.src)
-    (sink g.K.Sink c.args.out.now c.run_to_output-in-None.new.out)
-    (sink g.E.Sink c.args.err.now c.run_to_output-in-None.new.err)
-    c.run_to_output-in-None.result c.args.request.now
-    (map (λ file. file.items) c.as_slice-secret_files.result.now) c.as_slice-salt.result.now
+    drives-stdin _ (source g.S.Source c.args.src.now c.run_to_output-in-None.new.src) _ _ _
+    c.args.request.now (map (λ file. file.items) c.as_slice-secret_files.result.now)
+    c.as_slice-salt.result.now
     (rw c.as_slice-secret_files.ensures.value c.in-Ok-load.ensures.secrets)
     (rw c.as_slice-salt.ensures.value c.in-Ok-load.ensures.salt)
     c.load.new.files c.in-Ok-load.ensures.opens

@@ -1,5 +1,4 @@
-use Rattle.std.proofs.Common.{◌≡◌, [], Some, true, false, refl, sym, ◌∙◌}
-use Rattle.std.specs.Prelude.{IsTrue}
+use Rattle.std.proofs.Common.{◌≡◌, Some, false, refl, sym, ◌∙◌}
 use Rattle.vault_text.specs.Limits.{limit_of}
 use Rattle.vault_cli.specs.runs.StoredTask.{task_in}
 use Rattle.vault_cli.proofs.TaskLemmas.{performed-text}
@@ -7,18 +6,15 @@ use Rattle.vault_cli.proofs.runs.perform.Goals as goal
 
 pub returns-in-Some-clause-performs : goal.returns-in-Some-clause-performs
 returns-in-Some-clause-performs g c =
-    let limit = limit_of c.args.memory.limit in
-    let task = task_in c.args.task.now in
     let string : Some c.in-Some.string.now ≡ c.args.request.now.string =
     rw c.in-Some.is at c.string.ensures in
     let (prefix, gave, bound, cases) = c.perform.ensures.performs in
     let text : c.new.result.left ≡ c.in-Some.string.now =
     rw c.new.ensures c.as_bytes.ensures.value in
     let unended : c.new.result.ended ≡ false = rw c.new.ensures refl in
-    let none : IsTrue c.new.result.ended → c.new.result.left ≡ [] =
-    λ ended. let wrong : false ≡ true = sym unended ∙ ended in absurd cc in
     rw (← string) (
       refl,
-      performed-text limit task c.perform.result c.perform.new.src.ended c.in-Some.string.now prefix
-          c.perform.new.src.left _ (sym text ∙ gave.0.consumed) (gave.0.end_is_real none) cases,
+      performed-text (limit_of c.args.memory.limit) (task_in c.args.task.now) c.perform.result
+          c.perform.new.src.ended c.in-Some.string.now prefix c.perform.new.src.left _
+          (sym text ∙ gave.0.consumed) (gave.0.end_is_real (λ ended. absurd cc)) cases,
     )

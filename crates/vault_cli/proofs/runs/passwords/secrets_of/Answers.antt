@@ -1,43 +1,48 @@
-use Rattle.std.proofs.Common.{◌≡◌, ◌<◌, ◌++◌, ◌∷◌, [], arith, map, length, refl, ◌∙◌}
-use Rattle.std.proofs.lemmas.List.{length_push}
+use Rattle.std.proofs.Common.{◌≡◌, ◌<◌, ◌++◌, ◌∷◌, [], arith, get_or, map, length, refl, ◌∙◌}
+use Rattle.std.proofs.lemmas.List.{drop_more, length_push}
 use Rattle.std.proofs.lemmas.Result.{err_from_is_err_and}
 use Rattle.std.specs.Prelude.{option_to_list}
 use Rattle.vault_core.specs.Secrets.{Secret}
-use Rattle.vault_cli.proofs.TaskLemmas.{label_at, secrets_of-added, secrets_of-all}
-use Rattle.vault_cli.proofs.TaskLemmas.{secrets_of-refused, within_all}
+use Rattle.vault_cli.proofs.TaskLemmas.{content_at, label_at, no_file, secrets_of-added}
+use Rattle.vault_cli.proofs.TaskLemmas.{secrets_of-all, secrets_of-refused, within_all}
 use Rattle.vault_cli.proofs.runs.passwords.secrets_of.Goals as goal
 
 pub returns-in_err-password : goal.returns-in_err-password
 returns-in_err-password c =
     let p = err_from_is_err_and c.from_residual.result c.from_residual.ensures.1 in
-    let refused = secrets_of-refused c.args.request.now.secrets c.args.secret_files.now c.loop-i.i
-    c.index-secret_files-i.result c.loop-i.secrets.secrets c.in_err-password.field-0.0
-    (omega arith) (within_all c.args.request.now _ c.loop-i.i c.requires (omega arith))
-    c.index-secret_files-i.is
-    (rw c.as_slice.ensures.value at c.in_err-password.ensures.refused) c.loop-i.invariant.2 in
+    let files = c.args.request.now.secrets in
+    let inside : c.loop-i.i < length files = omega arith in
+    let refused = secrets_of-refused c.loop-i.i files _ _ _
+    (drop_more files c.loop-i.i no_file inside)
+    (content_at c.args.secret_files.now c.loop-i.i c.index-secret_files-i.result
+    (within_all c.args.request.now _ c.loop-i.i c.requires inside) c.index-secret_files-i.is) _
+    c.loop-i.invariant.2 c.in_err-password.field-0.0
+    (rw c.as_slice.ensures.value at c.in_err-password.ensures.refused) in
     rw (p.1, p.2, ← refused) refl
 
 pub loop-i-preserved : goal.loop-i-preserved
 loop-i-preserved c =
     let files = c.args.request.now.secrets in
-    let in_files : c.loop-i.i < length files = omega arith in
-    let secret : Secret =
-    record { label = c.copy.result; password = c.in_ok-password.password.now } in
-    let added : c.push.new.self.secrets ≡ c.loop-i.secrets.secrets ++ secret ∷ [] =
-    rw c.unwrap.ensures at c.push.ensures.added in
-    let rule : c.push.new.self.rule ≡ c.loop-i.secrets.rule =
-    rw c.unwrap.ensures at c.push.ensures.rule in
+    let inside : c.loop-i.i < length files = omega arith in
     let label = c.copy.ensures
     ∙ label_at files (option_to_list c.args.request.now.new_secret) c.loop-i.i c.label.result.now
-    in_files c.label.ensures in
+    inside c.label.ensures in
+    let secret : Secret = record {
+      label = (get_or files c.loop-i.i no_file).label;
+      password = c.in_ok-password.password.now;
+    } in
+    let added : c.push.new.self.secrets ≡ c.loop-i.secrets.secrets ++ secret ∷ [] =
+    rw (c.unwrap.ensures, label) at c.push.ensures.added in
+    let rule : c.push.new.self.rule ≡ c.loop-i.secrets.rule =
+    rw c.unwrap.ensures at c.push.ensures.rule in
     rw (added, rule) (
       omega (arith, length_push c.loop-i.secrets.secrets secret, c.loop-i.invariant.0),
       c.loop-i.invariant.1,
-      secrets_of-added files c.args.secret_files.now c.loop-i.i c.index-secret_files-i.result
-          c.loop-i.secrets.secrets c.copy.result c.in_ok-password.password.now
-          (omega arith) (within_all c.args.request.now _ c.loop-i.i c.requires (omega arith))
-          c.index-secret_files-i.is label
-          (rw c.as_slice.ensures.value at c.in_ok-password.ensures.found) c.loop-i.invariant.2,
+      secrets_of-added c.loop-i.i files _ _ _ (drop_more files c.loop-i.i no_file inside)
+          (content_at c.args.secret_files.now c.loop-i.i c.index-secret_files-i.result
+          (within_all c.args.request.now _ c.loop-i.i c.requires inside) c.index-secret_files-i.is)
+          _ c.loop-i.invariant.2 c.in_ok-password.password.now
+          (rw c.as_slice.ensures.value at c.in_ok-password.ensures.found),
     )
 
 pub returns : goal.returns
