@@ -2,6 +2,7 @@
 use Rattle.std.proofs.Common.{◌≡◌, ◌≢◌, ℕ, List, Option, Some, None, Result, Ok, Err, refl, true}
 use Rattle.std.proofs.Common.{false}
 use Rattle.std.specs.Prelude.{unwrap_or, is_some}
+use Rattle.vault_text.specs.Steps.{◌>>=◌}
 use Rattle.vault_fault.specs.declared.fault.Fault.{Fault}
 use Rattle.vault_core.specs.Ready.{Ready}
 use Rattle.vault_request.specs.Laws.{IsRequest}
@@ -10,6 +11,12 @@ use Rattle.vault_request.specs.declared.command_name.CommandName.TheVariants.{En
 use Rattle.vault_cli.specs.runs.Answer.{answered, run_answer_within, performed, ready_by}
 use Rattle.vault_cli.specs.runs.Answer.{input_needed_by}
 use Rattle.vault_cli.specs.runs.Task.{Task, planned}
+
+-- two steps that answer
+pub steps-ok : {A B : Type 0} (first : Result A Fault) (second : A → Result B Fault) (y : B)
+    → (first >>= second) ≡ Ok y → (x : A) × (first ≡ Ok x) × (second x ≡ Ok y)
+steps-ok (Ok x) second y e = (x, refl, e)
+steps-ok (Err fault) second y e = absurd cc
 
 -- a task is performed on the STRING, or else on the input
 pub ready-text : (limit : ℕ) (task : Task) (string : Option (List ℕ)) (input : List ℕ)

@@ -4,7 +4,6 @@ use Rattle.std.proofs.Common.{◌≢◌, None, Result, Ok, Err, IsTrue, length, 
 use Rattle.std.proofs.Common.{subst}
 use Rattle.std.specs.Prelude.{IfSome, is_some}
 use Rattle.std.specs.Result.{result_map_both}
-use Rattle.std.proofs.lemmas.Bool.{false≢true}
 use Rattle.vault_text.specs.Failures.{HasRisen}
 use Rattle.vault_text.specs.declared.limits.TheConstants.{PLAINTEXT_LIMIT}
 use Rattle.vault_text.specs.declared.sink.Stage.TheVariants.{Unbegun}
@@ -226,7 +225,7 @@ module _ {F R S K E : Type 0} (files : StoreCall F R) (src : SourceCall S) (out 
         → (requested : Option (Result Request Fault)) (fault : Fault) → is_some requested ≡ true
         → IfSome requested (λ settled. Settles settled (Err fault))
         → result ≡ status_of fault → Says err (line_of fault) → RequestDrives requested
-    drives-unsettled fresh unopened None fault is settles status line = absurd (false≢true is)
+    drives-unsettled fresh unopened None fault is settles status line = absurd cc
     drives-unsettled fresh unopened (Some (Ok request)) fault is (inl e) status line = absurd cc
     drives-unsettled fresh unopened (Some (Ok request)) fault is (inr e) status line =
         let memory : fault ≡ Memory = cc in inl (
@@ -252,7 +251,7 @@ module _ {F R S K E : Type 0} (files : StoreCall F R) (src : SourceCall S) (out 
       → IfSome requested (λ settled. Settles settled (Ok request))
       → RequestDrives (Some (Ok request))
       → RequestDrives requested
-  drives-settled None request some settles h = absurd (false≢true some)
+  drives-settled None request some settles h = absurd cc
   drives-settled (Some (Err fault)) request some settles h = absurd cc
   drives-settled (Some (Ok other)) request some (inl e) h =
       let same : request ≡ other = cc in rw same at h

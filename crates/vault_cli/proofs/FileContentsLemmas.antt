@@ -11,8 +11,8 @@ use Rattle.vault_fault.specs.declared.fault.Fault.{Fault}
 use Rattle.vault_fault.specs.declared.fault.Role.{Role}
 use Rattle.vault_fault.specs.declared.fault.Role.TheVariants.{Secret}
 use Rattle.vault_core.specs.declared.limits.TheConstants.{PASSWORD_FILE_LIMIT}
-use Rattle.vault_request.specs.Request.{SecretFile}
-use Rattle.vault_cli.specs.runs.FileContents.{contents_of}
+use Rattle.vault_request.specs.Request.{Request, SecretFile, files_of}
+use Rattle.vault_cli.specs.runs.FileContents.{contents_of, secret_paths}
 use Rattle.vault_cli.specs.Loaded.{ContentsFound, PrefixFound, SecretsRefuse}
 use Rattle.vault_cli.specs.OpenedPaths.{opened_secrets}
 use Rattle.vault_cli.proofs.TaskLemmas.{no_file, with_prefix, with_prefix-more, with_prefix-none}
@@ -74,21 +74,18 @@ module _ (finds : List ℕ → FileState → Type 0) (paths : List (List ℕ)) w
         (files, found, gave ∙ rw same, rw (opened, next, same) went)
 
 -- the path of the file at the index is the next of the paths
-pub next_path : (files : List SecretFile) (i : ℕ) (path : List ℕ) → i < length files
-    → option_map (λ file. file.path) (slice_get files i) ≡ Some path
-    → (drop i (map (λ file. file.path) files) ≡ path ∷ drop (i + 1) (map (λ file. file.path) files))
-    × (take (i + 1) (map (λ file. file.path) files)
-    ≡ take i (map (λ file. file.path) files) ++ path ∷ [])
-next_path files i path inside e =
-    let paths = map (λ (file : SecretFile). file.path) files in
+pub next_path : (request : Request) (i : ℕ) (path : List ℕ) → i < length (files_of request)
+    → option_map (λ file. file.path) (slice_get (files_of request) i) ≡ Some path
+    → (drop i (secret_paths request) ≡ path ∷ drop (i + 1) (secret_paths request))
+    × (take (i + 1) (secret_paths request) ≡ take i (secret_paths request) ++ path ∷ [])
+next_path request i path inside e =
+    let files = files_of request in
+    let paths = secret_paths request in
     let some = rw (slice_get-get_or files i no_file inside) at e in
     let same : get_or paths i [] ≡ path =
     get_or-map (λ (file : SecretFile). file.path) files i no_file [] inside ∙ (cc) in
     let within : i < length paths = rw length-map inside in
     (rw (← same) (drop_more paths i [] within), rw (← same) (take_more paths i [] within))
-
-pub length-paths : (files : List SecretFile) → length (map (λ file. file.path) files) ≡ length files
-length-paths files = length-map files (λ (file : SecretFile). file.path)
 
 -- what a buffer took whose room is the limit, of a file that could be found before
 pub PrefixFound-before : (finds later : FileState → Type 0)

@@ -1,26 +1,16 @@
 -- Which paths are opened of files that can be read.
-use Rattle.std.proofs.Common.{◌≡◌, ℕ, ◌+◌, List, [], ◌∷◌, ◌++◌, Some, Result, Ok, Err, refl, sym}
-use Rattle.std.proofs.Common.{ap, append_assoc, ◌∙◌}
+use Rattle.std.proofs.Common.{◌≡◌, ℕ, ◌+◌, List, [], ◌∷◌, ◌++◌, Some, Ok, refl, append_assoc, ◌∙◌}
 use Rattle.std.specs.Prelude.{option_to_list}
-use Rattle.vault_text.specs.Steps.{◌>>=◌}
 use Rattle.vault_files.specs.File.{FileState, Found}
-use Rattle.vault_fault.specs.declared.fault.Fault.{Fault}
 use Rattle.vault_fault.specs.declared.fault.Role.TheVariants.{Secret}
 use Rattle.vault_core.specs.declared.limits.TheConstants.{PASSWORD_FILE_LIMIT}
 use Rattle.vault_request.specs.Request.{Request}
 use Rattle.vault_cli.specs.runs.FileContents.{request_paths, contents_of, prefix_in, secret_paths}
 use Rattle.vault_cli.specs.OpenedPaths.{behind, opened_paths, opened_secrets}
 use Rattle.vault_cli.specs.Program.{Files, salt_in}
+use Rattle.vault_cli.proofs.AnswerLemmas.{steps-ok}
 
 -- all password files gave their bytes
-all-behind : (r : Result (List ℕ) Fault) (rest : Result (List (List ℕ)) Fault)
-    (contents : List (List ℕ)) (opened paths : List (List ℕ))
-    → (r >>= λ bytes. rest >>= λ contents. Ok (bytes ∷ contents)) ≡ Ok contents
-    → ((others : List (List ℕ)) → rest ≡ Ok others → opened ≡ paths) → behind r opened ≡ paths
-all-behind (Ok bytes) (Ok others) contents opened paths e h = h others refl
-all-behind (Ok bytes) (Err fault) contents opened paths e h = absurd cc
-all-behind (Err fault) rest contents opened paths e h = absurd cc
-
 opened-secrets : (finds : List ℕ → FileState → Type 0) (paths : List (List ℕ))
     (files : List FileState) (contents : List (List ℕ))
     → Found finds paths files → contents_of files ≡ Ok contents → opened_secrets paths files ≡ paths
@@ -28,10 +18,10 @@ unfolding opened_secrets contents_of
 opened-secrets finds [] files contents found e = refl
 opened-secrets finds (path ∷ paths) [] contents found e = absurd found
 opened-secrets finds (path ∷ paths) (file ∷ files) contents found e =
-    ap (λ (ps : List (List ℕ)). path ∷ ps)
-    (all-behind (prefix_in Secret (PASSWORD_FILE_LIMIT + 1) file) (contents_of files) contents
-    (opened_secrets paths files) paths e
-    (λ others is. opened-secrets finds paths files others found.1 is))
+    let (bytes, read, left) =
+    steps-ok (prefix_in Secret (PASSWORD_FILE_LIMIT + 1) file) _ contents e in
+    let (others, rest, all) = steps-ok (contents_of files) _ contents left in
+    rw (read, opened-secrets finds paths files others found.1 rest)
 
 module _ (finds : List ℕ → FileState → Type 0) (request : Request) (files : Files)
     (contents : List (List ℕ))
@@ -42,9 +32,11 @@ module _ (finds : List ℕ → FileState → Type 0) (request : Request) (files 
       ≡ (secret_paths request ++ option_to_list request.salt_path)
       ++ behind (salt_in files.salt) (option_to_list request.input)
   opened-behind =
-      rw (opened-secrets finds (secret_paths request) files.secrets contents found read, read)
-      (sym (append_assoc (secret_paths request) (option_to_list request.salt_path)
-      (behind (salt_in files.salt) (option_to_list request.input))))
+      rw (
+        opened-secrets finds (secret_paths request) files.secrets contents found read,
+        read,
+        append_assoc,
+      )
 
   -- all that is asked for
   pub opened-all : (salt : List ℕ) → salt_in files.salt ≡ Ok salt

@@ -32,8 +32,7 @@ tells-refused : (result : Status) (before after : ℕ) → result ≡ Refused �
 tells-refused result before after refused stay =
     ((λ device. absurd cc, λ none. stay, λ memory. cc), λ succeeds. cc)
 
-module _ {S K E : Type 0} (src : SourceCall S) (out : SinkCall K) (err : SinkCall E)
-    (result : Status) where
+module _ {K E : Type 0} (out : SinkCall K) (err : SinkCall E) (result : Status) where
   abbrev FinishesBy : Result Ready Fault → Type 0
   FinishesBy answer = Finishes (to_sink out) err result (answered answer)
 
@@ -55,66 +54,68 @@ module _ {S K E : Type 0} (src : SourceCall S) (out : SinkCall K) (err : SinkCal
     line = line;
   })
 
-  source-failed : (fault : Fault) → IsUnreadable (src.failures src.old) (src.failures src.new) fault
-      → FinishesBy (Err fault) → SourceFails (to_sink out) err result src
-  source-failed fault (unread, risen) (inl done) = record {
-    status = done.status ∙ ap status_of unread;
-    failed = risen;
-    unfailed = done.unfailed;
-    output = done.output;
-    line = rw unread at done.line;
-  }
-  source-failed fault (unread, risen) (inr fails) =
-      let (bytes, none, prefix) = fails.output in absurd cc
+  module _ {S : Type 0} (src : SourceCall S) where
+    source-failed : (fault : Fault)
+        → IsUnreadable (src.failures src.old) (src.failures src.new) fault
+        → FinishesBy (Err fault) → SourceFails (to_sink out) err result src
+    source-failed fault (unread, risen) (inl done) = record {
+      status = done.status ∙ ap status_of unread;
+      failed = risen;
+      unfailed = done.unfailed;
+      output = done.output;
+      line = rw unread at done.line;
+    }
+    source-failed fault (unread, risen) (inr fails) =
+        let (bytes, none, prefix) = fails.output in absurd cc
 
-  -- ---- on the STRING, or on the input
+    -- ---- on the STRING, or on the input
 
-  module _ (limit : ℕ) (task : Task) where
-    ends-text : (answer : Result Ready Fault) (string : Option (List ℕ))
-        → Performs src limit task answer string → FinishesBy answer
-        → Ends (to_sink out) err result src
-        (input_needed_by (Ok task) string (task_limit limit task))
-        (λ text. answered (ready_by limit (Ok task) string (Ok text)))
-    ends-text answer (Some string) (unread, is) done = (unread, subst FinishesBy is done)
-    ends-text (Ok ready) None (input, given, fits, (stay, (whole, is))) done =
-        (input, (given, fits, inr ((stay, whole), subst FinishesBy is done)))
-    ends-text (Err fault) None (input, given, fits, inl (unread, (short, none))) done =
-        (input, (given, fits, inl (source-failed fault unread done, short)))
-    ends-text (Err fault) None (input, given, fits, inr ((other, stay), (whole, is))) done =
-        (input, (given, fits, inr ((stay, whole), subst FinishesBy is done)))
+    module _ (limit : ℕ) (task : Task) where
+      ends-text : (answer : Result Ready Fault) (string : Option (List ℕ))
+          → Performs src limit task answer string → FinishesBy answer
+          → Ends (to_sink out) err result src
+          (input_needed_by (Ok task) string (task_limit limit task))
+          (λ text. answered (ready_by limit (Ok task) string (Ok text)))
+      ends-text answer (Some string) (unread, is) done = (unread, subst FinishesBy is done)
+      ends-text (Ok ready) None (input, given, fits, (stay, (whole, is))) done =
+          (input, (given, fits, inr ((stay, whole), subst FinishesBy is done)))
+      ends-text (Err fault) None (input, given, fits, inl (unread, (short, none))) done =
+          (input, (given, fits, inl (source-failed fault unread done, short)))
+      ends-text (Err fault) None (input, given, fits, inr ((other, stay), (whole, is))) done =
+          (input, (given, fits, inr ((stay, whole), subst FinishesBy is done)))
 
-  -- a run whose steps 1 to 3 answer so
-  module _ (limit : ℕ) (request : Request) (contents : List (List ℕ)) (salt : List ℕ) where
-    abbrev EndsAfter : Result Task Fault → Type 0
-    EndsAfter plans =
-        Ends (to_sink out) err result src
-        (input_needed_by plans request.string (input_limit limit request.command))
-        (λ input. answered (ready_by limit plans request.string (Ok input)))
+    -- a run whose steps 1 to 3 answer so
+    module _ (limit : ℕ) (request : Request) (contents : List (List ℕ)) (salt : List ℕ) where
+      abbrev EndsAfter : Result Task Fault → Type 0
+      EndsAfter plans =
+          Ends (to_sink out) err result src
+          (input_needed_by plans request.string (input_limit limit request.command))
+          (λ input. answered (ready_by limit plans request.string (Ok input)))
 
-    abbrev EndsWithin : Type 0
-    EndsWithin =
-        Ends (to_sink out) err result src (input_needed limit request contents salt)
-        (run_answer_within limit request contents salt)
+      abbrev EndsWithin : Type 0
+      EndsWithin =
+          Ends (to_sink out) err result src (input_needed limit request contents salt)
+          (run_answer_within limit request contents salt)
 
-    ends-after : (plans : Result Task Fault) → planned request contents salt ≡ plans
-        → EndsAfter plans → EndsWithin
-    unfolding run_answer_within
-    ends-after plans is ends = subst EndsAfter (sym is) ends
+      ends-after : (plans : Result Task Fault) → planned request contents salt ≡ plans
+          → EndsAfter plans → EndsWithin
+      unfolding run_answer_within
+      ends-after plans is ends = subst EndsAfter (sym is) ends
 
-    pub ends-performed : (task : Task) → planned request contents salt ≡ Ok task
-        → (answer : Result Ready Fault) → Performs src limit task answer request.string
-        → FinishesBy answer → EndsWithin
-    ends-performed task found answer performs done =
-        ends-after (Ok task) found
-        (rw (← (rw found at (keeps-planned request salt contents)).0 limit)
-        (ends-text limit task answer request.string performs done))
+      pub ends-performed : (task : Task) → planned request contents salt ≡ Ok task
+          → (answer : Result Ready Fault) → Performs src limit task answer request.string
+          → FinishesBy answer → EndsWithin
+      ends-performed task found answer performs done =
+          ends-after (Ok task) found
+          (rw (← (rw found at (keeps-planned request salt contents)).0 limit)
+          (ends-text limit task answer request.string performs done))
 
-    -- steps 1 to 3 refused
-    pub ends-unplanned : (fault : Fault) → planned request contents salt ≡ Err fault
-        → result ≡ status_of fault → src.new ≡ src.old → out.new ≡ out.old
-        → Says err (line_of fault) → EndsWithin
-    ends-unplanned fault refusal status unread unwritten line =
-        ends-after (Err fault) refusal (unread, finishes-refused fault status unwritten line)
+      -- steps 1 to 3 refused
+      pub ends-unplanned : (fault : Fault) → planned request contents salt ≡ Err fault
+          → result ≡ status_of fault → src.new ≡ src.old → out.new ≡ out.old
+          → Says err (line_of fault) → EndsWithin
+      ends-unplanned fault refusal status unread unwritten line =
+          ends-after (Err fault) refusal (unread, finishes-refused fault status unwritten line)
 
 -- a task whose output is ready did not see its source fail
 pub performed-unfailed : {S : Type 0} (src : SourceCall S) (limit : ℕ) (task : Task) (ready : Ready)

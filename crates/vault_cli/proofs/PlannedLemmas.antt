@@ -1,8 +1,9 @@
 -- What steps 1 to 3 prepare of a request: a sound task, which takes as much input as the command.
-use Rattle.std.proofs.Common.{◌≡◌, ℕ, ◌<◌, ◌≤◌, nat_lt, true, List, [], ◌∷◌, ◌++◌, length}
-use Rattle.std.proofs.Common.{length-take, zero, suc, Option, Some, None, Ok, refl, sym, arith}
+use Rattle.std.proofs.Common.{◌≡◌, ℕ, ◌<◌, ◌≤◌, nat_lt, true, List, [], ◌∷◌, ◌++◌, length, All}
+use Rattle.std.proofs.Common.{length-take, Option, Some, None, Ok, refl, sym, arith}
 use Rattle.std.specs.Prelude.{IfSome, option_to_list, slice_index_or}
 use Rattle.std.specs.List.{AllByRecursion}
+use Rattle.std.proofs.lemmas.List.Elements.{All-cons, All-nil}
 use Rattle.vault_text.specs.Label.{is_label}
 use Rattle.vault_text.specs.declared.limits.TheConstants.{SALT_LIMIT}
 use Rattle.vault_fault.specs.declared.fault.Fault.TheVariants.{SaltShort}
@@ -70,16 +71,17 @@ keeps-secret file bytes =
     (λ password _ label. label)
 
 keeps-secrets : (files : List SecretFile) (contents : List (List ℕ))
-    → Keeps (λ secrets. AllByRecursion HasLabel files → AllByRecursion IsLabelled secrets)
+    → Keeps (λ secrets. AllByRecursion HasLabel files → All IsLabelled secrets)
     (secrets_of files contents)
 unfolding secrets_of
-keeps-secrets [] contents = λ _. tt
+keeps-secrets [] contents = λ _. All-nil IsLabelled
 keeps-secrets (file ∷ files) [] = refl
 keeps-secrets (file ∷ files) (bytes ∷ contents) =
     next (λ secret. HasLabel file → IsLabelled secret) _ _ _ (keeps-secret file bytes)
     (λ secret first.
-    next (λ secrets. AllByRecursion HasLabel files → AllByRecursion IsLabelled secrets) _ _ _
-    (keeps-secrets files contents) (λ secrets others labels. (first labels.0, others labels.1)))
+    next (λ secrets. AllByRecursion HasLabel files → All IsLabelled secrets) _ _ _
+    (keeps-secrets files contents) (λ secrets others labels.
+    All-cons IsLabelled secret secrets (first labels.0) (others labels.1)))
 
 keeps-new : (file : Option SecretFile) (bytes : List ℕ)
     → Keeps (λ secret. IfSome file HasLabel → IsLabelled secret) (new_secret_in file bytes)
@@ -93,13 +95,6 @@ label-parts [] None labels = (tt, tt)
 label-parts [] (Some file) labels = (tt, labels.0)
 label-parts (file ∷ files) new (label, labels) =
     let parts = label-parts files new labels in ((label, parts.0), parts.1)
-
-label-at : (secrets : List Secret) (index : ℕ) → AllByRecursion IsLabelled secrets
-    → index < length secrets → IsLabelled (secret_at index secrets)
-label-at [] index labels inside = absurd (omega arith)
-label-at (secret ∷ secrets) zero (label, labels) inside = label
-label-at (secret ∷ secrets) (suc index) (label, labels) inside =
-    label-at secrets index labels (omega arith)
 
 module _ (request : Request) (salt : List ℕ) where
   -- a request that was settled, and salts that are bytes
@@ -115,7 +110,7 @@ module _ (request : Request) (salt : List ℕ) where
       × (IsGiven → IsSound task)
 
   keeps-encrypt : (secrets : List Secret) (form : Form)
-      → (IsGiven → AllByRecursion IsLabelled secrets)
+      → (IsGiven → All IsLabelled secrets)
       → Keeps (IsTask command.Encrypt) (encrypt_task request secrets form salt)
   keeps-encrypt secrets form labels =
       next (λ index. index < length secrets) _ (index_of secrets request.choice) _
@@ -126,13 +121,13 @@ module _ (request : Request) (salt : List ℕ) where
       (keeps-salt request.salt_text salt) (λ used is. (
         λ limit. refl,
         λ given. (
-          label-at secrets index (labels given) within,
+          labels given index _ within,
           is given.known.settled.salt_text given.text given.bytes,
         ),
       )))
 
   keeps-task : (command : CommandName) (list : SecretList) (last : List ℕ)
-      → (IsGiven → AllByRecursion IsLabelled list.secrets)
+      → (IsGiven → All IsLabelled list.secrets)
       → Keeps (IsTask command) (task_of command request list last salt)
   keeps-task command.Encrypt list last labels = keeps-encrypt list.secrets Envelope labels
   keeps-task command.EncryptString list last labels =
@@ -156,7 +151,7 @@ module _ (request : Request) (salt : List ℕ) where
       → Keeps (IsTask request.command) (planned request contents salt)
   unfolding planned
   keeps-planned contents =
-      next (λ list. IsGiven → AllByRecursion IsLabelled list.secrets) _
+      next (λ list. IsGiven → All IsLabelled list.secrets) _
       (secret_list_of request contents) _
       (next _ _ (secrets_of request.secrets contents) _ (keeps-secrets request.secrets contents)
       (λ secrets labels given.

@@ -16,9 +16,9 @@ use Rattle.vault_cli.specs.runs.Task.{planned, Task}
 use Rattle.vault_cli.specs.Call.{SinkCall, SourceCall, StoreCall}
 use Rattle.vault_cli.specs.Drive.{AllFound, IsDriven}
 use Rattle.vault_cli.specs.declared.runs.status.Status.{Status}
-use Rattle.vault_text.specs.Steps.{◌>>=◌}
 use Rattle.vault_cli.specs.runs.Answer.{Answer, answered, input_needed_by, input_limit, ready_by}
 use Rattle.vault_cli.specs.runs.Answer.{task_limit}
+use Rattle.vault_cli.proofs.AnswerLemmas.{steps-ok}
 use Rattle.vault_cli.proofs.PlannedLemmas.{keeps-planned}
 use Rattle.vault_cli.proofs.TaskLemmas.{performed-prefix}
 
@@ -40,24 +40,16 @@ task-found request files contents salt read salted opened = rw (read, salted, op
 
 -- ---- the answer to the prefix of standard input that is asked for is the answer to all of it
 
--- what holds of each answer of the second step
-next-ok : {A B : Type 0} (P : B → Type 0) (r : Result A Fault) (f : A → Result B Fault)
-    → ((x : A) (y : B) → f x ≡ Ok y → P y) → (y : B) → (r >>= f) ≡ Ok y → P y
-next-ok P (Ok x) f holds y is = holds x y is
-next-ok P (Err fault) f holds y is = absurd cc
-
 -- the task that is found over files takes as much as its command
-pub limit-over : (limit : ℕ) (request : Request) (files : Files) (task : Task)
+limit-over : (limit : ℕ) (request : Request) (files : Files) (task : Task)
     → task_over request files ≡ Ok task
     → task_limit limit task ≡ input_limit limit request.command
 unfolding task_over
-limit-over limit request files =
-    let Takes : Task → Type 0 =
-    λ task. task_limit limit task ≡ input_limit limit request.command in
-    next-ok Takes (contents_of files.secrets) _ (λ contents.
-    next-ok Takes (salt_in files.salt) _ (λ salt.
-    next-ok Takes (can_open_input files.input) _ (λ opened task found.
-    (rw found at (keeps-planned request salt contents)).0 limit)))
+limit-over limit request files task e =
+    let (contents, read, left) = steps-ok (contents_of files.secrets) _ task e in
+    let (salt, salted, last) = steps-ok (salt_in files.salt) _ task left in
+    let (opened, opens, found) = steps-ok (can_open_input files.input) _ task last in
+    (rw found at (keeps-planned request salt contents)).0 limit
 
 -- where none is asked for, the answer is the same for each; where so much is, the rest does not
 -- count
@@ -67,7 +59,7 @@ IsOfPrefix (Some limit) answers =
     (ended : Bool) (text prefix left : List ℕ) → text ≡ prefix ++ left → (IsTrue ended → left ≡ [])
     → IsReadToEndOrPastLimit limit ended prefix → answers prefix ≡ answers text
 
-pub task-prefix : (limit amount : ℕ) (plans : Result Task Fault) (string : Option (List ℕ))
+task-prefix : (limit amount : ℕ) (plans : Result Task Fault) (string : Option (List ℕ))
     → ((task : Task) → plans ≡ Ok task → task_limit limit task ≡ amount)
     → IsOfPrefix (input_needed_by plans string amount)
     (λ input. answered (ready_by limit plans string (Ok input)))

@@ -1,5 +1,4 @@
--- Tasks: how much input they take, inputs of which a prefix is enough, and the secrets of their
--- password files.
+-- Tasks: inputs of which a prefix is enough, and the secrets of their password files.
 use Rattle.std.proofs.Common.{◌≡◌, ℕ, ◌+◌, ◌<◌, ◌≤◌, nat_lt, Bool, true, List, [], ◌∷◌, ◌++◌}
 use Rattle.std.proofs.Common.{length, length-append, inl, inr, sym, ◌∙◌, Some, Result, Ok, Err}
 use Rattle.std.proofs.Common.{refl, arith, rules, tests, map, get_or, drop, Vec, Global, ap}
@@ -38,34 +37,29 @@ performed-too_long limit (Rekey secrets new salt) input long =
     rw over
 
 -- a text of which so much was read that no more is taken, or all
-pub performed-prefix : (limit : ℕ) (task : Task) (ended : Bool) (text prefix left : List ℕ)
-    → text ≡ prefix ++ left → (IsTrue ended → left ≡ [])
-    → IsReadToEndOrPastLimit (task_limit limit task) ended prefix
-    → performed limit task prefix ≡ performed limit task text
-performed-prefix limit task ended text prefix left e last (inl end) =
-    let none = last end in rw (e, none, append-nil) refl
-performed-prefix limit task ended text prefix left e last (inr long) =
-    let more : length text ≡ length prefix + length left = rw e (length-append prefix left) in
-    rw (
-      performed-too_long limit task text (omega (arith, long, more)),
-      performed-too_long limit task prefix (omega (arith, long)),
-    )
+module _ (limit : ℕ) (task : Task) (ended : Bool) (text prefix left : List ℕ)
+    (parts : text ≡ prefix ++ left) (last : IsTrue ended → left ≡ []) where
+  pub performed-prefix : IsReadToEndOrPastLimit (task_limit limit task) ended prefix
+      → performed limit task prefix ≡ performed limit task text
+  performed-prefix (inl end) = rw (parts, last end, append-nil)
+  performed-prefix (inr long) =
+      let more : length text ≡ length prefix + length left =
+      rw parts (length-append prefix left) in
+      rw (
+        performed-too_long limit task text (omega (arith, long, more)),
+        performed-too_long limit task prefix (omega (arith, long)),
+      )
 
--- what was performed on a text in memory, which never fails
-pub performed-text : (limit : ℕ) (task : Task) (result : Result Ready Fault) (ended : Bool)
-    (text prefix left : List ℕ) (Failed : Type 0)
-    → text ≡ prefix ++ left → (IsTrue ended → left ≡ [])
-    → UnlessUnreadable 0 0 result Failed
-    (IsReadToEndOrPastLimit (task_limit limit task) ended prefix
-    × (result ≡ performed limit task prefix))
-    → result ≡ performed limit task text
-performed-text limit task (Ok ready) ended text prefix left Failed e last (same, (whole, is)) =
-    is ∙ performed-prefix limit task ended text prefix left e last whole
-performed-text limit task (Err fault) ended text prefix left Failed e last
-    (inl ((is, risen), failed)) = absurd cc
-performed-text limit task (Err fault) ended text prefix left Failed e last
-    (inr ((other, same), (whole, is))) =
-    is ∙ performed-prefix limit task ended text prefix left e last whole
+  -- what was performed on a text in memory, which never fails
+  pub performed-text : (result : Result Ready Fault) (Failed : Type 0)
+      → UnlessUnreadable 0 0 result Failed
+      (IsReadToEndOrPastLimit (task_limit limit task) ended prefix
+      × (result ≡ performed limit task prefix))
+      → result ≡ performed limit task text
+  performed-text (Ok ready) Failed (same, (whole, is)) = is ∙ performed-prefix whole
+  performed-text (Err fault) Failed (inl ((is, risen), failed)) = absurd cc
+  performed-text (Err fault) Failed (inr ((other, same), (whole, is))) =
+      is ∙ performed-prefix whole
 
 -- ---- the secrets of password files, one file after the other
 

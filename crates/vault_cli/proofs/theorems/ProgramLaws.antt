@@ -116,16 +116,8 @@ module _ (settles : SettledRequests) where
 
 -- ---- what was written stands at its path
 
-written-there : (before : List ℕ → FileState) (bytes path : List ℕ)
-    → stands_after before (Some path) (Some bytes) path ≡ Whole bytes
-written-there before bytes path = rw (bytes_eq-same path) refl
-
 pub written_is_read : WrittenIsRead
 written_is_read before writing reading bytes path request written reads input =
     let at = stands_after before (output_path (requested_by writing)) (Some bytes) in
-    let there : at path ≡ Whole bytes =
-    ap (λ (output_file : Option (List ℕ)). stands_after before output_file (Some bytes) path)
-    written
-    ∙ written-there before bytes path in
-    ap (λ (requested : Option (Result Request Fault)). (files_in at requested).input) reads
-    ∙ ap (option_map at) input ∙ ap Some there
+    let there : at path ≡ Whole bytes = rw (written, bytes_eq-same path) in
+    rw (reads, input, there)

@@ -1,16 +1,15 @@
 use Rattle.std.proofs.Common.{rules, arith, ◌≡◌, ◌++◌, ◌+◌, ◌∷◌, ◌∙◌, [], length, sym, ap}
 use Rattle.std.proofs.Common.{vec_len}
-use Rattle.std.proofs.lemmas.List.{map-append, take_all}
+use Rattle.std.proofs.lemmas.List.{length-map, map-append, take_all}
 use Rattle.std.proofs.lemmas.List.Elements.{All-take}
 use Rattle.std.proofs.lemmas.Result.{err_from_is_err_and}
 use Rattle.vault_fault.specs.declared.fault.Role.TheVariants.{Secret}
 use Rattle.vault_core.specs.declared.limits.TheConstants.{PASSWORD_FILE_LIMIT}
 use Rattle.vault_cli.specs.runs.FileContents.{secret_paths}
-use Rattle.vault_request.specs.Request.{files_of}
 use Rattle.vault_cli.proofs.ReservedLemmas.{IsLong, last-long}
 use Rattle.vault_cli.proofs.FileContentsLemmas.{ContentsFound-all, GivesPrefix-more}
-use Rattle.vault_cli.proofs.FileContentsLemmas.{GivesPrefix-none, PrefixFound-before}
-use Rattle.vault_cli.proofs.FileContentsLemmas.{length-paths, next_path, secrets-refuse}
+use Rattle.vault_cli.proofs.FileContentsLemmas.{GivesPrefix-none, PrefixFound-before, next_path}
+use Rattle.vault_cli.proofs.FileContentsLemmas.{secrets-refuse}
 use Rattle.vault_cli.proofs.loading.read_secret_files.Goals as goal
 
 pub loop-i-init : goal.loop-i-init
@@ -35,7 +34,7 @@ returns-in_err-bytes-clause-refused g c =
     let new = c.prefix_of.new.files in
     let path = c.path.result.now in
     let kept = c.loop-i.invariant in
-    let next = next_path (files_of c.args.request.now) c.loop-i.i path
+    let next = next_path c.args.request.now c.loop-i.i path
     (omega (arith, c.loop-i-test.true, c.files-i-end.ensures.count)) c.path.ensures in
     let one = rw c.unwrap-buf.ensures at c.pop.ensures.cases in
     let long = last-long c.loop-i.unread c.unwrap-buf.result kept.5 (search rules)
@@ -57,7 +56,7 @@ loop-i-preserved g c =
     let new = c.prefix_of.new.files in
     let path = c.path.result.now in
     let kept = c.loop-i.invariant in
-    let next = next_path (files_of c.args.request.now) c.loop-i.i path
+    let next = next_path c.args.request.now c.loop-i.i path
     (omega (arith, c.loop-i-test.true, c.files-i-end.ensures.count)) c.path.ensures in
     let one = rw c.unwrap-buf.ensures at c.pop.ensures.cases in
     let long = last-long c.loop-i.unread c.unwrap-buf.result kept.5 (search rules)
@@ -95,11 +94,11 @@ pub returns-clause-read : goal.returns-clause-read
 returns-clause-read g c =
     ContentsFound-all (g.F.FileSystem.finds c.args.files.now) (secret_paths c.args.request.now)
     c.loop-i.i _
-    (omega (arith, c.loop-i-test.false, c.files-i-end.ensures.count, length-paths))
+    (rw length-map (omega (arith, c.loop-i-test.false, c.files-i-end.ensures.count)))
     c.loop-i.invariant.1
 
 pub returns-clause-opens : goal.returns-clause-opens
 returns-clause-opens g c =
     rw (take_all c.loop-i.i (secret_paths c.args.request.now)
-    (omega (arith, c.loop-i-test.false, c.files-i-end.ensures.count, length-paths))) at
+    (rw length-map (omega (arith, c.loop-i-test.false, c.files-i-end.ensures.count)))) at
     c.loop-i.invariant.2

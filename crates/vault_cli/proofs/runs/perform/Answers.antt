@@ -14,7 +14,6 @@ returns-in-Some-clause-performs g c =
     let unended : c.new.result.ended ≡ false = rw c.new.ensures refl in
     rw (← string) (
       refl,
-      performed-text (limit_of c.args.memory.limit) (task_in c.args.task.now) c.perform.result
-          c.perform.new.src.ended c.in-Some.string.now prefix c.perform.new.src.left _
-          (sym text ∙ gave.0.consumed) (gave.0.end_is_real (λ ended. absurd cc)) cases,
+      performed-text (limit_of c.args.memory.limit) (task_in c.args.task.now) _ _ prefix _
+          (sym text ∙ gave.0.consumed) (gave.0.end_is_real (λ ended. absurd cc)) _ _ cases,
     )

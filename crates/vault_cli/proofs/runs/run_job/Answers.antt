@@ -3,10 +3,8 @@ use Rattle.vault_text.specs.Limits.{limit_of}
 use Rattle.vault_fault.specs.declared.fault.Fault.TheVariants.{Read}
 use Rattle.vault_fault.specs.declared.fault.Role.TheVariants.{Input}
 use Rattle.vault_cli.specs.Call.{sink, source}
-use Rattle.vault_cli.specs.runs.Answer.{input_limit}
 use Rattle.vault_cli.specs.runs.Status.{status_of}
 use Rattle.vault_cli.specs.runs.StoredTask.{task_in}
-use Rattle.vault_cli.specs.runs.Task.{planned}
 use Rattle.vault_cli.proofs.AnswerLemmas.{requested-no_string}
 use Rattle.vault_cli.proofs.PerformedLemmas.{ends-performed, ends-unplanned, finished}
 use Rattle.vault_cli.proofs.PerformedLemmas.{finishes-refused, performed-refused}
@@ -16,21 +14,18 @@ use Rattle.vault_cli.proofs.runs.run_job.Goals as goal
 
 pub returns-in-Err : goal.returns-in-Err
 returns-in-Err g c =
-    let request = c.args.job.request.now in
-    let contents = map (λ file. file.items) c.args.job.secret_files.now in
-    let salt = c.args.job.salt.now in
+    let refusal = c.in-Err.ensures.refused in
     let status = c.report.ensures.status in
-    let refused = rw c.in-Err.ensures.refused at (keeps-planned request salt contents) in
+    let refused = rw refusal at (keeps-planned c.args.job.request.now c.args.job.salt.now
+    (map (λ file. file.items) c.args.job.secret_files.now)) in
     record {
-      ends = ends-unplanned (source g.S.Source c.args.src.now c.args.src.now)
-          (sink g.K.Sink c.args.out.now c.args.out.now)
-          (sink g.E.Sink c.args.err.now c.report.new.err) c.report.result
-          (limit_of c.args.job.memory.limit) request contents salt c.in-Err.fault
-          c.in-Err.ensures.refused status refl refl c.report.ensures.line;
+      ends = ends-unplanned (sink g.K.Sink c.args.out.now c.args.out.now) _ _
+          (source g.S.Source c.args.src.now c.args.src.now) _ _ _ _ _ refusal status refl refl
+          c.report.ensures.line;
       device_failed = λ device. absurd cc;
       none_failed = λ none. (refl, refl);
       memory_suffices = λ memory. cc;
-      full_source = λ requested full. let never = rw c.in-Err.ensures.refused at requested in cc;
+      full_source = λ requested full. let never = rw refusal at requested in absurd cc;
       full_output = λ full succeeds. cc;
     }
 
@@ -39,28 +34,23 @@ returns-in-Ok-perform g c =
     let src = source g.S.Source c.args.src.now c.perform.new.src in
     let out = sink g.K.Sink c.args.out.now c.deliver.new.out in
     let err = sink g.E.Sink c.args.err.now c.deliver.new.err in
-    let request = c.args.job.request.now in
-    let contents = map (λ file. file.items) c.args.job.secret_files.now in
-    let salt = c.args.job.salt.now in
-    let limit = limit_of c.args.job.memory.limit in
     let performs = c.in-Ok-perform.ensures.performs in
     let ready = c.in-Ok-perform.ready in
-    let (device, none, memory) =
-    finished src out err c.deliver.result ready c.deliver.ensures.finishes in
+    let finishes = c.deliver.ensures.finishes in
+    let (device, none, memory) = finished out err c.deliver.result ready finishes in
     record {
-      ends = ends-performed src out err c.deliver.result limit request contents salt
-          (task_in c.in-Ok.task) c.in-Ok.ensures.planned (Ok ready) performs
-          c.deliver.ensures.finishes;
+      ends = ends-performed out err c.deliver.result src _ _ _ _ _ c.in-Ok.ensures.planned
+          (Ok ready) performs finishes;
       device_failed = λ failed. inr (device failed);
       none_failed = λ unfailed. (
-        performed-unfailed src limit (task_in c.in-Ok.task) ready request.string performs,
+        performed-unfailed src (limit_of c.args.job.memory.limit) (task_in c.in-Ok.task) ready
+            c.args.job.request.now.string performs,
         none unfailed,
       );
       memory_suffices = memory;
       full_source = λ requested full.
-          let unread = c.in-Ok-perform.ensures.full
-          (requested-no_string (planned request contents salt) request.string
-          (input_limit limit request.command) requested) full in cc;
+          let unread = c.in-Ok-perform.ensures.full (requested-no_string _ _ _ requested) full in
+          absurd cc;
       full_output = λ full succeeds. let failed = c.deliver.ensures.full full in cc;
     }
 
@@ -69,29 +59,22 @@ returns-in-Err-perform g c =
     let src = source g.S.Source c.args.src.now c.perform.new.src in
     let out = sink g.K.Sink c.args.out.now c.args.out.now in
     let err = sink g.E.Sink c.args.err.now c.report-in-Err-perform.new.err in
-    let request = c.args.job.request.now in
-    let contents = map (λ file. file.items) c.args.job.secret_files.now in
-    let salt = c.args.job.salt.now in
-    let limit = limit_of c.args.job.memory.limit in
     let result = c.report-in-Err-perform.result in
+    let performs = c.in-Err-perform.ensures.performs in
     let report = c.report-in-Err-perform.ensures in
     let fault = c.in-Err-perform.fault in
-    let performs = c.in-Err-perform.ensures.performs in
     let ((device, none, memory), fails) =
-    performed-refused src limit (task_in c.in-Ok.task) result fault report.status request.string
-    performs in
+    performed-refused src (limit_of c.args.job.memory.limit) (task_in c.in-Ok.task) result fault
+    report.status c.args.job.request.now.string performs in
     record {
-      ends = ends-performed src out err result limit request contents salt (task_in c.in-Ok.task)
-          c.in-Ok.ensures.planned (Err fault) performs
-          (finishes-refused src out err result fault report.status refl report.line);
+      ends = ends-performed out err result src _ _ _ _ _ c.in-Ok.ensures.planned (Err fault)
+          performs (finishes-refused out err result fault report.status refl report.line);
       device_failed = λ failed. inl (device failed);
       none_failed = λ unfailed. (none unfailed, refl);
       memory_suffices = memory;
       full_source = λ requested full.
           let unread : fault ≡ Read Input =
-          cc (c.in-Err-perform.ensures.full
-          (requested-no_string (planned request contents salt) request.string
-          (input_limit limit request.command) requested) full) in
+          cc (c.in-Err-perform.ensures.full (requested-no_string _ _ _ requested) full) in
           report.status ∙ ap status_of unread;
       full_output = λ full. fails;
     }
