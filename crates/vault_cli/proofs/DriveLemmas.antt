@@ -31,7 +31,6 @@ use Rattle.vault_request.specs.Settled.{Settles}
 use Rattle.vault_cli.specs.runs.Status.{status_of}
 use Rattle.vault_cli.specs.runs.Task.{Task, planned}
 use Rattle.vault_cli.specs.declared.runs.status.Status.{Status}
-use Rattle.vault_cli.specs.declared.runs.status.Status.TheVariants.{OutOfMemory}
 use Rattle.vault_cli.proofs.EndingLemmas.{path-alone}
 use Rattle.vault_cli.proofs.OpenedPathsLemmas.{opened-all}
 use Rattle.vault_cli.proofs.ProgramLemmas.{opening, task-found}
@@ -40,6 +39,12 @@ use Rattle.vault_cli.proofs.ProgramLemmas.{opening, task-found}
 unless_file-none : (file : Option FileState) → unless_file file None ≡ None
 unless_file-none None = refl
 unless_file-none (Some file) = refl
+
+-- a file may be found at a path, which can be opened and has this property
+abbrev FoundWith : (List ℕ → FileState → Type 0) → Option (List ℕ) → (FileState → Type 0) → Type 0
+FoundWith finds path P =
+    (file : FileState) × AtPath finds path (Some file) × (can_open_input (Some file) ≡ Ok tt)
+    × P file
 
 -- what a reader of a file gave
 module _ {R : Type 0} (finds : List ℕ → FileState → Type 0) (opened : List ℕ → R → Type 0)
@@ -57,17 +62,12 @@ module _ {R : Type 0} (finds : List ℕ → FileState → Type 0) (opened : List
       → length xs < n
       → HasRisen (reader.failures r) (reader.failures t) → Answers (finds path) n (Err CannotRead)
 
-  -- a file that can be opened, and gives this
-  abbrev InputFound : Option (List ℕ) → ℕ → Result (List ℕ) Fault → Type 0
-  InputFound path n answer =
-      (file : FileState) × AtPath finds path (Some file) × (can_open_input (Some file) ≡ Ok tt)
-      × (prefix_in Input n file ≡ answer)
-
   -- what the reader answered is what a file at its path gives
   input-found : (n : ℕ) (answer : Result (List ℕ) FileFault) → answer ≢ Err CannotOpen
       → ((path : List ℕ) → opened path reader.old → Answers (finds path) n answer)
       → (path : Option (List ℕ)) → AtPath opened path (Some reader.old)
-      → InputFound path n (result_map_both (λ bytes. bytes) (fault_in Input) answer)
+      → FoundWith finds path
+      (λ file. prefix_in Input n file ≡ result_map_both (λ bytes. bytes) (fault_in Input) answer)
   input-found n answer opens law None at = absurd at
   input-found n answer opens law (Some path) at =
       let a = law path at in (
@@ -137,16 +137,6 @@ module _ {F R S K E : Type 0} (files : StoreCall F R) (src : SourceCall S) (out 
         (none : reader.gives reader.old [] reader.old)
         (prefix_law : PrefixLaw (files.finds files.old) reads reader)
         (break_law : BreakLaw (files.finds files.old) reads reader) where
-      -- the file that was found, and the answer to it
-      abbrev FileEnds : Result Task Fault → Option (List ℕ) → Type 0
-      FileEnds plans string =
-          (file : FileState) × AtPath (files.finds files.old) request.input (Some file)
-          × (can_open_input (Some file) ≡ Ok tt)
-          × Finishes SentTo err result
-          (answered
-          (ready_by PLAINTEXT_LIMIT plans string
-          (input_in (input_limit PLAINTEXT_LIMIT request.command + 1) (Some file) [])))
-
       abbrev FileSent : Result Task Fault → Option (List ℕ) → Type 0
       FileSent plans string = Ends SentTo err result reader
           (input_needed_by plans string (input_limit PLAINTEXT_LIMIT request.command))
@@ -154,8 +144,7 @@ module _ {F R S K E : Type 0} (files : StoreCall F R) (src : SourceCall S) (out 
 
       -- where it was not asked for, it was opened
       unread-ends : (answer : Answer) → Finishes SentTo err result answer
-          → (file : FileState) × AtPath (files.finds files.old) request.input (Some file)
-          × (can_open_input (Some file) ≡ Ok tt) × Finishes SentTo err result answer
+          → FoundWith (files.finds files.old) request.input (λ _. Finishes SentTo err result answer)
       unread-ends answer done =
           let (file, seen, opens, same) = input-found (files.finds files.old) reads reader 0 (Ok [])
           (λ missing. cc)
@@ -163,8 +152,12 @@ module _ {F R S K E : Type 0} (files : StoreCall F R) (src : SourceCall S) (out 
           refl) request.input at in
           (file, seen, opens, done)
 
-      file-ends : (plans : Result Task Fault) (string : Option (List ℕ))
-          → FileSent plans string → FileEnds plans string
+      -- the answer to what the file gives
+      file-ends : (plans : Result Task Fault) (string : Option (List ℕ)) → FileSent plans string
+          → FoundWith (files.finds files.old) request.input (λ file. Finishes SentTo err result
+          (answered
+          (ready_by PLAINTEXT_LIMIT plans string
+          (input_in (input_limit PLAINTEXT_LIMIT request.command + 1) (Some file) []))))
       file-ends (Err fault) string (unread, done) = unread-ends (reported fault) done
       file-ends (Ok task) (Some string) (unread, done) =
           unread-ends (answered (performed PLAINTEXT_LIMIT task string)) done

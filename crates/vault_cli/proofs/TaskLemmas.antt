@@ -1,11 +1,10 @@
 -- Tasks: inputs of which a prefix is enough, and the secrets of their password files.
-use Rattle.std.proofs.Common.{◌≡◌, ℕ, ◌+◌, ◌<◌, ◌≤◌, nat_lt, Bool, true, List, [], ◌∷◌, ◌++◌}
-use Rattle.std.proofs.Common.{length, length-append, inl, inr, sym, ◌∙◌, Some, Result, Ok, Err}
-use Rattle.std.proofs.Common.{refl, arith, rules, tests, map, get_or, drop, Vec, Global, ap}
-use Rattle.std.proofs.Common.{append_assoc}
+use Rattle.std.proofs.Common.{◌≡◌, ℕ, ◌+◌, ◌<◌, nat_lt, Bool, true, List, [], ◌∷◌, ◌++◌, length}
+use Rattle.std.proofs.Common.{length-append, inl, inr, sym, ◌∙◌, Some, Result, Ok, Err, refl, arith}
+use Rattle.std.proofs.Common.{rules, tests, map, get_or, drop, Vec, Global, ap, append_assoc}
 use Rattle.std.specs.Prelude.{IsTrue, option_to_list, slice_get}
 use Rattle.std.specs.Option.{option_map}
-use Rattle.std.proofs.lemmas.List.{append-nil, get_or_append_left, drop_more, drop_all, get_or-map}
+use Rattle.std.proofs.lemmas.List.{append-nil, get_or_append_left, drop_more, get_or-map}
 use Rattle.std.proofs.lemmas.List.{length-map}
 use Rattle.std.proofs.lemmas.Option.{slice_get-get_or}
 use Rattle.vault_text.specs.Envelope.{read_within}
@@ -113,15 +112,6 @@ content_at vectors i vector inside read =
     let items = λ (v : Vec ℕ Global). v.items in
     drop_more (map items vectors) i vector.items (rw length-map inside)
     ∙ rw (get_or-map items vectors i vector vector.items inside, ← read)
-
--- no file is left
-pub secrets_of-all : (prefix : List Secret) (files : List SecretFile) (contents : List (List ℕ))
-    (i : ℕ) (all : Result (List Secret) Fault)
-    → length files ≤ i → with_prefix prefix (secrets_of (drop i files) (drop i contents)) ≡ all
-    → Ok prefix ≡ all
-unfolding secrets_of
-secrets_of-all prefix files contents i all past e =
-    rw append-nil at (rw (drop_all i files past) at e)
 
 -- the label of the file at the index, of files after which others stand
 pub label_at : (files more : List SecretFile) (i : ℕ) (label : List ℕ) → i < length files

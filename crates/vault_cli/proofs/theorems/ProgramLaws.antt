@@ -17,7 +17,7 @@ use Rattle.vault_cli.specs.Laws as run_answers
 use Rattle.vault_request.specs.Laws.{IsRequest, SettledRequests}
 use Rattle.vault_cli.specs.runs.Answer.{Answer, answered, input_limit, performed, ready_by}
 use Rattle.vault_cli.specs.runs.Answer.{run_answer, run_answer_within, task_limit}
-use Rattle.vault_cli.specs.Program.{files_in, input_in, can_open_input, output_path}
+use Rattle.vault_cli.specs.Program.{input_in, can_open_input, output_path}
 use Rattle.vault_cli.specs.ProgramLaws.{ProgramEncryptsThenDecrypts, IsInput, ProgramIsRun}
 use Rattle.vault_cli.specs.ProgramLaws.{ProgramKeepsThePlaintext, Run, WrittenIsRead, answer}
 use Rattle.vault_request.specs.Request.{Request}

@@ -1,5 +1,4 @@
-use Rattle.std.proofs.Common.{rules, arith, ◌≡◌, ◌++◌, ◌+◌, ◌∷◌, ◌∙◌, [], length, sym, ap}
-use Rattle.std.proofs.Common.{vec_len}
+use Rattle.std.proofs.Common.{rules, arith, ◌≡◌, ◌++◌, ◌+◌, ◌∷◌, ◌∙◌, [], length, sym, ap, vec_len}
 use Rattle.std.proofs.lemmas.List.{length-map, map-append, take_all}
 use Rattle.std.proofs.lemmas.List.Elements.{All-take}
 use Rattle.std.proofs.lemmas.Result.{err_from_is_err_and}

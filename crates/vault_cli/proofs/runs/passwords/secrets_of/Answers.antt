@@ -1,10 +1,11 @@
-use Rattle.std.proofs.Common.{◌≡◌, ◌<◌, ◌++◌, ◌∷◌, [], arith, get_or, map, length, refl, ◌∙◌}
-use Rattle.std.proofs.lemmas.List.{drop_more, length_push}
+use Rattle.std.proofs.Common.{◌≡◌, ◌<◌, ◌++◌, ◌∷◌, [], arith, get_or, length, refl, ◌∙◌}
+use Rattle.std.proofs.lemmas.List.{append-nil, drop_all, drop_more, length_push}
 use Rattle.std.proofs.lemmas.Result.{err_from_is_err_and}
 use Rattle.std.specs.Prelude.{option_to_list}
 use Rattle.vault_core.specs.Secrets.{Secret}
+use Rattle.vault_cli.specs.runs.Task.{secrets_of}
 use Rattle.vault_cli.proofs.TaskLemmas.{content_at, label_at, no_file, secrets_of-added}
-use Rattle.vault_cli.proofs.TaskLemmas.{secrets_of-all, secrets_of-refused, within_all}
+use Rattle.vault_cli.proofs.TaskLemmas.{secrets_of-refused, within_all}
 use Rattle.vault_cli.proofs.runs.passwords.secrets_of.Goals as goal
 
 pub returns-in_err-password : goal.returns-in_err-password
@@ -46,8 +47,8 @@ loop-i-preserved c =
     )
 
 pub returns : goal.returns
+unfolding secrets_of
 returns c =
-    let all = secrets_of-all c.loop-i.secrets.secrets c.args.request.now.secrets
-    (map (λ file. file.items) c.args.secret_files.now) c.loop-i.i _ (omega arith)
+    let all = rw (drop_all c.loop-i.i c.args.request.now.secrets (omega arith), append-nil) at
     c.loop-i.invariant.2 in
     rw (← all, ← c.loop-i.invariant.1) refl
