@@ -1,9 +1,7 @@
 -- An ending over one output, told of another.
 use Rattle.std.proofs.Common.{◌≡◌, ℕ, inl, inr, List, [], Option, Some, None, take, ap, ◌∙◌}
-use Rattle.vault_text.specs.declared.sink.Sink.{Ghosts as SinkTerms}
 use Rattle.vault_text.specs.declared.sink.Stage.TheVariants.{Unbegun}
 use Rattle.vault_files.specs.declared.access.Access.{Access}
-use Rattle.vault_files.specs.declared.file_system.FileSystem.{Ghosts as StoreTerms}
 use Rattle.vault_cli.specs.Call.{SinkCall, SourceCall, StoreCall, sink}
 use Rattle.vault_cli.specs.runs.Ending.{Ends, Finishes, Output, Receives, to_path}
 use Rattle.vault_cli.specs.runs.Ending.{SourceFails, to_sink}
@@ -55,10 +53,6 @@ module _ {E : Type 0} (there here : Output) (carries_over : CarriesOver there he
       (input, (given, fits, inl (fails, short)))
   reported-ends src (Some limit) answers (input, (given, fits, inr (all, done))) =
       (input, (given, fits, inr (all, reported-finishes (answers input) done)))
-
--- what proof files know of a store, as a call over it
-abbrev pub store_between : {F R : Type 0} → SinkTerms F → StoreTerms F R → F → F → StoreCall F R
-store_between output terms old new = record { output = output; terms = terms; old = old; new = new }
 
 -- nothing was written
 module _ {F R K : Type 0} (files : StoreCall F R) (out : SinkCall K)

@@ -1,7 +1,7 @@
 -- How the program ends over files, an input and sinks in memory, from how it drives any.
 use Rattle.std.proofs.Common.{◌≡◌, ◌⊎◌, ◌≤◌, ℕ, ◌+◌, ◌-◌, ◌^◌, inl, inr, List, [], ◌∷◌, ◌++◌}
 use Rattle.std.proofs.Common.{length, take, drop, Bool, true, false, Option, Some, None, IsTrue}
-use Rattle.std.proofs.Common.{◌≢◌, Result, refl, sym, ap, subst, ◌∙◌, arith}
+use Rattle.std.proofs.Common.{◌≢◌, Result, refl, sym, arith}
 use Rattle.std.specs.Prelude.{min}
 use Rattle.std.proofs.lemmas.Bool.Decides.{eqb_tells}
 use Rattle.std.proofs.lemmas.List.{append-nil, drop_all}
@@ -9,14 +9,13 @@ use Rattle.std.proofs.Math.Seq.{drop-append_seam}
 use Rattle.vault_text.specs.Sink.{MemSinkState, MemoryTakes, has_begun}
 use Rattle.vault_text.specs.Source.{MemSourceState, MemoryGives}
 use Rattle.vault_text.specs.declared.sink.Stage.TheVariants.{Unbegun}
-use Rattle.vault_files.specs.File.{FileState}
 use Rattle.vault_files.specs.Memory.{IsReaderOf, Logs, ReaderState, StoreOpens, StoreState}
 use Rattle.vault_files.specs.Memory.{StoreTakes, file_at, stands_at}
 use Rattle.vault_files.specs.declared.access.Access.{Access}
 use Rattle.vault_fault.specs.declared.fault.Fault.{Fault}
 use Rattle.vault_fault.specs.declared.fault.Fault.TheVariants.{Memory, Write}
 use Rattle.vault_request.specs.Request.{Request}
-use Rattle.vault_cli.specs.Call.{SinkCall, SourceCall, StoreCall, sink, source}
+use Rattle.vault_cli.specs.Call.{SinkCall, SourceCall, StoreCall, sink, source, store}
 use Rattle.vault_cli.specs.Drive.{Drives}
 use Rattle.vault_cli.specs.OpenedPaths.{opened_paths}
 use Rattle.vault_cli.specs.Program.{Files, access_of, answer_to, files_in, output_path}
@@ -30,14 +29,15 @@ use Rattle.vault_cli.specs.runs.Answer.{Answer}
 use Rattle.vault_cli.specs.runs.Reports.{Reports, Says}
 use Rattle.vault_cli.specs.declared.runs.status.Status.{Status}
 use Rattle.vault_cli.specs.declared.runs.status.Status.TheVariants.{OutOfMemory}
-use Rattle.vault_cli.proofs.EndingLemmas.{store_between}
 use Rattle.vault_cli.proofs.ProgramLemmas.{IsOfPrefix, answer-prefix, drives-in}
 
 -- calls over a store, a source and a sink in memory
 abbrev pub memory_store : Change StoreState → StoreCall StoreState ReaderState
-memory_store files = store_between
-    (record { takes = StoreTakes; stage = λ s. s.output.stage; failures = λ s. s.output.failures })
+memory_store files = store
     (record {
+      takes = StoreTakes;
+      stage = λ s. s.output.stage;
+      failures = λ s. s.output.failures;
       finds = λ s path file. file ≡ file_at s.entries path;
       opened = λ s path reader. IsReaderOf (file_at s.entries path) reader;
       opens = StoreOpens;

@@ -117,25 +117,23 @@ module _ {K E : Type 0} (out : SinkCall K) (err : SinkCall E) (result : Status) 
       ends-unplanned fault refusal status unread unwritten line =
           ends-after (Err fault) refusal (unread, finishes-refused fault status unwritten line)
 
--- a task whose output is ready did not see its source fail
-pub performed-unfailed : {S : Type 0} (src : SourceCall S) (limit : ℕ) (task : Task) (ready : Ready)
-    (string : Option (List ℕ)) → Performs src limit task (Ok ready) string
-    → src.failures src.new ≡ src.failures src.old
-performed-unfailed src limit task ready (Some string) (unread, is) = ap src.failures unread
-performed-unfailed src limit task ready None (input, given, fits, (stay, read)) = stay
+module _ {S : Type 0} (src : SourceCall S) (limit : ℕ) (task : Task) where
+  -- a task whose output is ready did not see its source fail
+  pub performed-unfailed : (ready : Ready) (string : Option (List ℕ))
+      → Performs src limit task (Ok ready) string → src.failures src.new ≡ src.failures src.old
+  performed-unfailed ready (Some string) (unread, is) = ap src.failures unread
+  performed-unfailed ready None (input, given, fits, (stay, read)) = stay
 
--- one that answers a fault refuses alone, or its source failed
-pub performed-refused : {S : Type 0} (src : SourceCall S) (limit : ℕ) (task : Task)
-    (result : Status) (fault : Fault) → result ≡ status_of fault → (string : Option (List ℕ))
-    → Performs src limit task (Err fault) string
-    → TellsFailure result (src.failures src.old) (src.failures src.new) × (result ≢ Success)
-performed-refused src limit task result fault status (Some string) (unread, is) =
-    tells-refused result _ _ (status ∙ rw (sym is) at (alone-performed limit task string))
-    (ap src.failures unread)
-performed-refused src limit task result fault status None
-    (input, given, fits, inl ((unread, risen), short)) =
-    let failed = status ∙ ap status_of unread in
-    ((λ device. risen, λ none. absurd (none failed), λ memory. cc), λ succeeds. cc)
-performed-refused src limit task result fault status None
-    (input, given, fits, inr ((other, stay), (whole, is))) =
-    tells-refused result _ _ (status ∙ rw (sym is) at (alone-performed limit task input)) stay
+  -- one that answers a fault refuses alone, or its source failed
+  pub performed-refused : (result : Status) (fault : Fault) → result ≡ status_of fault
+      → (string : Option (List ℕ)) → Performs src limit task (Err fault) string
+      → TellsFailure result (src.failures src.old) (src.failures src.new) × (result ≢ Success)
+  performed-refused result fault status (Some string) (unread, is) =
+      tells-refused result _ _ (status ∙ rw (sym is) at (alone-performed limit task string))
+      (ap src.failures unread)
+  performed-refused result fault status None (input, given, fits, inl ((unread, risen), short)) =
+      let failed = status ∙ ap status_of unread in
+      ((λ device. risen, λ none. absurd (none failed), λ memory. cc), λ succeeds. cc)
+  performed-refused result fault status None
+      (input, given, fits, inr ((other, stay), (whole, is))) =
+      tells-refused result _ _ (status ∙ rw (sym is) at (alone-performed limit task input)) stay

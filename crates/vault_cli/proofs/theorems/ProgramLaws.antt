@@ -4,7 +4,7 @@ use Rattle.std.proofs.Common.{Some, None, Result, Ok, Err, inl, inr, arith, refl
 use Rattle.std.specs.Option.{option_map}
 use Rattle.std.proofs.lemmas.Bool.{cases_lt}
 use Rattle.std.proofs.lemmas.List.{take_all, take-append-drop}
-use Rattle.clap.specs.Walk.{Row, Text}
+use Rattle.clap.specs.Walk.{Row}
 use Rattle.clap.specs.Words.{subcommand_of}
 use Rattle.vault_text.specs.declared.limits.TheConstants.{PLAINTEXT_LIMIT}
 use Rattle.vault_files.specs.File.{FileState}
@@ -21,7 +21,7 @@ use Rattle.vault_cli.specs.Program.{input_in, can_open_input, output_path}
 use Rattle.vault_cli.specs.ProgramLaws.{ProgramEncryptsThenDecrypts, IsInput, ProgramIsRun}
 use Rattle.vault_cli.specs.ProgramLaws.{ProgramKeepsThePlaintext, Run, WrittenIsRead, answer}
 use Rattle.vault_request.specs.Request.{Request}
-use Rattle.vault_request.specs.Settled.{requested, requested_by, command_in, settled}
+use Rattle.vault_request.specs.Settled.{requested_by, command_in, settled}
 use Rattle.vault_cli.specs.runs.Task.{Task, planned}
 use Rattle.vault_request.specs.declared.command_name.CommandName.{CommandName}
 use Rattle.vault_cli.proofs.PlannedLemmas.{keeps-planned}
@@ -73,20 +73,15 @@ program_is_run run =
 
 -- ---- arguments make requests of which the laws speak
 
-settled-request : SettledRequests → (parse : Option (Text × List Row)) (request : Request)
-    → requested parse ≡ Some (Ok request) → IsRequest request
-settled-request law parse request e = named (command_in parse) e
-  where
-    named : (found : Option (CommandName × List Row))
-        → option_map (λ f. settled f.0 f.1) found ≡ Some (Ok request) → IsRequest request
-    named None e = absurd cc
-    named (Some (command, rows)) e =
-        let is : settled command rows ≡ Ok request = cc in law command rows request is
+settled-request : SettledRequests → (found : Option (CommandName × List Row)) (request : Request)
+    → option_map (λ f. settled f.0 f.1) found ≡ Some (Ok request) → IsRequest request
+settled-request law None request e = absurd cc
+settled-request law (Some (command, rows)) request e = law command rows request (cc)
 
 module _ (settles : SettledRequests) where
   is-request : (run : Run) → IsRequest run.request
-  is-request run = settled-request settles (subcommand_of vault_app run.words) run.request
-      run.requested
+  is-request run = settled-request settles (command_in (subcommand_of vault_app run.words))
+      run.request run.requested
 
   output-of : (run : Run) (bytes : List ℕ) → (answer run).output ≡ Some bytes
       → (run_answer run.request run.contents run.salt run.input).output ≡ Some bytes
