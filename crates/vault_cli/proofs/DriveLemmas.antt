@@ -32,7 +32,7 @@ use Rattle.vault_cli.specs.runs.Status.{status_of}
 use Rattle.vault_cli.specs.runs.Task.{Task, planned}
 use Rattle.vault_cli.specs.declared.runs.status.Status.{Status}
 use Rattle.vault_cli.proofs.EndingLemmas.{path-alone}
-use Rattle.vault_cli.proofs.OpenedPathsLemmas.{opened-all}
+use Rattle.vault_cli.proofs.OpenedPathsLemmas.{opened-behind}
 use Rattle.vault_cli.proofs.ProgramLemmas.{opening, task-found}
 
 -- no standard input is asked for beside a file
@@ -118,11 +118,14 @@ module _ {F R S K E : Type 0} (files : StoreCall F R) (src : SourceCall S) (out 
         let (secrets, secrets_found, gave) = read in
         let (salt_file, salt_found, has_salt) = salted in
         let found : Files = record { secrets = secrets; salt = salt_file; input = input } in
-        let all = opened-all (files.finds files.old) request found contents secrets_found gave salt
-        has_salt in
+        let all = opened-behind (files.finds files.old) request found contents secrets_found gave in
         let same = task-found request found contents salt gave has_salt opening in
         let ends_so = subst (λ (task : Result Task Fault). EndsWith input task) (sym same) ends in
-        inr (found, (secrets_found, salt_found, input_found), (opened, (rw all went, ends_so)))
+        inr (
+          found,
+          (secrets_found, salt_found, input_found),
+          (opened, (rw (all, has_salt) went, ends_so)),
+        )
 
     -- of standard input
     pub drives-stdin : (reads : List ℕ → R → Type 0) → AtPath reads request.input None
@@ -137,11 +140,6 @@ module _ {F R S K E : Type 0} (files : StoreCall F R) (src : SourceCall S) (out 
         (none : reader.gives reader.old [] reader.old)
         (prefix_law : PrefixLaw (files.finds files.old) reads reader)
         (break_law : BreakLaw (files.finds files.old) reads reader) where
-      abbrev FileSent : Result Task Fault → Option (List ℕ) → Type 0
-      FileSent plans string = Ends SentTo err result reader
-          (input_needed_by plans string (input_limit PLAINTEXT_LIMIT request.command))
-          (λ input. answered (ready_by PLAINTEXT_LIMIT plans string (Ok input)))
-
       -- where it was not asked for, it was opened
       unread-ends : (answer : Answer) → Finishes SentTo err result answer
           → FoundWith (files.finds files.old) request.input (λ _. Finishes SentTo err result answer)
@@ -153,7 +151,10 @@ module _ {F R S K E : Type 0} (files : StoreCall F R) (src : SourceCall S) (out 
           (file, seen, opens, done)
 
       -- the answer to what the file gives
-      file-ends : (plans : Result Task Fault) (string : Option (List ℕ)) → FileSent plans string
+      file-ends : (plans : Result Task Fault) (string : Option (List ℕ))
+          → Ends SentTo err result reader
+          (input_needed_by plans string (input_limit PLAINTEXT_LIMIT request.command))
+          (λ input. answered (ready_by PLAINTEXT_LIMIT plans string (Ok input)))
           → FoundWith (files.finds files.old) request.input (λ file. Finishes SentTo err result
           (answered
           (ready_by PLAINTEXT_LIMIT plans string

@@ -78,12 +78,12 @@ written-stands files new_files output_file bytes path empty took begun =
     rw (begun, took.output_file, took.output.appended, empty, took.entries)
 
 -- what is left after an input that reaches to the end of a text, or to one byte past a limit
-left-behind : (text input left : List ℕ) (limit : ℕ) → text ≡ input ++ left
-    → length input ≤ limit + 1 → (left ≡ []) ⊎ (length input ≡ limit + 1)
-    → left ≡ drop (limit + 1) text
-left-behind text input left limit e fits (inl none) =
-    rw (e, none, append-nil) (sym (drop_all (limit + 1) input fits))
-left-behind text input left limit e fits (inr exact) =
+left-behind : (text input left : List ℕ) (limit : ℕ) (ended : Bool) → text ≡ input ++ left
+    → length input ≤ limit + 1 → (IsTrue ended → left ≡ [])
+    → IsTrue ended ⊎ (length input ≡ limit + 1) → left ≡ drop (limit + 1) text
+left-behind text input left limit ended e fits last (inl end) =
+    rw (e, last end, append-nil) (sym (drop_all (limit + 1) input fits))
+left-behind text input left limit ended e fits last (inr exact) =
     rw (e, ← exact) (sym (drop-append_seam input left))
 
 module _ (result : Status) (files : Change StoreState) (log : Option (List (List ℕ)))
@@ -183,11 +183,8 @@ module _ (result : Status) (files : Change StoreState) (log : Option (List (List
           let (ends, logged) = ends-done (answers input) done in (
             rw (same src.new.ended src.old.left input src.new.left given.0.consumed
                 (at-end input given) whole) at ends,
-            left-behind src.old.left input src.new.left limit given.0.consumed fits
-                (elim whole [
-                  | inl ended ↦ inl (at-end input given ended)
-                  | inr exact ↦ inr exact
-                ]),
+            left-behind src.old.left input src.new.left limit src.new.ended given.0.consumed fits
+                (at-end input given) whole,
             logged,
           )
 

@@ -1,11 +1,11 @@
 -- Which paths are opened of files that can be read.
-use Rattle.std.proofs.Common.{◌≡◌, ℕ, ◌+◌, List, [], ◌∷◌, ◌++◌, Some, Ok, refl, append_assoc, ◌∙◌}
+use Rattle.std.proofs.Common.{◌≡◌, ℕ, ◌+◌, List, [], ◌∷◌, ◌++◌, Some, Ok, refl, append_assoc}
 use Rattle.std.specs.Prelude.{option_to_list}
 use Rattle.vault_files.specs.File.{FileState, Found}
 use Rattle.vault_fault.specs.declared.fault.Role.TheVariants.{Secret}
 use Rattle.vault_core.specs.declared.limits.TheConstants.{PASSWORD_FILE_LIMIT}
 use Rattle.vault_request.specs.Request.{Request}
-use Rattle.vault_cli.specs.runs.FileContents.{request_paths, contents_of, prefix_in, secret_paths}
+use Rattle.vault_cli.specs.runs.FileContents.{contents_of, prefix_in, secret_paths}
 use Rattle.vault_cli.specs.OpenedPaths.{behind, opened_paths, opened_secrets}
 use Rattle.vault_cli.specs.Program.{Files, salt_in}
 use Rattle.vault_cli.proofs.AnswerLemmas.{steps-ok}
@@ -23,22 +23,16 @@ opened-secrets finds (path ∷ paths) (file ∷ files) contents found e =
     let (others, rest, all) = steps-ok (contents_of files) _ contents left in
     rw (read, opened-secrets finds paths files others found.1 rest)
 
-module _ (finds : List ℕ → FileState → Type 0) (request : Request) (files : Files)
-    (contents : List (List ℕ))
-    (found : Found finds (secret_paths request) files.secrets)
-    (read : contents_of files.secrets ≡ Ok contents) where
-  -- all password files, the salt file, and what is after it
-  pub opened-behind : opened_paths (Some (Ok request)) files
-      ≡ (secret_paths request ++ option_to_list request.salt_path)
-      ++ behind (salt_in files.salt) (option_to_list request.input)
-  opened-behind =
-      rw (
-        opened-secrets finds (secret_paths request) files.secrets contents found read,
-        read,
-        append_assoc,
-      )
-
-  -- all that is asked for
-  pub opened-all : (salt : List ℕ) → salt_in files.salt ≡ Ok salt
-      → opened_paths (Some (Ok request)) files ≡ request_paths request
-  opened-all salt salted = opened-behind ∙ rw salted refl
+-- all password files, the salt file, and what is after it
+pub opened-behind : (finds : List ℕ → FileState → Type 0) (request : Request) (files : Files)
+    (contents : List (List ℕ)) → Found finds (secret_paths request) files.secrets
+    → contents_of files.secrets ≡ Ok contents
+    → opened_paths (Some (Ok request)) files
+    ≡ (secret_paths request ++ option_to_list request.salt_path)
+    ++ behind (salt_in files.salt) (option_to_list request.input)
+opened-behind finds request files contents found read =
+    rw (
+      opened-secrets finds (secret_paths request) files.secrets contents found read,
+      read,
+      append_assoc,
+    )

@@ -1,9 +1,10 @@
 -- Tasks: inputs of which a prefix is enough, and the secrets of their password files.
-use Rattle.std.proofs.Common.{◌≡◌, ℕ, ◌+◌, ◌<◌, nat_lt, Bool, true, List, [], ◌∷◌, ◌++◌, length}
+use Rattle.std.proofs.Common.{◌≡◌, ℕ, ◌+◌, ◌<◌, Bool, List, [], ◌∷◌, ◌++◌, length}
 use Rattle.std.proofs.Common.{length-append, inl, inr, sym, ◌∙◌, Some, Result, Ok, Err, refl, arith}
-use Rattle.std.proofs.Common.{rules, tests, map, get_or, drop, Vec, Global, ap, append_assoc}
+use Rattle.std.proofs.Common.{map, get_or, drop, Vec, Global, ap, append_assoc}
 use Rattle.std.specs.Prelude.{IsTrue, option_to_list, slice_get}
 use Rattle.std.specs.Option.{option_map}
+use Rattle.std.proofs.lemmas.Bool.{lt-ltb}
 use Rattle.std.proofs.lemmas.List.{append-nil, get_or_append_left, drop_more, get_or-map}
 use Rattle.std.proofs.lemmas.List.{length-map}
 use Rattle.std.proofs.lemmas.Option.{slice_get-get_or}
@@ -29,11 +30,9 @@ unfolding decryption rekeying read_within
 performed-too_long limit (Encrypt secrets index form salt) input long =
     encryption-too_long limit secrets index form salt input long
 performed-too_long limit (Decrypt secrets) input long =
-    let over : nat_lt (envelope_limit limit) (length input) ≡ true = search (rules, tests) in
-    rw over
+    rw (lt-ltb (envelope_limit limit) (length input) long)
 performed-too_long limit (Rekey secrets new salt) input long =
-    let over : nat_lt (envelope_limit limit) (length input) ≡ true = search (rules, tests) in
-    rw over
+    rw (lt-ltb (envelope_limit limit) (length input) long)
 
 -- a text of which so much was read that no more is taken, or all
 module _ (limit : ℕ) (task : Task) (ended : Bool) (text prefix left : List ℕ)

@@ -33,14 +33,13 @@ pub returns-in-Ok-perform : goal.returns-in-Ok-perform
 returns-in-Ok-perform g c =
     let src = source g.S.Source c.args.src.now c.perform.new.src in
     let out = sink g.K.Sink c.args.out.now c.deliver.new.out in
-    let err = sink g.E.Sink c.args.err.now c.deliver.new.err in
     let performs = c.in-Ok-perform.ensures.performs in
     let ready = c.in-Ok-perform.ready in
     let finishes = c.deliver.ensures.finishes in
-    let (device, none, memory) = finished out err c.deliver.result ready finishes in
+    let (device, none, memory) = finished out _ _ ready finishes in
     record {
-      ends = ends-performed out err c.deliver.result src _ _ _ _ _ c.in-Ok.ensures.planned
-          (Ok ready) performs finishes;
+      ends = ends-performed out _ _ src _ _ _ _ _ c.in-Ok.ensures.planned (Ok ready) performs
+          finishes;
       device_failed = λ failed. inr (device failed);
       none_failed = λ unfailed. (
         performed-unfailed src (limit_of c.args.job.memory.limit) (task_in c.in-Ok.task) ready
@@ -58,17 +57,15 @@ pub returns-in-Err-perform : goal.returns-in-Err-perform
 returns-in-Err-perform g c =
     let src = source g.S.Source c.args.src.now c.perform.new.src in
     let out = sink g.K.Sink c.args.out.now c.args.out.now in
-    let err = sink g.E.Sink c.args.err.now c.report-in-Err-perform.new.err in
-    let result = c.report-in-Err-perform.result in
     let performs = c.in-Err-perform.ensures.performs in
     let report = c.report-in-Err-perform.ensures in
     let fault = c.in-Err-perform.fault in
     let ((device, none, memory), fails) =
-    performed-refused src (limit_of c.args.job.memory.limit) (task_in c.in-Ok.task) result fault
+    performed-refused src (limit_of c.args.job.memory.limit) (task_in c.in-Ok.task) _ fault
     report.status c.args.job.request.now.string performs in
     record {
-      ends = ends-performed out err result src _ _ _ _ _ c.in-Ok.ensures.planned (Err fault)
-          performs (finishes-refused out err result fault report.status refl report.line);
+      ends = ends-performed out _ _ src _ _ _ _ _ c.in-Ok.ensures.planned (Err fault) performs
+          (finishes-refused out _ _ fault report.status refl report.line);
       device_failed = λ failed. inl (device failed);
       none_failed = λ unfailed. (none unfailed, refl);
       memory_suffices = memory;
