@@ -114,12 +114,12 @@ module _ {F R S K E : Type 0} (files : StoreCall F R) (src : SourceCall S) (out 
     drives-with : (input : Option FileState) → AtPath (files.finds files.old) request.input input
         → can_open_input input ≡ Ok tt
         → EndsWith input (planned request contents salt) → RequestDrives (Some (Ok request))
-    drives-with input input_found opening ends =
+    drives-with input input_found opens ends =
         let (secrets, secrets_found, gave) = read in
         let (salt_file, salt_found, has_salt) = salted in
         let found : Files = record { secrets = secrets; salt = salt_file; input = input } in
         let all = opened-behind (files.finds files.old) request found contents secrets_found gave in
-        let same = task-found request found contents salt gave has_salt opening in
+        let same = task-found request found contents salt gave has_salt opens in
         let ends_so = subst (λ (task : Result Task Fault). EndsWith input task) (sym same) ends in
         inr (
           found,
@@ -183,9 +183,9 @@ module _ {F R S K E : Type 0} (files : StoreCall F R) (src : SourceCall S) (out 
       pub drives-file : SentFrom reader → RequestDrives (Some (Ok request))
       unfolding run_answer_within
       drives-file sent =
-          let (file, seen, opening, ends) = file-ends (planned request contents salt) request.string
+          let (file, seen, opens, ends) = file-ends (planned request contents salt) request.string
           sent in
-          drives-with (Some file) seen opening (kept, ends)
+          drives-with (Some file) seen opens (kept, ends)
 
   -- ---- what was answered before the output was chosen
 

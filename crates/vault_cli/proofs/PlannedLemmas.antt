@@ -12,28 +12,18 @@ use Rattle.vault_core.specs.Form.{Form, Envelope, Block}
 use Rattle.vault_core.specs.Laws.{IsBytes}
 use Rattle.vault_core.specs.Password.{of_secret, password_of}
 use Rattle.vault_core.specs.Secrets.{Secret, SecretList, secret_at}
-use Rattle.vault_core.specs.declared.choice.ChoiceFault.{ChoiceFault}
-use Rattle.vault_core.specs.declared.password.SecretFault.{SecretFault}
 use Rattle.vault_request.specs.Laws.{IsRequest}
 use Rattle.vault_request.specs.Request.{IsSaltText, Request, SecretFile}
 use Rattle.vault_request.specs.declared.command_name.CommandName.{CommandName}
 use Rattle.vault_request.specs.declared.command_name.CommandName.TheVariants as command
 use Rattle.vault_cli.specs.runs.Answer.{input_limit, task_limit}
-use Rattle.vault_cli.specs.runs.Status.{status_of}
 use Rattle.vault_cli.specs.runs.Task.{Task, Encrypt, Decrypt, Rekey, new_secret_in, secret_in}
 use Rattle.vault_cli.specs.runs.Task.{encrypt_task, index_of, planned, salt_of, secret_list_of}
 use Rattle.vault_cli.specs.runs.Task.{secrets_of, task_of}
 use Rattle.vault_cli.specs.declared.limits.TheConstants.{SEALING_SALT_LENGTH}
-use Rattle.vault_cli.specs.declared.runs.status.Status.TheVariants.{Refused}
 use Rattle.vault_core.proofs.SealingByteLemmas.{take-bytes}
 use Rattle.vault_core.proofs.ChoiceLemmas.{IfOk-within}
 use Rattle.vault_cli.proofs.StatusLemmas.{Keeps, named, next, unless}
-
-status-secret : (fault : SecretFault) → status_of (of_secret fault) ≡ Refused
-status-secret fault = grind arith
-
-status-choice : (fault : ChoiceFault) → status_of (of_choice fault) ≡ Refused
-status-choice fault = grind arith
 
 -- a salt that is bytes, and not too long
 pub record IsSalt (salt : List ℕ) : Type 0 where
@@ -67,7 +57,7 @@ keeps-secret : (file : SecretFile) (bytes : List ℕ)
     → Keeps (λ secret. HasLabel file → IsLabelled secret) (secret_in file bytes)
 keeps-secret file bytes =
     next (λ _. Unit {0}) _ _ _
-    (named _ of_secret (password_of bytes) (λ password read. tt) status-secret)
+    (named _ of_secret (password_of bytes) (λ password read. tt) (λ fault. grind arith))
     (λ password _ label. label)
 
 keeps-secrets : (files : List SecretFile) (contents : List (List ℕ))
@@ -115,7 +105,7 @@ module _ (request : Request) (salt : List ℕ) where
   keeps-encrypt secrets form labels =
       next (λ index. index < length secrets) _ (index_of secrets request.choice) _
       (named _ of_choice (chosen_index secrets request.choice)
-      (λ index is. IfOk-within secrets request.choice (Ok index) (sym is)) status-choice)
+      (λ index is. IfOk-within secrets request.choice (Ok index) (sym is)) (λ fault. grind arith))
       (λ index within.
       next _ (IsTask command.Encrypt) (salt_of request.salt_text salt) _
       (keeps-salt request.salt_text salt) (λ used is. (

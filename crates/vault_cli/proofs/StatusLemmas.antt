@@ -5,7 +5,6 @@ use Rattle.std.specs.Prelude.{find, MatchResult}
 use Rattle.std.specs.Option.{ok_or}
 use Rattle.std.specs.Result.{result_map_both}
 use Rattle.vault_text.specs.Envelope.{Payload, read_within}
-use Rattle.vault_text.specs.declared.fault.TextFault.{TextFault}
 use Rattle.vault_text.specs.Steps.{◌>>=◌}
 use Rattle.vault_fault.specs.Fault.{of_text}
 use Rattle.vault_fault.specs.declared.fault.Fault.{Fault}
@@ -53,9 +52,6 @@ absent : {A : Type 0} (o : Option A) (fault : Fault) → status_of fault ≡ Ref
 absent (Some x) fault refused = tt
 absent None fault refused = refused
 
-status-text : (fault : TextFault) → status_of (of_text fault) ≡ Refused
-status-text fault = grind arith
-
 opens : (secrets : SecretList) (payload : Payload) → IsRefusedAlone (unsealing secrets payload)
 unfolding unsealing
 opens secrets payload =
@@ -65,7 +61,8 @@ opens secrets payload =
     (absent (plaintext_of payload secret) BadPadding refl) (λ plain _. tt))
 
 reads : (limit : ℕ) (input : List ℕ) → IsRefusedAlone (payload_of limit input)
-reads limit input = named _ of_text (read_within limit input) (λ payload read. tt) status-text
+reads limit input =
+    named _ of_text (read_within limit input) (λ payload read. tt) (λ fault. grind arith)
 
 -- steps 4 and 5
 pub alone-performed : (limit : ℕ) (task : Task) (input : List ℕ)
