@@ -1,57 +1,104 @@
 //! Runs whose devices fail.
-use crate::watched::Watched;
+use crate::sinks::{Calls, assert_leaves, assert_output_leaves, output_failed};
+use crate::sources::assert_read_told;
+use std::alloc::{AllocError, Global};
+use std::fs::Files;
+use std::process::Abort;
 use std::test::Fail;
 use vault_cli::{Status, drive};
 use vault_test_data::{CountingReader, EMPTY_ENVELOPE, NarrowWriter, envelope, line_of};
-use vault_test_runs::{LINUX_FILE, Trial};
-use vault_text::{FailingSink, FailingSource, MemSink, MemSource};
+use vault_test_runs::{LINUX_FILE, Left, Trial};
 
 const DECRYPT: &[&str] = &["decrypt", "--vault-password-file", "one"];
 
+const FIRST: &[&[u8]] = &[b"first\n"];
+
 const PLAINTEXT: &[u8; 200] = &[b'p'; 200];
 
-const READ_FAILED: &[u8] = b"ERROR! the input cannot be read\n";
-
 const WRITE_FAILED: &[u8] = b"ERROR! the output cannot be written\n";
+
+const NO_VAULT: &str = "ERROR! input is not vault encrypted data\n";
 
 // The source fails at its first call, in the middle, and where its end would come.
 #[test]
 fn writes_nothing_where_the_source_fails(rt: HostRuntime) -> Result<(), Fail> {
     let alloc = rt.alloc();
-    for calls in [0, 1, 3, 160] {
-        let mut src = FailingSource::new(EMPTY_ENVELOPE, 1, calls);
-        let mut out = MemSink::new(alloc, 100);
-        let mut err = MemSink::new(alloc, 100);
-        let status = Trial::new(DECRYPT, &[b"first\n"], &[]).run_between(
-            alloc, &mut src, &mut out, &mut err,
-        )?;
-        assert_eq!(rt; status, Status::DeviceFailed, "{calls}");
-        assert_eq!(rt; err.bytes(), READ_FAILED, "{calls}");
-        assert!(rt; !out.begun(), "{calls}");
-    }
-    Ok(())
+    let trial = Trial::new(DECRYPT, FIRST, &[]);
+    assert_read_told(&rt, alloc, &trial, EMPTY_ENVELOPE, 0)?;
+    assert_read_told(&rt, alloc, &trial, EMPTY_ENVELOPE, 1)?;
+    assert_read_told(&rt, alloc, &trial, EMPTY_ENVELOPE, 3)?;
+    assert_read_told(&rt, alloc, &trial, EMPTY_ENVELOPE, 160)
 }
 
-// The sink takes one byte a call, and fails at `begin`, in the middle of the bytes, and at
-// `finish`.
+/// A vault of the plaintext.
+fn vault_of_first(alloc: Global) -> Result<Vec<u8>, AllocError> {
+    envelope(alloc, "default", b"first", &[7; 32], PLAINTEXT)
+}
+
+/// The sink takes one byte a call and fails after so many, and has taken this.
+fn assert_prefix_left(
+    rt: &impl Abort,
+    alloc: Global,
+    vault: &[u8],
+    calls: usize,
+    output: &[u8],
+) -> Result<(), Fail> {
+    let trial = Trial::new(DECRYPT, FIRST, &[]);
+    let expected = output_failed(calls > 0, output);
+    assert_output_leaves(rt, alloc, &trial, vault, calls, expected)
+}
+
+// The sink fails at `begin`, in the middle of the bytes, and at `finish`.
 #[test]
 fn leaves_a_prefix_where_the_sink_fails(rt: HostRuntime) -> Result<(), Fail> {
     let alloc = rt.alloc();
-    let vault = envelope(alloc, "default", b"first", &[7; 32], PLAINTEXT)?;
-    for (calls, length) in [(0, 0), (101, 100), (201, 200)] {
-        let mut src = MemSource::new(vault.as_slice(), 1_000);
-        let mut out = FailingSink::new(alloc, 1, calls);
-        let mut err = MemSink::new(alloc, 100);
-        let status = Trial::new(DECRYPT, &[b"first\n"], &[]).run_between(
-            alloc, &mut src, &mut out, &mut err,
-        )?;
-        assert_eq!(rt; status, Status::DeviceFailed, "{calls}");
-        assert_eq!(rt; err.bytes(), WRITE_FAILED, "{calls}");
-        assert_eq!(rt; out.begun(), calls > 0, "{calls}");
-        assert_eq!(rt; out.bytes().len(), length, "{calls}");
-        assert!(rt; PLAINTEXT.starts_with(out.bytes()), "{calls}");
-    }
+    let vault = vault_of_first(alloc)?;
+    assert_prefix_left(&rt, alloc, vault.as_slice(), 0, b"")?;
+    assert_prefix_left(&rt, alloc, vault.as_slice(), 101, &PLAINTEXT[..100])?;
+    assert_prefix_left(&rt, alloc, vault.as_slice(), 201, PLAINTEXT)
+}
+
+/// How many bytes the writer of the output takes, and that of the message.
+#[derive(Clone, Copy, Debug)]
+struct Room {
+    output: usize,
+    message: usize,
+}
+
+/// The program, run on these words between these bytes and two narrow writers, ends with this
+/// status, output and message.
+fn assert_writes(
+    rt: &(impl Abort + Files),
+    alloc: Global,
+    words: &[&str],
+    input: &[u8],
+    room: Room,
+    expected: (Status, &[u8], &[u8]),
+) -> Result<(), Fail> {
+    let line = line_of(alloc, words)?;
+    let stdin = CountingReader::new(input, 1_000);
+    let mut out = NarrowWriter::new(alloc, room.output);
+    let mut err = NarrowWriter::new(alloc, room.message);
+    let status = drive(rt, alloc, line.as_slice(), stdin, &mut out, &mut err);
+    let written = (status, out.taken.as_slice(), err.taken.as_slice());
+    assert_eq!(rt; written, expected, "{words:?} {room:?}");
     Ok(())
+}
+
+/// The writer of the output takes this and no more, which the message says.
+fn assert_writer_fails(
+    rt: &(impl Abort + Files),
+    alloc: Global,
+    words: &[&str],
+    input: &[u8],
+    output: &[u8],
+) -> Result<(), Fail> {
+    let room = Room {
+        output: output.len(),
+        message: 100,
+    };
+    let expected = (Status::DeviceFailed, output, WRITE_FAILED);
+    assert_writes(rt, alloc, words, input, room, expected)
 }
 
 // A writer that is full before the end, and one whose flush fails.
@@ -59,52 +106,53 @@ fn leaves_a_prefix_where_the_sink_fails(rt: HostRuntime) -> Result<(), Fail> {
 fn reports_a_writer_that_fails(rt: HostRuntime) -> Result<(), Fail> {
     let alloc = rt.alloc();
     let vault = envelope(alloc, "default", b"Linux", &[7; 32], PLAINTEXT)?;
-    let words = line_of(alloc, &["view", "--vault-id", LINUX_FILE])?;
-    for room in [0, 100, 200] {
-        let stdin = CountingReader::new(vault.as_slice(), 1_000);
-        let mut out = NarrowWriter::new(alloc, room);
-        let mut err = Vec::new(alloc);
-        let status = drive(&rt, alloc, words.as_slice(), stdin, &mut out, &mut err);
-        assert_eq!(rt; status, Status::DeviceFailed, "{room}");
-        assert_eq!(rt; err.as_slice(), WRITE_FAILED, "{room}");
-        assert_eq!(rt; out.taken.len(), room, "{room}");
-        assert!(rt; PLAINTEXT.starts_with(out.taken.as_slice()), "{room}");
-    }
-    Ok(())
+    let (vault, view) = (vault.as_slice(), ["view", "--vault-id", LINUX_FILE]);
+    assert_writer_fails(&rt, alloc, &view, vault, b"")?;
+    assert_writer_fails(&rt, alloc, &view, vault, &PLAINTEXT[..100])?;
+    assert_writer_fails(&rt, alloc, &view, vault, PLAINTEXT)
 }
 
 #[test]
 fn reports_help_that_cannot_be_written(rt: HostRuntime) -> Result<(), Fail> {
     let alloc = rt.alloc();
-    for words in [&["--help"], &["--version"]] {
-        let line = line_of(alloc, words)?;
-        let stdin = CountingReader::new(b"", 1);
-        let mut out = NarrowWriter::new(alloc, 10);
-        let mut err = Vec::new(alloc);
-        let status = drive(&rt, alloc, line.as_slice(), stdin, &mut out, &mut err);
-        assert_eq!(rt; status, Status::DeviceFailed, "{words:?}");
-        assert_eq!(rt; err.as_slice(), WRITE_FAILED, "{words:?}");
-        assert_eq!(rt; out.taken.len(), 10, "{words:?}");
-    }
-    Ok(())
+    assert_writer_fails(&rt, alloc, &["--help"], b"", b"Encrypts a")?;
+    assert_writer_fails(&rt, alloc, &["--version"], b"", b"ansible-va")
+}
+
+/// The writer of the message takes this and no more, and the status stays.
+fn assert_message_lost(
+    rt: &(impl Abort + Files),
+    alloc: Global,
+    message: &[u8],
+) -> Result<(), Fail> {
+    let room = Room {
+        output: 100,
+        message: message.len(),
+    };
+    let expected = (Status::Refused, b"".as_slice(), message);
+    assert_writes(rt, alloc, &["view"], b"", room, expected)
 }
 
 // A message is lost where its writer is full, and the status stays.
 #[test]
 fn keeps_the_status_where_the_writer_of_the_message_fails(rt: HostRuntime) -> Result<(), Fail> {
-    let alloc = rt.alloc();
-    let words = line_of(alloc, &["view"])?;
-    for room in [0, 20] {
-        let stdin = CountingReader::new(b"", 1);
-        let mut out = NarrowWriter::new(alloc, 100);
-        let mut err = NarrowWriter::new(alloc, room);
-        let status = drive(&rt, alloc, words.as_slice(), stdin, &mut out, &mut err);
-        assert_eq!(rt; status, Status::Refused, "{room}");
-        assert_eq!(rt; out.taken.len(), 0, "{room}");
-        let message = b"ERROR! input is not vault encrypted data\n".as_slice();
-        assert_eq!(rt; err.taken.len(), room, "{room}");
-        assert!(rt; message.starts_with(err.taken.as_slice()), "{room}");
-    }
+    assert_message_lost(&rt, rt.alloc(), b"")?;
+    assert_message_lost(&rt, rt.alloc(), b"ERROR! input is not ")
+}
+
+/// The sink of the message fails after so many calls, and has taken this.
+fn assert_message_fails(
+    rt: &impl Abort,
+    alloc: Global,
+    calls: usize,
+    message: &str,
+) -> Result<(), Fail> {
+    let calls = Calls {
+        output: usize::MAX,
+        message: calls,
+    };
+    let trial = Trial::new(&["view"], &[], &[]);
+    assert_leaves(rt, alloc, &trial, b"", calls, Left::refused(message))?;
     Ok(())
 }
 
@@ -113,39 +161,40 @@ fn keeps_the_status_where_the_writer_of_the_message_fails(rt: HostRuntime) -> Re
 #[test]
 fn keeps_the_status_where_the_message_fails(rt: HostRuntime) -> Result<(), Fail> {
     let alloc = rt.alloc();
-    let message = b"ERROR! input is not vault encrypted data\n";
-    for (calls, length) in [(0, 0), (1, 0), (8, 7), (20, 19), (42, 41), (100, 41)] {
-        let mut src = MemSource::new(b"", 1);
-        let mut out = MemSink::new(alloc, 100);
-        let mut err = Watched::new(FailingSink::new(alloc, 1, calls));
-        let status = Trial::new(&["view"], &[], &[]).run_between(
-            alloc, &mut src, &mut out, &mut err,
-        )?;
-        assert_eq!(rt; status, Status::Refused, "{calls}");
-        assert_eq!(rt; err.device.bytes().len(), length, "{calls}");
-        assert!(rt; message.starts_with(err.device.bytes()), "{calls}");
-        assert_eq!(rt; err.asked_after, 0, "{calls}");
-        assert!(rt; !out.begun(), "{calls}");
-    }
+    assert_message_fails(&rt, alloc, 0, "")?;
+    assert_message_fails(&rt, alloc, 1, "")?;
+    assert_message_fails(&rt, alloc, 8, "ERROR! ")?;
+    assert_message_fails(&rt, alloc, 20, "ERROR! input is not")?;
+    assert_message_fails(&rt, alloc, 42, NO_VAULT)?;
+    assert_message_fails(&rt, alloc, 100, NO_VAULT)
+}
+
+/// The sink of the message fails at once, that of the output after so many calls.
+fn assert_untold(
+    rt: &impl Abort,
+    alloc: Global,
+    vault: &[u8],
+    calls: usize,
+    expected: Left<'_>,
+) -> Result<(), Fail> {
+    let calls = Calls {
+        output: calls,
+        message: 0,
+    };
+    let trial = Trial::new(DECRYPT, FIRST, &[]);
+    let told = assert_leaves(rt, alloc, &trial, vault, calls, expected)?;
+    assert!(rt; !told, "{calls:?}");
     Ok(())
 }
 
 #[test]
 fn a_failing_error_sink_changes_nothing_else(rt: HostRuntime) -> Result<(), Fail> {
     let alloc = rt.alloc();
-    let vault = envelope(alloc, "default", b"first", &[7; 32], PLAINTEXT)?;
-    for (calls, length, status) in [(100, 99, Status::DeviceFailed), (202, 200, Status::Success)] {
-        let mut src = MemSource::new(vault.as_slice(), 1_000);
-        let mut out = FailingSink::new(alloc, 1, calls);
-        let mut err = Watched::new(FailingSink::new(alloc, 1, 0));
-        let ended = Trial::new(DECRYPT, &[b"first\n"], &[]).run_between(
-            alloc, &mut src, &mut out, &mut err,
-        )?;
-        assert_eq!(rt; ended, status, "{calls}");
-        assert_eq!(rt; out.bytes().len(), length, "{calls}");
-        assert!(rt; PLAINTEXT.starts_with(out.bytes()), "{calls}");
-        assert!(rt; !err.device.begun(), "{calls}");
-        assert_eq!(rt; err.asked_after, 0, "{calls}");
-    }
-    Ok(())
+    let vault = vault_of_first(alloc)?;
+    let failed = Left {
+        message: "",
+        ..output_failed(true, &PLAINTEXT[..99])
+    };
+    assert_untold(&rt, alloc, vault.as_slice(), 100, failed)?;
+    assert_untold(&rt, alloc, vault.as_slice(), 202, Left::success(PLAINTEXT))
 }

@@ -7,4 +7,8 @@ mod each_call;
 #[cfg(test)]
 mod failures;
 #[cfg(test)]
+mod sinks;
+#[cfg(test)]
+mod sources;
+#[cfg(test)]
 mod watched;
