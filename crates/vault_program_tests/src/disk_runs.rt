@@ -1,7 +1,7 @@
 //! Runs over a disk in memory, for each command.
 use crate::mem_system::{MemSystem, SystemFile};
 use crate::on_disk::drive_on_disk;
-use std::alloc::Global;
+use std::alloc::{AllocError, Global};
 use std::process::Abort;
 use std::test::Fail;
 use vault_cli::{HostFiles, MemSink, MemSource, Status};
@@ -10,40 +10,6 @@ use vault_test_data::{block, envelope, line_of};
 const PLAINTEXT: &[u8] = b"key: value\n";
 
 const SALT: &[u8] = &[7; 32];
-
-/// What a run left: its status, what both sinks hold, and the file that it created.
-#[derive(Drop)]
-struct Ended {
-    status: Status,
-    output: Vec<u8>,
-    message: Vec<u8>,
-    created: Option<Vec<u8>>,
-}
-
-/// Runs the program on these words after its name, over a disk of these files, on which a file can
-/// be created at `out`.
-fn run_on_disk(alloc: Global, entries: &[SystemFile<'_>], words: &[&str]) -> Result<Ended, Fail> {
-    let line = line_of(alloc, words)?;
-    let mut files = HostFiles::new(MemSystem::new(alloc, entries, "out"));
-    let mut src = MemSource::new(b"", 4_096);
-    let mut out = MemSink::new(alloc, 4_096);
-    let mut err = MemSink::new(alloc, 4_096);
-    let status = drive_on_disk(
-        &mut files,
-        alloc,
-        line.as_slice(),
-        &mut src,
-        &mut out,
-        &mut err,
-    );
-    let created = files.into_system().into_written();
-    Ok(Ended {
-        status,
-        output: Vec::from_slice(alloc, out.bytes())?,
-        message: Vec::from_slice(alloc, err.bytes())?,
-        created,
-    })
-}
 
 const ONE: &str = "--vault-password-file=one";
 
@@ -54,119 +20,134 @@ fn file<'a>(path: &'a str, bytes: &'a [u8]) -> SystemFile<'a> {
     SystemFile { path, bytes }
 }
 
-/// Over a disk of these files, these words after the program's name end with this status, output
-/// and message.
-fn assert_ends(
+/// How a run ends: its status, what both sinks hold, and the file that it created.
+type End<'a> = (Status, &'a [u8], &'a [u8], Option<&'a [u8]>);
+
+/// Over a disk of these files, on which a file can be created at `out`, these words after the
+/// program's name end so.
+fn assert_ends<'a>(
     rt: &impl Abort,
     alloc: Global,
-    entries: &[SystemFile<'_>],
+    entries: &'a [SystemFile<'a>],
     words: &[&str],
-    wanted: (Status, &[u8], &[u8]),
+    wanted: End<'_>,
 ) -> Result<(), Fail> {
-    let ended = run_on_disk(alloc, entries, words)?;
-    let left = (
-        ended.status,
-        ended.output.as_slice(),
-        ended.message.as_slice(),
-    );
-    assert_eq!(rt; left, wanted, "{words:?}");
+    let line = line_of(alloc, words)?;
+    let mut files = HostFiles::new(MemSystem::new(alloc, entries, "out"));
+    let mut src = MemSource::new(b"", 4_096);
+    let mut out = MemSink::new(alloc, 4_096);
+    let mut err = MemSink::new(alloc, 4_096);
+    let line = line.as_slice();
+    let status = drive_on_disk(&mut files, alloc, line, &mut src, &mut out, &mut err);
+    let created = files.into_system().into_written();
+    let end = (status, out.bytes(), err.bytes(), created.as_deref());
+    assert_eq!(rt; end, wanted, "{words:?}");
     Ok(())
 }
 
-/// Over a disk of these files, these words after the program's name give this output.
+/// The same over a disk with files of passwords, of a salt, of a plaintext and of this vault.
+fn assert_ends_with_files(
+    rt: &impl Abort,
+    alloc: Global,
+    vault: &[u8],
+    words: &[&str],
+    wanted: End<'_>,
+) -> Result<(), Fail> {
+    let entries = [
+        file("one", b"first\n"),
+        file("one", b"later\n"),
+        file("two", b"second\n"),
+        file("salt", SALT),
+        file("plain", PLAINTEXT),
+        file("vault", vault),
+    ];
+    assert_ends(rt, alloc, &entries, words, wanted)
+}
+
+/// The same where there is an output.
 fn assert_output(
     rt: &impl Abort,
     alloc: Global,
-    entries: &[SystemFile<'_>],
+    vault: &[u8],
     words: &[&str],
     output: &[u8],
 ) -> Result<(), Fail> {
-    assert_ends(rt, alloc, entries, words, (Status::Success, output, b""))
+    let wanted: End<'_> = (Status::Success, output, b"", None);
+    assert_ends_with_files(rt, alloc, vault, words, wanted)
+}
+
+/// The vault of the plaintext under a password.
+fn vault_of(alloc: Global, password: &[u8]) -> Result<Vec<u8>, AllocError> {
+    envelope(alloc, "default", password, SALT, PLAINTEXT)
 }
 
 #[test]
 fn encrypts(rt: HostRuntime) -> Result<(), Fail> {
     let alloc = rt.alloc();
-    let entries = [
-        file("one", b"first\n"),
-        file("one", b"later\n"),
-        file("salt", SALT),
-        file("plain", PLAINTEXT),
-    ];
-    let vault = envelope(alloc, "default", b"first", SALT, PLAINTEXT)?;
+    let vault = vault_of(alloc, b"first")?;
     let words = ["encrypt", ONE, SALT_FILE, "--output=-", "plain"];
-    assert_output(&rt, alloc, &entries, &words, vault.as_slice())
+    assert_output(&rt, alloc, b"", &words, vault.as_slice())
 }
 
 #[test]
 fn encrypts_a_string(rt: HostRuntime) -> Result<(), Fail> {
     let alloc = rt.alloc();
-    let entries = [file("one", b"first\n"), file("salt", SALT)];
-    let vault = envelope(alloc, "default", b"first", SALT, PLAINTEXT)?;
+    let vault = vault_of(alloc, b"first")?;
     let block = block(alloc, "", vault.as_slice())?;
     let words = ["encrypt_string", ONE, SALT_FILE, "key: value\n"];
-    assert_output(&rt, alloc, &entries, &words, block.as_slice())
+    assert_output(&rt, alloc, b"", &words, block.as_slice())
 }
 
 #[test]
 fn decrypts_and_shows(rt: HostRuntime) -> Result<(), Fail> {
     let alloc = rt.alloc();
-    let vault = envelope(alloc, "default", b"first", SALT, PLAINTEXT)?;
-    let entries = [file("one", b"first\n"), file("vault", vault.as_slice())];
+    let vault = vault_of(alloc, b"first")?;
     let decrypt = ["decrypt", ONE, "--output=out", "vault"];
-    let ended = run_on_disk(alloc, &entries, &decrypt)?;
-    assert_eq!(rt; (ended.status, ended.output.len()), (Status::Success, 0));
-    assert!(rt; ended.created.as_deref() == Some(PLAINTEXT));
+    let created: End<'_> = (Status::Success, b"", b"", Some(PLAINTEXT));
+    assert_ends_with_files(&rt, alloc, vault.as_slice(), &decrypt, created)?;
     let view = ["view", ONE, "vault"];
-    assert_output(&rt, alloc, &entries, &view, PLAINTEXT)
+    assert_output(&rt, alloc, vault.as_slice(), &view, PLAINTEXT)
 }
 
 #[test]
 fn rekeys(rt: HostRuntime) -> Result<(), Fail> {
     let alloc = rt.alloc();
-    let vault = envelope(alloc, "default", b"first", SALT, PLAINTEXT)?;
-    let rekeyed = envelope(alloc, "default", b"second", SALT, PLAINTEXT)?;
-    let entries = [
-        file("one", b"first\n"),
-        file("two", b"second\n"),
-        file("salt", SALT),
-        file("vault", vault.as_slice()),
-    ];
+    let vault = vault_of(alloc, b"first")?;
+    let rekeyed = vault_of(alloc, b"second")?;
     let new = "--new-vault-password-file=two";
     let words = ["rekey", ONE, new, SALT_FILE, "--output=-", "vault"];
-    assert_output(&rt, alloc, &entries, &words, rekeyed.as_slice())
+    assert_output(&rt, alloc, vault.as_slice(), &words, rekeyed.as_slice())
+}
+
+/// Over a disk that lacks a file, these words after the program's name fail with this message.
+fn assert_fails(
+    rt: &impl Abort,
+    alloc: Global,
+    words: &[&str],
+    message: &[u8],
+) -> Result<(), Fail> {
+    let entries = [
+        file("one", b"first\n"),
+        file("salt", SALT),
+        file("plain", PLAINTEXT),
+    ];
+    let wanted: End<'_> = (Status::DeviceFailed, b"", message, None);
+    assert_ends(rt, alloc, &entries, words, wanted)
 }
 
 // A file that is missing, and one that cannot be created.
 #[test]
 fn files_that_fail(rt: HostRuntime) -> Result<(), Fail> {
     let alloc = rt.alloc();
-    let entries = [
-        file("one", b"first\n"),
-        file("salt", SALT),
-        file("plain", PLAINTEXT),
-    ];
-    let cases: [(&[&str], &[u8]); 4] = [
-        (
-            &["view", "--vault-password-file=two", "plain"],
-            b"ERROR! a password file cannot be opened\n",
-        ),
-        (
-            &["encrypt", ONE, "--salt-file=none", "--output=out", "plain"],
-            b"ERROR! the salt file cannot be opened\n",
-        ),
-        (
-            &["view", ONE, "vault"],
-            b"ERROR! the input file cannot be opened\n",
-        ),
-        (
-            &["encrypt", ONE, SALT_FILE, "--output=elsewhere", "plain"],
-            b"ERROR! the output cannot be written\n",
-        ),
-    ];
-    for (words, message) in cases {
-        let wanted = (Status::DeviceFailed, b"".as_slice(), message);
-        assert_ends(&rt, alloc, &entries, words, wanted)?;
-    }
-    Ok(())
+    let no_password = b"ERROR! a password file cannot be opened\n";
+    let words = ["view", "--vault-password-file=two", "plain"];
+    assert_fails(&rt, alloc, &words, no_password)?;
+    let no_salt = b"ERROR! the salt file cannot be opened\n";
+    let words = ["encrypt", ONE, "--salt-file=none", "--output=out", "plain"];
+    assert_fails(&rt, alloc, &words, no_salt)?;
+    let no_input = b"ERROR! the input file cannot be opened\n";
+    assert_fails(&rt, alloc, &["view", ONE, "vault"], no_input)?;
+    let no_output = b"ERROR! the output cannot be written\n";
+    let words = ["encrypt", ONE, SALT_FILE, "--output=elsewhere", "plain"];
+    assert_fails(&rt, alloc, &words, no_output)
 }

@@ -4,7 +4,7 @@ use std::process::Abort;
 use std::test::Fail;
 use vault_cli::{MemFiles, MemSource, Status};
 use vault_test_data::EMPTY_ENVELOPE;
-use vault_test_runs::{Ran, run_program};
+use vault_test_runs::{Left, Ran, run_program};
 
 /// Runs the program on these words and this input, where there is no file.
 fn ran_alone(alloc: Global, words: &[&str], input: &[u8]) -> Result<Ran, Fail> {
@@ -21,12 +21,7 @@ fn assert_refused(
     message: &str,
 ) -> Result<(), Fail> {
     let refused = ran_alone(alloc, &[command], input)?;
-    let left = (
-        refused.status,
-        refused.message.as_str(),
-        refused.output.len(),
-    );
-    assert_eq!(rt; left, (Status::Refused, message, 0), "{command}");
+    assert_eq!(rt; refused.left(), Left::refused(message), "{command}");
     Ok(())
 }
 
@@ -34,11 +29,11 @@ fn assert_refused(
 fn refuses_without_secrets(rt: HostRuntime) -> Result<(), Fail> {
     let no_vault = "ERROR! input is not vault encrypted data\n";
     let no_secret = "ERROR! no secret decrypts this vault\n";
-    for command in ["view", "decrypt"] {
-        assert_refused(&rt, rt.alloc(), command, b"", no_vault)?;
-        assert_refused(&rt, rt.alloc(), command, EMPTY_ENVELOPE, no_secret)?;
-    }
-    Ok(())
+    let alloc = rt.alloc();
+    assert_refused(&rt, alloc, "view", b"", no_vault)?;
+    assert_refused(&rt, alloc, "view", EMPTY_ENVELOPE, no_secret)?;
+    assert_refused(&rt, alloc, "decrypt", b"", no_vault)?;
+    assert_refused(&rt, alloc, "decrypt", EMPTY_ENVELOPE, no_secret)
 }
 
 /// Asserts that these words succeed, and that the output has this text.
@@ -48,24 +43,20 @@ fn assert_explained(
     words: &[&str],
     text: &str,
 ) -> Result<(), Fail> {
-    let reported = ran_alone(alloc, words, b"")?;
-    let message = reported.message.as_str();
-    assert_eq!(rt;
-        (reported.status, message),
-        (Status::Success, ""),
-        "{words:?}"
-    );
-    let output = String::from_utf8(reported.output)?;
-    assert!(rt; output.as_str().contains(text), "{words:?}");
+    let explained = ran_alone(alloc, words, b"")?;
+    let output = explained.output.as_slice();
+    assert_eq!(rt; explained.left(), Left::success(output), "{words:?}");
+    assert!(rt; str::from_utf8(output)?.contains(text), "{words:?}");
     Ok(())
 }
 
 /// Asserts that these words are no command line, which a message says.
 fn assert_misspelled(rt: &impl Abort, alloc: Global, words: &[&str]) -> Result<(), Fail> {
     let refused = ran_alone(alloc, words, b"")?;
-    let left = (refused.status, refused.output.len());
-    assert_eq!(rt; left, (Status::ParseFault, 0), "{words:?}");
-    assert_ne!(rt; refused.message.len(), 0, "{words:?}");
+    let message = refused.message.as_str();
+    let left = Left::failure(Status::ParseFault, message);
+    assert_eq!(rt; refused.left(), left, "{words:?}");
+    assert_ne!(rt; message.len(), 0, "{words:?}");
     Ok(())
 }
 
@@ -75,31 +66,26 @@ fn explains_the_command_line(rt: HostRuntime) -> Result<(), Fail> {
     assert_explained(&rt, alloc, &["--help"], "Usage: ansible-vault")?;
     assert_explained(&rt, alloc, &["view", "--help"], "Usage: ansible-vault view")?;
     assert_explained(&rt, alloc, &["--version"], "ansible-vault ")?;
-    let wrong: [&[&str]; 6] = [
-        &[],
-        &["show"],
-        &["help"],
-        &["view", "--loud"],
-        &["view", "--vault-id"],
-        &["--vault-id", "one", "view"],
-    ];
-    for words in wrong {
-        assert_misspelled(&rt, alloc, words)?;
-    }
+    assert_misspelled(&rt, alloc, &[])?;
+    assert_misspelled(&rt, alloc, &["show"])?;
+    assert_misspelled(&rt, alloc, &["help"])?;
+    assert_misspelled(&rt, alloc, &["view", "--loud"])?;
+    assert_misspelled(&rt, alloc, &["view", "--vault-id"])?;
+    assert_misspelled(&rt, alloc, &["--vault-id", "one", "view"])
+}
+
+/// Asserts that a run on these words ends with this exit status.
+fn assert_code(rt: &impl Abort, alloc: Global, words: &[&str], code: u8) -> Result<(), Fail> {
+    let ended = ran_alone(alloc, words, b"")?;
+    assert_eq!(rt; ended.status.code(), code, "{words:?}");
     Ok(())
 }
 
 #[test]
 fn ends_with_each_status(rt: HostRuntime) -> Result<(), Fail> {
-    let cases: [(&[&str], u8); 4] = [
-        (&["--version"], 0),
-        (&["view"], 1),
-        (&["show"], 2),
-        (&["view", "--vault-id", "missing"], 3),
-    ];
-    for (words, code) in cases {
-        let ended = ran_alone(rt.alloc(), words, b"")?;
-        assert_eq!(rt; ended.status.code(), code, "{words:?}");
-    }
-    Ok(())
+    let alloc = rt.alloc();
+    assert_code(&rt, alloc, &["--version"], 0)?;
+    assert_code(&rt, alloc, &["view"], 1)?;
+    assert_code(&rt, alloc, &["show"], 2)?;
+    assert_code(&rt, alloc, &["view", "--vault-id", "missing"], 3)
 }
