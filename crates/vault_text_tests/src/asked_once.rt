@@ -68,6 +68,13 @@ impl Write for FailsOnce {
     }
 }
 
+/// What the calls of a source gave, and how often its reader was called for that.
+type Given<'a> = (&'a [Result<usize, SourceFailed>], usize);
+
+fn assert_given(rt: &impl Abort, given: Given<'_>, expected: Given<'_>) {
+    assert_eq!(rt; given, expected);
+}
+
 #[test]
 fn a_source_asks_its_reader_once_a_call(rt: HostRuntime) {
     let mut reader = FailsOnce::interrupted(2);
@@ -78,8 +85,8 @@ fn a_source_asks_its_reader_once_a_call(rt: HostRuntime) {
         source.fill(&mut buf),
         source.fill(&mut buf),
     ];
-    assert_eq!(rt; counts, [Ok(1), Err(SourceFailed), Ok(1)]);
-    assert_eq!(rt; reader.calls, 3);
+    let expected = [Ok(1), Err(SourceFailed), Ok(1)];
+    assert_given(&rt, (&counts, reader.calls), (&expected, 3));
 }
 
 #[test]
@@ -88,8 +95,7 @@ fn a_source_asks_no_more_after_the_end(rt: HostRuntime) {
     let mut source = ReadSource::new(&mut reader);
     let mut buf = [0; 4];
     let counts = [fill_up(&mut source, &mut buf), source.fill(&mut buf)];
-    assert_eq!(rt; counts, [Ok(1), Ok(0)]);
-    assert_eq!(rt; reader.calls, 2);
+    assert_given(&rt, (&counts, reader.calls), (&[Ok(1), Ok(0)], 2));
 }
 
 #[test]
@@ -97,8 +103,8 @@ fn reading_stops_at_a_failure(rt: HostRuntime) {
     let mut reader = FailsOnce::interrupted(3);
     let mut source = ReadSource::new(&mut reader);
     let mut buf = [0; 8];
-    assert_eq!(rt; fill_up(&mut source, &mut buf), Err(SourceFailed));
-    assert_eq!(rt; reader.calls, 3);
+    let filled = fill_up(&mut source, &mut buf);
+    assert_given(&rt, (&[filled], reader.calls), (&[Err(SourceFailed)], 3));
 }
 
 /// Each call of a sink is one call of this writer, whose second call fails.
@@ -106,9 +112,9 @@ fn assert_asked_once_a_call(rt: &impl Abort, writer: FailsOnce) -> Result<(), Si
     let mut sink = WriteSink::new(writer);
     sink.begin()?;
     let counts = [sink.put(b"ab"), sink.put(b"bc"), sink.put(b"bc")];
-    assert_eq!(rt; counts, [Ok(1), Err(SinkFailed), Ok(1)]);
     sink.finish()?;
-    assert_eq!(rt; sink.into_inner().calls, 4);
+    let calls = sink.into_inner().calls;
+    assert_eq!(rt; (counts, calls), ([Ok(1), Err(SinkFailed), Ok(1)], 4));
     Ok(())
 }
 
@@ -123,8 +129,8 @@ fn a_sink_asks_its_writer_once_a_call(rt: HostRuntime) -> Result<(), Fail> {
 fn assert_asked_no_more(rt: &impl Abort, writer: FailsOnce) -> Result<(), SinkFailed> {
     let mut sink = WriteSink::new(writer);
     sink.begin()?;
-    assert_eq!(rt; put_all(&mut sink, b"ab"), Err(SinkFailed));
-    assert_eq!(rt; sink.into_inner().calls, 1);
+    let answer = put_all(&mut sink, b"ab");
+    assert_eq!(rt; (answer, sink.into_inner().calls), (Err(SinkFailed), 1));
     Ok(())
 }
 

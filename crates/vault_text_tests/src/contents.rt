@@ -1,4 +1,5 @@
 //! What an envelope holds, in a form that is compared and shown as a whole.
+use std::process::Abort;
 use vault_text::Payload;
 
 /// The contents of an envelope.
@@ -19,4 +20,9 @@ impl<'a> Contents<'a> {
             cipher: payload.cipher(),
         }
     }
+}
+
+/// These bytes are the ones expected.
+pub fn assert_bytes(rt: &impl Abort, bytes: &[u8], expected: &[u8]) {
+    assert_eq!(rt; bytes, expected);
 }

@@ -2,23 +2,25 @@
 use std::process::Abort;
 use vault_text::{FailingSource, Source, SourceFailed, fill_up};
 
-/// A source of two bytes a call gives these bytes in this many calls, and fails at the next.
-fn assert_fails_after(rt: &impl Abort, calls: usize, taken: &str) {
+/// A source of two bytes a call, which fails after so many calls, fills a buffer with these bytes.
+/// Filling it up has this answer, and the call after that fails.
+fn assert_fills(rt: &impl Abort, calls: usize, answer: Result<usize, SourceFailed>, taken: &str) {
     let mut buf = [0; 16];
     let mut source = FailingSource::new(b"abcdefg", 2, calls);
-    assert_eq!(rt; fill_up(&mut source, &mut buf), Err(SourceFailed));
-    assert!(rt; buf.starts_with(taken.as_bytes()), "after {calls} calls");
+    let filled = fill_up(&mut source, &mut buf);
+    let starts = buf.starts_with(taken.as_bytes());
+    let next = source.fill(&mut buf);
+    assert_eq!(rt;
+        (calls, filled, starts, next),
+        (calls, answer, true, Err(SourceFailed))
+    );
 }
 
 #[test]
 fn fails_after_its_calls(rt: HostRuntime) {
-    assert_fails_after(&rt, 0, "");
-    assert_fails_after(&rt, 1, "ab");
-    assert_fails_after(&rt, 2, "abcd");
-    assert_fails_after(&rt, 3, "abcdef");
-    let mut buf = [0; 16];
-    let mut source = FailingSource::new(b"abcdefg", 2, 5);
-    assert_eq!(rt; fill_up(&mut source, &mut buf), Ok(7));
-    assert!(rt; buf.starts_with(b"abcdefg"));
-    assert_eq!(rt; source.fill(&mut buf), Err(SourceFailed));
+    assert_fills(&rt, 0, Err(SourceFailed), "");
+    assert_fills(&rt, 1, Err(SourceFailed), "ab");
+    assert_fills(&rt, 2, Err(SourceFailed), "abcd");
+    assert_fills(&rt, 3, Err(SourceFailed), "abcdef");
+    assert_fills(&rt, 5, Ok(7), "abcdefg");
 }

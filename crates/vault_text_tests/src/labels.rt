@@ -1,10 +1,11 @@
 //! Labels and salts.
+use crate::contents::assert_bytes;
 use std::process::Abort;
 use std::test::Fail;
 use vault_text::{BadLabel, Label, Salt};
 
 fn assert_no_label(rt: &impl Abort, text: &str) {
-    assert_eq!(rt; Label::new(text).err(), Some(BadLabel), "at {text}");
+    assert_eq!(rt; (text, Label::new(text).err()), (text, Some(BadLabel)));
 }
 
 #[test]
@@ -28,7 +29,7 @@ fn keeps_the_text(rt: HostRuntime) -> Result<(), Fail> {
 #[test]
 fn a_salt_has_at_most_256_bytes(rt: HostRuntime) -> Result<(), Fail> {
     let salt = Salt::new(&[7; 256]).ok_or("refused")?;
-    assert_eq!(rt; salt.as_bytes(), [7; 256].as_slice());
+    assert_bytes(&rt, salt.as_bytes(), &[7; 256]);
     assert!(rt; Salt::new(&[7; 257]).is_none());
     Ok(())
 }

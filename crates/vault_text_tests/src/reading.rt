@@ -2,7 +2,7 @@
 ghost use Rattle.std.specs.Prelude.{◌<◌, length};
 ghost use Rattle.vault_text.specs.Limits.{IsWorkLength};
 
-use crate::contents::Contents;
+use crate::contents::{Contents, assert_bytes};
 use crate::whole_list::{contents_of, read_envelope};
 use std::alloc::{AllocError, Global};
 use std::process::Abort;
@@ -26,6 +26,12 @@ const EMPTY: [&str; 2] = [
     "303030303030303030303030303030303030303030303030300a",
 ];
 
+/// The same body in capital letters.
+const UPPER: [&str; 2] = [
+    "0A303030303030303030303030303030303030303030303030303030303030303030303030303030",
+    "303030303030303030303030303030303030303030303030300A",
+];
+
 /// A body that Python's `binascii.hexlify` made.
 pub const FILLED: [&str; 4] = [
     "3730363537303730363537323230363136653634323037333631366337340a303030313032303330",
@@ -33,6 +39,11 @@ pub const FILLED: [&str; 4] = [
     "3831393161316231633164316531660a663066316632663366346635663666376638663966616662",
     "66636664666566663330333133323333333433353336333733383339363136323633363436353636",
 ];
+
+fn push_line(text: &mut Vec<u8>, line: &str, end: &str) -> Result<(), AllocError> {
+    text.extend_from_slice(line.as_bytes())?;
+    text.extend_from_slice(end.as_bytes())
+}
 
 /// The header line and the lines, each ended by `end`.
 pub fn text_of(
@@ -42,11 +53,9 @@ pub fn text_of(
     end: &str,
 ) -> Result<Vec<u8>, AllocError> {
     let mut text = Vec::new(alloc);
-    text.extend_from_slice(header.as_bytes())?;
-    text.extend_from_slice(end.as_bytes())?;
+    push_line(&mut text, header, end)?;
     for line in lines {
-        text.extend_from_slice(line.as_bytes())?;
-        text.extend_from_slice(end.as_bytes())?;
+        push_line(&mut text, line, end)?;
     }
     Ok(text)
 }
@@ -54,8 +63,7 @@ pub fn text_of(
 /// The reader of pieces gave this payload.
 fn assert_payload(rt: &impl Abort, payload: Payload<'_>, expected: Contents<'_>) {
     assert_eq!(rt; Contents::of(&payload), expected);
-    let body: &[u8] = payload.into_body();
-    assert_eq!(rt; body, expected.cipher);
+    assert_bytes(rt, payload.into_body(), expected.cipher);
 }
 
 /// The reader of pieces gave this answer.
@@ -122,6 +130,18 @@ fn assert_from_source(
     Ok(())
 }
 
+/// The whole-list reader gives this answer.
+fn assert_whole(
+    rt: &impl Abort,
+    alloc: Global,
+    input: &[u8],
+    expected: Result<Contents<'_>, TextFault>,
+) -> Result<(), AllocError> {
+    let whole = read_envelope(alloc, input)?;
+    assert_eq!(rt; (input, contents_of(&whole)), (input, expected));
+    Ok(())
+}
+
 /// The whole-list reader gives this answer. So does the reader of pieces, where the input is cut
 /// in two at every place, comes in single bytes, and comes from sources of three steps.
 pub fn assert_read(
@@ -130,43 +150,46 @@ pub fn assert_read(
     input: &[u8],
     expected: Result<Contents<'_>, TextFault>,
 ) -> Result<(), Fail> {
-    let whole = read_envelope(alloc, input)?;
-    assert_eq!(rt; contents_of(&whole), expected, "at {input:?}");
+    assert_whole(rt, alloc, input, expected)?;
     assert_cut_in_two(rt, input, expected);
     assert_byte_by_byte(rt, input, expected);
-    for step in [1, 7, 4_096] {
-        assert_from_source(rt, input, step, expected)?;
-    }
+    assert_from_source(rt, input, 1, expected)?;
+    assert_from_source(rt, input, 7, expected)?;
+    assert_from_source(rt, input, 4_096, expected)?;
     Ok(())
+}
+
+/// A header line of 257 bytes is too long.
+fn assert_long_header(rt: &impl Abort, alloc: Global) -> Result<(), Fail> {
+    let mut input = text_of(alloc, HEADER, &[], "")?;
+    input.extend_from_slice(&[b';'; 232])?;
+    assert_eq!(rt; input.len(), 257);
+    assert_read(rt, alloc, input.as_slice(), Err(TextFault::HeaderTooLong))
+}
+
+/// This is the first fault of the input.
+fn assert_fault(rt: &impl Abort, alloc: Global, input: &str, fault: TextFault) -> Result<(), Fail> {
+    assert_read(rt, alloc, input.as_bytes(), Err(fault))
 }
 
 #[test]
 fn first_fault_of_the_header_line(rt: HostRuntime) -> Result<(), Fail> {
     let alloc = rt.alloc();
-    let mut long_header = text_of(alloc, HEADER, &[], "")?;
-    long_header.extend_from_slice(&[b';'; 232])?;
-    assert_eq!(rt; long_header.len(), 257);
-    assert_read(
-        &rt,
-        alloc,
-        long_header.as_slice(),
-        Err(TextFault::HeaderTooLong),
-    )?;
-    let cases = [
-        ("", TextFault::NotVault),
-        ("$ANSIBLE_VAUL", TextFault::NotVault),
-        ("$ANSIBLE_VAULT", TextFault::BadHeader),
-        ("$ANSIBLE_VAULT;1.1;AES256", TextFault::BadPayload),
-        ("$ANSIBLE_VAULT;1.0;AES\n", TextFault::BadVersion),
-        ("$ANSIBLE_VAULT;1.1;AES\n", TextFault::BadCipher),
-        ("$ANSIBLE_VAULT;1.1\n", TextFault::BadHeader),
-        ("$ANSIBLE_VAULT;1.1;AES256\n0a0a", TextFault::BadPayload),
-        ("$ANSIBLE_VAULT;1.1;AES256\nabc", TextFault::BadHex),
-    ];
-    for (input, fault) in cases {
-        assert_read(&rt, alloc, input.as_bytes(), Err(fault))?;
-    }
-    Ok(())
+    assert_long_header(&rt, alloc)?;
+    assert_fault(&rt, alloc, "", TextFault::NotVault)?;
+    assert_fault(&rt, alloc, "$ANSIBLE_VAUL", TextFault::NotVault)?;
+    assert_fault(&rt, alloc, "$ANSIBLE_VAULT", TextFault::BadHeader)?;
+    let no_payload = "$ANSIBLE_VAULT;1.1;AES256";
+    assert_fault(&rt, alloc, no_payload, TextFault::BadPayload)?;
+    let version = "$ANSIBLE_VAULT;1.0;AES\n";
+    assert_fault(&rt, alloc, version, TextFault::BadVersion)?;
+    let cipher = "$ANSIBLE_VAULT;1.1;AES\n";
+    assert_fault(&rt, alloc, cipher, TextFault::BadCipher)?;
+    assert_fault(&rt, alloc, "$ANSIBLE_VAULT;1.1\n", TextFault::BadHeader)?;
+    let no_tag = "$ANSIBLE_VAULT;1.1;AES256\n0a0a";
+    assert_fault(&rt, alloc, no_tag, TextFault::BadPayload)?;
+    let odd = "$ANSIBLE_VAULT;1.1;AES256\nabc";
+    assert_fault(&rt, alloc, odd, TextFault::BadHex)
 }
 
 /// The empty envelope is read, under this label.
@@ -180,14 +203,21 @@ fn assert_empty(rt: &impl Abort, alloc: Global, input: &[u8], label: &str) -> Re
     assert_read(rt, alloc, input, Ok(contents))
 }
 
-/// The empty envelope with each digit of its body on a line of its own.
-fn single_digits(alloc: Global) -> Result<Vec<u8>, AllocError> {
+/// The empty envelope is read with each digit of its body on a line of its own.
+fn assert_single_digits(rt: &impl Abort, alloc: Global) -> Result<(), Fail> {
     let mut input = text_of(alloc, HEADER, &[], "\n")?;
     let digits = text_of(alloc, "", &EMPTY, "")?;
     for digit in digits.as_slice() {
         input.extend_from_slice(&[*digit, b'\n'])?;
     }
-    Ok(input)
+    assert_empty(rt, alloc, input.as_slice(), "default")
+}
+
+/// The empty envelope is read without its last line end.
+fn assert_no_last_end(rt: &impl Abort, alloc: Global) -> Result<(), Fail> {
+    let mut input = text_of(alloc, HEADER, &EMPTY, "\n")?;
+    assert_eq!(rt; input.pop(), Some(b'\n'));
+    assert_empty(rt, alloc, input.as_slice(), "default")
 }
 
 /// The empty envelope is read from these lines, each ended by `end`.
@@ -205,20 +235,13 @@ fn assert_lines(
 #[test]
 fn lines_of_any_form(rt: HostRuntime) -> Result<(), Fail> {
     let alloc = rt.alloc();
-    let upper = [
-        "0A303030303030303030303030303030303030303030303030303030303030303030303030303030",
-        "303030303030303030303030303030303030303030303030300A",
-    ];
     let spaced = "$ANSIBLE_VAULT; 1.2 ;AES256; ;x";
     assert_lines(&rt, alloc, HEADER, &EMPTY, "\n")?;
     assert_lines(&rt, alloc, HEADER, &EMPTY, "\r\n")?;
-    assert_lines(&rt, alloc, HEADER, &upper, "\n")?;
+    assert_lines(&rt, alloc, HEADER, &UPPER, "\n")?;
     assert_lines(&rt, alloc, spaced, &EMPTY, "\n")?;
-    let single_digits = single_digits(alloc)?;
-    assert_empty(&rt, alloc, single_digits.as_slice(), "default")?;
-    let mut no_last_end = text_of(alloc, HEADER, &EMPTY, "\n")?;
-    assert_eq!(rt; no_last_end.pop(), Some(b'\n'));
-    assert_empty(&rt, alloc, no_last_end.as_slice(), "default")
+    assert_single_digits(&rt, alloc)?;
+    assert_no_last_end(&rt, alloc)
 }
 
 /// The header line names this label.
@@ -262,10 +285,12 @@ fn length_in_steps(work: &mut [u8], input: &[u8], step: usize) -> Result<usize, 
 fn assert_length(rt: &impl Abort, work: &mut [u8], input: &[u8], expected: Result<usize, TextFault>)
     requires { IsWorkLength (length work.old) }
 {
-    for step in [1, 7, 4_096] {
-        let found = length_in_steps(work, input, step);
-        assert_eq!(rt; found, expected, "in steps of {step}");
-    }
+    let lengths = [
+        length_in_steps(work, input, 1),
+        length_in_steps(work, input, 7),
+        length_in_steps(work, input, 4_096),
+    ];
+    assert_eq!(rt; lengths, [expected; 3]);
 }
 
 #[test]
@@ -345,8 +370,9 @@ fn in_reserved_memory(rt: HostRuntime) -> Result<(), Fail> {
     let input = text_of(alloc, HEADER, &FILLED, "\n")?;
     let whole = read_envelope(alloc, input.as_slice())?;
     assert!(rt; whole.is_ok());
-    for step in [1, 7, 4_096] {
-        assert_read_into_reserved(&rt, alloc, input.as_slice(), step, contents_of(&whole))?;
-    }
+    let (input, expected) = (input.as_slice(), contents_of(&whole));
+    assert_read_into_reserved(&rt, alloc, input, 1, expected)?;
+    assert_read_into_reserved(&rt, alloc, input, 7, expected)?;
+    assert_read_into_reserved(&rt, alloc, input, 4_096, expected)?;
     Ok(())
 }

@@ -1,4 +1,5 @@
 //! Texts in memory that is borrowed and that is reserved.
+use crate::contents::assert_bytes;
 use std::process::Abort;
 use std::test::Fail;
 use vault_text::TextMemory;
@@ -13,22 +14,20 @@ fn put(memory: &mut TextMemory, piece: &[u8]) -> usize {
 
 /// Puts two pieces into memory of ten bytes.
 fn put_pieces(rt: &impl Abort, memory: &mut TextMemory) {
-    assert_eq!(rt; memory.room(), 10);
-    assert_eq!(rt; [put(memory, b"abc"), put(memory, b"defg")], [7, 3]);
+    let rooms = [memory.room(), put(memory, b"abc"), put(memory, b"defg")];
+    assert_eq!(rt; rooms, [10, 7, 3]);
 }
 
 /// The memory holds the two pieces.
 fn assert_text(rt: &impl Abort, memory: TextMemory) {
-    let text: &[u8] = memory.into_bytes();
-    assert_eq!(rt; text, b"abcdefg".as_slice());
+    assert_bytes(rt, memory.into_bytes(), b"abcdefg");
 }
 
 /// The memory holds the two pieces, and two further bytes fit.
 fn assert_text_and_spare(rt: &impl Abort, memory: TextMemory) {
     assert!(rt; memory.room() >= 2);
     let text: &[u8] = memory.into_bytes_and_spare(2);
-    assert_eq!(rt; text.len(), 9);
-    assert!(rt; text.starts_with(b"abcdefg"));
+    assert_eq!(rt; (text.len(), text.starts_with(b"abcdefg")), (9, true));
 }
 
 #[test]
@@ -37,7 +36,7 @@ fn text_in_a_slice(rt: HostRuntime) {
     let mut memory = TextMemory::borrowed(&mut bytes);
     put_pieces(&rt, &mut memory);
     assert_text(&rt, memory);
-    assert_eq!(rt; bytes.as_slice(), b"abcdefg789".as_slice());
+    assert_bytes(&rt, &bytes, b"abcdefg789");
 }
 
 #[test]

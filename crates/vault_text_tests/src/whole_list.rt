@@ -82,13 +82,19 @@ fn read_header(line: &[u8]) -> Result<Label, TextFault> {
     if !line.is_ascii() {
         return Err(TextFault::BadHeader);
     }
+    check_fields(version, cipher)?;
+    Ok(label)
+}
+
+/// Refuses another version, and another cipher.
+fn check_fields(version: &[u8], cipher: &[u8]) -> Result<(), TextFault> {
     if version != b"1.1".as_slice() && version != b"1.2".as_slice() {
         return Err(TextFault::BadVersion);
     }
     if cipher != b"AES256".as_slice() {
         return Err(TextFault::BadCipher);
     }
-    Ok(label)
+    Ok(())
 }
 
 /// The label of this field, `default` where it is empty.
@@ -99,18 +105,23 @@ fn label_of(field: &[u8]) -> Option<Label> {
     Label::new(str::from_utf8(field).ok()?).ok()
 }
 
+/// The inner text that the lines spell; None where they are no hexadecimal text.
+fn inner_text(alloc: Global, text: &[u8]) -> Result<Option<Vec<u8>>, AllocError> {
+    let digits: Vec<u8> = text
+        .iter()
+        .copied()
+        .filter(|byte| !is_line_end(*byte))
+        .collect(alloc)?;
+    unhex(alloc, digits.as_slice())
+}
+
 /// Reads what follows the header line.
 fn read_body(
     alloc: Global,
     label: Label,
     text: &[u8],
 ) -> Result<Result<OwnedPayload, TextFault>, AllocError> {
-    let digits: Vec<u8> = text
-        .iter()
-        .copied()
-        .filter(|byte| !is_line_end(*byte))
-        .collect(alloc)?;
-    let Some(inner) = unhex(alloc, digits.as_slice())? else {
+    let Some(inner) = inner_text(alloc, text)? else {
         return Ok(Err(TextFault::BadHex));
     };
     let Some(payload) = payload_of(alloc, label, inner.as_slice())? else {

@@ -2,13 +2,13 @@
 //! then `bytes.hex` of that, cut every 80 digits.
 ghost use Rattle.std.specs.Prelude.{◌≤◌};
 
-use crate::contents::Contents;
+use crate::contents::{Contents, assert_bytes};
 use std::alloc::{AllocError, Global};
 use std::process::Abort;
 use std::test::Fail;
 use vault_text::{
-    EnvelopeReader, FailingSink, Label, MemSink, Salt, Sink, SinkFailed, TAG_LENGTH, write_block,
-    write_envelope,
+    EnvelopeReader, FailingSink, Label, MemSink, Salt, Sink, SinkFailed, TAG_LENGTH, TextFault,
+    write_block, write_envelope,
 };
 
 /// Label, length of the salt, length of the ciphertext, and the envelope. The last line is full but
@@ -173,6 +173,23 @@ fn envelope(
     Ok(sink.bytes().to_vec(alloc)?)
 }
 
+/// The envelope is this text, where it is written `step` bytes at a time.
+fn assert_written(
+    rt: &impl Abort,
+    alloc: Global,
+    step: usize,
+    label: &str,
+    salt_length: u16,
+    cipher: &[u8],
+    text: &str,
+) -> Result<(), Fail>
+    requires { 1 ≤ step }
+{
+    let bytes = envelope(alloc, step, label, salt_length, cipher)?;
+    assert_bytes(rt, bytes.as_slice(), text.as_bytes());
+    Ok(())
+}
+
 /// The envelope is this text, in whatever steps it is written.
 fn assert_envelope(
     rt: &impl Abort,
@@ -183,11 +200,10 @@ fn assert_envelope(
     text: &str,
 ) -> Result<(), Fail> {
     let cipher = counting(alloc, length, 11, 5)?;
-    for step in [1, 7, 10_000] {
-        let bytes = envelope(alloc, step, label, salt_length, cipher.as_slice())?;
-        assert_eq!(rt; bytes.as_slice(), text.as_bytes(), "salt of {salt_length}");
-    }
-    Ok(())
+    let cipher = cipher.as_slice();
+    assert_written(rt, alloc, 1, label, salt_length, cipher, text)?;
+    assert_written(rt, alloc, 7, label, salt_length, cipher, text)?;
+    assert_written(rt, alloc, 10_000, label, salt_length, cipher, text)
 }
 
 #[test]
@@ -195,6 +211,20 @@ fn envelopes_are_those_of_another_implementation(rt: HostRuntime) -> Result<(), 
     for (label, salt_length, length, text) in ENVELOPES {
         assert_envelope(&rt, rt.alloc(), label, salt_length, length, text)?;
     }
+    Ok(())
+}
+
+/// Reading the envelope gives these contents.
+fn assert_contents(
+    rt: &impl Abort,
+    envelope: &[u8],
+    expected: Contents<'_>,
+) -> Result<(), TextFault> {
+    let mut work = [0; WORK_LENGTH];
+    let mut reader = EnvelopeReader::new(&mut work);
+    reader.feed(envelope);
+    let payload = reader.finish()?;
+    assert_eq!(rt; Contents::of(&payload), expected);
     Ok(())
 }
 
@@ -209,17 +239,13 @@ fn assert_reads_back(
     let salt = salt_of(alloc, salt_length)?;
     let cipher = counting(alloc, length, 11, 5)?;
     let bytes = envelope(alloc, 4_096, label, salt_length, cipher.as_slice())?;
-    let mut work = [0; WORK_LENGTH];
-    let mut reader = EnvelopeReader::new(&mut work);
-    reader.feed(bytes.as_slice());
-    let payload = reader.finish()?;
     let expected = Contents {
         label,
         salt: salt.as_bytes(),
         tag: &tag(),
         cipher: cipher.as_slice(),
     };
-    assert_eq!(rt; Contents::of(&payload), expected);
+    assert_contents(rt, bytes.as_slice(), expected)?;
     Ok(())
 }
 
@@ -238,31 +264,40 @@ fn envelopes_read_back(rt: HostRuntime) -> Result<(), Fail> {
 fn block(
     alloc: Global,
     name: Option<&str>,
+    label: &Label,
+    salt: &Salt,
+    cipher: &[u8],
+) -> Result<Vec<u8>, Fail> {
+    let mut sink = MemSink::new(alloc, 4_096);
+    sink.begin()?;
+    write_block(&mut sink, name, label, salt, &tag(), cipher)?;
+    Ok(sink.bytes().to_vec(alloc)?)
+}
+
+/// A block is this text.
+fn assert_block(
+    rt: &impl Abort,
+    alloc: Global,
+    name: Option<&str>,
     label: &str,
     salt_length: u16,
     length: u16,
-) -> Result<Vec<u8>, Fail> {
+    text: &str,
+) -> Result<(), Fail> {
     let label = Label::new(label)?;
     let salt = salt_of(alloc, salt_length)?;
     let cipher = counting(alloc, length, 11, 5)?;
-    let mut sink = MemSink::new(alloc, 4_096);
-    sink.begin()?;
-    write_block(&mut sink, name, &label, &salt, &tag(), cipher.as_slice())?;
-    Ok(sink.bytes().to_vec(alloc)?)
+    let bytes = block(alloc, name, &label, &salt, cipher.as_slice())?;
+    assert_bytes(rt, bytes.as_slice(), text.as_bytes());
+    Ok(())
 }
 
 #[test]
 fn blocks_are_those_of_another_implementation(rt: HostRuntime) -> Result<(), Fail> {
     let alloc = rt.alloc();
-    let named = block(alloc, Some("db_password"), "dev", 1, 6)?;
-    let unnamed = block(alloc, None, "default", 0, 7)?;
-    let empty_name = block(alloc, Some(""), "default", 0, 7)?;
-    assert_eq!(rt; named.as_slice(), NAMED_BLOCK.as_bytes());
-    assert_eq!(rt;
-        [unnamed.as_slice(), empty_name.as_slice()],
-        [UNNAMED_BLOCK.as_bytes(); 2]
-    );
-    Ok(())
+    assert_block(&rt, alloc, Some("db_password"), "dev", 1, 6, NAMED_BLOCK)?;
+    assert_block(&rt, alloc, None, "default", 0, 7, UNNAMED_BLOCK)?;
+    assert_block(&rt, alloc, Some(""), "default", 0, 7, UNNAMED_BLOCK)
 }
 
 /// A sink that fails after these bytes of the envelope holds them, and writing gives this answer.
@@ -280,9 +315,10 @@ fn assert_holds(
         write_envelope(&mut sink, &Label::default_label(), &salt, &tag(), b"cipher"),
         sink.finish(),
     ];
-    assert_eq!(rt; answers, [answer, Err(SinkFailed)]);
-    assert_eq!(rt; sink.bytes(), taken);
-    assert!(rt; sink.begun());
+    assert_eq!(rt;
+        (answers, sink.bytes(), sink.begun()),
+        ([answer, Err(SinkFailed)], taken, true)
+    );
     Ok(())
 }
 
@@ -300,6 +336,6 @@ fn a_failing_sink_holds_a_prefix(rt: HostRuntime) -> Result<(), Fail> {
 #[test]
 fn a_failing_sink_may_not_begin(rt: HostRuntime) {
     let mut sink = FailingSink::new(rt.alloc(), 1, 0);
-    assert_eq!(rt; sink.begin(), Err(SinkFailed));
-    assert!(rt; !sink.begun());
+    let answer = sink.begin();
+    assert_eq!(rt; (answer, sink.begun()), (Err(SinkFailed), false));
 }
