@@ -364,15 +364,24 @@ fn assert_read_into_reserved(
     Ok(())
 }
 
+/// Reads the input in steps of three lengths into reserved memory.
+fn assert_read_in_steps(
+    rt: &impl Abort,
+    alloc: Global,
+    input: &[u8],
+    expected: Result<Contents<'_>, TextFault>,
+) -> Result<(), AllocError> {
+    assert_read_into_reserved(rt, alloc, input, 1, expected)?;
+    assert_read_into_reserved(rt, alloc, input, 7, expected)?;
+    assert_read_into_reserved(rt, alloc, input, 4_096, expected)
+}
+
 #[test]
 fn in_reserved_memory(rt: HostRuntime) -> Result<(), Fail> {
     let alloc = rt.alloc();
     let input = text_of(alloc, HEADER, &FILLED, "\n")?;
     let whole = read_envelope(alloc, input.as_slice())?;
     assert!(rt; whole.is_ok());
-    let (input, expected) = (input.as_slice(), contents_of(&whole));
-    assert_read_into_reserved(&rt, alloc, input, 1, expected)?;
-    assert_read_into_reserved(&rt, alloc, input, 7, expected)?;
-    assert_read_into_reserved(&rt, alloc, input, 4_096, expected)?;
+    assert_read_in_steps(&rt, alloc, input.as_slice(), contents_of(&whole))?;
     Ok(())
 }
