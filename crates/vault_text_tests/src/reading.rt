@@ -167,6 +167,19 @@ fn assert_long_header(rt: &impl Abort, alloc: Global) -> Result<(), Fail> {
     assert_read(rt, alloc, input.as_slice(), Err(TextFault::HeaderTooLong))
 }
 
+/// Inputs and their first faults.
+const FAULTS: [(&str, TextFault); 9] = [
+    ("", TextFault::NotVault),
+    ("$ANSIBLE_VAUL", TextFault::NotVault),
+    ("$ANSIBLE_VAULT", TextFault::BadHeader),
+    ("$ANSIBLE_VAULT;1.1;AES256", TextFault::BadPayload),
+    ("$ANSIBLE_VAULT;1.0;AES\n", TextFault::BadVersion),
+    ("$ANSIBLE_VAULT;1.1;AES\n", TextFault::BadCipher),
+    ("$ANSIBLE_VAULT;1.1\n", TextFault::BadHeader),
+    ("$ANSIBLE_VAULT;1.1;AES256\n0a0a", TextFault::BadPayload),
+    ("$ANSIBLE_VAULT;1.1;AES256\nabc", TextFault::BadHex),
+];
+
 /// This is the first fault of the input.
 fn assert_fault(rt: &impl Abort, alloc: Global, input: &str, fault: TextFault) -> Result<(), Fail> {
     assert_read(rt, alloc, input.as_bytes(), Err(fault))
@@ -176,20 +189,10 @@ fn assert_fault(rt: &impl Abort, alloc: Global, input: &str, fault: TextFault) -
 fn first_fault_of_the_header_line(rt: HostRuntime) -> Result<(), Fail> {
     let alloc = rt.alloc();
     assert_long_header(&rt, alloc)?;
-    assert_fault(&rt, alloc, "", TextFault::NotVault)?;
-    assert_fault(&rt, alloc, "$ANSIBLE_VAUL", TextFault::NotVault)?;
-    assert_fault(&rt, alloc, "$ANSIBLE_VAULT", TextFault::BadHeader)?;
-    let no_payload = "$ANSIBLE_VAULT;1.1;AES256";
-    assert_fault(&rt, alloc, no_payload, TextFault::BadPayload)?;
-    let version = "$ANSIBLE_VAULT;1.0;AES\n";
-    assert_fault(&rt, alloc, version, TextFault::BadVersion)?;
-    let cipher = "$ANSIBLE_VAULT;1.1;AES\n";
-    assert_fault(&rt, alloc, cipher, TextFault::BadCipher)?;
-    assert_fault(&rt, alloc, "$ANSIBLE_VAULT;1.1\n", TextFault::BadHeader)?;
-    let no_tag = "$ANSIBLE_VAULT;1.1;AES256\n0a0a";
-    assert_fault(&rt, alloc, no_tag, TextFault::BadPayload)?;
-    let odd = "$ANSIBLE_VAULT;1.1;AES256\nabc";
-    assert_fault(&rt, alloc, odd, TextFault::BadHex)
+    for (input, fault) in FAULTS {
+        assert_fault(&rt, alloc, input, fault)?;
+    }
+    Ok(())
 }
 
 /// The empty envelope is read, under this label.
