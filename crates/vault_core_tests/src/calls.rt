@@ -1,8 +1,7 @@
 //! Calls of the library, each with one list of secrets and memory of one size.
-ghost use Rattle.std.specs.Prelude.{◌≡◌, IfOk, vec_len};
 ghost use Rattle.vault_core.specs.Password.{IsPassword};
 
-use std::alloc::{AllocError, Global};
+use std::alloc::Global;
 use std::process::Abort;
 use std::test::Fail;
 use vault_core::{Fault, Form, Ready, Secrets, prepare_decrypt, prepare_encrypt, prepare_rekey};
@@ -27,12 +26,6 @@ impl Answer {
     }
 }
 
-pub fn work(alloc: Global) -> Result<Vec<u8>, AllocError>
-    ensures { IfOk result (λ work. vec_len work ≡ WORK_LENGTH) }
-{
-    vec![in alloc; 0u8; WORK_LENGTH]
-}
-
 fn answer_of(alloc: Global, ready: Ready, meter: &Meter) -> Result<Answer, Fault> {
     let tried = ready.tried();
     let mut sink = MemSink::new(alloc, 4096);
@@ -45,10 +38,10 @@ fn answer_of(alloc: Global, ready: Ready, meter: &Meter) -> Result<Answer, Fault
 }
 
 pub fn decrypt(alloc: Global, envelope: &[u8], secrets: &Secrets) -> Result<Answer, Fault> {
-    let mut work = work(alloc)?;
+    let mut work = [0; WORK_LENGTH];
     let mut meter = Meter::new();
     let mut src = MemSource::new(envelope, 1000);
-    let ready = prepare_decrypt(&mut src, work.as_mut_slice(), secrets, &mut meter)?;
+    let ready = prepare_decrypt(&mut src, &mut work, secrets, &mut meter)?;
     answer_of(alloc, ready, &meter)
 }
 
@@ -85,20 +78,12 @@ pub fn encrypt(
     secrets: &Secrets,
     form: Form,
 ) -> Result<Answer, Fault> {
-    let mut work = work(alloc)?;
+    let mut work = [0; WORK_LENGTH];
     let mut meter = Meter::new();
     let mut src = MemSource::new(plain, 1000);
     let salt = Salt::new(&[0; 32]).unwrap();
     let index = secrets.encrypt_choice(None)?;
-    let ready = prepare_encrypt(
-        &mut src,
-        work.as_mut_slice(),
-        secrets,
-        index,
-        form,
-        &salt,
-        &mut meter,
-    )?;
+    let ready = prepare_encrypt(&mut src, &mut work, secrets, index, form, &salt, &mut meter)?;
     answer_of(alloc, ready, &meter)
 }
 
@@ -110,18 +95,12 @@ pub fn rekey(
     new: &Label,
     password: &[u8],
 ) -> Result<Answer, Fault> {
-    let mut work = work(alloc)?;
+    let mut work = [0; WORK_LENGTH];
     let mut meter = Meter::new();
     let mut src = MemSource::new(envelope, 1000);
     let salt = Salt::new(&[1; 32]).unwrap();
     let ready = prepare_rekey(
-        &mut src,
-        work.as_mut_slice(),
-        secrets,
-        new,
-        password,
-        &salt,
-        &mut meter,
+        &mut src, &mut work, secrets, new, password, &salt, &mut meter,
     )?;
     answer_of(alloc, ready, &meter)
 }

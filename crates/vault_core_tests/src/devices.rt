@@ -1,5 +1,5 @@
 //! Devices that fail.
-use crate::calls::{one_secret, work};
+use crate::calls::{WORK_LENGTH, one_secret};
 use crate::envelopes::sealed;
 use std::alloc::Global;
 use std::io;
@@ -31,10 +31,10 @@ fn assert_write_fails(
     secrets: &Secrets,
     room: usize,
 ) -> Result<(), Fail> {
-    let mut work = work(alloc)?;
+    let mut work = [0; WORK_LENGTH];
     let mut src = MemSource::new(envelope, 1000);
     let mut meter = Meter::new();
-    let ready = prepare_decrypt(&mut src, work.as_mut_slice(), secrets, &mut meter)?;
+    let ready = prepare_decrypt(&mut src, &mut work, secrets, &mut meter)?;
     let mut sink = WriteSink::new(NarrowWriter::new(alloc, room));
     let written = ready.write_to(&mut sink);
     let taken = sink.into_inner().taken.len();
@@ -48,32 +48,48 @@ fn writers_that_fail(rt: HostRuntime) -> Result<(), Fail> {
     let alloc = rt.alloc();
     let secrets = one_secret("a", b"one")?;
     let envelope = sealed(alloc, "a", b"one", &[b'a'; 200])?;
-    for room in [100, 200] {
-        assert_write_fails(&rt, alloc, envelope.as_slice(), &secrets, room)?;
-    }
-    Ok(())
+    assert_write_fails(&rt, alloc, envelope.as_slice(), &secrets, 100)?;
+    assert_write_fails(&rt, alloc, envelope.as_slice(), &secrets, 200)
+}
+
+/// The fault of a call, and how many keys it derived.
+type Refused = (Option<Fault>, u64);
+
+fn decrypt_from(src: &mut ReadSource<Unreadable>, secrets: &Secrets) -> Refused {
+    let mut work = [0; WORK_LENGTH];
+    let mut meter = Meter::new();
+    let fault = prepare_decrypt(src, &mut work, secrets, &mut meter).err();
+    (fault, meter.count())
+}
+
+fn encrypt_from(src: &mut ReadSource<Unreadable>, secrets: &Secrets) -> Result<Refused, Fault> {
+    let mut work = [0; WORK_LENGTH];
+    let mut meter = Meter::new();
+    let index = secrets.encrypt_choice(None)?;
+    let salt = Salt::new(&[0; 32]).unwrap();
+    let form = Form::Envelope;
+    let fault = prepare_encrypt(src, &mut work, secrets, index, form, &salt, &mut meter).err();
+    Ok((fault, meter.count()))
+}
+
+fn rekey_from(src: &mut ReadSource<Unreadable>, secrets: &Secrets) -> Refused {
+    let mut work = [0; WORK_LENGTH];
+    let mut meter = Meter::new();
+    let label = Label::default_label();
+    let salt = Salt::new(&[0; 32]).unwrap();
+    let fault = prepare_rekey(src, &mut work, secrets, &label, b"two", &salt, &mut meter).err();
+    (fault, meter.count())
 }
 
 #[test]
 fn a_reader_that_fails(rt: HostRuntime) -> Result<(), Fail> {
-    let alloc = rt.alloc();
     let secrets = one_secret("a", b"one")?;
-    let mut work = work(alloc)?;
-    let work = work.as_mut_slice();
-    let mut meter = Meter::new();
     let mut src = ReadSource::new(Unreadable);
-    let salt = Salt::new(&[0; 32]).unwrap();
-    let label = Label::default_label();
-    let index = secrets.encrypt_choice(None)?;
-    let form = Form::Envelope;
-    let unreadable = Some(Fault::Read(Role::Input));
-
-    let decrypted = prepare_decrypt(&mut src, work, &secrets, &mut meter).err();
-    assert_eq!(rt; decrypted, unreadable);
-    let encrypted = prepare_encrypt(&mut src, work, &secrets, index, form, &salt, &mut meter).err();
-    assert_eq!(rt; encrypted, unreadable);
-    let rekeyed = prepare_rekey(&mut src, work, &secrets, &label, b"two", &salt, &mut meter).err();
-    assert_eq!(rt; rekeyed, unreadable);
-    assert_eq!(rt; meter.count(), 0);
+    let refused = [
+        decrypt_from(&mut src, &secrets),
+        encrypt_from(&mut src, &secrets)?,
+        rekey_from(&mut src, &secrets),
+    ];
+    assert_eq!(rt; refused, [(Some(Fault::Read(Role::Input)), 0); 3]);
     Ok(())
 }

@@ -1,5 +1,6 @@
 //! A vault that ends at each of its bytes, or is changed at each of them.
 use std::alloc::Global;
+use std::process::Abort;
 use std::test::Fail;
 use vault_core::{Fault, Secrets, password_of, prepare_decrypt};
 use vault_kdf::Meter;
@@ -51,13 +52,24 @@ fn fault_of_prefix(prefix: &[u8]) -> Option<Fault> {
     }
 }
 
+/// Decrypting these bytes, the ones of this number, has this fault.
+fn assert_fault(
+    rt: &impl Abort,
+    number: usize,
+    input: &[u8],
+    fault: Option<Fault>,
+) -> Result<(), Fail> {
+    assert_eq!(rt; (number, fault_of(input)?), (number, fault));
+    Ok(())
+}
+
 #[test]
 fn refuses_each_prefix(rt: HostRuntime) -> Result<(), Fail> {
     let vault = vault_of_nothing(rt.alloc())?;
     assert_eq!(rt; vault.len(), 355);
     for length in 0..=vault.len() {
         let prefix = &vault[..length];
-        assert_eq!(rt; fault_of(prefix)?, fault_of_prefix(prefix), "{length}");
+        assert_fault(&rt, length, prefix, fault_of_prefix(prefix))?;
     }
     Ok(())
 }
@@ -106,17 +118,21 @@ fn fault_of_changed(changed: &[u8], index: usize) -> Fault {
     fault_of_digit(digit / 2, is_first, byte(index), byte(other))
 }
 
+/// The vault is refused where the byte at this index has its lowest bit changed.
+fn assert_flipped(rt: &impl Abort, vault: &Vec<u8>, index: usize) -> Result<(), Fail> {
+    let mut changed = vault.clone()?;
+    assert!(rt; index < changed.len());
+    changed[index] ^= 1;
+    let fault = fault_of_changed(changed.as_slice(), index);
+    assert_fault(rt, index, changed.as_slice(), Some(fault))
+}
+
 #[test]
 fn refuses_each_flipped_bit(rt: HostRuntime) -> Result<(), Fail> {
-    let alloc = rt.alloc();
-    let vault = vault_of_nothing(alloc)?;
+    let vault = vault_of_nothing(rt.alloc())?;
     assert_eq!(rt; fault_of(vault.as_slice())?, None);
     for index in 0..vault.len() {
-        let mut changed = vault.clone()?;
-        assert!(rt; index < changed.len(), "{index}");
-        changed[index] ^= 1;
-        let fault = fault_of_changed(changed.as_slice(), index);
-        assert_eq!(rt; fault_of(changed.as_slice())?, Some(fault), "{index}");
+        assert_flipped(&rt, &vault, index)?;
     }
     Ok(())
 }
@@ -128,18 +144,22 @@ fn fault_of_salt(alloc: Global, length: usize) -> Result<Option<Fault>, Fail> {
     fault_of(vault.as_slice())
 }
 
+/// The fault of a vault with a third line feed, at the end of its inner text.
+fn fault_of_line_feed(alloc: Global) -> Result<Option<Fault>, Fail> {
+    let mut vault = Vec::from_slice(alloc, EMPTY_ENVELOPE)?;
+    vault.extend_from_slice(b"0a\n")?;
+    fault_of(vault.as_slice())
+}
+
 #[test]
 fn takes_the_longest_salt(rt: HostRuntime) -> Result<(), Fail> {
     let alloc = rt.alloc();
-    let longest = fault_of_salt(alloc, 256)?;
-    let longer = fault_of_salt(alloc, 257)?;
-    assert_eq!(rt;
-        [longest, longer],
-        [Some(Fault::NoSecretFits), Some(Fault::BadPayload)]
-    );
-    // A third line feed at the end of the inner text.
-    let mut vault = Vec::from_slice(alloc, EMPTY_ENVELOPE)?;
-    vault.extend_from_slice(b"0a\n")?;
-    assert_eq!(rt; fault_of(vault.as_slice())?, Some(Fault::BadPayload));
+    let faults = [
+        fault_of_salt(alloc, 256)?,
+        fault_of_salt(alloc, 257)?,
+        fault_of_line_feed(alloc)?,
+    ];
+    let (fits, payload) = (Some(Fault::NoSecretFits), Some(Fault::BadPayload));
+    assert_eq!(rt; faults, [fits, payload, payload]);
     Ok(())
 }

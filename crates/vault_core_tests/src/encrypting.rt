@@ -17,9 +17,11 @@ fn assert_encrypts(
 ) -> Result<(), Fail> {
     let secrets = one_secret(label, b"one")?;
     let expected = sealed(alloc, label, b"one", plain)?;
-    assert_eq!(rt; expected.len(), length);
     let encrypted = encrypt(alloc, plain, &secrets, Form::Envelope)?;
-    assert_eq!(rt; encrypted.parts(), (expected.as_slice(), 0, 1));
+    assert_eq!(rt;
+        (expected.len(), encrypted.parts()),
+        (length, (expected.as_slice(), 0, 1))
+    );
     assert_decrypts(rt, alloc, encrypted.output.as_slice(), &secrets, plain, 1)
 }
 
@@ -31,33 +33,52 @@ fn another_writer_agrees(rt: HostRuntime) -> Result<(), Fail> {
     assert_encrypts(&rt, alloc, "dev", &[b'a'; 15], 359)
 }
 
+/// A block of this name starts with this text, and has this length.
+fn assert_block(
+    rt: &impl Abort,
+    alloc: Global,
+    name: Option<&str>,
+    start: &[u8],
+    length: usize,
+) -> Result<(), Fault> {
+    let secrets = one_secret("default", b"one")?;
+    let block = encrypt(alloc, b"secret", &secrets, Form::Block(name))?;
+    let output = block.output.as_slice();
+    assert_eq!(rt; (output.starts_with(start), output.len()), (true, length));
+    Ok(())
+}
+
+/// Encrypting the plaintext has this fault.
+fn assert_refused(
+    rt: &impl Abort,
+    alloc: Global,
+    plain: &[u8],
+    form: Form<'_>,
+    fault: Fault,
+) -> Result<(), Fault> {
+    let secrets = one_secret("default", b"one")?;
+    let refused = encrypt(alloc, plain, &secrets, form).err();
+    assert_eq!(rt; refused, Some(fault));
+    Ok(())
+}
+
 #[test]
 fn blocks(rt: HostRuntime) -> Result<(), Fail> {
     let alloc = rt.alloc();
-    let secrets = one_secret("default", b"one")?;
-    let named = encrypt(alloc, b"secret", &secrets, Form::Block(Some("k")))?;
-    assert!(rt;
-        named
-            .output
-            .as_slice()
-            .starts_with(b"k: !vault |\n          $ANSIBLE_VAULT;")
-    );
-    let unnamed = encrypt(alloc, b"secret", &secrets, Form::Block(None))?;
-    assert_eq!(rt; [named.output.len(), unnamed.output.len()], [427, 424]);
-    let fault = encrypt(alloc, b"", &secrets, Form::Block(None)).err();
-    assert_eq!(rt; fault, Some(Fault::EmptyString));
+    let start = b"k: !vault |\n          $ANSIBLE_VAULT;";
+    assert_block(&rt, alloc, Some("k"), start, 427)?;
+    assert_block(&rt, alloc, None, b"!vault |\n", 424)?;
+    assert_refused(&rt, alloc, b"", Form::Block(None), Fault::EmptyString)?;
     Ok(())
 }
 
 #[test]
 fn refused_plaintexts(rt: HostRuntime) -> Result<(), Fail> {
     let alloc = rt.alloc();
-    let secrets = one_secret("default", b"one")?;
+    let form = Form::Envelope;
     let vault = enveloped(alloc, "default", &[0; 32], b"")?;
-    let fault = encrypt(alloc, vault.as_slice(), &secrets, Form::Envelope).err();
-    assert_eq!(rt; fault, Some(Fault::AlreadyVault));
-    let long = vec![in alloc; b'a'; WORK_LENGTH - 15]?;
-    let fault = encrypt(alloc, long.as_slice(), &secrets, Form::Envelope).err();
-    assert_eq!(rt; fault, Some(Fault::TooLong));
+    assert_refused(&rt, alloc, vault.as_slice(), form, Fault::AlreadyVault)?;
+    let long = [b'a'; WORK_LENGTH - 15];
+    assert_refused(&rt, alloc, &long, form, Fault::TooLong)?;
     Ok(())
 }

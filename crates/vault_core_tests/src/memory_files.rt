@@ -1,9 +1,12 @@
 //! Files in memory.
+ghost use Rattle.std.specs.Prelude.{◌≡◌};
+ghost use Rattle.vault_text.specs.declared.sink.Stage.{Stage};
+
 use crate::prefixes::assert_reads;
 use std::process::Abort;
 use std::test::Fail;
 use vault_files::{Access, FileFault, FileSystem, MemFile, MemFiles};
-use vault_text::{Sink, put_all};
+use vault_text::{Sink, SinkFailed, put_all};
 
 #[test]
 fn reads_prefixes(rt: HostRuntime) {
@@ -28,7 +31,19 @@ fn tells_files_that_break_or_are_missing(rt: HostRuntime) {
 
 /// A file of these bytes is at the path, or none.
 fn assert_content(rt: &impl Abort, files: &MemFiles, path: &str, bytes: Option<&[u8]>) {
-    assert_eq!(rt; files.content(path), bytes, "{path}");
+    assert_eq!(rt; (path, files.content(path)), (path, bytes));
+}
+
+/// Writes the output, which is at the path and holds nothing once it is begun.
+fn write_new(rt: &impl Abort, files: &mut MemFiles<'_>, path: &str) -> Result<(), SinkFailed>
+    requires { files.old.output.stage ≡ Stage.Unbegun }
+{
+    files.begin()?;
+    assert_content(rt, files, path, Some(b""));
+    put_all(files, b"new")?;
+    files.finish()?;
+    assert_content(rt, files, path, Some(b"new"));
+    Ok(())
 }
 
 #[test]
@@ -38,11 +53,7 @@ fn keeps_what_is_written(rt: HostRuntime) -> Result<(), Fail> {
     let mut files = MemFiles::new(alloc, &entries);
     files.set_output(String::from_str(alloc, "one")?, Access::Kept);
     assert_content(&rt, &files, "one", Some(b"abc"));
-    files.begin()?;
-    assert_content(&rt, &files, "one", Some(b""));
-    put_all(&mut files, b"new")?;
-    files.finish()?;
-    assert_content(&rt, &files, "one", Some(b"new"));
+    write_new(&rt, &mut files, "one")?;
     assert_content(&rt, &files, "two", Some(b"de"));
     assert_content(&rt, &files, "none", None);
     Ok(())
@@ -71,10 +82,7 @@ fn logs_each_open(rt: HostRuntime) -> Result<(), Fail> {
     assert_reads(&rt, &mut files, "one", &mut buf, Ok(b"abc"));
     assert_reads(&rt, &mut files, "one", &mut buf, Ok(b"abc"));
     files.set_output(String::from_str(alloc, "out")?, Access::Kept);
-    files.begin()?;
-    put_all(&mut files, b"new")?;
-    files.finish()?;
-    assert_content(&rt, &files, "out", Some(b"new"));
+    write_new(&rt, &mut files, "out")?;
     assert!(rt; has_opened(&files, &["none", "one", "one"]));
     Ok(())
 }

@@ -5,6 +5,16 @@ ghost use Rattle.vault_text.specs.declared.sink.Stage.{Stage};
 use std::process::Abort;
 use vault_files::{FileFault, FileSystem, read_prefix};
 
+/// What was found at the path is what was expected.
+fn assert_found(
+    rt: &impl Abort,
+    path: &str,
+    found: Result<&[u8], FileFault>,
+    expected: Result<&[u8], FileFault>,
+) {
+    assert_eq!(rt; (path, found), (path, expected));
+}
+
 /// Reading what the buffer takes of the file gives these bytes, or has this fault.
 pub fn assert_reads<F: FileSystem>(
     rt: &impl Abort,
@@ -17,7 +27,7 @@ pub fn assert_reads<F: FileSystem>(
     ensures { F.opens files.old (path.now ∷ []) files.new }
 {
     match read_prefix(files, path, buffer) {
-        Ok(length) => assert_eq!(rt; Ok(&buffer[..length]), expected, "{path}"),
-        Err(fault) => assert_eq!(rt; Err(fault), expected, "{path}"),
+        Ok(length) => assert_found(rt, path, Ok(&buffer[..length]), expected),
+        Err(fault) => assert_found(rt, path, Err(fault), expected),
     }
 }

@@ -13,11 +13,9 @@ fn a_new_secret_and_a_new_salt(rt: HostRuntime) -> Result<(), Fail> {
     let prod = Label::new("prod")?;
     let envelope = sealed(alloc, "default", b"one", b"")?;
     let rekeyed = rekey(alloc, envelope.as_slice(), &old, &prod, b"two")?;
-    assert_eq!(rt; (rekeyed.tried, rekeyed.derived), (1, 2));
-    let prefix = b"$ANSIBLE_VAULT;1.2;AES256;prod\n303130313031";
-    assert!(rt; rekeyed.output.as_slice().starts_with(prefix));
-
     let vault = rekeyed.output.as_slice();
+    let starts = vault.starts_with(b"$ANSIBLE_VAULT;1.2;AES256;prod\n303130313031");
+    assert_eq!(rt; (rekeyed.tried, rekeyed.derived, starts), (1, 2, true));
     assert_decrypts(&rt, alloc, vault, &new, b"", 1)?;
     assert_refuses(&rt, alloc, vault, &old, Fault::NoSecretFits);
     Ok(())
