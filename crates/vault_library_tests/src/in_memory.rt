@@ -17,18 +17,7 @@ pub fn rekey(
 ) -> Result<Option<Vec<u8>>, AllocError>
     requires { err.old.stage ≡ Stage.Unbegun }
 {
-    let mut words = Vec::new(alloc);
-    for word in [
-        "ansible-vault",
-        "rekey",
-        "--vault-password-file=old",
-        "--new-vault-password-file=new",
-        "--salt-file=salt",
-        "--output=vault",
-        "vault",
-    ] {
-        words.push(String::from_str(alloc, word)?)?;
-    }
+    let words = command_line(alloc)?;
     let entries = [
         MemFile::whole("old", old),
         MemFile::whole("new", new),
@@ -43,4 +32,21 @@ pub fn rekey(
         (Status::Success, Some(rekeyed)) => Ok(Some(Vec::from_slice(alloc, rekeyed)?)),
         _ => Ok(None),
     }
+}
+
+/// The words of the command line.
+fn command_line(alloc: Global) -> Result<Vec<String>, AllocError> {
+    let mut words = Vec::new(alloc);
+    for word in [
+        "ansible-vault",
+        "rekey",
+        "--vault-password-file=old",
+        "--new-vault-password-file=new",
+        "--salt-file=salt",
+        "--output=vault",
+        "vault",
+    ] {
+        words.push(String::from_str(alloc, word)?)?;
+    }
+    Ok(words)
 }
