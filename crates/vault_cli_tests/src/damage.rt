@@ -1,6 +1,6 @@
 //! Envelopes that are damaged.
 use crate::leaving::assert_leaves;
-use std::alloc::Global;
+use std::alloc::{AllocError, Global};
 use std::process::Abort;
 use std::test::Fail;
 use vault_aes::{Key, ctr_apply};
@@ -14,11 +14,32 @@ const DECRYPT: &[&str] = &["decrypt", "--vault-password-file", "one"];
 
 const FIRST: &[&[u8]] = &[b"first\n"];
 
-/// Decrypting these bytes is refused with this text, and the output is not begun.
-fn assert_refused(rt: &impl Abort, alloc: Global, input: &[u8], text: &str) -> Result<(), Fail> {
-    let line = format!(in alloc; "ERROR! {text}\n")?;
+const NOT_HEXADECIMAL: &str = "ERROR! vault body is not hexadecimal\n";
+
+const MALFORMED: &str = "ERROR! vault payload is malformed\n";
+
+const NO_SECRET_FITS: &str = "ERROR! no secret decrypts this vault\n";
+
+const WRONG_PADDING: &str = "ERROR! the padding of the decrypted data is wrong\n";
+
+/// Decrypting these bytes is refused with this line, and the output is not begun.
+fn assert_refused(rt: &impl Abort, alloc: Global, input: &[u8], line: &str) -> Result<(), Fail> {
     let trial = Trial::new(DECRYPT, FIRST, &[]).at_the_limit();
-    assert_leaves(rt, alloc, &trial, input, Left::refused(line.as_str()))
+    assert_leaves(rt, alloc, &trial, input, Left::refused(line))
+}
+
+/// The same where a byte takes the place of one of the vault.
+fn assert_damage_refused(
+    rt: &impl Abort,
+    alloc: Global,
+    vault: &[u8],
+    place: usize,
+    byte: u8,
+    line: &str,
+) -> Result<(), Fail> {
+    let mut damaged = Vec::from_slice(alloc, vault)?;
+    *damaged.get_mut(place).ok_or("the vault has no such place")? = byte;
+    assert_refused(rt, alloc, damaged.as_slice(), line)
 }
 
 /// These bytes as ciphertext under the tests' password and salt, without padding.
@@ -32,84 +53,68 @@ fn enciphered(alloc: Global, bytes: &[u8]) -> Result<Vec<u8>, Fail> {
 #[test]
 fn refuses_digits_that_are_none(rt: HostRuntime) -> Result<(), Fail> {
     let alloc = rt.alloc();
-    let text = "vault body is not hexadecimal";
     let vault = spelled(alloc, "default", SALT, &[0; 32], &[0; 16])?;
+    let vault = vault.as_slice();
     // The body begins after the 26 bytes of the header line.
-    for (place, byte) in [(26, b'g'), (60, b' '), (352, b'z')] {
-        let mut damaged = vault.clone()?;
-        assert!(rt; place < damaged.len(), "{place}");
-        damaged[place] = byte;
-        assert_refused(&rt, alloc, damaged.as_slice(), text)?;
-    }
-    Ok(())
+    assert_damage_refused(&rt, alloc, vault, 26, b'g', NOT_HEXADECIMAL)?;
+    assert_damage_refused(&rt, alloc, vault, 60, b' ', NOT_HEXADECIMAL)?;
+    assert_damage_refused(&rt, alloc, vault, 352, b'z', NOT_HEXADECIMAL)
 }
 
 #[test]
 fn refuses_another_tag(rt: HostRuntime) -> Result<(), Fail> {
     let alloc = rt.alloc();
-    let text = "no secret decrypts this vault";
     let zeros = spelled(alloc, "default", SALT, &[0; 32], &[0; 16])?;
-    assert_refused(&rt, alloc, zeros.as_slice(), text)?;
+    assert_refused(&rt, alloc, zeros.as_slice(), NO_SECRET_FITS)?;
     // The last digit of the tag, which was an `f`.
-    let mut damaged = envelope(alloc, "default", b"first", SALT, b"text")?;
-    assert!(rt; 286 < damaged.len());
-    assert_eq!(rt; damaged[286], b'6');
-    damaged[286] = b'5';
-    assert_refused(&rt, alloc, damaged.as_slice(), text)
+    let vault = envelope(alloc, "default", b"first", SALT, b"text")?;
+    let vault = vault.as_slice();
+    assert_eq!(rt; vault.get(286).copied(), Some(b'6'));
+    assert_damage_refused(&rt, alloc, vault, 286, b'5', NO_SECRET_FITS)
+}
+
+/// A header line of 257 bytes, without its end.
+fn long_header(alloc: Global) -> Result<Vec<u8>, AllocError> {
+    let mut line = Vec::from_slice(alloc, b"$ANSIBLE_VAULT;1.1;AES256;")?;
+    line.extend_from_slice(&[b'x'; 231])?;
+    Ok(line)
 }
 
 #[test]
 fn refuses_a_header_line(rt: HostRuntime) -> Result<(), Fail> {
     let alloc = rt.alloc();
-    let mut long = Vec::from_slice(alloc, b"$ANSIBLE_VAULT;1.1;AES256;")?;
-    long.extend_from_slice(&[b'x'; 231])?;
+    assert_refused(&rt, alloc, b"$ANSIBLE_VAULT;1.1;AES256", MALFORMED)?;
+    let line = "ERROR! vault format version is not supported\n";
+    assert_refused(&rt, alloc, b"$ANSIBLE_VAULT;1.0;AES\n", line)?;
+    let line = "ERROR! vault cipher is not supported\n";
+    assert_refused(&rt, alloc, b"$ANSIBLE_VAULT;1.1;AES\n", line)?;
+    let line = "ERROR! vault header line is malformed\n";
+    assert_refused(&rt, alloc, b"$ANSIBLE_VAULT;1.1\n", line)?;
+    let long = long_header(alloc)?;
     assert_eq!(rt; long.len(), 257);
-    let cases: [(&[u8], &str); 5] = [
-        (b"$ANSIBLE_VAULT;1.1;AES256", "vault payload is malformed"),
-        (
-            b"$ANSIBLE_VAULT;1.0;AES\n",
-            "vault format version is not supported",
-        ),
-        (b"$ANSIBLE_VAULT;1.1;AES\n", "vault cipher is not supported"),
-        (b"$ANSIBLE_VAULT;1.1\n", "vault header line is malformed"),
-        (
-            long.as_slice(),
-            "vault header line is longer than 256 bytes",
-        ),
-    ];
-    for (input, text) in cases {
-        assert_refused(&rt, alloc, input, text)?;
-    }
-    Ok(())
+    let line = "ERROR! vault header line is longer than 256 bytes\n";
+    assert_refused(&rt, alloc, long.as_slice(), line)
 }
 
 #[test]
 fn refuses_a_short_body(rt: HostRuntime) -> Result<(), Fail> {
     let alloc = rt.alloc();
-    let cases: [(&[u8], &str); 2] = [
-        (
-            b"$ANSIBLE_VAULT;1.1;AES256\n0a0a",
-            "vault payload is malformed",
-        ),
-        (
-            b"$ANSIBLE_VAULT;1.1;AES256\nabc",
-            "vault body is not hexadecimal",
-        ),
-    ];
-    for (input, text) in cases {
-        assert_refused(&rt, alloc, input, text)?;
-    }
-    Ok(())
+    assert_refused(&rt, alloc, b"$ANSIBLE_VAULT;1.1;AES256\n0a0a", MALFORMED)?;
+    assert_refused(
+        &rt,
+        alloc,
+        b"$ANSIBLE_VAULT;1.1;AES256\nabc",
+        NOT_HEXADECIMAL,
+    )
 }
 
 // The tag is right over ciphertext that is no whole block, and over wrong last bytes.
 #[test]
 fn refuses_wrong_padding(rt: HostRuntime) -> Result<(), Fail> {
     let alloc = rt.alloc();
-    let text = "the padding of the decrypted data is wrong";
     let cut = tagged(alloc, "default", b"first", SALT, &[0; 15])?;
-    assert_refused(&rt, alloc, cut.as_slice(), text)?;
+    assert_refused(&rt, alloc, cut.as_slice(), WRONG_PADDING)?;
     let cipher = enciphered(alloc, b"fourteen bytes\x03\x02")?;
     let unpadded = tagged(alloc, "default", b"first", SALT, cipher.as_slice())?;
-    assert_refused(&rt, alloc, unpadded.as_slice(), text)
+    assert_refused(&rt, alloc, unpadded.as_slice(), WRONG_PADDING)
 }

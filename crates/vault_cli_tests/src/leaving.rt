@@ -4,7 +4,12 @@ ghost use Rattle.std.specs.Prelude.{◌≤◌};
 use std::alloc::Global;
 use std::process::Abort;
 use std::test::Fail;
-use vault_test_runs::{Left, Trial};
+use vault_test_runs::{Left, Ran, Trial};
+
+/// The run on these words left this.
+pub fn assert_left(rt: &impl Abort, words: &[&str], ran: &Ran, expected: Left<'_>) {
+    assert_eq!(rt; ran.left(), expected, "{words:?}");
+}
 
 /// Runs the trial on these bytes, which come in steps, and asserts what that leaves.
 pub fn assert_leaves_in_steps(

@@ -17,6 +17,8 @@ mod opened_files;
 #[cfg(test)]
 mod password_files;
 #[cfg(test)]
+mod program;
+#[cfg(test)]
 mod rekeying;
 #[cfg(test)]
 mod runs;

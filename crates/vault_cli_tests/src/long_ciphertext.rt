@@ -1,5 +1,5 @@
 //! Ciphertext that is longer by a byte than an envelope may hold.
-ghost use Rattle.std.specs.Prelude.{◌≡◌, ◌<◌, IfOk, length, vec_len};
+ghost use Rattle.std.specs.Prelude.{◌≡◌, ◌<◌, length};
 ghost use Rattle.vault_text.specs.declared.limits.TheConstants.{CIPHERTEXT_LIMIT};
 
 use crate::leaving::assert_leaves_in_steps;
@@ -14,25 +14,33 @@ const DECRYPT: &[&str] = &["decrypt", "--vault-password-file", "one"];
 
 const FIRST: &[&[u8]] = &[b"first\n"];
 
-/// What the last byte of the ciphertext, and the line feed after it, may become. A fault of the
-/// digits, or of the inner text, comes before that of the length.
-const ENDS: [(&[u8], TextFault, &str); 3] = [
-    (
-        b"3g\n",
-        TextFault::BadHex,
-        "ERROR! vault body is not hexadecimal\n",
-    ),
-    (
-        b"67\n",
-        TextFault::BadPayload,
-        "ERROR! vault payload is malformed\n",
-    ),
-    (
-        b"30\n",
-        TextFault::CipherTooLong,
-        "ERROR! vault ciphertext is longer than the limit\n",
-    ),
-];
+/// What the last byte of the ciphertext, and the line feed after it, may become, and how that is
+/// refused. A fault of the digits, or of the inner text, comes before that of the length.
+#[derive(Clone, Copy)]
+struct End<'a> {
+    bytes: &'a [u8],
+    fault: TextFault,
+    /// What is written on standard error.
+    line: &'a str,
+}
+
+const NO_DIGIT: End<'static> = End {
+    bytes: b"3g\n",
+    fault: TextFault::BadHex,
+    line: "ERROR! vault body is not hexadecimal\n",
+};
+
+const NO_INNER_DIGIT: End<'static> = End {
+    bytes: b"67\n",
+    fault: TextFault::BadPayload,
+    line: "ERROR! vault payload is malformed\n",
+};
+
+const ONE_BYTE_MORE: End<'static> = End {
+    bytes: b"30\n",
+    fault: TextFault::CipherTooLong,
+    line: "ERROR! vault ciphertext is longer than the limit\n",
+};
 
 /// Such an envelope, without its last three bytes.
 fn prefix(rt: &impl Abort, alloc: Global) -> Result<Vec<u8>, AllocError> {
@@ -50,24 +58,26 @@ fn ended(vault: &Vec<u8>, end: &[u8]) -> Result<Vec<u8>, AllocError> {
     Ok(whole)
 }
 
+/// The envelope with this end is refused with its line.
+fn assert_refused(
+    rt: &impl Abort,
+    alloc: Global,
+    prefix: &Vec<u8>,
+    end: &End<'_>,
+) -> Result<(), Fail> {
+    let vault = ended(prefix, end.bytes)?;
+    let trial = Trial::new(DECRYPT, FIRST, &[]).at_the_limit();
+    let left = Left::refused(end.line);
+    assert_leaves_in_steps(rt, alloc, &trial, vault.as_slice(), 4_096, left)
+}
+
 #[test]
 fn is_refused(rt: HostRuntime) -> Result<(), Fail> {
     let alloc = rt.alloc();
     let prefix = prefix(&rt, alloc)?;
-    for (end, _, line) in ENDS {
-        let vault = ended(&prefix, end)?;
-        let trial = Trial::new(DECRYPT, FIRST, &[]).at_the_limit();
-        let vault = vault.as_slice();
-        assert_leaves_in_steps(&rt, alloc, &trial, vault, 4_096, Left::refused(line))?;
-    }
-    Ok(())
-}
-
-/// All the memory that the limits ask for.
-fn work_memory(alloc: Global) -> Result<Vec<u8>, AllocError>
-    ensures { IfOk result (λ work. vec_len work ≡ CIPHERTEXT_LIMIT) }
-{
-    vec![in alloc; 0u8; CIPHERTEXT_LIMIT]
+    assert_refused(&rt, alloc, &prefix, &NO_DIGIT)?;
+    assert_refused(&rt, alloc, &prefix, &NO_INNER_DIGIT)?;
+    assert_refused(&rt, alloc, &prefix, &ONE_BYTE_MORE)
 }
 
 /// The fault of reading these bytes in steps, without a request.
@@ -82,18 +92,37 @@ fn fault_of(work: &mut [u8], input: &[u8], step: usize) -> Option<TextFault>
     reader.finish().err()
 }
 
+/// Reading these bytes in steps has this fault.
+fn assert_fault(rt: &impl Abort, work: &mut Vec<u8>, input: &[u8], step: usize, fault: TextFault)
+    requires { 0 < step }
+{
+    assert_eq!(rt; work.len(), CIPHERTEXT_LIMIT);
+    let found = fault_of(work.as_mut_slice(), input, step);
+    assert_eq!(rt; found, Some(fault), "{step}");
+}
+
+/// The reader refuses the envelope with this end, at any step.
+fn assert_refused_by_the_reader(
+    rt: &impl Abort,
+    work: &mut Vec<u8>,
+    prefix: &Vec<u8>,
+    end: &End<'_>,
+) -> Result<(), Fail> {
+    let vault = ended(prefix, end.bytes)?;
+    let vault = vault.as_slice();
+    assert_fault(rt, work, vault, 1, end.fault);
+    assert_fault(rt, work, vault, 7, end.fault);
+    assert_fault(rt, work, vault, 4_096, end.fault);
+    assert_fault(rt, work, vault, usize::MAX, end.fault);
+    Ok(())
+}
+
 #[test]
 fn is_refused_by_the_reader(rt: HostRuntime) -> Result<(), Fail> {
     let alloc = rt.alloc();
     let prefix = prefix(&rt, alloc)?;
-    let mut work = work_memory(alloc)?;
-    for (end, fault, _) in ENDS {
-        let vault = ended(&prefix, end)?;
-        for step in [1, 7, 4_096, usize::MAX] {
-            assert_eq!(rt; work.len(), CIPHERTEXT_LIMIT);
-            let found = fault_of(work.as_mut_slice(), vault.as_slice(), step);
-            assert_eq!(rt; found, Some(fault), "{step}");
-        }
-    }
-    Ok(())
+    let mut work = vec![in alloc; 0u8; CIPHERTEXT_LIMIT]?;
+    assert_refused_by_the_reader(&rt, &mut work, &prefix, &NO_DIGIT)?;
+    assert_refused_by_the_reader(&rt, &mut work, &prefix, &NO_INNER_DIGIT)?;
+    assert_refused_by_the_reader(&rt, &mut work, &prefix, &ONE_BYTE_MORE)
 }

@@ -1,9 +1,9 @@
 //! Which files a run opens, and in which order.
+use crate::program::run_over;
 use std::alloc::Global;
 use std::process::Abort;
 use std::test::Fail;
-use vault_cli::{MemFile, MemFiles, MemSource, Status};
-use vault_test_runs::{Ran, run_program};
+use vault_cli::{MemFile, MemSource, Status};
 
 fn entries() -> [MemFile<'static>; 4] {
     [
@@ -14,26 +14,6 @@ fn entries() -> [MemFile<'static>; 4] {
     ]
 }
 
-/// What a run left, and the paths that it opened, each with a space after it.
-#[derive(Drop)]
-struct Opened {
-    ran: Ran,
-    paths: String,
-}
-
-/// A run over these files.
-fn run_over<'a>(alloc: Global, entries: &'a [MemFile<'a>], words: &[&str]) -> Result<Opened, Fail> {
-    let mut files = MemFiles::new(alloc, entries);
-    let ran = run_program(alloc, &mut files, words, &mut MemSource::new(b"", 1))?;
-    let log = files.log().ok_or("an open was not logged")?;
-    let mut paths = String::new(alloc);
-    for path in log {
-        paths.push_str(path.as_str())?;
-        paths.push_str(" ")?;
-    }
-    Ok(Opened { ran, paths })
-}
-
 /// A run on these words opens these paths and has this status.
 fn assert_opens(
     rt: &impl Abort,
@@ -42,9 +22,10 @@ fn assert_opens(
     paths: &str,
     status: Status,
 ) -> Result<(), Fail> {
-    let opened = run_over(alloc, &entries(), words)?;
-    assert_eq!(rt; opened.ran.status, status, "{words:?}");
-    assert_eq!(rt; opened.paths.as_str(), paths, "{words:?}");
+    let mut src = MemSource::new(b"", 1);
+    let opened = run_over(alloc, &entries(), words, &mut src)?;
+    let found = (opened.paths.as_str(), opened.ran.status);
+    assert_eq!(rt; found, (paths, status), "{words:?}");
     Ok(())
 }
 
@@ -70,46 +51,37 @@ const REKEY: &[&str] = &[
 // Password files in the order of the list, the new one last; then the salt file; then the input.
 #[test]
 fn opens_in_order(rt: HostRuntime) -> Result<(), Fail> {
-    let cases: [(&[&str], &str, Status); 6] = [
-        (ENCRYPT, "f g salt input ", Status::Success),
-        (REKEY, "f g salt input ", Status::Refused),
-        (
-            &["view", "--vault-id=g", "--vault-password-file=f", "input"],
-            "g f input ",
-            Status::Refused,
-        ),
-        (
-            &["encrypt", "--vault-id=f", "--salt=abc"],
-            "f ",
-            Status::Success,
-        ),
-        // Requests that are refused open nothing.
-        (&["encrypt", "--vault-id=f", "input"], "", Status::Refused),
-        (&["rekey", "--vault-id=f"], "", Status::Refused),
-    ];
-    for (words, paths, status) in cases {
-        assert_opens(&rt, rt.alloc(), words, paths, status)?;
-    }
-    Ok(())
+    let alloc = rt.alloc();
+    assert_opens(&rt, alloc, ENCRYPT, "f g salt input ", Status::Success)?;
+    assert_opens(&rt, alloc, REKEY, "f g salt input ", Status::Refused)?;
+    let words = ["view", "--vault-id=g", "--vault-password-file=f", "input"];
+    assert_opens(&rt, alloc, &words, "g f input ", Status::Refused)?;
+    let words = ["encrypt", "--vault-id=f", "--salt=abc"];
+    assert_opens(&rt, alloc, &words, "f ", Status::Success)?;
+    // Requests that are refused open nothing.
+    let words = ["encrypt", "--vault-id=f", "input"];
+    assert_opens(&rt, alloc, &words, "", Status::Refused)?;
+    let words = ["rekey", "--vault-id=f"];
+    assert_opens(&rt, alloc, &words, "", Status::Refused)
+}
+
+/// A run on these words opens these paths, of which the last is missing.
+fn assert_misses(rt: &impl Abort, alloc: Global, words: &[&str], paths: &str) -> Result<(), Fail> {
+    assert_opens(rt, alloc, words, paths, Status::DeviceFailed)
 }
 
 #[test]
 fn opens_nothing_after_a_missing_file(rt: HostRuntime) -> Result<(), Fail> {
-    let cases: [(&[&str], &str); 3] = [
-        (
-            &[
-                "encrypt",
-                "--vault-id=none",
-                "--vault-id=f",
-                "--salt-file=salt",
-            ],
-            "none ",
-        ),
-        (&["encrypt", "--vault-id=f", "--salt-file=none"], "f none "),
-        (&["view", "--vault-id=f", "none"], "f none "),
+    let alloc = rt.alloc();
+    let words = [
+        "encrypt",
+        "--vault-id=none",
+        "--vault-id=f",
+        "--salt-file=salt",
     ];
-    for (words, paths) in cases {
-        assert_opens(&rt, rt.alloc(), words, paths, Status::DeviceFailed)?;
-    }
-    Ok(())
+    assert_misses(&rt, alloc, &words, "none ")?;
+    let words = ["encrypt", "--vault-id=f", "--salt-file=none"];
+    assert_misses(&rt, alloc, &words, "f none ")?;
+    let words = ["view", "--vault-id=f", "none"];
+    assert_misses(&rt, alloc, &words, "f none ")
 }

@@ -1,14 +1,15 @@
 //! Password files of whole runs of the program.
+use crate::program::assert_program_reads;
 use std::alloc::Global;
 use std::process::Abort;
 use std::test::Fail;
-use vault_cli::{MemFile, MemFiles, ReadSource, Status};
+use vault_cli::{MemFile, Status};
 use vault_test_data::{CountingReader, EMPTY_ENVELOPE};
-use vault_test_runs::{Left, run_program};
+use vault_test_runs::Left;
 
 /// The program, run on these words over these files, leaves this. It reads nothing of its input,
 /// which is so many line feeds.
-fn assert_program_leaves<'a>(
+fn assert_unread<'a>(
     rt: &impl Abort,
     alloc: Global,
     files: &'a [MemFile<'a>],
@@ -17,11 +18,7 @@ fn assert_program_leaves<'a>(
     left: Left<'_>,
 ) -> Result<(), Fail> {
     let mut stdin = CountingReader::with_line_feeds(b"", length, 65_536);
-    let mut files = MemFiles::new(alloc, files);
-    let ran = run_program(alloc, &mut files, words, &mut ReadSource::new(&mut stdin))?;
-    assert_eq!(rt; ran.left(), left, "{words:?}");
-    assert_eq!(rt; stdin.given, 0, "{words:?}");
-    Ok(())
+    assert_program_reads(rt, alloc, files, words, &mut stdin, 0, left)
 }
 
 fn files() -> [MemFile<'static>; 6] {
@@ -35,52 +32,40 @@ fn files() -> [MemFile<'static>; 6] {
     ]
 }
 
-/// Paths of password files, with the status and the message of each.
-const REFUSED: [(&str, Status, &str); 6] = [
-    (
-        "missing",
-        Status::DeviceFailed,
-        "ERROR! a password file cannot be opened\n",
-    ),
-    (
-        "folder",
-        Status::DeviceFailed,
-        "ERROR! a password file cannot be read\n",
-    ),
-    ("empty", Status::Refused, "ERROR! a password is empty\n"),
-    (
-        "script",
-        Status::Refused,
-        "ERROR! a password file is a script\n",
-    ),
-    (
-        "vault",
-        Status::Refused,
-        "ERROR! a password file is itself a vault\n",
-    ),
-    (
-        "long",
-        Status::Refused,
-        "ERROR! a password file is longer than 4096 bytes\n",
-    ),
-];
+/// The program refuses this password file after a good one. Its input has no end, and stays unread.
+fn assert_file_refused(
+    rt: &impl Abort,
+    alloc: Global,
+    path: &str,
+    status: Status,
+    line: &str,
+) -> Result<(), Fail> {
+    let words = [
+        "decrypt",
+        "--vault-password-file",
+        "good",
+        "--vault-password-file",
+        path,
+    ];
+    let left = Left::failure(status, line);
+    assert_unread(rt, alloc, &files(), &words, usize::MAX, left)
+}
 
-// The input has no end: a password file that is refused leaves it unread.
 #[test]
 fn refuses_before_the_input_is_read(rt: HostRuntime) -> Result<(), Fail> {
-    let files = files();
-    for (path, status, line) in REFUSED {
-        let words = [
-            "decrypt",
-            "--vault-password-file",
-            "good",
-            "--vault-password-file",
-            path,
-        ];
-        let left = Left::failure(status, line);
-        assert_program_leaves(&rt, rt.alloc(), &files, &words, usize::MAX, left)?;
-    }
-    Ok(())
+    let alloc = rt.alloc();
+    let line = "ERROR! a password file cannot be opened\n";
+    assert_file_refused(&rt, alloc, "missing", Status::DeviceFailed, line)?;
+    let line = "ERROR! a password file cannot be read\n";
+    assert_file_refused(&rt, alloc, "folder", Status::DeviceFailed, line)?;
+    let line = "ERROR! a password is empty\n";
+    assert_file_refused(&rt, alloc, "empty", Status::Refused, line)?;
+    let line = "ERROR! a password file is a script\n";
+    assert_file_refused(&rt, alloc, "script", Status::Refused, line)?;
+    let line = "ERROR! a password file is itself a vault\n";
+    assert_file_refused(&rt, alloc, "vault", Status::Refused, line)?;
+    let line = "ERROR! a password file is longer than 4096 bytes\n";
+    assert_file_refused(&rt, alloc, "long", Status::Refused, line)
 }
 
 // Behind the bytes that are asked for the file cannot be read.
@@ -89,7 +74,7 @@ fn asks_for_no_more_than_is_taken(rt: HostRuntime) -> Result<(), Fail> {
     let files = [MemFile::broken("endless", &[b'a'; 4_097])];
     let words = ["view", "--vault-id", "endless"];
     let left = Left::refused("ERROR! a password file is longer than 4096 bytes\n");
-    assert_program_leaves(&rt, rt.alloc(), &files, &words, usize::MAX, left)
+    assert_unread(&rt, rt.alloc(), &files, &words, usize::MAX, left)
 }
 
 #[test]
@@ -97,7 +82,7 @@ fn opens_all_before_one_is_refused(rt: HostRuntime) -> Result<(), Fail> {
     let words = ["view", "--vault-id", "empty", "--vault-id", "missing"];
     let line = "ERROR! a password file cannot be opened\n";
     let left = Left::failure(Status::DeviceFailed, line);
-    assert_program_leaves(&rt, rt.alloc(), &files(), &words, usize::MAX, left)
+    assert_unread(&rt, rt.alloc(), &files(), &words, usize::MAX, left)
 }
 
 // The input is empty, which only a run over a password finds out.
@@ -106,5 +91,5 @@ fn takes_the_longest_password(rt: HostRuntime) -> Result<(), Fail> {
     let files = [MemFile::whole("longest", &[b'a'; 4_096])];
     let words = ["view", "--vault-id", "longest"];
     let left = Left::refused("ERROR! input is not vault encrypted data\n");
-    assert_program_leaves(&rt, rt.alloc(), &files, &words, 0, left)
+    assert_unread(&rt, rt.alloc(), &files, &words, 0, left)
 }

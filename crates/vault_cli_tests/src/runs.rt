@@ -1,9 +1,14 @@
 //! Runs that give the plaintext.
+ghost use Rattle.std.specs.Prelude.{◌≤◌};
+
 use crate::leaving::assert_leaves;
+use crate::program::{assert_program_leaves, assert_program_reads};
+use std::alloc::Global;
+use std::process::Abort;
 use std::test::Fail;
-use vault_cli::{MemFile, MemFiles, MemSink, MemSource, ReadSource, Status};
+use vault_cli::{MemFile, MemSink, MemSource, Status};
 use vault_test_data::{CountingReader, EMPTY_ENVELOPE, envelope};
-use vault_test_runs::{Left, Trial, run_program};
+use vault_test_runs::{Left, Trial};
 
 const DECRYPT: &[&str] = &["decrypt", "--vault-password-file", "one"];
 
@@ -14,35 +19,35 @@ fn files() -> [MemFile<'static>; 2] {
     ]
 }
 
+/// The program, run on these words, reads the whole vault in steps and shows this plaintext.
+fn assert_shows(
+    rt: &impl Abort,
+    alloc: Global,
+    words: &[&str],
+    vault: &[u8],
+    step: usize,
+    plaintext: &[u8],
+) -> Result<(), Fail> {
+    let mut stdin = CountingReader::new(vault, step);
+    let left = Left::success(plaintext);
+    assert_program_reads(rt, alloc, &files(), words, &mut stdin, vault.len(), left)
+}
+
 #[test]
 fn shows_plaintext(rt: HostRuntime) -> Result<(), Fail> {
     let alloc = rt.alloc();
     let plaintext = b"key: value\n".as_slice();
     let vault = envelope(alloc, "dev", b"second", &[7; 32], plaintext)?;
-    let cases: [(&[&str], usize); 2] = [
-        (
-            &["view", "--vault-id", "prod@one", "--vault-id", "dev@two"],
-            65_536,
-        ),
-        (
-            &[
-                "decrypt",
-                "--vault-password-file",
-                "one",
-                "--vault-password-file=two",
-            ],
-            1,
-        ),
+    let vault = vault.as_slice();
+    let words = ["view", "--vault-id", "prod@one", "--vault-id", "dev@two"];
+    assert_shows(&rt, alloc, &words, vault, 65_536, plaintext)?;
+    let words = [
+        "decrypt",
+        "--vault-password-file",
+        "one",
+        "--vault-password-file=two",
     ];
-    for (words, step) in cases {
-        let mut stdin = CountingReader::new(vault.as_slice(), step);
-        let files = files();
-        let mut files = MemFiles::new(alloc, &files);
-        let shown = run_program(alloc, &mut files, words, &mut ReadSource::new(&mut stdin))?;
-        assert_eq!(rt; shown.left(), Left::success(plaintext), "{words:?}");
-        assert_eq!(rt; stdin.given, vault.len(), "{words:?}");
-    }
-    Ok(())
+    assert_shows(&rt, alloc, &words, vault, 1, plaintext)
 }
 
 #[test]
@@ -50,15 +55,9 @@ fn refuses_another_password(rt: HostRuntime) -> Result<(), Fail> {
     let alloc = rt.alloc();
     let vault = envelope(alloc, "dev", b"second", &[7; 32], b"key: value\n")?;
     let words = ["view", "--vault-id", "dev@one"];
-    let files = files();
-    let mut files = MemFiles::new(alloc, &files);
     let mut src = MemSource::new(vault.as_slice(), 4_096);
-    let refused = run_program(alloc, &mut files, &words, &mut src)?;
-    assert_eq!(rt;
-        refused.left(),
-        Left::refused("ERROR! no secret decrypts this vault\n")
-    );
-    Ok(())
+    let refused = Left::refused("ERROR! no secret decrypts this vault\n");
+    assert_program_leaves(&rt, alloc, &files(), &words, &mut src, refused)
 }
 
 #[test]
@@ -71,22 +70,33 @@ fn refuses_without_secrets(rt: HostRuntime) -> Result<(), Fail> {
     assert_leaves(&rt, alloc, &trial, EMPTY_ENVELOPE, no_secret)
 }
 
+/// The vault, in steps, is decrypted to this plaintext, which comes out in steps too.
+fn assert_runs_in_steps(
+    rt: &impl Abort,
+    alloc: Global,
+    vault: &[u8],
+    step: usize,
+    plaintext: &[u8],
+) -> Result<(), Fail>
+    requires { 1 ≤ step }
+{
+    let mut src = MemSource::new(vault, step);
+    let mut out = MemSink::new(alloc, step);
+    let mut err = MemSink::new(alloc, step);
+    let trial = Trial::new(DECRYPT, &[b"first\n"], &[]);
+    let status = trial.run_between(alloc, &mut src, &mut out, &mut err)?;
+    let left = (status, out.bytes(), err.begun());
+    assert_eq!(rt; left, (Status::Success, plaintext, false), "{step}");
+    Ok(())
+}
+
 #[test]
 fn runs_at_any_step(rt: HostRuntime) -> Result<(), Fail> {
     let alloc = rt.alloc();
     let plaintext = [b'p'; 200].as_slice();
     let vault = envelope(alloc, "default", b"first", &[], plaintext)?;
-    for step in [1, 1_000_000] {
-        let mut src = MemSource::new(vault.as_slice(), step);
-        let mut out = MemSink::new(alloc, step);
-        let mut err = MemSink::new(alloc, step);
-        let trial = Trial::new(DECRYPT, &[b"first\n"], &[]);
-        let status = trial.run_between(alloc, &mut src, &mut out, &mut err)?;
-        assert_eq!(rt; status, Status::Success, "{step}");
-        assert_eq!(rt; out.bytes(), plaintext, "{step}");
-        assert!(rt; !err.begun(), "{step}");
-    }
-    Ok(())
+    assert_runs_in_steps(&rt, alloc, vault.as_slice(), 1, plaintext)?;
+    assert_runs_in_steps(&rt, alloc, vault.as_slice(), 1_000_000, plaintext)
 }
 
 #[test]
