@@ -15,6 +15,7 @@ ghost use Rattle.vault_cli.specs.runs.Task.{HasValidIndex};
 
 mod passwords;
 mod report_line;
+mod salt;
 mod status;
 mod task;
 

@@ -1,10 +1,9 @@
-//! Envelopes and blocks, written into a sink.
-ghost use Rattle.std.specs.Prelude.{◌≡◌, ◌≤◌, ◌++◌, [], ℕ, IsErr, OnOk, length, take, unwrap_or};
-ghost use Rattle.std.specs.Option.{option_copied};
-ghost use Rattle.vault_text.specs.Block.{block, first_line};
+//! Envelopes, written into a sink.
+ghost use Rattle.std.specs.Prelude.{◌≡◌, ◌≤◌, ◌++◌, ℕ, IsErr, OnOk, length, take};
 ghost use Rattle.vault_text.specs.Failures.{CountsFailure, IsLast};
 ghost use Rattle.vault_text.specs.Written.{text_of_lines, written, written_lines};
 
+mod block;
 mod body;
 mod header;
 mod lines;
@@ -13,6 +12,7 @@ use crate::label::Label;
 use crate::limits::TAG_LENGTH;
 use crate::salt::Salt;
 use crate::sink::{Sink, SinkFailed, Stage, put_all};
+pub use block::write_block;
 use body::{first_lines, put_ciphertext, split_batch};
 use header::{START_LIMIT, append_head};
 use lines::{INDENTATION_LIMIT, Text, append_ciphertext, append_lines};
@@ -26,9 +26,6 @@ struct Parts<'a> {
     tag: &'a [u8; TAG_LENGTH],
     ciphertext: &'a [u8],
 }
-
-/// What comes before each line of an envelope in a block.
-const BLOCK_INDENTATION: &[u8; INDENTATION_LIMIT] = b"          ";
 
 /// Writes an envelope of format 1.1 for the label `default`, and of format 1.2 for any other. After
 /// a failure the sink has taken a prefix of it.
@@ -56,60 +53,6 @@ pub fn write_envelope<K: Sink>(
         ciphertext: cipher,
     };
     put_lines(sink, &[], &[], &parts)
-}
-
-/// Writes an envelope as a YAML block for the variable `name`, or without a name if it is absent or
-/// empty. After a failure the sink has taken a prefix of it.
-pub fn write_block<K: Sink>(
-    sink: &mut K,
-    name: Option<&str>,
-    label: &Label,
-    salt: &Salt,
-    tag: &[u8; TAG_LENGTH],
-    cipher: &[u8],
-) -> Result<(), SinkFailed>
-    requires { K.stage sink.old ≡ Stage.Begun }
-    ensures takes { let text = block (option_copied name.entry)
-        label.now salt.now tag.now cipher.now in
-        OnOk result (K.takes sink.old text sink.new) }
-    ensures prefix { let text = block (option_copied name.entry)
-        label.now salt.now tag.now cipher.now in
-        (n : ℕ) × K.takes sink.old (take n text) sink.new }
-    ensures stage { K.stage sink.new ≡ Stage.Begun }
-    ensures failed { CountsFailure (K.failures sink.old) (K.failures sink.new) result }
-    ensures full { IsLast (K.failures sink.old) → IsErr result }
-{
-    let name = name_or_empty(name);
-    let start = block_start(name);
-    put_all(sink, name.as_bytes())?;
-    let parts = Parts {
-        label,
-        salt,
-        tag,
-        ciphertext: cipher,
-    };
-    put_lines(sink, start, BLOCK_INDENTATION, &parts)
-}
-
-fn name_or_empty(name: Option<&str>) -> &str
-    ensures { result.now ≡ unwrap_or (option_copied name.entry) [] }
-{
-    match name {
-        Some(name) => name,
-        None => "",
-    }
-}
-
-/// What follows the name on the first line of a block, with the end of the line.
-fn block_start(name: &str) -> &[u8]
-    ensures line { name.now ++ result.now ≡ first_line name.now }
-    ensures short { length result.now ≤ START_LIMIT }
-{
-    if name.is_empty() {
-        b"!vault |\n"
-    } else {
-        b": !vault |\n"
-    }
 }
 
 /// Writes what begins a text, and the lines of an envelope after an indentation. The header line

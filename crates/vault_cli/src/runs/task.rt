@@ -11,11 +11,10 @@ ghost use Rattle.vault_cli.specs.runs.Performed.{PerformsOnInput};
 ghost use Rattle.vault_request.specs.CommandName.{rekeys};
 ghost use Rattle.vault_request.specs.Request.{files_of};
 ghost use Rattle.vault_cli.specs.runs.StoredTask.{task_in};
-ghost use Rattle.vault_cli.specs.runs.Task.{HasValidIndex, encrypt_task, planned};
-ghost use Rattle.vault_cli.specs.runs.Task.{rekey_task, salt_of};
+ghost use Rattle.vault_cli.specs.runs.Task.{HasValidIndex, encrypt_task, planned, rekey_task};
 
-use crate::limits::SEALING_SALT_LENGTH;
 use crate::runs::passwords::{new_secret_in, secrets_of};
+use crate::runs::salt::salt_of;
 use vault_core::{
     Fault, Form, Ready, SealingSecret, Secrets, prepare_decrypt_in, prepare_encrypt_in,
     prepare_rekey_in,
@@ -120,18 +119,6 @@ fn plan_rekey<'p>(
     let new = new_secret_in(request, secret_files)?;
     let salt = salt_of(request, salt)?;
     Ok(Task::Rekey { secrets, new, salt })
-}
-
-/// The salt of a request: its salt text, or the first 32 bytes of the salt.
-fn salt_of(request: &Request, salt: &[u8]) -> Result<Salt, Fault>
-    ensures { result ≡ salt_of request.now.salt_text salt.now }
-{
-    let bytes = match request.salt_text() {
-        Some(text) => text.as_bytes(),
-        None if salt.len() < SEALING_SALT_LENGTH => return Err(Fault::SaltShort),
-        None => &salt[..SEALING_SALT_LENGTH],
-    };
-    Ok(Salt::new(bytes).unwrap())
 }
 
 impl<'p> Task<'p> {

@@ -2,7 +2,7 @@ use Rattle.std.proofs.Common.{◌∙◌, arith, rules}
 use Rattle.std.proofs.lemmas.Grind.{common_steps}
 use Rattle.vault_text.proofs.BlockLemmas.{block-parts}
 use Rattle.vault_text.proofs.SinkLemmas.{prefix_first, takes_second}
-use Rattle.vault_text.proofs.writing.write_block.Goals as goal
+use Rattle.vault_text.proofs.writing.block.write_block.Goals as goal
 
 pub returns-in_err-put_all-clause-prefix : goal.returns-in_err-put_all-clause-prefix
 returns-in_err-put_all-clause-prefix g c =

@@ -1,0 +1,70 @@
+//! Blocks of YAML: an envelope as the value of a variable, written into a sink.
+ghost use Rattle.std.specs.Prelude.{◌≡◌, ◌≤◌, ◌++◌, [], ℕ, IsErr, OnOk, length, take, unwrap_or};
+ghost use Rattle.std.specs.Option.{option_copied};
+ghost use Rattle.vault_text.specs.Block.{block, first_line};
+ghost use Rattle.vault_text.specs.Failures.{CountsFailure, IsLast};
+
+use super::header::START_LIMIT;
+use super::lines::INDENTATION_LIMIT;
+use super::{Parts, put_lines};
+use crate::label::Label;
+use crate::limits::TAG_LENGTH;
+use crate::salt::Salt;
+use crate::sink::{Sink, SinkFailed, Stage, put_all};
+
+/// What comes before each line of an envelope in a block.
+const BLOCK_INDENTATION: &[u8; INDENTATION_LIMIT] = b"          ";
+
+/// Writes an envelope as a YAML block for the variable `name`, or without a name if it is absent or
+/// empty. After a failure the sink has taken a prefix of it.
+pub fn write_block<K: Sink>(
+    sink: &mut K,
+    name: Option<&str>,
+    label: &Label,
+    salt: &Salt,
+    tag: &[u8; TAG_LENGTH],
+    cipher: &[u8],
+) -> Result<(), SinkFailed>
+    requires { K.stage sink.old ≡ Stage.Begun }
+    ensures takes { let text = block (option_copied name.entry)
+        label.now salt.now tag.now cipher.now in
+        OnOk result (K.takes sink.old text sink.new) }
+    ensures prefix { let text = block (option_copied name.entry)
+        label.now salt.now tag.now cipher.now in
+        (n : ℕ) × K.takes sink.old (take n text) sink.new }
+    ensures stage { K.stage sink.new ≡ Stage.Begun }
+    ensures failed { CountsFailure (K.failures sink.old) (K.failures sink.new) result }
+    ensures full { IsLast (K.failures sink.old) → IsErr result }
+{
+    let name = name_or_empty(name);
+    let start = block_start(name);
+    put_all(sink, name.as_bytes())?;
+    let parts = Parts {
+        label,
+        salt,
+        tag,
+        ciphertext: cipher,
+    };
+    put_lines(sink, start, BLOCK_INDENTATION, &parts)
+}
+
+fn name_or_empty(name: Option<&str>) -> &str
+    ensures { result.now ≡ unwrap_or (option_copied name.entry) [] }
+{
+    match name {
+        Some(name) => name,
+        None => "",
+    }
+}
+
+/// What follows the name on the first line of a block, with the end of the line.
+fn block_start(name: &str) -> &[u8]
+    ensures line { name.now ++ result.now ≡ first_line name.now }
+    ensures short { length result.now ≤ START_LIMIT }
+{
+    if name.is_empty() {
+        b"!vault |\n"
+    } else {
+        b": !vault |\n"
+    }
+}
