@@ -1,3 +1,4 @@
+//! The faults of files.
 use thiserror::Error;
 
 /// Why a file gave no bytes.

@@ -1,3 +1,4 @@
+//! Files of a system.
 ghost use Rattle.std.specs.Prelude.{◌≡◌, ℕ, ◌++◌, [], ◌∷◌, Some, MatchOption, take};
 ghost use Rattle.vault_files.specs.System.SystemCall.{Failed};
 ghost use Rattle.vault_files.specs.Host.{beginning, new_host};

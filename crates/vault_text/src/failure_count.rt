@@ -1,3 +1,4 @@
+//! Counting the failures of a source or a sink.
 ghost use Rattle.std.specs.Prelude.{◌≡◌, ◌≤◌, ◌↔◌, IsTrue};
 ghost use Rattle.vault_text.specs.Failures.{HasRisen, IsLast, last_count};
 

@@ -1,3 +1,4 @@
+//! The faults of a text.
 use thiserror::Error;
 
 /// Why bytes are no envelope, in the order in which the faults are looked for.

@@ -1,3 +1,4 @@
+//! Reading a file in memory.
 use std::marker::Model;
 use vault_text::{FailureCount, Source, SourceFailed};
 

@@ -1,3 +1,4 @@
+//! The calls of the operating system. This file is trusted, and not proved.
 use super::System;
 use std::fs::{Files, OpenFile, OpenOptions, Permissions};
 use std::io::{ErrorKind, Write};

@@ -1,3 +1,4 @@
+//! A sink for tests, which fails after some calls.
 ghost use Rattle.std.specs.Prelude.{◌≡◌, ◌-◌, ◌<◌, ◌≤◌, ◌⊎◌, ◌↔◌, [], IsErr, IfOk, OnOk};
 ghost use Rattle.std.specs.Prelude.{OnErr, length, min};
 ghost use Rattle.vault_text.specs.Failures.{CountsFailure, IsLast};

@@ -1,3 +1,4 @@
+//! A sink over `std::io::Write`.
 ghost use Rattle.std.specs.Prelude.{◌≡◌, [], IsErr, OnOk, OnErr};
 ghost use Rattle.vault_text.specs.Failures.{CountsFailure, IsLast};
 

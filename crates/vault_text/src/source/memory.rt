@@ -1,3 +1,4 @@
+//! A source in memory.
 ghost use Rattle.std.specs.Prelude.{◌≡◌, ◌<◌, ◌≤◌, ◌↔◌, IsTrue, IsErr, IfOk, false};
 ghost use Rattle.std.specs.Prelude.{length, min};
 ghost use Rattle.vault_text.specs.Failures.{CountsFailure, IsLast};
