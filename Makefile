@@ -63,7 +63,7 @@ bin/processor: FORCE
 	@echo '$(CPU)' | cmp -s - $@ || echo '$(CPU)' > $@
 
 # The gate, and then the tests, with the programs that the gate builds, but for another processor. They are as old as
-# the gate's beginning: a source that changes meanwhile is newer. So many proofs as there are processors run side by
+# the gate's beginning: a source that changes meanwhile is newer. As many proofs as there are processors run side by
 # side, each in one job: a further job of a proof would load the libraries again.
 check: export RT_JOBS ?= $(shell nproc)
 check: bin/processor
