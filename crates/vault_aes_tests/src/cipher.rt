@@ -5,13 +5,13 @@ use vault_aes::{Key, ctr_apply, laws, pad, unpad};
 
 const ZERO_KEY: [u8; 32] = [0; 32];
 
-// The key of FIPS 197, A.3, and of SP 800-38A, F.5.5.
+/// The key of FIPS 197, A.3, and of SP 800-38A, F.5.5.
 const EXAMPLE_KEY: [u8; 32] = [
     0x60, 0x3d, 0xeb, 0x10, 0x15, 0xca, 0x71, 0xbe, 0x2b, 0x73, 0xae, 0xf0, 0x85, 0x7d, 0x77, 0x81,
     0x1f, 0x35, 0x2c, 0x07, 0x3b, 0x61, 0x08, 0xd7, 0x2d, 0x98, 0x10, 0xa3, 0x09, 0x14, 0xdf, 0xf4,
 ];
 
-// The key 00 01 .. 1f of FIPS 197, C.3.
+/// The key 00 01 .. 1f of FIPS 197, C.3.
 fn counting_key() -> [u8; 32] {
     let mut key = [0; 32];
     for i in 0..32 {
@@ -20,7 +20,7 @@ fn counting_key() -> [u8; 32] {
     key
 }
 
-// FIPS 197, C.3.
+/// FIPS 197, C.3.
 #[test]
 fn enciphers_under_the_counting_key(rt: HostRuntime) {
     let block = 0x00112233445566778899aabbccddeeffu128.to_be_bytes();
@@ -40,7 +40,7 @@ fn enciphers_one_under_the_zero_key(rt: HostRuntime) {
     assert_eq!(rt; Key::new(&ZERO_KEY).block(&1u128.to_be_bytes()), want);
 }
 
-// FIPS 197, A.3.
+/// FIPS 197, A.3.
 #[test]
 fn expands_the_example_key(rt: HostRuntime) {
     let want = [
@@ -57,7 +57,7 @@ fn expands_the_example_key(rt: HostRuntime) {
     assert_eq!(rt; laws::schedule_words(&EXAMPLE_KEY), want);
 }
 
-// SP 800-38A, F.5.5.
+/// SP 800-38A, F.5.5.
 #[test]
 fn applies_the_key_stream(rt: HostRuntime) {
     let iv = 0xf0f1f2f3f4f5f6f7f8f9fafbfcfdfeffu128.to_be_bytes();
@@ -93,7 +93,7 @@ fn joined(blocks: [u128; 4]) -> [u8; 64] {
     bytes
 }
 
-// After the counter 2^128 - 1 come 0 and 1.
+/// After the counter 2^128 - 1 come 0 and 1.
 #[test]
 fn counter_wraps_around(rt: HostRuntime) {
     let mut bytes = [0; 48];
@@ -133,7 +133,7 @@ fn unpads_right_padding_only(rt: HostRuntime) {
     assert_eq!(rt; unpad(&block), Some(13));
 }
 
-// FIPS 197, 5.1.1: S(53) = ed; and 2 · ed = c1, 3 · ed = 2c.
+/// FIPS 197, 5.1.1: S(53) = ed; and 2 · ed = c1, 3 · ed = 2c.
 #[test]
 fn reads_the_tables(rt: HostRuntime) {
     assert_eq!(rt; laws::table_s(0x53), 0xed);

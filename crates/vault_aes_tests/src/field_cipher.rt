@@ -52,7 +52,7 @@ fn last_word(round_key: &[u8; 16]) -> [u8; 4] {
     [round_key[12], round_key[13], round_key[14], round_key[15]]
 }
 
-// The round key whose words come from those of two round keys before and the word `step`.
+/// The round key whose words come from those of two round keys before and the word `step`.
 fn next_round_key(before: &[u8; 16], step: [u8; 4]) -> [u8; 16] {
     let mut round_key = [0; 16];
     for i in 0..16 {
@@ -98,13 +98,13 @@ fn computed_s_box() -> [u8; 256] {
     s_box
 }
 
-// S (FIPS 197, 5.1.1): b + b rotated by 1, 2, 3 and 4 bits + 63, where b is the inverse.
+/// S (FIPS 197, 5.1.1): b + b rotated by 1, 2, 3 and 4 bits + 63, where b is the inverse.
 fn substitute(byte: u8) -> u8 {
     let b = inverse(byte);
     b ^ b.rotate_left(1) ^ b.rotate_left(2) ^ b.rotate_left(3) ^ b.rotate_left(4) ^ 0x63
 }
 
-// The byte whose product with this one is 1; 0 for 0.
+/// The byte whose product with this one is 1; 0 for 0.
 fn inverse(byte: u8) -> u8 {
     for candidate in 1..=255 {
         if product(byte, candidate) == 1 {
@@ -114,7 +114,7 @@ fn inverse(byte: u8) -> u8 {
     0
 }
 
-// The product in the field, by doubling (FIPS 197, 4.2).
+/// The product in the field, by doubling (FIPS 197, 4.2).
 fn product(left: u8, right: u8) -> u8 {
     let mut result = 0;
     let mut multiple = right;

@@ -2,7 +2,7 @@
 use std::io;
 use vault_aes::{Key, ctr_apply};
 
-/// Enciphers so many zero bytes in place, so many times over, and prints the last 16.
+/// Enciphers `length` zero bytes in place, `times` times over, and prints the last 16.
 pub(crate) fn encipher(rt: &HostRuntime, length: usize, times: u32) -> io::Result<()> {
     let key = Key::new(&[0; 32]);
     let mut bytes = vec![in rt.alloc(); 0u8; length]?;

@@ -37,7 +37,7 @@ fn write_once(label: &Label, salt: &Salt, cipher: &[u8]) -> Count {
     sink.into_inner()
 }
 
-/// Writes an envelope of so many bytes of ciphertext, so many times; gives the length of its text.
+/// Writes an envelope of `length` bytes of ciphertext, `times` times; gives the length of its text.
 pub(crate) fn write(alloc: Global, length: usize, times: u32) -> io::Result<u64> {
     let mut cipher = vec![in alloc; 0u8; length]?;
     let mut state: u32 = 1;
@@ -75,7 +75,7 @@ fn work_memory(alloc: Global) -> Result<Vec<u8>, AllocError>
     vec![in alloc; 0u8; CIPHERTEXT_LIMIT]
 }
 
-/// Reads the envelope on standard input so many times; gives the length of its ciphertext.
+/// Reads the envelope on standard input `times` times; gives the length of its ciphertext.
 pub(crate) fn read(rt: &HostRuntime, times: u32) -> io::Result<u64> {
     let mut text = Vec::new(rt.alloc());
     rt.stdin().read_to_end(&mut text)?;

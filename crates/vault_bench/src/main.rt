@@ -1,5 +1,5 @@
 //! The work that the benchmarks time: `vault_bench WORK TIMES` or `vault_bench WORK LENGTH TIMES`
-//! does a part of what a vault takes so many times, and prints what the last time gave.
+//! does a part of what a vault takes, TIMES times, and prints what the last time gave.
 //!
 //! - `counter-mode` enciphers LENGTH zero bytes;
 //! - `read` reads the envelope on standard input, and `write` writes one of LENGTH bytes of

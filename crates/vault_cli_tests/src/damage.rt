@@ -108,7 +108,7 @@ fn refuses_a_short_body(rt: HostRuntime) -> Result<(), Fail> {
     )
 }
 
-// The tag is right over ciphertext that is no whole block, and over wrong last bytes.
+/// The tag is right over ciphertext that is no whole block, and over wrong last bytes.
 #[test]
 fn refuses_wrong_padding(rt: HostRuntime) -> Result<(), Fail> {
     let alloc = rt.alloc();

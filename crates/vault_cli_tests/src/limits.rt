@@ -49,7 +49,7 @@ fn count_lines(text: &[u8]) -> usize {
     text.iter().filter(|byte| **byte == b'\n').count()
 }
 
-// Behind the header line there are 67,109,188 digits.
+/// Behind the header line there are 67,109,188 digits.
 #[test]
 fn take_the_longest_plaintext(rt: HostRuntime) -> Result<(), Fail> {
     let alloc = rt.alloc();
@@ -82,8 +82,8 @@ fn assert_decrypts_in_steps(
     Ok(())
 }
 
-// A plaintext of 15 bytes more than `encrypt` takes fills the longest ciphertext with its padding.
-// The step of the source changes nothing.
+/// A plaintext of 15 bytes more than `encrypt` takes fills the longest ciphertext with its padding.
+/// The step of the source changes nothing.
 #[test]
 fn take_the_longest_envelope(rt: HostRuntime) -> Result<(), Fail> {
     let alloc = rt.alloc();
@@ -96,7 +96,7 @@ fn take_the_longest_envelope(rt: HostRuntime) -> Result<(), Fail> {
     assert_decrypts_in_steps(&rt, alloc, vault, 4_096, plaintext)
 }
 
-// The same vault under another password, label and salt: more than `encrypt` takes is sealed anew.
+/// The same vault under another password, label and salt: more than `encrypt` takes is sealed anew.
 #[test]
 fn rekey_the_longest_envelope(rt: HostRuntime) -> Result<(), Fail> {
     let alloc = rt.alloc();
@@ -109,7 +109,7 @@ fn rekey_the_longest_envelope(rt: HostRuntime) -> Result<(), Fail> {
     assert_leaves_in_steps(&rt, alloc, &trial, vault.as_slice(), 4_096, left)
 }
 
-// A limit of one MiB would end before it.
+/// A limit of one MiB would end before it.
 #[test]
 fn take_more_than_a_mib(rt: HostRuntime) -> Result<(), Fail> {
     let alloc = rt.alloc();
@@ -154,7 +154,7 @@ const ENDLESS_DAMAGED: Long<'static> = Long {
     ..ENDLESS
 };
 
-/// The input is refused with its line, after so many bytes of it.
+/// The input is refused with its line, after `long.read` bytes of it.
 fn assert_refused(rt: &impl Abort, alloc: Global, long: &Long<'_>) -> Result<(), Fail> {
     let length = long.length;
     let mut reader = CountingReader::with_line_feeds(long.prefix, length, 65_536);
@@ -166,8 +166,8 @@ fn assert_refused(rt: &impl Abort, alloc: Global, long: &Long<'_>) -> Result<(),
     Ok(())
 }
 
-// Inputs that are too long by one byte or without end, where damage to the body comes after that;
-// and damaged ones up to the limit, of which the shorter is longer than a limit of one MiB allows.
+/// Inputs that are too long by one byte or without end, where damage to the body comes after that;
+/// and damaged ones up to the limit, of which the shorter is longer than a limit of one MiB allows.
 #[test]
 fn are_refused(rt: HostRuntime) -> Result<(), Fail> {
     let alloc = rt.alloc();
@@ -204,7 +204,7 @@ fn assert_damage_told(rt: &impl Abort, alloc: Global, length: usize) -> Result<(
     assert_refused(rt, alloc, &damaged)
 }
 
-// At the limit itself the input is read, and what it holds is reported.
+/// At the limit itself the input is read, and what it holds is reported.
 #[test]
 fn tell_the_damage_of_the_longest_input(rt: HostRuntime) -> Result<(), Fail> {
     let mut stdin = CountingReader::with_line_feeds(DAMAGED, 100_671_488, 65_536);
@@ -239,7 +239,7 @@ fn assert_label_leaves(
     assert_leaves(rt, alloc, &trial, vault.as_slice(), left)
 }
 
-// With 26 bytes before it, a label of 231 bytes makes a header line of 257.
+/// With 26 bytes before it, a label of 231 bytes makes a header line of 257.
 #[test]
 fn take_the_longest_label(rt: HostRuntime) -> Result<(), Fail> {
     let alloc = rt.alloc();

@@ -48,7 +48,7 @@ const REKEY: &[&str] = &[
     "input",
 ];
 
-// Password files in the order of the list, the new one last; then the salt file; then the input.
+/// Password files in the order of the list, the new one last; then the salt file; then the input.
 #[test]
 fn opens_in_order(rt: HostRuntime) -> Result<(), Fail> {
     let alloc = rt.alloc();

@@ -8,7 +8,7 @@ use vault_test_data::{CountingReader, EMPTY_ENVELOPE};
 use vault_test_runs::Left;
 
 /// The program, run on these words over these files, leaves this. It reads nothing of its input,
-/// which is so many line feeds.
+/// which is `length` line feeds.
 fn assert_unread<'a>(
     rt: &impl Abort,
     alloc: Global,
@@ -68,7 +68,7 @@ fn refuses_before_the_input_is_read(rt: HostRuntime) -> Result<(), Fail> {
     assert_file_refused(&rt, alloc, "long", Status::Refused, line)
 }
 
-// Behind the bytes that are asked for the file cannot be read.
+/// Behind the bytes that are asked for the file cannot be read.
 #[test]
 fn asks_for_no_more_than_is_taken(rt: HostRuntime) -> Result<(), Fail> {
     let files = [MemFile::broken("endless", &[b'a'; 4_097])];
@@ -85,7 +85,7 @@ fn opens_all_before_one_is_refused(rt: HostRuntime) -> Result<(), Fail> {
     assert_unread(&rt, rt.alloc(), &files(), &words, usize::MAX, left)
 }
 
-// The input is empty, which only a run over a password finds out.
+/// The input is empty, which only a run over a password finds out.
 #[test]
 fn takes_the_longest_password(rt: HostRuntime) -> Result<(), Fail> {
     let files = [MemFile::whole("longest", &[b'a'; 4_096])];

@@ -47,7 +47,7 @@ pub fn assert_program_leaves<'a, S: Source>(
     Ok(())
 }
 
-/// The same where it reads so many bytes of its input.
+/// The same where it reads `read` bytes of its input.
 pub fn assert_program_reads<'a>(
     rt: &impl Abort,
     alloc: Global,

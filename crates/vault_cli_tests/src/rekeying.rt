@@ -63,7 +63,7 @@ fn assert_rekeyed(rt: &impl Abort, alloc: Global, vault: &[u8]) -> Result<(), Fa
     assert_answers(rt, alloc, &words, b"two\n", vault, refused)
 }
 
-// The old secret has the label of the vault, so that it is tried where the label is required too.
+/// The old secret has the label of the vault, so that it is tried where the label is required too.
 #[test]
 fn rekeys(rt: HostRuntime) -> Result<(), Fail> {
     let alloc = rt.alloc();

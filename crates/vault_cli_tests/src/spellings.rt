@@ -71,8 +71,8 @@ fn assert_body_decrypts(
     assert_decrypts(rt, alloc, spelled.as_slice())
 }
 
-// As it is written, with carriage returns, without the last line feed, in upper case, with one
-// digit a line, and with spaces in the header line.
+/// As it is written, with carriage returns, without the last line feed, in upper case, with one
+/// digit a line, and with spaces in the header line.
 #[test]
 fn are_decrypted(rt: HostRuntime) -> Result<(), Fail> {
     let alloc = rt.alloc();

@@ -20,7 +20,7 @@ fn the_label_is_a_hint_or_required(rt: HostRuntime) -> Result<(), Fail> {
     Ok(())
 }
 
-// HMAC fills a short key with zero bytes, so the two passwords give the same keys.
+/// HMAC fills a short key with zero bytes, so the two passwords give the same keys.
 #[test]
 fn zero_bytes_at_the_end_of_a_password(rt: HostRuntime) -> Result<(), Fail> {
     let alloc = rt.alloc();

@@ -42,7 +42,7 @@ fn assert_write_fails(
     Ok(())
 }
 
-// Of two writers one is full before the end, and the other then fails to flush.
+/// Of two writers one is full before the end, and the other then fails to flush.
 #[test]
 fn writers_that_fail(rt: HostRuntime) -> Result<(), Fail> {
     let alloc = rt.alloc();

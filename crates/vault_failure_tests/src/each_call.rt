@@ -112,7 +112,7 @@ fn tells_each_write_of_rekey_that_fails(rt: HostRuntime) -> Result<(), Fail> {
 }
 
 /// Writes the envelope of the label "b" and of zeros to a sink that takes one byte a call and
-/// fails after so many. What it took is the beginning of the whole.
+/// fails after `calls` of them. What it took is the beginning of the whole.
 fn assert_writes_prefix(
     rt: &impl Abort,
     alloc: Global,

@@ -19,7 +19,7 @@ const WRITE_FAILED: &[u8] = b"ERROR! the output cannot be written\n";
 
 const NO_VAULT: &str = "ERROR! input is not vault encrypted data\n";
 
-// The source fails at its first call, in the middle, and where its end would come.
+/// The source fails at its first call, in the middle, and where its end would come.
 #[test]
 fn writes_nothing_where_the_source_fails(rt: HostRuntime) -> Result<(), Fail> {
     let alloc = rt.alloc();
@@ -35,7 +35,7 @@ fn vault_of_first(alloc: Global) -> Result<Vec<u8>, AllocError> {
     envelope(alloc, "default", b"first", &[7; 32], PLAINTEXT)
 }
 
-/// The sink takes one byte a call and fails after so many, and has taken this.
+/// The sink takes one byte a call and fails after `calls` of them, and has taken this.
 fn assert_prefix_left(
     rt: &impl Abort,
     alloc: Global,
@@ -48,7 +48,7 @@ fn assert_prefix_left(
     assert_output_leaves(rt, alloc, &trial, vault, calls, expected)
 }
 
-// The sink fails at `begin`, in the middle of the bytes, and at `finish`.
+/// The sink fails at `begin`, in the middle of the bytes, and at `finish`.
 #[test]
 fn leaves_a_prefix_where_the_sink_fails(rt: HostRuntime) -> Result<(), Fail> {
     let alloc = rt.alloc();
@@ -101,7 +101,7 @@ fn assert_writer_fails(
     assert_writes(rt, alloc, words, input, room, expected)
 }
 
-// A writer that is full before the end, and one whose flush fails.
+/// A writer that is full before the end, and one whose flush fails.
 #[test]
 fn reports_a_writer_that_fails(rt: HostRuntime) -> Result<(), Fail> {
     let alloc = rt.alloc();
@@ -133,14 +133,14 @@ fn assert_message_lost(
     assert_writes(rt, alloc, &["view"], b"", room, expected)
 }
 
-// A message is lost where its writer is full, and the status stays.
+/// A message is lost where its writer is full, and the status stays.
 #[test]
 fn keeps_the_status_where_the_writer_of_the_message_fails(rt: HostRuntime) -> Result<(), Fail> {
     assert_message_lost(&rt, rt.alloc(), b"")?;
     assert_message_lost(&rt, rt.alloc(), b"ERROR! input is not ")
 }
 
-/// The sink of the message fails after so many calls, and has taken this.
+/// The sink of the message fails after `calls` calls, and has taken this.
 fn assert_message_fails(
     rt: &impl Abort,
     alloc: Global,
@@ -156,8 +156,8 @@ fn assert_message_fails(
     Ok(())
 }
 
-// The error sink fails at `begin`, at a byte and at `finish`, or, with many calls, not at all.
-// Where it failed it is not called again.
+/// The error sink fails at `begin`, at a byte and at `finish`, or, with many calls, not at all.
+/// Where it failed it is not called again.
 #[test]
 fn keeps_the_status_where_the_message_fails(rt: HostRuntime) -> Result<(), Fail> {
     let alloc = rt.alloc();
@@ -169,7 +169,7 @@ fn keeps_the_status_where_the_message_fails(rt: HostRuntime) -> Result<(), Fail>
     assert_message_fails(&rt, alloc, 100, NO_VAULT)
 }
 
-/// The sink of the message fails at once, that of the output after so many calls.
+/// The sink of the message fails at once, that of the output after `calls` calls.
 fn assert_untold(
     rt: &impl Abort,
     alloc: Global,

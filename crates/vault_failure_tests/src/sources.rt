@@ -7,8 +7,8 @@ use vault_cli::{MemFile, MemFiles, Status};
 use vault_test_runs::{Left, Ran, Trial, run_program};
 use vault_text::FailingSource;
 
-/// Asserts how a run ended on this source of one byte a call, which fails after so many calls, and
-/// that the source was not called again once it failed or reported the end.
+/// Asserts how a run ended on this source of one byte a call, which fails after `calls` of them,
+/// and that the source was not called again once it failed or reported the end.
 fn assert_ended(
     rt: &impl Abort,
     words: &[&str],
@@ -26,7 +26,7 @@ fn assert_ended(
     assert_eq!(rt; src.asked_after, 0, "{words:?} {calls}");
 }
 
-/// The trial, run on a source that gives the input one byte a call and fails after so many calls,
+/// The trial, run on a source that gives the input one byte a call and fails after `calls` calls,
 /// says so, or succeeds where no call fails.
 pub fn assert_read_told(
     rt: &impl Abort,

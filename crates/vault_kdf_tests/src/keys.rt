@@ -5,7 +5,7 @@ use std::process::Abort;
 use std::test::Fail;
 use vault_kdf::{Hmac, Keys, Meter, derive, hmac, pbkdf2};
 
-// The message has this tag, taken whole and one byte at a time.
+/// The message has this tag, taken whole and one byte at a time.
 fn assert_tag(rt: &impl Abort, key: &[u8], message: &[u8], tag: [u8; 32]) {
     assert_eq!(rt; hmac(key, message), tag);
     let mut state = Hmac::new(key);
@@ -15,7 +15,7 @@ fn assert_tag(rt: &impl Abort, key: &[u8], message: &[u8], tag: [u8; 32]) {
     assert_eq!(rt; state.finish(), tag);
 }
 
-// RFC 4231, sections 4.2 to 4.5.
+/// RFC 4231, sections 4.2 to 4.5.
 #[test]
 fn hmac_with_short_keys(rt: HostRuntime) {
     assert_tag(
@@ -63,7 +63,7 @@ fn hmac_with_short_keys(rt: HostRuntime) {
     );
 }
 
-// A key that fills a block, and one that is longer by a byte: computed by python3's `hmac`.
+/// A key that fills a block, and one that is longer by a byte: computed by python3's `hmac`.
 #[test]
 fn hmac_with_keys_of_about_a_block(rt: HostRuntime) {
     assert_tag(
@@ -88,7 +88,7 @@ fn hmac_with_keys_of_about_a_block(rt: HostRuntime) {
     );
 }
 
-// RFC 4231, sections 4.7 and 4.8.
+/// RFC 4231, sections 4.7 and 4.8.
 #[test]
 fn hmac_with_keys_longer_than_a_block(rt: HostRuntime) {
     assert_tag(
@@ -114,7 +114,7 @@ fn hmac_with_keys_longer_than_a_block(rt: HostRuntime) {
     );
 }
 
-// The password and the salt give this key in this many rounds.
+/// The password and the salt give this key in this many rounds.
 fn assert_key<const N: usize>(
     rt: &impl Abort,
     password: &[u8],
@@ -130,7 +130,7 @@ fn assert_key<const N: usize>(
     assert_eq!(rt; out, key);
 }
 
-// The inputs of RFC 6070, whose keys under HMAC-SHA-256 were computed by python3's `hashlib`.
+/// The inputs of RFC 6070, whose keys under HMAC-SHA-256 were computed by python3's `hashlib`.
 #[test]
 fn pbkdf2_of_one_block(rt: HostRuntime) {
     assert_key(
@@ -168,7 +168,7 @@ fn pbkdf2_of_one_block(rt: HostRuntime) {
     );
 }
 
-// RFC 7914, section 11.
+/// RFC 7914, section 11.
 #[test]
 fn pbkdf2_of_two_blocks(rt: HostRuntime) {
     assert_key(
@@ -199,7 +199,7 @@ fn pbkdf2_of_two_blocks(rt: HostRuntime) {
     );
 }
 
-// Computed by python3's `hashlib.pbkdf2_hmac("sha256", b"passwd", b"salt", 2, 160)`.
+/// Computed by python3's `hashlib.pbkdf2_hmac("sha256", b"passwd", b"salt", 2, 160)`.
 #[test]
 fn pbkdf2_of_five_blocks(rt: HostRuntime) {
     assert_key(
@@ -224,7 +224,7 @@ fn pbkdf2_of_five_blocks(rt: HostRuntime) {
     );
 }
 
-// Computed by python3's `hashlib.pbkdf2_hmac("sha256", password, salt, 10000, 80)`.
+/// Computed by python3's `hashlib.pbkdf2_hmac("sha256", password, salt, 10000, 80)`.
 #[test]
 fn keys_of_a_vault(rt: HostRuntime) {
     let mut meter = Meter::new();
@@ -262,7 +262,7 @@ fn keys_of_a_vault(rt: HostRuntime) {
     assert_eq!(rt; meter.count(), 2);
 }
 
-// The three keys are one output of PBKDF2, of 80 bytes, cut after 32 and after 64 of them.
+/// The three keys are one output of PBKDF2, of 80 bytes, cut after 32 and after 64 of them.
 #[test]
 fn keys_are_cut_from_one_output(rt: HostRuntime) -> Result<(), Fail> {
     for (password, salt) in [(b"secret".as_slice(), b"salt".as_slice()), (b"", &[0; 32])] {

@@ -135,7 +135,7 @@ fn assert_fails(
     assert_ends(rt, alloc, &entries, words, wanted)
 }
 
-// A file that is missing, and one that cannot be created.
+/// A file that is missing, and one that cannot be created.
 #[test]
 fn files_that_fail(rt: HostRuntime) -> Result<(), Fail> {
     let alloc = rt.alloc();

@@ -2,7 +2,7 @@
 use std::process::Abort;
 use vault_text::{FailingSource, Source, SourceFailed, fill_up};
 
-/// A source of two bytes a call, which fails after so many calls, fills a buffer with these bytes.
+/// A source of two bytes a call, which fails after `calls` calls, fills a buffer with these bytes.
 /// Filling it up has this answer, and the call after that fails.
 fn assert_fills(rt: &impl Abort, calls: usize, answer: Result<usize, SourceFailed>, taken: &str) {
     let mut buf = [0; 16];

@@ -307,7 +307,7 @@ fn no_envelope_over_the_limit(rt: HostRuntime) -> Result<(), Fail> {
     Ok(())
 }
 
-/// An envelope whose ciphertext is so many zeros.
+/// An envelope whose ciphertext is `length` zeros.
 fn zeros(alloc: Global, length: usize) -> Result<Vec<u8>, AllocError> {
     let mut input = text_of(alloc, HEADER, &EMPTY, "\n")?;
     for _ in 0..length {
