@@ -34,7 +34,7 @@ FORMER_LINKS := $(foreach name,edit rotate check textconv hook,$(PAGES)/ansible-
 # The sums of the files that were installed, so that no other is uninstalled.
 SUMS := $(LIBRARY)/installed.sha256
 
-# What compares outcomes is run by pytest, in so many processes; the others are commands in tests/.
+# pytest, in this number of processes, runs what compares outcomes; the others are commands in tests/.
 PYTEST ?= /usr/bin/python3 -B -X utf8 -m pytest
 PYTEST_PROCESSES ?= 4
 TESTS := failed_allocations_in_memory outcomes fuzz with_valgrind faults failed_allocations lint

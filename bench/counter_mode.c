@@ -42,7 +42,7 @@ static void make_tables(void) {
     }
 }
 
-static uint32_t substituted(uint32_t word) {
+static uint32_t sub_word(uint32_t word) {
     return (uint32_t)s_box[word >> 24] << 24 | (uint32_t)s_box[word >> 16 & 0xff] << 16 |
            (uint32_t)s_box[word >> 8 & 0xff] << 8 | s_box[word & 0xff];
 }
@@ -61,10 +61,10 @@ static void expand(const uint8_t key[32], uint32_t w[WORDS]) {
     for (int i = 8; i < WORDS; i++) {
         uint32_t word = w[i - 1];
         if (i % 8 == 0) {
-            word = substituted(rotated(word, 24)) ^ constant << 24;
+            word = sub_word(rotated(word, 24)) ^ constant << 24;
             constant *= 2;
         } else if (i % 8 == 4) {
-            word = substituted(word);
+            word = sub_word(word);
         }
         w[i] = w[i - 8] ^ word;
     }

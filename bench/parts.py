@@ -26,10 +26,10 @@ ROUNDS = 9
 KIB, MIB = 1 << 10, 1 << 20
 SIZES = {"1 KiB": KIB, "1 MiB": MIB, "16 MiB": 16 * MIB}
 PASSWORD = b"a password"
-# A derivation makes so many compressions.
+# How many compressions a derivation makes.
 DERIVATION = 60_000
 BLOCK = 64
-# What a part is repeated for: some MiB of it, and no more than so many times.
+# What a part is repeated for: some MiB of it, and at most MOST times.
 REPEATED, MOST = 8 * MIB, 2_000
 CRATE = Path(__file__).resolve().parent.parent / "crates" / "vault_bench"
 BENCHMARK = str(CRATE / "out" / "vault_bench")
@@ -43,7 +43,7 @@ class Used(NamedTuple):
 
 
 class Part(NamedTuple):
-    """A program that does a part so many times, as its last word says, with its input."""
+    """A program that does a part as often as its last argument says, with its input."""
 
     words: list[str]
     repeats: int

@@ -185,13 +185,13 @@ def check_write_fault(cases: Cases, name: str, command: str, closed: set[int], p
         words = [cases.program, *named(sample, "given").words, "--output", path]
         done = run_closed(words, closed, folder, **others)
         place = Path(folder) / path
-        front = place.read_bytes() if place.is_file() else b""
+        found = place.read_bytes() if place.is_file() else b""
         others_changed = {other: now for other, now in changed(before, folder).items() if other != path}
     name = f"{command} to {name}, without {sorted(closed)}"
     left = Left(done.returncode, done.stdout, done.stderr, others_changed)
     cases.check(name, left, failed(Fault.NOT_WRITTEN, closed))
-    is_prefix = sample.output.startswith(front) and front != sample.output
-    cases.holds(f"{name}: a prefix", is_prefix, f"got {front!r:.300}")
+    is_prefix = sample.output.startswith(found) and found != sample.output
+    cases.holds(f"{name}: a prefix", is_prefix, f"got {found!r:.300}")
 
 
 def test_write_faults(cases: Cases) -> None:

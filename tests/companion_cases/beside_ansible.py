@@ -102,7 +102,7 @@ def a_repository(cases: Companions) -> None:
         files, names = make_repository(place, ansible)
         listed = ", ".join(name for name in files if name.startswith("vars/"))
         place.put("play.yml", PLAYBOOK.format(files=listed, names=", ".join(names)).encode())
-        cases.check("the repository has so many files", len(files), 34)
+        cases.check("how many files the repository has", len(files), 34)
         before = played(place, str(playbook), 0)
         cases.check("the playbook reads each", len(before), len(names) + 1)
         # Vaults, the whole file, blocks, and the vaults with a block within.

@@ -66,11 +66,11 @@ class Scenario(NamedTuple):
         return Left(status, b"", message, {OUTPUT: (OLD, OLD_MODE)} if self.target is Target.OLD else {})
 
     def written(self, status: int, message: bytes, size: int, mode: int) -> Left:
-        """What is left where the output holds so many bytes, and its file has the mode."""
-        front = self.whole[:size]
+        """What is left where the output holds `size` bytes, and its file has the mode."""
+        prefix = self.whole[:size]
         if self.target is Target.STREAM:
-            return Left(status, front, message, {})
-        return Left(status, b"", message, {OUTPUT: (front, mode)})
+            return Left(status, prefix, message, {})
+        return Left(status, b"", message, {OUTPUT: (prefix, mode)})
 
     def undisturbed(self) -> Left:
         if self.status:

@@ -176,7 +176,7 @@ def refusals(cases: Cases, scenarios: list[Scenario]) -> list[Refusal]:
 
 
 def some_of(every: list[Refusal], seed: int, share: int) -> list[Refusal]:
-    """One in so many, and one of each kind at least, in an order that goes by the seed."""
+    """One in `share`, and one of each kind at least, in an order that goes by the seed."""
     random, kinds, chosen = Random(seed), set(), []
     for refusal in random.sample(every, len(every)):
         if refusal.kind not in kinds or random.randrange(share) == 0:

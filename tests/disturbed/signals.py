@@ -23,7 +23,7 @@ MORE_THAN_A_PIPE = 1 << 21
 
 
 class Moment(NamedTuple):
-    """So many seconds after the run has started, or after its output has begun."""
+    """A time after the run has started, or after its output has begun."""
 
     in_output: bool
     seconds: float
@@ -128,7 +128,7 @@ def signalled(child: subprocess.Popen, number: signal.Signals) -> tuple[int, byt
 
 
 def signals(cases: Cases, scenarios: list[Scenario], seed: int, count: int) -> None:
-    """So many moments of each scenario and for each signal."""
+    """`count` moments of each scenario and for each signal."""
     random, runs = Random(seed), []
     for scenario in scenarios:
         moments = moments_of(cases, scenario, random, count * len(SIGNALS))

@@ -1,4 +1,4 @@
-"""A limit of file size ends a run by SIGXFSZ, which is at its default here; the output is its front. Where the
+"""A limit of file size ends a run by SIGXFSZ, which is at its default here; the output is its prefix. Where the
 signal is ignored the write fails: `hostile.py`."""
 
 import signal

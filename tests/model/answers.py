@@ -83,7 +83,7 @@ class Descriptor:
             os.close(self.descriptor)
 
 
-def front(source: BinaryIO, size: int, unread: Fault) -> bytes:
+def prefix_of(source: BinaryIO, size: int, unread: Fault) -> bytes:
     """What the source gives up to its end, and no more than that many bytes."""
     pieces = []
     while size > 0:
@@ -247,7 +247,7 @@ def result(request: Request, contents: list[bytes], salt: bytes, source: BinaryI
     if request.string is not None:
         given = request.string.encode()
     else:
-        given = front(source, input_limit(request) + 1, Fault.INPUT_NOT_READ)
+        given = prefix_of(source, input_limit(request) + 1, Fault.INPUT_NOT_READ)
     if secret is not None:
         return encrypted(request, secret, sealing_salt, given)
     plaintext = open_payload(secrets, request.label_required, read(given))
@@ -259,11 +259,11 @@ def performed(request: Request, store: Store, stdin: BinaryIO) -> bytes:
     contents = []
     for file in request.files:
         source = opened(store, file.path, Fault.SECRET_NOT_OPENED)
-        contents.append(front(source, SECRET_LIMIT + 1, Fault.SECRET_NOT_READ))
+        contents.append(prefix_of(source, SECRET_LIMIT + 1, Fault.SECRET_NOT_READ))
     salt = b""
     if request.salt_path is not None:
         source = opened(store, request.salt_path, Fault.SALT_NOT_OPENED)
-        salt = front(source, SALT_LENGTH, Fault.SALT_NOT_READ)
+        salt = prefix_of(source, SALT_LENGTH, Fault.SALT_NOT_READ)
     if request.input is not None:
         stdin = opened(store, request.input, Fault.INPUT_NOT_OPENED)
     return result(request, contents, salt, stdin)

@@ -108,7 +108,7 @@ def cut_inside(random: Random, one: bytes, _: bytes) -> bytes:
 
 
 def splice(random: Random, one: bytes, other: bytes) -> bytes:
-    """The front of one and the end of another, cut at one place or at lines of their own."""
+    """The beginning of one and the end of another, cut at one place or at lines of their own."""
     if random.random() < 0.5:
         place = random.randrange(min(len(one), len(other)))
         return one[:place] + other[place:]

@@ -11,7 +11,7 @@ LIMIT_SIZES = [PLAINTEXT_LIMIT - 1, PLAINTEXT_LIMIT, PLAINTEXT_LIMIT + 1, PLAINT
 SALTS = [bytes(32), bytes(range(32)), b"", b"s", b"\n" * 8, bytes(range(64)), bytes(256)]
 WIDTHS = [1, 2, 3, 64, 79, 80, 81, 160, 1_000_000]
 LINE_ENDS = [b"\n", b"\r\n", b"\r", b"\n\n", b"\n\r"]
-# One in so many plaintexts has a size at the limit.
+# One in RARELY plaintexts has a size at the limit.
 RARELY = 800
 
 
