@@ -24,7 +24,7 @@ pub const fn output_failed<'a>(begun: bool, output: &'a [u8]) -> Left<'a> {
     }
 }
 
-/// Runs the trial on these bytes, between sinks that take one byte a call and fail after a few.
+/// Runs the trial on these bytes, between sinks that take one byte a call and fail as `calls` says.
 /// Asserts what that leaves, and that neither sink is called again once it failed. Returns whether
 /// the message was begun.
 pub fn assert_leaves(
