@@ -19,15 +19,15 @@ mixed_column x k = column (λ r c. mul (entry mixing_matrix r k) (s_box x)) 0
 abbrev pub keyed_column : (ℕ → ℕ → ℕ) → ℕ → List ℕ
 keyed_column entry_at key = column (λ r c. bit_xor (entry_at r c) (word_byte key r)) 0
 
--- the column a, b, c, d after S of each byte
-abbrev pub substituted_column : ℕ → ℕ → ℕ → ℕ → List ℕ
-substituted_column a b c d = s_box a ∷ s_box b ∷ s_box c ∷ s_box d ∷ []
+-- SubBytes (5.1.1) of the column a, b, c, d
+abbrev pub sub_column : ℕ → ℕ → ℕ → ℕ → List ℕ
+sub_column a b c d = s_box a ∷ s_box b ∷ s_box c ∷ s_box d ∷ []
 
 -- the column a, b, c, d after a round, from the bytes that ShiftRows brings together
 abbrev pub round_column : ℕ → ℕ → ℕ → ℕ → ℕ → List ℕ
 round_column a b c d key =
-    keyed_column (product_entry mixing_matrix (substituted_column a b c d)) key
+    keyed_column (product_entry mixing_matrix (sub_column a b c d)) key
 
 -- the column a, b, c, d after the last round, which does not mix
 abbrev pub final_column : ℕ → ℕ → ℕ → ℕ → ℕ → List ℕ
-final_column a b c d key = keyed_column (λ r c'. slice_index (substituted_column a b c d) r) key
+final_column a b c d key = keyed_column (λ r c'. slice_index (sub_column a b c d) r) key

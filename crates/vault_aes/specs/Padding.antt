@@ -1,4 +1,4 @@
--- The padding of RFC 5652, section 6.3, for blocks of 16 bytes, put on and taken off again.
+-- PKCS #7 padding (RFC 5652, section 6.3) for blocks of 16 bytes, added and removed.
 use Rattle.std.specs.Prelude.{◌≡◌, ℕ, ◌+◌, ◌-◌, ◌%◌, ◌≤◌, List, ◌++◌, length, replicate, take}
 use Rattle.std.specs.Prelude.{map, find, Option}
 use Rattle.std.specs.List.{range_with_len}

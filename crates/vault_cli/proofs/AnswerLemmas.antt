@@ -1,4 +1,4 @@
--- The outcome of a request by what is prepared, and what follows where its input is asked for.
+-- The answer to a request by what is prepared, and what follows where its input is asked for.
 use Rattle.std.proofs.Common.{◌≡◌, ◌≢◌, ℕ, List, Option, Some, None, Result, Ok, Err, refl, true}
 use Rattle.std.proofs.Common.{false}
 use Rattle.std.specs.Prelude.{unwrap_or, is_some}
@@ -24,7 +24,7 @@ pub ready-text : (limit : ℕ) (task : Task) (string : Option (List ℕ)) (input
 ready-text limit task None input = refl
 ready-text limit task (Some string) input = refl
 
--- an outcome with an output is an answer
+-- an answer with an output comes of something ready
 answered-some : (r : Result Ready Fault) (output : List ℕ) → (answered r).output ≡ Some output
     → (ready : Ready) × (r ≡ Ok ready) × (ready.output ≡ output)
 answered-some (Ok ready) output e = (ready, refl, (cc))

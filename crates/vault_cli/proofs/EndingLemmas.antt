@@ -1,4 +1,4 @@
--- An ending over one output, told of another.
+-- How a run ends over one output, carried over to another.
 use Rattle.std.proofs.Common.{◌≡◌, ℕ, inl, inr, List, [], Option, Some, None, take, ap, ◌∙◌}
 use Rattle.vault_text.specs.declared.sink.Stage.TheVariants.{Unbegun}
 use Rattle.vault_files.specs.declared.access.Access.{Access}
@@ -8,7 +8,7 @@ use Rattle.vault_cli.specs.runs.Ending.{SourceFails, to_sink}
 use Rattle.vault_cli.specs.runs.Answer.{Answer}
 use Rattle.vault_cli.specs.declared.runs.status.Status.{Status}
 
--- what became of the one output tells what became of the other
+-- what became of the one output became of the other, too
 pub record CarriesOver (there here : Output) : Type 0 where
   pub untouched : there.untouched → here.untouched
   pub wrote : (bytes : List ℕ) → there.wrote bytes → here.wrote bytes

@@ -169,7 +169,7 @@ module _ (result : Status) (files : Change StoreState) (log : Option (List (List
           → src.new.left ≡ []
       at-end input given = given.0.end_is_real (λ ended. absurd cc)
 
-      -- the answer to what was given is the answer to all that was there, and so much was taken
+      -- the answer to what was given is the answer to all that was there, and it was taken
       ends-given : (requested : Option ℕ) (answers : List ℕ → Answer) → IsOfPrefix requested answers
           → Ends (OutputAt path) (memory_sink err) result (memory_source src) requested answers
           → EndsInMemory result files out err path (answers src.old.left) × Taken requested src
@@ -197,8 +197,8 @@ module _ (result : Status) (files : Change StoreState) (src : Change MemSourceSt
   abbrev found : Files
   found = files_in (file_at files.old.entries) requested
 
-  -- it ends as the answer to all of its input; where there was memory, so much of that was taken,
-  -- and these paths were opened
+  -- it ends as the answer to all of its input; where it did not run out of memory, what it needed
+  -- of that was taken, and these paths were opened
   pub drives-in_memory : Drives (memory_store files) (memory_source src) (memory_sink out)
       (memory_sink err) result requested (answer_to requested)
       → EndsInMemory result files out err (output_path requested)

@@ -21,15 +21,15 @@ use Rattle.vault_cli.specs.declared.runs.status.Status.TheVariants.{Refused, Suc
 use Rattle.vault_cli.proofs.PlannedLemmas.{keeps-planned}
 use Rattle.vault_cli.proofs.StatusLemmas.{alone-performed}
 
--- a status tells whether a device failed, which has had so many failures, and of no lack of memory
-abbrev pub TellsFailure : Status → ℕ → ℕ → Type 0
-TellsFailure result before after =
+-- the status is DeviceFailed exactly where the count of a device's failures rose, and not OutOfMemory
+abbrev pub IsDeviceStatus : Status → ℕ → ℕ → Type 0
+IsDeviceStatus result before after =
     (result ≡ DeviceFailed → HasRisen before after) × (result ≢ DeviceFailed → after ≡ before)
     × (result ≢ OutOfMemory)
 
-tells-refused : (result : Status) (before after : ℕ) → result ≡ Refused → after ≡ before
-    → TellsFailure result before after × (result ≢ Success)
-tells-refused result before after refused stay =
+IsDeviceStatus-refused : (result : Status) (before after : ℕ) → result ≡ Refused → after ≡ before
+    → IsDeviceStatus result before after × (result ≢ Success)
+IsDeviceStatus-refused result before after refused stay =
     ((λ device. absurd cc, λ none. stay, λ memory. cc), λ succeeds. cc)
 
 module _ {K E : Type 0} (out : SinkCall K) (err : SinkCall E) (result : Status) where
@@ -40,7 +40,7 @@ module _ {K E : Type 0} (out : SinkCall K) (err : SinkCall E) (result : Status) 
 
   -- a device that fails is an output that failed
   pub finished : (ready : Ready) → FinishesBy (Ok ready)
-      → TellsFailure result (out.failures out.old) (out.failures out.new)
+      → IsDeviceStatus result (out.failures out.old) (out.failures out.new)
   finished ready (inl done) = (λ device. absurd cc, λ none. done.unfailed, λ memory. cc)
   finished ready (inr fails) =
       (λ device. fails.failed, λ none. absurd (none fails.status), λ memory. cc)
@@ -127,13 +127,13 @@ module _ {S : Type 0} (src : SourceCall S) (limit : ℕ) (task : Task) where
   -- one that answers a fault refuses alone, or its source failed
   pub performed-refused : (result : Status) (fault : Fault) → result ≡ status_of fault
       → (string : Option (List ℕ)) → Performs src limit task (Err fault) string
-      → TellsFailure result (src.failures src.old) (src.failures src.new) × (result ≢ Success)
+      → IsDeviceStatus result (src.failures src.old) (src.failures src.new) × (result ≢ Success)
   performed-refused result fault status (Some string) (unread, is) =
-      tells-refused result _ _ (status ∙ rw (sym is) at (alone-performed limit task string))
+      IsDeviceStatus-refused result _ _ (status ∙ rw (sym is) at (alone-performed limit task string))
       (ap src.failures unread)
   performed-refused result fault status None (input, given, fits, inl ((unread, risen), short)) =
       let failed = status ∙ ap status_of unread in
       ((λ device. risen, λ none. absurd (none failed), λ memory. cc), λ succeeds. cc)
   performed-refused result fault status None
       (input, given, fits, inr ((other, stay), (whole, is))) =
-      tells-refused result _ _ (status ∙ rw (sym is) at (alone-performed limit task input)) stay
+      IsDeviceStatus-refused result _ _ (status ∙ rw (sym is) at (alone-performed limit task input)) stay

@@ -15,7 +15,7 @@ use Rattle.vault_core.specs.Decryption.{decryption, payload_of}
 use Rattle.vault_core.specs.Encryption.{encryption, is_vault}
 use Rattle.vault_core.specs.Form.{is_block}
 use Rattle.vault_core.specs.Unsealing.{unsealing, plaintext_of}
-use Rattle.vault_core.specs.Rekeying.{rekeying, resealing}
+use Rattle.vault_core.specs.Rekeying.{rekeying, rekeying_of_payload}
 use Rattle.vault_core.specs.Secrets.{SecretList, tried_order}
 use Rattle.vault_cli.specs.runs.Answer.{performed}
 use Rattle.vault_cli.specs.runs.Status.{status_of}
@@ -52,9 +52,9 @@ absent : {A : Type 0} (o : Option A) (fault : Fault) → status_of fault ≡ Ref
 absent (Some x) fault refused = tt
 absent None fault refused = refused
 
-opens : (secrets : SecretList) (payload : Payload) → IsRefusedAlone (unsealing secrets payload)
+unseals : (secrets : SecretList) (payload : Payload) → IsRefusedAlone (unsealing secrets payload)
 unfolding unsealing
-opens secrets payload =
+unseals secrets payload =
     next (λ _. Unit {0}) (λ _. Unit {0}) _ _
     (absent (find (matches payload) (tried_order secrets payload.label)) NoSecretFits refl)
     (λ secret _. next (λ _. Unit {0}) (λ _. Unit {0}) _ _
@@ -67,15 +67,15 @@ reads limit input =
 -- steps 4 and 5
 pub alone-performed : (limit : ℕ) (task : Task) (input : List ℕ)
     → IsRefusedAlone (performed limit task input)
-unfolding encryption decryption rekeying resealing
+unfolding encryption decryption rekeying rekeying_of_payload
 alone-performed limit (Encrypt secrets index form salt) input =
     unless _ (nat_lt limit (length input)) TooLong _ refl
     (unless _ (is_block form && length input == 0) EmptyString _ refl
     (unless _ (is_vault input) AlreadyVault _ refl tt))
 alone-performed limit (Decrypt secrets) input =
     next (λ _. Unit {0}) _ (payload_of limit input) _ (reads limit input)
-    (λ payload _. opens secrets payload)
+    (λ payload _. unseals secrets payload)
 alone-performed limit (Rekey secrets new salt) input =
     next (λ _. Unit {0}) _ (payload_of limit input) _ (reads limit input)
-    (λ payload _. next (λ _. Unit {0}) _ (unsealing secrets payload) _ (opens secrets payload)
-    (λ opened _. unless _ (is_vault opened.output) AlreadyVault _ refl tt))
+    (λ payload _. next (λ _. Unit {0}) _ (unsealing secrets payload) _ (unseals secrets payload)
+    (λ unsealed _. unless _ (is_vault unsealed.output) AlreadyVault _ refl tt))

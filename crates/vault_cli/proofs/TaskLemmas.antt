@@ -34,7 +34,7 @@ performed-too_long limit (Decrypt secrets) input long =
 performed-too_long limit (Rekey secrets new salt) input long =
     rw (lt-ltb (envelope_limit limit) (length input) long)
 
--- a text of which so much was read that no more is taken, or all
+-- a text that was read to its end, or to one byte past the limit
 module _ (limit : ℕ) (task : Task) (ended : Bool) (text prefix left : List ℕ)
     (parts : text ≡ prefix ++ left) (last : IsTrue ended → left ≡ []) where
   pub performed-prefix : IsReadToEndOrPastLimit (task_limit limit task) ended prefix

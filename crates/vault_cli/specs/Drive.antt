@@ -3,7 +3,7 @@ use Rattle.std.specs.Prelude.{◌≡◌, ◌⊎◌, ℕ, List, Option, Some, Non
 use Rattle.vault_files.specs.File.{FileState, Found}
 use Rattle.vault_fault.specs.declared.fault.Fault.{Fault}
 use Rattle.vault_cli.specs.Call.{SinkCall, SourceCall, StoreCall, files_from}
-use Rattle.vault_cli.specs.runs.Ending.{Ends, LacksMemory, to_path, to_sink}
+use Rattle.vault_cli.specs.runs.Ending.{Ends, IsOutOfMemory, to_path, to_sink}
 use Rattle.vault_cli.specs.runs.FileContents.{AtPath, secret_paths}
 use Rattle.vault_cli.specs.runs.Answer.{Answer}
 use Rattle.vault_cli.specs.OpenedPaths.{opened_paths}
@@ -23,8 +23,9 @@ module _ {F R S K E : Type 0} (files : StoreCall F R) (src : SourceCall S) (out 
     (err : SinkCall E) (result : Status)
     (requested : Option (Result Request Fault)) (answers : Files → List ℕ → Answer) where
   -- there was no memory: no file was opened, and the input was left alone
-  abbrev pub RunsOut : Type 0
-  RunsOut = (files.new ≡ files.old) × (src.new ≡ src.old) × LacksMemory (to_sink out) err result
+  abbrev pub RunsOutOfMemory : Type 0
+  RunsOutOfMemory =
+      (files.new ≡ files.old) × (src.new ≡ src.old) × IsOutOfMemory (to_sink out) err result
 
   -- the paths were opened that are opened of these files, and from there on it ended with the
   -- answer to the request, or reported why not
@@ -37,6 +38,6 @@ module _ {F R S K E : Type 0} (files : StoreCall F R) (src : SourceCall S) (out 
 
   -- it ran out of memory, or was driven so over files at the paths of the request
   abbrev pub Drives : Type 0
-  Drives = RunsOut
+  Drives = RunsOutOfMemory
       ⊎ ((found : Files) × AllFound (files.finds files.old) requested found
       × ((opened : F) × IsDriven found opened))

@@ -6,7 +6,7 @@ use Rattle.clap.specs.declared.error.kind.ErrorKind.TheVariants.{DisplayHelp, Di
 use Rattle.clap.specs.declared.error.kind.ErrorKind.TheVariants.{OutOfMemory}
 use Rattle.vault_request.specs.Refusal.{is_control}
 use Rattle.vault_cli.specs.Call.{SinkCall}
-use Rattle.vault_cli.specs.runs.Ending.{Finishes, LacksMemory, to_sink}
+use Rattle.vault_cli.specs.runs.Ending.{Finishes, IsOutOfMemory, to_sink}
 use Rattle.vault_cli.specs.runs.Reports.{Reports}
 use Rattle.vault_cli.specs.declared.runs.status.Status.{Status}
 use Rattle.vault_cli.specs.declared.runs.status.Status.TheVariants.{ParseFault, Success}
@@ -24,10 +24,6 @@ abbrev pub IsMistake : ErrorKind → Type 0
 IsMistake kind = (kind ≢ DisplayHelp) × (kind ≢ DisplayVersion) × (kind ≢ OutOfMemory)
 
 module _ {K E : Type 0} (out : SinkCall K) (err : SinkCall E) (result : Status) where
-  -- there was no memory
-  abbrev pub HasNoMemory : Type 0
-  HasNoMemory = LacksMemory (to_sink out) err result
-
   -- some text, perhaps an empty one, on standard output, or a prefix of it where that failed
   abbrev pub Shows : Type 0
   Shows = (text : List ℕ)
@@ -46,8 +42,9 @@ module _ {K E : Type 0} (out : SinkCall K) (err : SinkCall E) (result : Status) 
 
   -- or there was no memory to say so
   abbrev pub Explains : ErrorKind → Type 0
-  Explains kind = HasNoMemory ⊎ Explained kind
+  Explains kind = IsOutOfMemory (to_sink out) err result ⊎ Explained kind
 
   -- an error of one of these kinds is explained
   abbrev pub ExplainsOneOf : Kinds → Type 0
-  ExplainsOneOf kinds = HasNoMemory ⊎ ((kind : ErrorKind) × IsAmong kind kinds × Explained kind)
+  ExplainsOneOf kinds = IsOutOfMemory (to_sink out) err result
+      ⊎ ((kind : ErrorKind) × IsAmong kind kinds × Explained kind)

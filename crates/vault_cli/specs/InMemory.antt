@@ -87,8 +87,8 @@ module _ (result : Status) (files : Change StoreState) (out err : Change MemSink
     pub output : Received output_file answer.output out
     pub line : Reported err answer.line
 
-  -- there was no memory to work in
-  pub record RunsOut : Type 0 where
+  -- it ran out of memory
+  pub record RunsOutOfMemory : Type 0 where
     pub status : result ≡ OutOfMemory
     pub stands : IsKept
     pub output : out.new ≡ out.old
@@ -103,7 +103,7 @@ module _ (result : Status) (files : Change StoreState) (out err : Change MemSink
       ⊎ ((n : ℕ)
       × Stands (stands_after (file_at files.old.entries) (Some output_file) (Some (take n bytes)))))
 
-  -- it ended with so much of the answer
+  -- it ended with a part of the answer
   pub record EndsShort (output_file : Option (List ℕ)) (answer : Answer) : Type 0 where
     pub status : result ≡ DeviceFailed
     pub cut : (bytes : List ℕ) × (answer.output ≡ Some bytes) × IsCut output_file bytes
@@ -112,4 +112,4 @@ module _ (result : Status) (files : Change StoreState) (out err : Change MemSink
   -- one of the three
   abbrev pub EndsInMemory : Option (List ℕ) → Answer → Type 0
   EndsInMemory output_file answer =
-      EndsAs output_file answer ⊎ (RunsOut ⊎ EndsShort output_file answer)
+      EndsAs output_file answer ⊎ (RunsOutOfMemory ⊎ EndsShort output_file answer)

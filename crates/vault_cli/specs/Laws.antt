@@ -1,4 +1,4 @@
--- Laws of the outcomes, which hold under every limit, of all requests, password files, salts and
+-- Laws of the answers, which hold under every limit, of all requests, password files, salts and
 -- inputs.
 use Rattle.std.specs.Prelude.{◌≡◌, ◌⊎◌, ℕ, ◌≤◌, List, [], ◌∷◌, length, Some, IfSome}
 use Rattle.std.specs.Prelude.{Ok}
@@ -62,8 +62,8 @@ RekeyKeepsThePlaintext =
     → run_answer_within limit after new_contents new_salt envelope
     ≡ run_answer_within limit before old_contents old_salt input
 
--- a text that has room wherever so much plaintext does gets one outcome under that limit and under
--- every larger one
+-- a text that has room wherever a plaintext up to a limit does gets one answer under that limit and
+-- under every larger one
 abbrev pub ShortTexts : Type 0
 ShortTexts =
     (smaller larger : ℕ) (request : Request) (contents : List (List ℕ)) (salt input : List ℕ)

@@ -93,12 +93,12 @@ access_of None = Kept
 access_of (Some (Err fault)) = Kept
 access_of (Some (Ok request)) = output_access request.command
 
--- so much of standard input, where there is no FILE
+-- the limit of what is read of standard input, where there is no FILE
 abbrev pub unless_file : Option FileState → Option ℕ → Option ℕ
 unless_file None limit = limit
 unless_file (Some file) limit = None
 
--- how much of standard input is asked for, where it is: up to the limit and one byte more
+-- the limit of what is read of standard input, where any is: up to one byte more is asked for
 abbrev pub stdin_needed : Option (Result Request Fault) → Files → Option ℕ
 stdin_needed None files = None
 stdin_needed (Some (Err fault)) files = None

@@ -37,13 +37,13 @@ pub record Run : Type 0 where
   pub requested : requested_by words ≡ Some (Ok request)
   pub secrets : contents_of files.secrets ≡ Ok contents
   pub salted : salt_in files.salt ≡ Ok salt
-  pub fed : IsInput files.input stdin input
+  pub is_input : IsInput files.input stdin input
 
 -- what the program answers to it
 abbrev pub answer : Run → Answer
 answer run = program run.words run.files run.stdin
 
--- that is the outcome of its request
+-- that is the answer to its request
 abbrev pub ProgramIsRun : Type 0
 ProgramIsRun = (run : Run) → answer run ≡ run_answer run.request run.contents run.salt run.input
 
@@ -73,7 +73,7 @@ ProgramEncryptsThenDecrypts =
     → IsTriedFirst secrets (secret_at index list)
     → answer decrypting ≡ record { output = Some encrypting.input; line = []; status = Success }
 
--- what `rekey` wrote, `decrypt` and `view` open with the new secret alone, under either rule, to
+-- what `rekey` wrote, `decrypt` and `view` decrypt with the new secret alone, under either rule, to
 -- what they gave before with the old secrets under the rule of `rekey`
 abbrev pub ProgramKeepsThePlaintext : Type 0
 ProgramKeepsThePlaintext =

@@ -4,6 +4,7 @@ pub mod Answer
 pub mod Performed
 pub mod ReportLine
 pub mod Reports
+pub mod Run
 pub mod Status
 pub mod StoredTask
 pub mod Task

@@ -19,7 +19,7 @@ use vault_text::{MemSink, MemSource, Sink, Stage};
 
 /// All that the program does, as `drive_over`, over files, an input and sinks in memory. The files
 /// that it finds are those at the paths of its arguments, so that arguments, files and
-/// input determine its answer. `MemFiles::content` and `MemSink::bytes` tell what is held
+/// input determine its answer. `MemFiles::content` and `MemSink::bytes` return what is held
 /// afterwards, and `MemFiles::log` which paths were opened.
 pub fn drive_in_memory(
     files: &mut MemFiles<'_>,

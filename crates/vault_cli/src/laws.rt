@@ -1,4 +1,4 @@
-//! Laws of the outcomes and of the program, each the contract of a function that does nothing, or
+//! Laws of the answers and of the program, each the contract of a function that does nothing, or
 //! only names the laws that it rests on.
 ghost use Rattle.vault_cli.specs.Laws.{EncryptThenDecrypt, AnswersAreDecided};
 ghost use Rattle.vault_cli.specs.Laws.{RekeyKeepsThePlaintext, ShortTexts};
@@ -7,8 +7,8 @@ ghost use Rattle.vault_cli.specs.ProgramLaws.{ProgramKeepsThePlaintext, WrittenI
 
 use vault_request::laws::settled_requests;
 
-/// The answer of a run is a success or a refusal: what else `run` answers tells of its source or
-/// its output, and what else `drive_over` answers of these, of its files, or of its memory.
+/// The answer of a run is a success or a refusal. Any other status of `run` comes from its source or
+/// its output; any other status of `drive_over` from these, its files or its memory.
 pub fn answers_are_decided()
     ensures { AnswersAreDecided }
 {}
@@ -27,15 +27,15 @@ pub fn rekey_keeps_the_plaintext()
     vault_core::laws::rekeyed_decrypts();
 }
 
-/// A text that fits wherever so much plaintext does gets the same outcome under that limit and
-/// under every larger one.
+/// A text that fits wherever a plaintext up to a limit does gets the same answer under that limit
+/// and under every larger one.
 pub fn short_texts()
     ensures { ShortTexts }
 {
     vault_core::laws::short_inputs();
 }
 
-/// On files that can be read the program answers with the outcome.
+/// On files that can be read the program gives the answer of the run.
 pub fn program_is_run()
     ensures { ProgramIsRun }
 {}

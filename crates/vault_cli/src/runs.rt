@@ -1,15 +1,15 @@
 //! The whole run of a request.
-ghost use Rattle.std.specs.Prelude.{◌≡◌, ◌≢◌, ◌⊎◌, [], true, false, Ok, Err};
-ghost use Rattle.std.specs.Prelude.{is_some, length, map};
-ghost use Rattle.vault_text.specs.Failures.{HasRisen, IsLast};
+ghost use Rattle.std.specs.Prelude.{◌≡◌, [], false, Ok, Err, is_some, length, map};
+ghost use Rattle.vault_text.specs.Failures.{IsLast};
 ghost use Rattle.vault_text.specs.Limits.{IsWorkLength, limit_of};
 ghost use Rattle.vault_fault.specs.declared.fault.Fault.TheVariants.{Read};
 ghost use Rattle.vault_fault.specs.declared.fault.Role.TheVariants.{Input};
 ghost use Rattle.vault_request.specs.Request.{files_of};
 ghost use Rattle.vault_cli.specs.Call.{sink, source};
-ghost use Rattle.vault_cli.specs.runs.Ending.{Ends, Finishes, to_sink};
-ghost use Rattle.vault_cli.specs.runs.Answer.{answered, input_needed, run_answer_within};
+ghost use Rattle.vault_cli.specs.runs.Answer.{answered};
+ghost use Rattle.vault_cli.specs.runs.Ending.{Finishes, to_sink};
 ghost use Rattle.vault_cli.specs.runs.Performed.{Performs};
+ghost use Rattle.vault_cli.specs.runs.Run.{RunsRequest};
 ghost use Rattle.vault_cli.specs.runs.StoredTask.{task_in};
 ghost use Rattle.vault_cli.specs.runs.Task.{HasValidIndex};
 
@@ -74,7 +74,7 @@ fn deliver<K: Sink, E: Sink>(ready: Ready<'_>, out: &mut K, err: &mut E) -> Stat
 
 /// The whole run of a request over the contents of its password files, in their order, and a salt
 /// for commands that seal and have no salt text. `work`, of 16 bytes to `CIPHERTEXT_LIMIT`, is
-/// where the input is read, opened and sealed: 16 bytes less of plaintext are taken; after a
+/// where the input is read, unsealed and sealed: 16 bytes less of plaintext are taken; after a
 /// refusal it holds any bytes. `out` is begun only where the whole output is known to be right. On
 /// success `err` is not called, and a failure of `err` changes nothing else.
 pub fn run<'r, S: Source, K: Sink, E: Sink>(
@@ -90,27 +90,10 @@ pub fn run<'r, S: Source, K: Sink, E: Sink>(
     requires work { IsWorkLength (length work.old) }
     requires out_unbegun { K.stage out.old ≡ Stage.Unbegun }
     requires err_unbegun { E.stage err.old ≡ Stage.Unbegun }
-
-    // What the source gave decides all, unless a device fails; it is left alone where the
-    // passwords, the secret or the salt are refused, and where there is a STRING.
-    ensures ends { let contents = map (λ file. file.items) secret_files.now in
-        let limit = limit_of (length work.old) in
-        Ends (to_sink (sink K.Sink out.old out.new)) (sink E.Sink err.old err.new) result
-        (source S.Source src.old src.new) (input_needed limit request.now contents salt.now)
-        (run_answer_within limit request.now contents salt.now) }
-    ensures device_failed { result ≡ Status.DeviceFailed
-        → HasRisen (S.failures src.old) (S.failures src.new)
-        ⊎ HasRisen (K.failures out.old) (K.failures out.new) }
-    ensures none_failed { result ≢ Status.DeviceFailed
-        → (S.failures src.new ≡ S.failures src.old) × (K.failures out.new ≡ K.failures out.old) }
-    ensures memory_suffices { result ≢ Status.OutOfMemory }
-
-    // At the full count each call of a device fails, which a run tells that needs it.
-    ensures full_source { let contents = map (λ file. file.items) secret_files.now in
-        let limit = limit_of (length work.old) in
-        is_some (input_needed limit request.now contents salt.now) ≡ true
-        → IsLast (S.failures src.old) → result ≡ Status.DeviceFailed }
-    ensures full_output { IsLast (K.failures out.old) → result ≢ Status.Success }
+    ensures { let contents = map (λ file. file.items) secret_files.now in
+        RunsRequest (limit_of (length work.old)) request.now contents salt.now
+        (source S.Source src.old src.new) (sink K.Sink out.old out.new)
+        (sink E.Sink err.old err.new) result }
 {
     let memory = TextMemory::borrowed(work);
     let job = Job {
@@ -134,25 +117,10 @@ pub(crate) fn run_job<S: Source, K: Sink, E: Sink>(
     requires room { IsWorkLength job.memory.limit }
     requires out_unbegun { K.stage out.old ≡ Stage.Unbegun }
     requires err_unbegun { E.stage err.old ≡ Stage.Unbegun }
-    ensures ends { let request = job.entry.request.now in
-        let contents = map (λ file. file.items) job.entry.secret_files.now in
-        let salt = job.entry.salt.now in
-        let limit = limit_of job.entry.memory.limit in
-        Ends (to_sink (sink K.Sink out.old out.new)) (sink E.Sink err.old err.new) result
-        (source S.Source src.old src.new) (input_needed limit request contents salt)
-        (run_answer_within limit request contents salt) }
-    ensures device_failed { result ≡ Status.DeviceFailed
-        → HasRisen (S.failures src.old) (S.failures src.new)
-        ⊎ HasRisen (K.failures out.old) (K.failures out.new) }
-    ensures none_failed { result ≢ Status.DeviceFailed
-        → (S.failures src.new ≡ S.failures src.old) × (K.failures out.new ≡ K.failures out.old) }
-    ensures memory_suffices { result ≢ Status.OutOfMemory }
-    ensures full_source { let request = job.entry.request.now in
-        let contents = map (λ file. file.items) job.entry.secret_files.now in
-        let limit = limit_of job.entry.memory.limit in
-        is_some (input_needed limit request contents job.entry.salt.now) ≡ true
-        → IsLast (S.failures src.old) → result ≡ Status.DeviceFailed }
-    ensures full_output { IsLast (K.failures out.old) → result ≢ Status.Success }
+    ensures { let contents = map (λ file. file.items) job.entry.secret_files.now in
+        RunsRequest (limit_of job.entry.memory.limit) job.entry.request.now contents
+        job.entry.salt.now (source S.Source src.old src.new) (sink K.Sink out.old out.new)
+        (sink E.Sink err.old err.new) result }
 {
     let Job {
         request,

@@ -6,7 +6,7 @@ use Rattle.vault_text.specs.Envelope.{Payload, read_within}
 use Rattle.vault_text.specs.Steps.{◌>>=◌}
 use Rattle.vault_text.specs.declared.fault.TextFault.{TextFault}
 use Rattle.vault_text.specs.declared.fault.TextFault.TheVariants as text
-use Rattle.vault_text.proofs.EnvelopeLemmas.{HasFittingCipher, read_within-fits}
+use Rattle.vault_text.proofs.EnvelopeLemmas.{HasFittingCiphertext, read_within-fits}
 use Rattle.vault_core.specs.Decryption.{decryption, decryption_derivations, derivations_on}
 use Rattle.vault_core.specs.Decryption.{payload_of}
 use Rattle.vault_fault.specs.Fault.{of_text}
@@ -31,11 +31,11 @@ of_text-is_no_read text.BadPayload h = cc
 of_text-is_no_read text.CipherTooLong h = cc
 
 pub payload_of-answers : (limit : ℕ) (input : List ℕ)
-    → HasAnswered (payload_of limit input) (HasFittingCipher limit)
+    → HasAnswered (payload_of limit input) (HasFittingCiphertext limit)
 payload_of-answers limit input = by_read (read_within limit input) (read_within-fits limit input)
   where
-    by_read : (read : Result Payload TextFault) → IfOk read (HasFittingCipher limit)
-        → HasAnswered (result_map_both (λ payload. payload) of_text read) (HasFittingCipher limit)
+    by_read : (read : Result Payload TextFault) → IfOk read (HasFittingCiphertext limit)
+        → HasAnswered (result_map_both (λ payload. payload) of_text read) (HasFittingCiphertext limit)
     by_read (Ok payload) fits = fits
     by_read (Err fault) fits = of_text-is_no_read fault
 
@@ -44,7 +44,7 @@ module _ (limit : ℕ) (secrets : SecretList) (input : List ℕ) where
       HasAnswered (decryption limit secrets input) (λ ready. FitsAgain limit ready.output)
   unfolding decryption
   decryption-answers =
-      HasAnswered-steps _ _ (HasFittingCipher limit) (λ ready. FitsAgain limit ready.output)
+      HasAnswered-steps _ _ (HasFittingCiphertext limit) (λ ready. FitsAgain limit ready.output)
       (payload_of-answers limit input) (λ payload _. unsealing-answers limit secrets payload)
 
   module _ (read : Result Payload Fault) (is : read ≡ payload_of limit input) where

@@ -6,18 +6,12 @@ use Rattle.std.proofs.lemmas.Bool.{cases_Bool, le-ltb, lt-ltb, ltb-false, ne_eqb
 use Rattle.std.proofs.lemmas.Bool.Decides.{nat_tests}
 use Rattle.vault_core.specs.Encryption.{encryption, is_vault}
 use Rattle.vault_core.specs.Form.{Form, is_block}
-use Rattle.vault_core.specs.Input.{fits}
 use Rattle.vault_core.specs.Ready.{Ready}
 use Rattle.vault_core.specs.Sealing.{sealed, text_in}
 use Rattle.vault_core.specs.Secrets.{Secret, secret_at}
 use Rattle.vault_fault.specs.declared.fault.Fault.{Fault}
 use Rattle.vault_fault.specs.declared.fault.Fault.TheVariants.{TooLong, EmptyString, AlreadyVault}
 use Rattle.vault_core.proofs.InputLemmas.{HasAnswered, HasAnswered-unless}
-
--- an input that fits is within the limit
-pub fits-within : (limit : ℕ) (input : List ℕ) (x : Unit {0}) → Ok x ≡ fits limit input
-    → length input ≤ limit
-fits-within limit input x whole = grind (arith, nat_tests)
 
 module _ (limit : ℕ) (secrets : List Secret) (index : ℕ) (form : Form) (salt : List ℕ) where
   -- the plaintext in its form
@@ -30,15 +24,6 @@ module _ (limit : ℕ) (secrets : List Secret) (index : ℕ) (form : Form) (salt
         → encryption limit secrets index form salt input ≡ Err TooLong
     unfolding encryption
     encryption-too_long long = rw (lt-ltb _ _ long) refl
-
-    -- an input that does not fit is refused
-    pub encryption-refused : (fault : Fault) → Err fault ≡ fits limit input
-        → Err fault ≡ encryption limit secrets index form salt input
-    unfolding encryption
-    encryption-refused fault refused = elim (cases_Bool (nat_lt limit (length input))) [
-      | inl long ↦ let same = rw long at refused in rw long cc
-      | inr short ↦ let other = rw short at refused in absurd cc
-    ]
 
     pub encryption-answers : HasAnswered (encryption limit secrets index form salt input)
         (λ ready. (length input ≤ limit) × (ready ≡ encrypted input))

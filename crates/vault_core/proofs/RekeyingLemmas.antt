@@ -2,12 +2,12 @@
 use Rattle.std.proofs.Common.{◌≡◌, ℕ, List, Result, Ok, sym, refl, ◌∙◌}
 use Rattle.vault_text.specs.Envelope.{Payload}
 use Rattle.vault_text.specs.Steps.{◌>>=◌}
-use Rattle.vault_text.proofs.EnvelopeLemmas.{HasFittingCipher}
+use Rattle.vault_text.proofs.EnvelopeLemmas.{HasFittingCiphertext}
 use Rattle.vault_core.specs.Decryption.{decryption, payload_of}
 use Rattle.vault_core.specs.Encryption.{is_vault}
 use Rattle.vault_core.specs.Form.{Envelope}
 use Rattle.vault_core.specs.Ready.{Ready}
-use Rattle.vault_core.specs.Rekeying.{rekeying, resealing}
+use Rattle.vault_core.specs.Rekeying.{rekeying, rekeying_of_payload}
 use Rattle.vault_core.specs.Sealing.{sealed, text_in}
 use Rattle.vault_core.specs.Secrets.{Secret, SecretList}
 use Rattle.vault_fault.specs.declared.fault.Fault.{Fault}
@@ -28,16 +28,16 @@ module _ (limit : ℕ) (secrets : SecretList) (new : Secret) (salt input : List 
       })
 
   pub rekeying-answers : HasAnswered (rekeying limit secrets new salt input) IsRekeyed
-  unfolding rekeying resealing
+  unfolding rekeying rekeying_of_payload
   rekeying-answers =
-      HasAnswered-steps _ _ (HasFittingCipher limit) IsRekeyed (payload_of-answers limit input)
+      HasAnswered-steps _ _ (HasFittingCiphertext limit) IsRekeyed (payload_of-answers limit input)
       (λ payload read fits.
       HasAnswered-steps _ _ (λ (unsealed : Ready). FitsAgain limit unsealed.output) IsRekeyed
-      (unsealing-answers limit secrets payload fits) (λ unsealed opened again.
+      (unsealing-answers limit secrets payload fits) (λ unsealed found again.
       HasAnswered-unless (is_vault unsealed.output) AlreadyVault _ IsRekeyed (λ read. cc) (λ _.
-      (unsealed, decryption-of limit secrets input _ (sym read) ∙ opened, again, refl))))
+      (unsealed, decryption-of limit secrets input _ (sym read) ∙ found, again, refl))))
 
   pub rekeying-of : (read : Result Payload Fault) → read ≡ payload_of limit input
-      → rekeying limit secrets new salt input ≡ (read >>= resealing secrets new salt)
+      → rekeying limit secrets new salt input ≡ (read >>= rekeying_of_payload secrets new salt)
   unfolding rekeying
   rekeying-of read is = rw is refl

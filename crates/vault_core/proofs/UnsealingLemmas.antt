@@ -1,5 +1,5 @@
--- How opening an envelope ends: what an opened plaintext is, bytes, and with their padding as many
--- as the ciphertext has, or a fault.
+-- What unsealing an envelope answers: a plaintext of bytes, which with its padding is as long as the
+-- ciphertext, or a fault.
 use Rattle.std.proofs.Common.{◌≡◌, ℕ, ◌≤◌, List, length, Some, ap, arith}
 use Rattle.std.specs.Prelude.{find}
 use Rattle.vault_aes.specs.KeyExpansion.{key_schedule}
@@ -9,7 +9,7 @@ use Rattle.vault_aes.proofs.PaddingLemmas.{length-padded, padded-without_padding
 use Rattle.vault_kdf.specs.declared.keys.Keys.{Keys}
 use Rattle.vault_text.specs.Envelope.{Payload}
 use Rattle.vault_text.specs.Limits.{ciphertext_limit}
-use Rattle.vault_text.proofs.EnvelopeLemmas.{HasFittingCipher}
+use Rattle.vault_text.proofs.EnvelopeLemmas.{HasFittingCiphertext}
 use Rattle.vault_core.specs.TriedSecrets.{matches, keys_of}
 use Rattle.vault_core.specs.Laws.{IsBytes}
 use Rattle.vault_core.specs.Unsealing.{deciphered_by, unsealing, plaintext_of}
@@ -26,14 +26,14 @@ pub record FitsAgain (limit : ℕ) (plain : List ℕ) : Type 0 where
 
 -- what comes before the padding of deciphered bytes
 FitsAgain-plain : (limit : ℕ) (payload : Payload) (secret : Secret) (plain : List ℕ)
-    → HasFittingCipher limit payload
+    → HasFittingCiphertext limit payload
     → plaintext_of payload secret ≡ Some plain → FitsAgain limit plain
 FitsAgain-plain limit payload secret plain ciphertext found =
     let keys : Keys = keys_of payload secret in
-    let text : List ℕ = deciphered_by keys payload.cipher in
+    let text : List ℕ = deciphered_by keys payload.ciphertext in
     let padding = padded-without_padding plain text found in
     let deciphered =
-    counter_mode-bytes (key_schedule keys.cipher) keys.iv payload.cipher ciphertext.bytes in
+    counter_mode-bytes (key_schedule keys.cipher) keys.iv payload.ciphertext ciphertext.bytes in
     record {
       bytes =
           rw (rw padding at (take-padded plain)) at (take-bytes (length plain) text deciphered);
@@ -41,13 +41,13 @@ FitsAgain-plain limit payload secret plain ciphertext found =
         arith,
         ap length padding,
         length-padded plain,
-        length-counter_mode (key_schedule keys.cipher) keys.iv payload.cipher,
+        length-counter_mode (key_schedule keys.cipher) keys.iv payload.ciphertext,
         ciphertext.fits,
       );
     }
 
 pub unsealing-answers : (limit : ℕ) (secrets : SecretList) (payload : Payload)
-    → HasFittingCipher limit payload
+    → HasFittingCiphertext limit payload
     → HasAnswered (unsealing secrets payload) (λ ready. FitsAgain limit ready.output)
 unfolding unsealing
 unsealing-answers limit secrets payload ciphertext =

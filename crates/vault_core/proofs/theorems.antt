@@ -1,4 +1,4 @@
 pub mod RoundTrips
-pub mod SealedOpens
+pub mod SealedUnseals
 pub mod SealedReadsBack
 pub mod ShortInputs

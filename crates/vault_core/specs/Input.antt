@@ -1,19 +1,24 @@
 -- How a call reads its input.
-use Rattle.std.specs.Prelude.{◌≡◌, ◌≢◌, ℕ, ◌+◌, ◌≤◌, ◌⊎◌, nat_lt, if◌then◌else◌, Bool, IsTrue}
-use Rattle.std.specs.Prelude.{List, length, Result, Ok, Err}
+use Rattle.std.specs.Prelude.{◌≡◌, ◌≢◌, ℕ, ◌+◌, ◌≤◌, ◌⊎◌, Bool, IsTrue, List, length}
+use Rattle.std.specs.Prelude.{Result, Ok, Err, OnOk, OnErr}
 use Rattle.vault_text.specs.Failures.{HasRisen}
 use Rattle.vault_text.specs.declared.source.Source.{Ghosts as SourceTerms}
 use Rattle.vault_fault.specs.declared.fault.Fault.{Fault}
-use Rattle.vault_fault.specs.declared.fault.Fault.TheVariants.{Read, TooLong}
+use Rattle.vault_fault.specs.declared.fault.Fault.TheVariants.{Read}
 use Rattle.vault_fault.specs.declared.fault.Role.TheVariants.{Input}
 
 -- the end was reported, or one byte more than the limit was given
 abbrev pub IsReadToEndOrPastLimit : ℕ → Bool → List ℕ → Type 0
 IsReadToEndOrPastLimit limit ended input = IsTrue ended ⊎ (length input ≡ limit + 1)
 
--- an input fits that is within the limit, and any other is too long
-abbrev pub fits : ℕ → List ℕ → Result (Unit {0}) Fault
-fits limit input = if nat_lt limit (length input) then Err TooLong else Ok tt
+-- a call takes this input from its source, at most one byte more than the bound: to its end or past
+-- the bound, unless the source failed, and then no byte past the bound
+pub record ReadsInput {S T E : Type 0} (source : SourceTerms S) (old new : S) (bound : ℕ)
+    (result : Result T E) (input : List ℕ) : Type 0 where
+  pub gives : source.gives old input new
+  pub bounded : length input ≤ bound + 1
+  pub whole : OnOk result (IsReadToEndOrPastLimit bound (source.ended new) input)
+  pub short : OnErr result (length input ≤ bound)
 
 -- the source failed, and the call answered so
 abbrev pub IsUnreadable : ℕ → ℕ → Fault → Type 0

@@ -21,9 +21,9 @@ IsTriedFirst secrets sealing =
     (first : Secret) × (others : List Secret)
     × (tried_order secrets sealing.label ≡ first ∷ others) × (first.password ≡ sealing.password)
 
--- what was sealed opens to its plaintext, under each rule
-abbrev pub SealedOpens : Type 0
-SealedOpens =
+-- what was sealed unseals to its plaintext, under each rule
+abbrev pub SealedUnseals : Type 0
+SealedUnseals =
     (secrets : SecretList) (sealing : Secret) (salt plain : List ℕ) → IsTriedFirst secrets sealing
     → unsealing secrets (sealed sealing salt plain) ≡ Ok (record { output = plain; tried = 1 })
 

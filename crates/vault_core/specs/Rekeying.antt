@@ -14,8 +14,8 @@ use Rattle.vault_fault.specs.declared.fault.Fault.TheVariants.{AlreadyVault}
 
 -- the plaintext of the payload in an envelope under the new secret and the new salt, or the first
 -- fault
-unfoldable pub resealing : SecretList → Secret → List ℕ → Payload → Result Ready Fault
-resealing secrets new salt payload = do
+unfoldable pub rekeying_of_payload : SecretList → Secret → List ℕ → Payload → Result Ready Fault
+rekeying_of_payload secrets new salt payload = do
   unsealed ← unsealing secrets payload
   if is_vault unsealed.output then Err AlreadyVault
       else Ok (record {
@@ -27,4 +27,4 @@ resealing secrets new salt payload = do
 unfoldable pub rekeying : ℕ → SecretList → Secret → List ℕ → List ℕ → Result Ready Fault
 rekeying limit secrets new salt input = do
   payload ← payload_of limit input
-  resealing secrets new salt payload
+  rekeying_of_payload secrets new salt payload

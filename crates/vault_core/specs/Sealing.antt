@@ -28,13 +28,13 @@ sealed secret salt plain =
       label = secret.label;
       salt = salt;
       tag = hmac keys.mac ciphertext;
-      cipher = ciphertext;
+      ciphertext = ciphertext;
     }
 
 -- the vault as it is written
 unfoldable pub text_in : Form → Payload → List ℕ
-text_in Envelope vault = written vault.label vault.salt vault.tag vault.cipher
-text_in (Block name) vault = block name vault.label vault.salt vault.tag vault.cipher
+text_in Envelope vault = written vault.label vault.salt vault.tag vault.ciphertext
+text_in (Block name) vault = block name vault.label vault.salt vault.tag vault.ciphertext
 
 -- how many keys are derived to seal: one, and none where the answer is a fault
 abbrev pub sealing_derivations : {T : Type 0} → Result T Fault → ℕ

@@ -15,7 +15,7 @@ keys_of payload secret = vault_keys secret.password payload.salt
 
 -- all bytes of the ciphertext's tag under the secret's keys are those of the envelope's tag
 unfoldable pub matches : Payload → Secret → Bool
-matches payload secret = bytes_eq (hmac (keys_of payload secret).mac payload.cipher) payload.tag
+matches payload secret = bytes_eq (hmac (keys_of payload secret).mac payload.ciphertext) payload.tag
 
 -- how many of these secrets are tried, one after the other: up to the first that matches, or all
 unfoldable pub tries : Payload → List Secret → ℕ

@@ -20,7 +20,7 @@ deciphered_by keys ciphertext = counter_mode (key_schedule keys.cipher) keys.iv 
 -- the plaintext under the secret's keys; none where its padding is wrong
 abbrev pub plaintext_of : Payload → Secret → Option (List ℕ)
 plaintext_of payload secret =
-    without_padding (deciphered_by (keys_of payload secret) payload.cipher)
+    without_padding (deciphered_by (keys_of payload secret) payload.ciphertext)
 
 -- the plaintext under the first secret in the tried order that matches; where its padding is wrong
 -- no other secret is tried

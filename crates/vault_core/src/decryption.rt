@@ -18,8 +18,8 @@ use vault_fault::Fault;
 use vault_kdf::Meter;
 use vault_text::{Payload, Source, TextMemory};
 
-/// Reads an envelope and opens it with the first of the secrets, in the tried order, that matches
-/// with its tag.
+/// Reads an envelope and unseals it with the first of the secrets, in the tried order, that matches
+/// its tag.
 ///
 /// All of it happens in `work`, of 16 bytes to `CIPHERTEXT_LIMIT`: an envelope is taken whose
 /// ciphertext fits there. The input is read to its end, or to one byte more than is taken, also
@@ -65,7 +65,7 @@ pub fn prepare_decrypt_in<'a, S: Source>(
     decrypt_payload(payload, secrets, meter)
 }
 
-/// Opens the payload of an envelope where its ciphertext lies.
+/// Unseals the payload of an envelope where its ciphertext lies.
 fn decrypt_payload<'a>(
     payload: Payload<'a>,
     secrets: &Secrets,

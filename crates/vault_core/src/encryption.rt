@@ -1,5 +1,5 @@
 //! Encrypting a plaintext.
-ghost use Rattle.std.specs.Prelude.{◌≡◌, ℕ, ◌+◌, ◌<◌, ◌≤◌, ◌^◌, [], Err, length};
+ghost use Rattle.std.specs.Prelude.{◌≡◌, ◌+◌, ◌<◌, ◌^◌, [], Err, length};
 ghost use Rattle.vault_fault.specs.declared.fault.Fault.TheVariants.{Read};
 ghost use Rattle.vault_fault.specs.declared.fault.Role.TheVariants.{Input};
 ghost use Rattle.vault_core.specs.Encryption.{encryption, is_vault};
@@ -8,7 +8,6 @@ ghost use Rattle.vault_core.specs.Input.{ReadsThenAnswers};
 ghost use Rattle.vault_core.specs.Sealing.{sealing_derivations};
 ghost use Rattle.vault_text.specs.Failures.{IsLast};
 ghost use Rattle.vault_text.specs.Limits.{IsWorkLength, limit_of};
-ghost use Rattle.vault_text.specs.declared.limits.TheConstants.{PADDING_LIMIT};
 
 use crate::form::Form;
 use crate::input::read_plaintext;
@@ -80,8 +79,7 @@ pub fn prepare_encrypt_in<'a, S: Source>(
     encrypt_plaintext(memory, secrets, choice, form, salt, meter)
 }
 
-/// Seals the plaintext that the memory holds, in which a whole block of padding has room after it;
-/// no other limit is looked at.
+/// Seals the plaintext that the memory holds, where a whole block of padding has room after it.
 fn encrypt_plaintext<'a>(
     memory: TextMemory<'a>,
     secrets: &'a Secrets,
@@ -90,14 +88,17 @@ fn encrypt_plaintext<'a>(
     salt: &'a Salt,
     meter: &mut Meter,
 ) -> Result<Ready<'a>, Fault>
-    requires within { length memory.bytes + PADDING_LIMIT ≤ memory.limit }
+    requires room { IsWorkLength memory.limit }
     requires chosen { choice < length secrets.now.secrets }
     requires countable { meter.old < 2 ^ 62 }
-    ensures answer { (limit : ℕ) → length memory.entry.bytes ≤ limit
-        → result ≡ encryption limit secrets.now.secrets choice (form_of form.entry) salt.now
+    ensures answer { let limit = limit_of memory.entry.limit in
+        result ≡ encryption limit secrets.now.secrets choice (form_of form.entry) salt.now
         memory.entry.bytes }
     ensures counted { meter.new ≡ meter.old + sealing_derivations result }
 {
+    if memory.room() < PADDING_LIMIT {
+        return Err(Fault::TooLong);
+    }
     let work = memory.into_bytes_and_spare(PADDING_LIMIT);
     let n = work.len() - PADDING_LIMIT;
     if form.is_block() && n == 0 {

@@ -1,11 +1,12 @@
 //! Reading the input of a call.
-ghost use Rattle.std.specs.Prelude.{◌≡◌, ℕ, ◌+◌, ◌-◌, ◌<◌, ◌≤◌, ◌↔◌, List, [], ◌++◌, length};
-ghost use Rattle.std.specs.Prelude.{IsTrue, IsErr, IfOk, OnErr, Err, MatchResult};
+ghost use Rattle.std.specs.Prelude.{◌≡◌, ℕ, ◌+◌, ◌<◌, ◌≤◌, ◌↔◌, List, [], length, ⊤};
+ghost use Rattle.std.specs.Prelude.{IsTrue, IsErr, IfOk, OnOk, OnErr, Err};
 ghost use Rattle.vault_text.specs.EnvelopeReader.{HasRead};
 ghost use Rattle.vault_text.specs.Failures.{CountsFailure, IsLast};
 ghost use Rattle.vault_core.specs.Decryption.{payload_of};
-ghost use Rattle.vault_core.specs.Input.{IsReadToEndOrPastLimit, UnlessUnreadable, fits};
+ghost use Rattle.vault_core.specs.Input.{IsReadToEndOrPastLimit, ReadsInput, ReadsThenAnswers};
 ghost use Rattle.vault_text.specs.Limits.{IsWorkLength, envelope_limit, limit_of};
+ghost use Rattle.vault_text.specs.Pieces.{TakesPiece};
 ghost use Rattle.vault_fault.specs.declared.fault.Fault.TheVariants.{Read};
 ghost use Rattle.vault_fault.specs.declared.fault.Role.TheVariants.{Input};
 
@@ -15,40 +16,20 @@ use vault_text::{EnvelopeReader, PADDING_LIMIT, Payload, Source, SourceFailed, T
 /// How many bytes a source is asked for at once.
 const PIECE_LIMIT: usize = 4096;
 
-/// Reads a plaintext to its end, or to one byte more than is taken, into memory that holds no text.
-/// A plaintext is taken that leaves room for padding.
-pub(crate) fn read_plaintext<S: Source>(src: &mut S, memory: &mut TextMemory) -> Result<(), Fault>
+/// Reads a plaintext into memory that holds no text, to its end, or to one byte more than leaves room
+/// for padding.
+pub(crate) fn read_plaintext<S: Source>(
+    src: &mut S,
+    memory: &mut TextMemory,
+) -> Result<(), SourceFailed>
     requires empty { memory.old.bytes ≡ [] }
     requires room { IsWorkLength memory.old.limit }
     ensures limit { memory.new.limit ≡ memory.old.limit }
     ensures gives { S.gives src.old memory.new.bytes src.new }
     ensures bound { length memory.new.bytes ≤ limit_of memory.old.limit + 1 }
-    ensures answer { let limit = limit_of memory.old.limit in
-        let input = memory.new.bytes in
-        UnlessUnreadable (S.failures src.old) (S.failures src.new) result
-        (length input ≤ limit)
-        (IsReadToEndOrPastLimit limit (S.ended src.new) input × (result ≡ fits limit input)) }
-    ensures full { IsLast (S.failures src.old) → result ≡ Err (Read Input) }
-{
-    put_input(src, memory)?;
-    if memory.room() < PADDING_LIMIT {
-        return Err(Fault::TooLong);
-    }
-    Ok(())
-}
-
-/// Puts the input into memory that holds no text, to its end, or to one byte more than leaves room
-/// for padding.
-fn put_input<S: Source>(src: &mut S, memory: &mut TextMemory) -> Result<(), SourceFailed>
-    requires empty { memory.old.bytes ≡ [] }
-    requires room { IsWorkLength memory.old.limit }
-    ensures limit { memory.new.limit ≡ memory.old.limit }
-    ensures put { let limit = limit_of memory.old.limit in
-        let input = memory.new.bytes in
-        S.gives src.old input src.new
-        × (length input ≤ limit + 1)
-        × MatchResult result (λ _. IsReadToEndOrPastLimit limit (S.ended src.new) input)
-        (λ _. length input ≤ limit) }
+    ensures whole { OnOk result (IsReadToEndOrPastLimit (limit_of memory.old.limit)
+        (S.ended src.new) memory.new.bytes) }
+    ensures short { OnErr result (length memory.new.bytes ≤ limit_of memory.old.limit) }
     ensures failed { CountsFailure (S.failures src.old) (S.failures src.new) result }
     ensures full { IsLast (S.failures src.old) → IsErr result }
 {
@@ -72,13 +53,9 @@ pub(crate) fn read_payload<'a, S: Source>(
 ) -> Result<Payload<'a>, Fault>
     requires empty { memory.bytes ≡ [] }
     requires room { IsWorkLength memory.limit }
-    ensures input { let limit = limit_of memory.entry.limit in
-        (input : List ℕ) × S.gives src.old input src.new
-        × (length input ≤ envelope_limit limit + 1)
-        × UnlessUnreadable (S.failures src.old) (S.failures src.new) result
-        (length input ≤ envelope_limit limit)
-        (IsReadToEndOrPastLimit (envelope_limit limit) (S.ended src.new) input
-        × (result ≡ payload_of limit input)) }
+    ensures answer { let limit = limit_of memory.entry.limit in
+        ReadsThenAnswers S.Source src.old src.new (envelope_limit limit) result
+        ⊤ (λ input. result ≡ payload_of limit input) }
     ensures full { IsLast (S.failures src.old) → result ≡ Err (Read Input) }
 {
     let mut reader = EnvelopeReader::in_memory(memory);
@@ -89,13 +66,9 @@ pub(crate) fn read_payload<'a, S: Source>(
 /// Feeds the reader with the input to its end, or to one byte more than is taken.
 fn feed_input<S: Source>(src: &mut S, reader: &mut EnvelopeReader) -> Result<(), SourceFailed>
     ensures limit { reader.new.limit ≡ reader.old.limit }
-    ensures fed { let limit = envelope_limit reader.old.limit in
-        (input : List ℕ) × S.gives src.old input src.new
-        × (length input ≤ limit + 1)
-        × MatchResult result (λ _. IsReadToEndOrPastLimit limit (S.ended src.new) input)
-        (λ _. length input ≤ limit)
-        × ((before : List ℕ) → HasRead reader.old before
-        → HasRead reader.new (before ++ input)) }
+    ensures reads { let limit = envelope_limit reader.old.limit in
+        (input : List ℕ) × ReadsInput S.Source src.old src.new limit result input
+        × TakesPiece HasRead reader.old input reader.new }
     ensures failed { CountsFailure (S.failures src.old) (S.failures src.new) result }
     ensures full { IsLast (S.failures src.old) → IsErr result }
 {

@@ -1,10 +1,10 @@
 //! Laws of the definitions, each the contract of a function that does nothing.
-ghost use Rattle.vault_core.specs.Laws.{EncryptedDecrypts, RekeyedDecrypts, SealedOpens};
+ghost use Rattle.vault_core.specs.Laws.{EncryptedDecrypts, RekeyedDecrypts, SealedUnseals};
 ghost use Rattle.vault_core.specs.Laws.{SealedReadsBack, ShortInputs};
 
-/// Opening a sealed plaintext gives it back.
-pub fn sealed_opens()
-    ensures { SealedOpens }
+/// Unsealing a sealed plaintext gives it back.
+pub fn sealed_unseals()
+    ensures { SealedUnseals }
 {}
 
 /// Reading the envelope of a sealed plaintext gives what was sealed.

@@ -5,7 +5,7 @@ ghost use Rattle.vault_fault.specs.declared.fault.Role.TheVariants.{Input};
 ghost use Rattle.vault_core.specs.TriedSecrets.{tries};
 ghost use Rattle.vault_core.specs.Decryption.{decryption_derivations};
 ghost use Rattle.vault_core.specs.Input.{ReadsThenAnswers};
-ghost use Rattle.vault_core.specs.Rekeying.{rekeying, resealing};
+ghost use Rattle.vault_core.specs.Rekeying.{rekeying, rekeying_of_payload};
 ghost use Rattle.vault_core.specs.Sealing.{sealing_derivations};
 ghost use Rattle.vault_core.specs.Secrets.{tried_order};
 ghost use Rattle.vault_text.specs.Failures.{IsLast};
@@ -23,7 +23,7 @@ use vault_fault::Fault;
 use vault_kdf::Meter;
 use vault_text::{Label, Payload, Salt, Source, TextMemory};
 
-/// Reads an envelope, opens it as `prepare_decrypt` does, and seals its plaintext with a new label,
+/// Reads an envelope, unseals it as `prepare_decrypt` does, and seals its plaintext with a new label,
 /// a new password and a new salt.
 ///
 /// All of it happens in `work`, of 16 bytes to `CIPHERTEXT_LIMIT`, which holds one text at any
@@ -80,7 +80,7 @@ pub fn prepare_rekey_in<'a, S: Source>(
     rekey_payload(payload, secrets, new, salt, meter)
 }
 
-/// Opens the payload of an envelope and seals its plaintext anew, both where its ciphertext lies.
+/// Unseals the payload of an envelope and seals its plaintext anew, both where its ciphertext lies.
 fn rekey_payload<'a>(
     payload: Payload<'a>,
     secrets: &Secrets,
@@ -89,7 +89,7 @@ fn rekey_payload<'a>(
     meter: &mut Meter,
 ) -> Result<Ready<'a>, Fault>
     requires countable { meter.old < 2 ^ 62 }
-    ensures answer { result ≡ resealing secrets.now new.now salt.now payload.entry }
+    ensures answer { result ≡ rekeying_of_payload secrets.now new.now salt.now payload.entry }
     ensures counted { meter.new
         ≡ meter.old + tries payload.entry (tried_order secrets.now payload.entry.label)
         + sealing_derivations result }

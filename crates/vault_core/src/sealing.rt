@@ -27,7 +27,7 @@ impl<'a> Model for Sealed<'a> {
       label = s.label.now;
       salt = s.salt.now;
       tag = s.tag;
-      cipher = s.ciphertext.now;
+      ciphertext = s.ciphertext.now;
     } };
 }
 

@@ -1,4 +1,4 @@
-//! Opening an envelope in the memory that it was read into.
+//! Unsealing the payload of an envelope in the memory that it was read into.
 ghost use Rattle.std.specs.Prelude.{◌≡◌, ◌+◌, ◌<◌, ◌^◌, IfSome, length, take};
 ghost use Rattle.std.specs.Option.{option_map};
 ghost use Rattle.vault_core.specs.TriedSecrets.{tries};
@@ -14,7 +14,7 @@ use vault_fault::Fault;
 use vault_kdf::{Keys, Meter};
 use vault_text::Payload;
 
-/// An opened plaintext: the first bytes of itself with its padding.
+/// An unsealed plaintext: the first `len` bytes of `padded`, which has its padding too.
 #[derive(Drop)]
 pub(crate) struct Unsealed<'a> {
     pub padded: &'a mut [u8],
@@ -34,7 +34,7 @@ impl<'a> Model for Unsealed<'a> {
     ghost invariant = { λ o. padded_length o.len ≤ length o.padded.now };
 }
 
-/// Opens the payload with the first secret in the tried order that matches it.
+/// Unseals the payload with the first secret in the tried order that matches it.
 pub(crate) fn unseal<'a>(
     payload: Payload<'a>,
     secrets: &Secrets,

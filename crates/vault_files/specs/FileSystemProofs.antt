@@ -1,4 +1,4 @@
--- What the readers of files tell of them, and what was opened in two calls, one after the other.
+-- What readers give of their files, and what was opened in two calls, one after the other.
 use Rattle.std.specs.Prelude.{◌≡◌, ℕ, ◌<◌, ◌≤◌, nat_lt, ◌⊎◌, List, [], ◌++◌, length, take}
 use Rattle.std.specs.Prelude.{Bool, true, false, IsTrue, refl, Option, Some, None, Ok, Err}
 use Rattle.std.proofs.Common.{inl, inr, arith, sym, ap, ◌∙◌, append_assoc, length-append}
@@ -20,10 +20,10 @@ take-given bytes xs rest n e fits (inl none) =
 take-given bytes xs rest n e fits (inr exact) =
     rw e (take-append-le n xs rest (omega (arith, exact)) ∙ take_all n xs fits)
 
--- a reader of a whole file tells the end only where it is
-tells-end : (bytes xs : List ℕ) (breaks : Bool) (r t : ReaderState)
+-- a reader of a whole file reports the end only where it is
+IsAtEnd-ended : (bytes xs : List ℕ) (breaks : Bool) (r t : ReaderState)
     → r ≡ new_reader bytes breaks → Reads r xs t → IsTrue t.ended → IsAtEnd t
-tells-end bytes xs breaks r t e g =
+IsAtEnd-ended bytes xs breaks r t e g =
     g.end_is_real (λ ended. let never : IsTrue false = rw e at ended in absurd (false≢true never))
 
 -- what a reader gave to its end, or up to a limit, is a prefix of its file
@@ -33,13 +33,13 @@ prefix-given : (file : FileState) (r t : ReaderState) (xs : List ℕ) (n : ℕ)
 prefix-given Missing r t xs n e g fits end = absurd e
 prefix-given (Whole bytes) r t xs n e g fits (inl ended) =
     let given : bytes ≡ xs ++ t.left = sym (ap (λ s. s.left) e) ∙ g.consumed in
-    ap Ok (take-given bytes xs t.left n given fits (inl (tells-end bytes xs false r t e g ended).0))
+    ap Ok (take-given bytes xs t.left n given fits (inl (IsAtEnd-ended bytes xs false r t e g ended).0))
 prefix-given (Whole bytes) r t xs n e g fits (inr exact) =
     let given : bytes ≡ xs ++ t.left = sym (ap (λ s. s.left) e) ∙ g.consumed in
     ap Ok (take-given bytes xs t.left n given fits (inr exact))
 prefix-given (Broken bytes) r t xs n e g fits (inl ended) =
     let breaks : t.breaks ≡ true = g.breaks ∙ ap (λ s. s.breaks) e in
-    absurd (false≢true (sym (tells-end bytes xs true r t e g ended).1 ∙ breaks))
+    absurd (false≢true (sym (IsAtEnd-ended bytes xs true r t e g ended).1 ∙ breaks))
 prefix-given (Broken bytes) r t xs n e g fits (inr exact) =
     let given : bytes ≡ xs ++ t.left = sym (ap (λ s. s.left) e) ∙ g.consumed in
     let long : n ≤ length bytes = omega (arith, ap length given, length-append xs t.left, exact) in

@@ -47,7 +47,7 @@ pub data OutputCalls (first : List SystemCall) : Stage → List SystemCall → L
   finishes : (calls : List SystemCall) (bytes : List ℕ) (failed : ℕ) (t : Stage)
       → OutputCalls first Finished calls bytes failed t
       → OutputCalls first Begun (Sync ∷ calls) bytes failed t
-  -- at the last call of so much of the beginning
+  -- at the last of the first n calls that begin an output
   fails_to_begin : (n : ℕ) (calls : List SystemCall) (bytes : List ℕ) (failed : ℕ) (t : Stage)
       → OutputCalls first Unbegun calls bytes failed t
       → OutputCalls first Unbegun (take n first ++ Failed ∷ calls) bytes (failed + 1) t

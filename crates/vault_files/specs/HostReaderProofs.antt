@@ -1,4 +1,4 @@
--- What the sources of the files of a program over a disk tell of them.
+-- What the sources of a program's files give of them, over any system.
 use Rattle.std.specs.Prelude.{◌≡◌, ℕ, ◌<◌, ◌≤◌, nat_lt, ◌⊎◌, List, [], ◌++◌, length, take}
 use Rattle.std.specs.Prelude.{true, false, IsTrue, refl, Option, Some, None, IfSome, Ok, Err}
 use Rattle.std.specs.Io.KnownBytes.{Consumes, IsAtEnd}

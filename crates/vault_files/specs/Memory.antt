@@ -19,7 +19,7 @@ file_at (entry ∷ entries) path =
     if bytes_eq entry.path path then entry.file else file_at entries path
 
 -- a reader of a file: the bytes left, whether the file breaks after them, whether its end was
--- told, and its failures
+-- reported, and how many of its reads failed
 pub record ReaderState : Type 0 where
   pub left : List ℕ
   pub breaks : Bool

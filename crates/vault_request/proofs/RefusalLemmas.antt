@@ -51,7 +51,7 @@ fine : (bad : Bool) (fault : Fault) (rest : Option Fault)
 fine true fault rest e = absurd cc
 fine false fault rest e = refl
 
--- there are at most so many secrets
+-- there are at most as many secrets as the limit
 pub few_files : (given : Options) → count_fault given ≡ None
     → length (map file_of_id given.vault_ids ++ map plain_file given.password_files)
     ≤ SECRET_COUNT_LIMIT

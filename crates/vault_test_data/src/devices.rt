@@ -55,8 +55,8 @@ impl Read for CountingReader<'_> {
     }
 }
 
-/// A writer that takes 16 bytes a call, so many in all; where it is full its calls fail, a flush
-/// too.
+/// A writer that takes at most 16 bytes a call, and `room` bytes in all. Once it is full its calls
+/// fail, a flush too.
 #[derive(Drop)]
 pub struct NarrowWriter {
     pub taken: Vec<u8>,

@@ -41,42 +41,42 @@ part_bytes-bytes digits bytes h = by_decoded (decode_of digits) refl h
         let same : found ≡ bytes = cc in rw same at ((decode_of-ok digits found known).3)
     by_decoded (Err fault) known is = absurd cc
 
-parts_of-bytes : (text : List ℕ) → IfOk (parts_of text) (λ parts. IsBytes parts.cipher)
+parts_of-bytes : (text : List ℕ) → IfOk (parts_of text) (λ parts. IsBytes parts.ciphertext)
 unfolding parts_of
 parts_of-bytes text =
-    let P : Parts → Type 0 = λ parts. IsBytes parts.cipher in
+    let P : Parts → Type 0 = λ parts. IsBytes parts.ciphertext in
     IfOk-steps (ok_or (cut text) BadPayload) _ P (λ digits _.
     IfOk-steps (part_bytes digits.salt) _ P (λ salt _.
     IfOk-steps (part_bytes digits.tag) _ P (λ tag _.
-    IfOk-steps (part_bytes digits.cipher) _ P (λ cipher found.
-    IfOk-if _ (record { salt = salt; tag = tag; cipher = cipher }) BadPayload P
-    (part_bytes-bytes digits.cipher cipher found)))))
+    IfOk-steps (part_bytes digits.ciphertext) _ P (λ ciphertext found.
+    IfOk-if _ (record { salt = salt; tag = tag; ciphertext = ciphertext }) BadPayload P
+    (part_bytes-bytes digits.ciphertext ciphertext found)))))
 
 -- bytes, no more of them than the limit allows
-pub record HasFittingCipher (limit : ℕ) (payload : Payload) : Type 0 where
-  pub bytes : IsBytes payload.cipher
-  pub fits : length payload.cipher ≤ ciphertext_limit limit
+pub record HasFittingCiphertext (limit : ℕ) (payload : Payload) : Type 0 where
+  pub bytes : IsBytes payload.ciphertext
+  pub fits : length payload.ciphertext ≤ ciphertext_limit limit
 
 read_body-fits : (limit : ℕ) (label digits : List ℕ)
-    → IfOk (read_body limit label digits) (HasFittingCipher limit)
+    → IfOk (read_body limit label digits) (HasFittingCiphertext limit)
 unfolding read_body
 read_body-fits limit label digits =
-    IfOk-steps (ok_or (unhex digits) BadHex) _ (HasFittingCipher limit) (λ inner _.
-    IfOk-steps (parts_of inner) _ (HasFittingCipher limit) (λ parts found.
-    elim (cases_Bool (nat_lt (ciphertext_limit limit) (length parts.cipher))) [
+    IfOk-steps (ok_or (unhex digits) BadHex) _ (HasFittingCiphertext limit) (λ inner _.
+    IfOk-steps (parts_of inner) _ (HasFittingCiphertext limit) (λ parts found.
+    elim (cases_Bool (nat_lt (ciphertext_limit limit) (length parts.ciphertext))) [
       | inl long ↦ rw long tt
       | inr short ↦
-          let fits : length parts.cipher ≤ ciphertext_limit limit = grind (arith, nat_tests) in
+          let fits : length parts.ciphertext ≤ ciphertext_limit limit = grind (arith, nat_tests) in
           rw short (record { bytes = rw found at (parts_of-bytes inner); fits = fits })
     ]))
 
 pub read_within-fits : (limit : ℕ) (input : List ℕ)
-    → IfOk (read_within limit input) (HasFittingCipher limit)
+    → IfOk (read_within limit input) (HasFittingCiphertext limit)
 unfolding read_within
 read_within-fits limit input =
     elim (cases_Bool (nat_lt (envelope_limit limit) (length input))) [
       | inl long ↦ rw long tt
       | inr short ↦
-          rw short (IfOk-steps (read_head input) _ (HasFittingCipher limit)
+          rw short (IfOk-steps (read_head input) _ (HasFittingCiphertext limit)
           (λ header _. read_body-fits limit header.label (body input)))
     ]

@@ -156,18 +156,18 @@ BodyHas-more limit old new inner next digits bytes decoded taken text has = reco
 -- a reader that took a piece stands for what it stood for, and the piece
 pub HasRead-piece : (old new : ReaderState) (input piece text : List ℕ) → HasRead old input
     → old.limit ≤ PLAINTEXT_LIMIT
-    → new.limit ≡ old.limit → new.fed ≡ min (old.fed + length piece) (2 ^ 64 - 1)
+    → new.limit ≡ old.limit → new.bytes_read ≡ min (old.bytes_read + length piece) (2 ^ 64 - 1)
     → LineHas new.line (input ++ piece)
     → body (input ++ piece) ≡ body input ++ without_line_ends text
     → ((limit : ℕ) → TakesPiece (BodyHas limit) old.body (without_line_ends text) new.body)
     → HasRead new (input ++ piece)
-HasRead-piece old new input piece text stands bound same_limit fed line digits taken =
+HasRead-piece old new input piece text stands bound same_limit bytes_read line digits taken =
     let size = length-append input piece in
     let before = stands.no_more in
     record {
       no_more = omega arith;
       exact = λ within.
-          let few : old.fed ≤ envelope_limit old.limit = omega arith in
+          let few : old.bytes_read ≤ envelope_limit old.limit = omega arith in
           let counted = stands.exact few in
           omega arith;
       line = line;
@@ -176,7 +176,7 @@ HasRead-piece old new input piece text stands bound same_limit fed line digits t
 
 -- an input that is too long
 pub read-long : (reader : ReaderState) (input : List ℕ) → HasRead reader input
-    → envelope_limit reader.limit < reader.fed → Err TooLong ≡ read_within reader.limit input
+    → envelope_limit reader.limit < reader.bytes_read → Err TooLong ≡ read_within reader.limit input
 unfolding read_within
 read-long reader input stands long =
     let more = stands.no_more in
@@ -186,7 +186,7 @@ read-long reader input stands long =
 
 -- any other
 pub read-short : (reader : ReaderState) (input : List ℕ) → HasRead reader input
-    → reader.fed ≤ envelope_limit reader.limit
+    → reader.bytes_read ≤ envelope_limit reader.limit
     → (read_head input >>= (λ header. read_body reader.limit header.label (body input)))
     ≡ read_within reader.limit input
 unfolding read_within

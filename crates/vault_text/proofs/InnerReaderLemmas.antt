@@ -11,7 +11,7 @@ use Rattle.vault_text.specs.InnerReader.{InnerHas, InnerState, IsCut, IsOneLine,
 use Rattle.vault_text.specs.InnerReader.{next_part}
 use Rattle.vault_text.specs.InnerText.{Parts, is_line_feed}
 use Rattle.vault_text.specs.declared.reader.inner_text.Part.{Part}
-use Rattle.vault_text.specs.declared.reader.inner_text.Part.TheVariants.{Salt, Tag, Cipher}
+use Rattle.vault_text.specs.declared.reader.inner_text.Part.TheVariants.{Salt, Tag, Ciphertext}
 use Rattle.vault_text.proofs.HexadecimalLemmas.{Decodes-more, Decodes-whole}
 
 -- ---- one part
@@ -82,19 +82,19 @@ one_line-append xs ys p q = rw (list_all-append (λ b. not (is_line_feed b)) xs 
 
 module _ (limit : ℕ) where
   -- an LF ends the salt or the tag
-  cut-end : (part : Part) (text : List ℕ) (parts : Parts) → (part ≡ Cipher → ⊥)
+  cut-end : (part : Part) (text : List ℕ) (parts : Parts) → (part ≡ Ciphertext → ⊥)
       → IsCut part text parts → IsCut (next_part part) (text ++ 10 ∷ []) parts
   cut-end Salt text parts early is = (rw (is.0, is.2) refl, is.1, rw is.2 refl, is.3)
   cut-end Tag text parts early is = (rw (is.0, is.3) (simp append_assoc), is.1, is.2)
-  cut-end Cipher text parts early is = absurd (early refl)
+  cut-end Ciphertext text parts early is = absurd (early refl)
 
-  pub InnerHas-end : (inner : InnerState) (text : List ℕ) → (inner.part ≡ Cipher → ⊥)
+  pub InnerHas-end : (inner : InnerState) (text : List ℕ) → (inner.part ≡ Ciphertext → ⊥)
       → InnerHas limit inner text
       → InnerHas limit (record {
         part = next_part inner.part;
         salt = inner.salt;
         tag = inner.tag;
-        cipher = inner.cipher;
+        ciphertext = inner.ciphertext;
       })
       (text ++ 10 ∷ [])
   InnerHas-end inner text early has =
@@ -103,5 +103,5 @@ module _ (limit : ℕ) where
         cut = cut-end inner.part text has.digits early has.cut;
         salt = has.salt;
         tag = has.tag;
-        cipher = has.cipher;
+        ciphertext = has.ciphertext;
       }

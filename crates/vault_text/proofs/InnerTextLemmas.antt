@@ -19,7 +19,7 @@ use Rattle.vault_text.specs.declared.limits.TheConstants.{SALT_LIMIT, TAG_LENGTH
 use Rattle.vault_text.specs.declared.fault.TextFault.{TextFault}
 use Rattle.vault_text.specs.declared.fault.TextFault.TheVariants.{BadPayload, CipherTooLong}
 use Rattle.vault_text.specs.declared.reader.inner_text.Part.{Part}
-use Rattle.vault_text.specs.declared.reader.inner_text.Part.TheVariants.{Salt, Tag, Cipher}
+use Rattle.vault_text.specs.declared.reader.inner_text.Part.TheVariants.{Salt, Tag, Ciphertext}
 use Rattle.vault_text.proofs.ListLemmas.{first-clean}
 
 -- ---- the text, cut
@@ -40,7 +40,7 @@ count_by-line (x ∷ xs) ys line =
 
 -- a text of three lines, of which the last may go on
 pub cut-lines : (x y z : List ℕ) → IsOneLine x → IsOneLine y
-    → cut (x ++ 10 ∷ (y ++ 10 ∷ z)) ≡ Some (record { salt = x; tag = y; cipher = z })
+    → cut (x ++ 10 ∷ (y ++ 10 ∷ z)) ≡ Some (record { salt = x; tag = y; ciphertext = z })
 unfolding cut
 cut-lines x y z first second =
     let rest = y ++ 10 ∷ z in
@@ -55,7 +55,7 @@ cut-lines x y z first second =
     rw (many, salt.0, salt.1, tag.0, tag.1) refl
 
 -- before the ciphertext there is at most one LF
-early-few : (part : Part) (text : List ℕ) (parts : Parts) → part ≢ Cipher → IsCut part text parts
+early-few : (part : Part) (text : List ℕ) (parts : Parts) → part ≢ Ciphertext → IsCut part text parts
     → count_by is_line_feed text ≤ 1
 early-few Salt text parts early is =
     let none = rw append-nil at (count_by-line parts.salt [] is.1) in
@@ -64,20 +64,20 @@ early-few Tag text parts early is =
     let none = rw append-nil at (count_by-line parts.tag [] is.2) in
     rw (is.0, count_by-line parts.salt (10 ∷ parts.tag) is.1, count_by-end parts.tag, none)
     (omega arith)
-early-few Cipher text parts early is = absurd (early refl)
+early-few Ciphertext text parts early is = absurd (early refl)
 
 -- ---- what the parts answer
 
 -- the payload of the bytes of three parts
 abbrev payload_of : ℕ → List ℕ → Option (List ℕ) → Option (List ℕ) → Option (List ℕ)
     → Result Payload TextFault
-payload_of room label salt tag cipher = (do
+payload_of room label salt tag ciphertext = (do
   s ← ok_or salt BadPayload
   t ← ok_or tag BadPayload
-  c ← ok_or cipher BadPayload
-  fitting (record { salt = s; tag = t; cipher = c })) >>= (λ parts.
-    if nat_lt room (length parts.cipher) then Err CipherTooLong
-    else Ok (record { label = label; salt = parts.salt; tag = parts.tag; cipher = parts.cipher }))
+  c ← ok_or ciphertext BadPayload
+  fitting (record { salt = s; tag = t; ciphertext = c })) >>= (λ parts.
+    if nat_lt room (length parts.ciphertext) then Err CipherTooLong
+    else Ok (record { label = label; salt = parts.salt; tag = parts.tag; ciphertext = parts.ciphertext }))
 
 -- the bytes of a ciphertext, by what its digits spell
 abbrev within : ℕ → Option (List ℕ) → Result (List ℕ) TextFault
@@ -88,21 +88,21 @@ module _ (limit : ℕ) (label : List ℕ) where
   abbrev room : ℕ
   room = ciphertext_limit limit
 
-  pub payload_of-bad_salt : (salt tag cipher : Option (List ℕ))
+  pub payload_of-bad_salt : (salt tag ciphertext : Option (List ℕ))
       → IfSome salt (λ s. SALT_LIMIT < length s)
-      → payload_of room label salt tag cipher ≡ Err BadPayload
-  payload_of-bad_salt None tag cipher long = refl
-  payload_of-bad_salt (Some s) None cipher long = refl
+      → payload_of room label salt tag ciphertext ≡ Err BadPayload
+  payload_of-bad_salt None tag ciphertext long = refl
+  payload_of-bad_salt (Some s) None ciphertext long = refl
   payload_of-bad_salt (Some s) (Some t) None long = refl
   payload_of-bad_salt (Some s) (Some t) (Some c) long =
       let over : nat_le (length s) SALT_LIMIT ≡ false = grind (arith, nat_tests) in
       rw over refl
 
-  pub payload_of-bad_tag : (salt tag cipher : Option (List ℕ))
+  pub payload_of-bad_tag : (salt tag ciphertext : Option (List ℕ))
       → IfSome tag (λ t. length t ≢ TAG_LENGTH)
-      → payload_of room label salt tag cipher ≡ Err BadPayload
-  payload_of-bad_tag None tag cipher odd = refl
-  payload_of-bad_tag (Some s) None cipher odd = refl
+      → payload_of room label salt tag ciphertext ≡ Err BadPayload
+  payload_of-bad_tag None tag ciphertext odd = refl
+  payload_of-bad_tag (Some s) None ciphertext odd = refl
   payload_of-bad_tag (Some s) (Some t) None odd = refl
   payload_of-bad_tag (Some s) (Some t) (Some c) odd =
       let test : (length t == TAG_LENGTH) ≡ false = grind (arith, nat_tests) in
@@ -112,13 +112,13 @@ module _ (limit : ℕ) (label : List ℕ) where
       ]
 
   -- where the salt and the tag fit, the answer is that of the ciphertext
-  pub payload_of-ciphertext : (s t : List ℕ) (cipher : Option (List ℕ))
+  pub payload_of-ciphertext : (s t : List ℕ) (ciphertext : Option (List ℕ))
       (answer : Result (List ℕ) TextFault) → length s ≤ SALT_LIMIT → length t ≡ TAG_LENGTH
-      → within room cipher ≡ answer
-      → payload_of room label (Some s) (Some t) cipher
-      ≡ (answer >>= (λ c. Ok (record { label = label; salt = s; tag = t; cipher = c })))
+      → within room ciphertext ≡ answer
+      → payload_of room label (Some s) (Some t) ciphertext
+      ≡ (answer >>= (λ c. Ok (record { label = label; salt = s; tag = t; ciphertext = c })))
   payload_of-ciphertext s t None answer fits whole same =
-      ap (λ r. r >>= (λ c. Ok (record { label = label; salt = s; tag = t; cipher = c }))) same
+      ap (λ r. r >>= (λ c. Ok (record { label = label; salt = s; tag = t; ciphertext = c }))) same
   payload_of-ciphertext s t (Some c) answer fits whole same =
       let within : nat_le (length s) SALT_LIMIT ≡ true = grind (arith, nat_tests) in
       let tested = eq-eqb (length t) TAG_LENGTH whole in
@@ -130,7 +130,7 @@ module _ (limit : ℕ) (label : List ℕ) where
   -- ---- what the text answers
 
   pub read_inner-cut_off : (text : List ℕ) (inner : InnerState) → InnerHas room inner text
-      → inner.part ≢ Cipher → read_inner limit label text ≡ Err BadPayload
+      → inner.part ≢ Ciphertext → read_inner limit label text ≡ Err BadPayload
   unfolding parts_of cut
   read_inner-cut_off text inner has early =
       let few = early-few inner.part text has.digits early has.cut in
@@ -138,10 +138,10 @@ module _ (limit : ℕ) (label : List ℕ) where
       rw test refl
 
   pub read_inner-parts : (text : List ℕ) (inner : InnerState) (has : InnerHas room inner text)
-      → inner.part ≡ Cipher
+      → inner.part ≡ Ciphertext
       → read_inner limit label text ≡ payload_of room label (unhex has.digits.salt)
-      (unhex has.digits.tag) (unhex has.digits.cipher)
+      (unhex has.digits.tag) (unhex has.digits.ciphertext)
   unfolding parts_of
   read_inner-parts text inner has here =
       let is = subst (λ (part : Part). IsCut part text has.digits) here has.cut in
-      rw (ap cut is.0 ∙ cut-lines has.digits.salt has.digits.tag has.digits.cipher is.1 is.2) refl
+      rw (ap cut is.0 ∙ cut-lines has.digits.salt has.digits.tag has.digits.ciphertext is.1 is.2) refl

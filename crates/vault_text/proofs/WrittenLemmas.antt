@@ -180,25 +180,25 @@ encode_lower-next bytes done end forward =
 
 -- ---- the inner text
 
-pub length-inner_text : (salt tag cipher : List ℕ)
-    → length (inner_text salt tag cipher) ≡ 2 * length salt + 2 * length tag + 2 * length cipher + 2
-length-inner_text salt tag cipher = simp (length-append, length-encode_lower) (omega arith)
+pub length-inner_text : (salt tag ciphertext : List ℕ)
+    → length (inner_text salt tag ciphertext) ≡ 2 * length salt + 2 * length tag + 2 * length ciphertext + 2
+length-inner_text salt tag ciphertext = simp (length-append, length-encode_lower) (omega arith)
 
 -- a part of the ciphertext, and what follows it
-pub inner_text-split : (salt tag cipher loaded inner prefix rest : List ℕ)
+pub inner_text-split : (salt tag ciphertext loaded inner prefix rest : List ℕ)
     → loaded ≡ inner_text salt tag [] → inner ≡ loaded ++ encode_lower prefix
-    → prefix ++ rest ≡ cipher
-    → inner ++ encode_lower rest ≡ inner_text salt tag cipher
-inner_text-split salt tag cipher loaded inner prefix rest start spells both =
+    → prefix ++ rest ≡ ciphertext
+    → inner ++ encode_lower rest ≡ inner_text salt tag ciphertext
+inner_text-split salt tag ciphertext loaded inner prefix rest start spells both =
     rw (spells, start, append_assoc, ← encode_lower-append, both)
     (rw encode_lower-nil (simp append_assoc))
 
 -- the text of a body whose first lines spell the inner text as far as the rest of the ciphertext
-pub body_text-split : (indentation salt tag cipher inner rest : List ℕ)
-    → inner ++ encode_lower rest ≡ inner_text salt tag cipher → (length inner ≡ 600) ⊎ (rest ≡ [])
+pub body_text-split : (indentation salt tag ciphertext inner rest : List ℕ)
+    → inner ++ encode_lower rest ≡ inner_text salt tag ciphertext → (length inner ≡ 600) ⊎ (rest ≡ [])
     → hexadecimal_lines indentation inner ++ hexadecimal_lines indentation (encode_lower rest)
-    ≡ hexadecimal_lines indentation (inner_text salt tag cipher)
-body_text-split indentation salt tag cipher inner rest all full =
+    ≡ hexadecimal_lines indentation (inner_text salt tag ciphertext)
+body_text-split indentation salt tag ciphertext inner rest all full =
     let digits = length-encode_lower inner in
     let whole : (length (encode_lower inner) % 80 ≡ 0) ⊎ (encode_lower (encode_lower rest) ≡ []) =
     elim full [
@@ -213,66 +213,66 @@ body_text-split indentation salt tag cipher inner rest all full =
 
 -- ---- the ciphertext
 
-pub cipher_text-nil : (indentation : List ℕ) → hexadecimal_lines indentation (encode_lower []) ≡ []
-cipher_text-nil indentation = rw (encode_lower-nil, encode_lower-nil, body_text-nil) refl
+pub ciphertext_lines-nil : (indentation : List ℕ) → hexadecimal_lines indentation (encode_lower []) ≡ []
+ciphertext_lines-nil indentation = rw (encode_lower-nil, encode_lower-nil, body_text-nil) refl
 
 -- the lines of two texts, where the first fills whole lines unless the second is empty
-pub cipher_text-parts : (indentation xs ys : List ℕ) → (length xs % 20 ≡ 0) ⊎ (ys ≡ [])
+pub ciphertext_lines-parts : (indentation xs ys : List ℕ) → (length xs % 20 ≡ 0) ⊎ (ys ≡ [])
     → hexadecimal_lines indentation (encode_lower xs)
     ++ hexadecimal_lines indentation (encode_lower ys)
     ≡ hexadecimal_lines indentation (encode_lower (xs ++ ys))
-cipher_text-parts indentation xs ys (inl whole) =
+ciphertext_lines-parts indentation xs ys (inl whole) =
     let digits = length-encode_lower xs in
     let twice = length-encode_lower (encode_lower xs) in
     simp encode_lower-append (body_text-parts indentation (encode_lower (encode_lower xs))
     (encode_lower (encode_lower ys)) (inl (omega arith)))
-cipher_text-parts indentation xs ys (inr none) =
-    rw (none, cipher_text-nil indentation, append-nil xs)
+ciphertext_lines-parts indentation xs ys (inr none) =
+    rw (none, ciphertext_lines-nil indentation, append-nil xs)
     (append-nil (hexadecimal_lines indentation (encode_lower xs)))
 
 -- one more piece of the ciphertext
-pub cipher_text-next : (indentation cipher : List ℕ) (done end : ℕ) → done ≤ length cipher
+pub ciphertext_lines-next : (indentation ciphertext : List ℕ) (done end : ℕ) → done ≤ length ciphertext
     → done % 20 ≡ 0 → done ≤ end
-    → hexadecimal_lines indentation (encode_lower (take done cipher))
-    ++ hexadecimal_lines indentation (encode_lower (take (end - done) (drop done cipher)))
-    ≡ hexadecimal_lines indentation (encode_lower (take end cipher))
-cipher_text-next indentation cipher done end inside whole forward =
-    let prefix = length-take-le done cipher inside in
-    rw (← take-until cipher done end forward)
-    (cipher_text-parts indentation (take done cipher) _ (inl (omega arith)))
+    → hexadecimal_lines indentation (encode_lower (take done ciphertext))
+    ++ hexadecimal_lines indentation (encode_lower (take (end - done) (drop done ciphertext)))
+    ≡ hexadecimal_lines indentation (encode_lower (take end ciphertext))
+ciphertext_lines-next indentation ciphertext done end inside whole forward =
+    let prefix = length-take-le done ciphertext inside in
+    rw (← take-until ciphertext done end forward)
+    (ciphertext_lines-parts indentation (take done ciphertext) _ (inl (omega arith)))
 
 -- the pieces so far, and the rest of the ciphertext
-pub cipher_text-rest : (indentation cipher : List ℕ) (end : ℕ) → end ≤ length cipher → end % 20 ≡ 0
-    → hexadecimal_lines indentation (encode_lower (take end cipher))
-    ++ hexadecimal_lines indentation (encode_lower (drop end cipher))
-    ≡ hexadecimal_lines indentation (encode_lower cipher)
-cipher_text-rest indentation cipher end inside whole =
-    let prefix = length-take-le end cipher inside in
+pub ciphertext_lines-rest : (indentation ciphertext : List ℕ) (end : ℕ) → end ≤ length ciphertext → end % 20 ≡ 0
+    → hexadecimal_lines indentation (encode_lower (take end ciphertext))
+    ++ hexadecimal_lines indentation (encode_lower (drop end ciphertext))
+    ≡ hexadecimal_lines indentation (encode_lower ciphertext)
+ciphertext_lines-rest indentation ciphertext end inside whole =
+    let prefix = length-take-le end ciphertext inside in
     rw (
-      cipher_text-parts indentation (take end cipher) (drop end cipher) (inl (omega arith)),
+      ciphertext_lines-parts indentation (take end ciphertext) (drop end ciphertext) (inl (omega arith)),
       take-append-drop,
     ) refl
 
 -- one more line
-pub cipher_text-line : (indentation cipher : List ℕ) (line end : ℕ) → line * 20 < length cipher
-    → end ≡ min (length cipher) (line * 20 + 20)
-    → hexadecimal_lines indentation (encode_lower (take (line * 20) cipher))
+pub ciphertext_lines-line : (indentation ciphertext : List ℕ) (line end : ℕ) → line * 20 < length ciphertext
+    → end ≡ min (length ciphertext) (line * 20 + 20)
+    → hexadecimal_lines indentation (encode_lower (take (line * 20) ciphertext))
     ++ (indentation
-    ++ encode_lower (encode_lower (take (end - line * 20) (drop (line * 20) cipher)))
+    ++ encode_lower (encode_lower (take (end - line * 20) (drop (line * 20) ciphertext)))
     ++ 10 ∷ [])
-    ≡ hexadecimal_lines indentation (encode_lower (take ((line + 1) * 20) cipher))
-cipher_text-line indentation cipher line end inside until =
-    let prefix = take (line * 20) cipher in
-    let piece = take (end - line * 20) (drop (line * 20) cipher) in
-    let before = length-take-le (line * 20) cipher (omega arith) in
-    let left = length-drop (line * 20) cipher in
-    let size = length-take (end - line * 20) (drop (line * 20) cipher) in
+    ≡ hexadecimal_lines indentation (encode_lower (take ((line + 1) * 20) ciphertext))
+ciphertext_lines-line indentation ciphertext line end inside until =
+    let prefix = take (line * 20) ciphertext in
+    let piece = take (end - line * 20) (drop (line * 20) ciphertext) in
+    let before = length-take-le (line * 20) ciphertext (omega arith) in
+    let left = length-drop (line * 20) ciphertext in
+    let size = length-take (end - line * 20) (drop (line * 20) ciphertext) in
     let digits : (xs : List ℕ) → length (encode_lower (encode_lower xs)) ≡ 4 * length xs =
     λ xs. rw (length-encode_lower (encode_lower xs), length-encode_lower xs) (omega arith) in
     let a = digits prefix in
     let b = digits piece in
-    let to : end ≡ min ((line + 1) * 20) (length cipher) = omega arith in
-    let joined = take-until cipher (line * 20) end (omega arith) in
+    let to : end ≡ min ((line + 1) * 20) (length ciphertext) = omega arith in
+    let joined = take-until ciphertext (line * 20) end (omega arith) in
     rw (
       body_text-line indentation (encode_lower (encode_lower prefix))
           (encode_lower (encode_lower piece)) (omega arith) (omega arith) (omega arith),

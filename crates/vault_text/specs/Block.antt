@@ -19,6 +19,6 @@ block_indentation = replicate 10 32
 -- the first line, which names the variable where there is a name, and the indented lines of the
 -- envelope
 unfoldable pub block : Option (List ℕ) → List ℕ → List ℕ → List ℕ → List ℕ → List ℕ
-block name label salt tag cipher =
+block name label salt tag ciphertext =
     first_line (unwrap_or name [])
-    ++ text_of_lines block_indentation (written_lines label salt tag cipher)
+    ++ text_of_lines block_indentation (written_lines label salt tag ciphertext)

@@ -19,7 +19,7 @@ pub record Payload : Type 0 where
   pub label : List ℕ
   pub salt : List ℕ
   pub tag : List ℕ
-  pub cipher : List ℕ
+  pub ciphertext : List ℕ
 
 -- a text, every CR and LF dropped
 abbrev pub without_line_ends : List ℕ → List ℕ
@@ -43,8 +43,8 @@ read_inner limit label text = do
   -- 8: it has three parts that fit
   parts ← parts_of text
   -- 9: the ciphertext is no longer than the limit allows
-  if nat_lt (ciphertext_limit limit) (length parts.cipher) then Err CipherTooLong
-      else Ok (record { label = label; salt = parts.salt; tag = parts.tag; cipher = parts.cipher })
+  if nat_lt (ciphertext_limit limit) (length parts.ciphertext) then Err CipherTooLong
+      else Ok (record { label = label; salt = parts.salt; tag = parts.tag; ciphertext = parts.ciphertext })
 
 -- steps 7 to 9: the payload of a body, under the label of the header line
 unfoldable pub read_body : ℕ → List ℕ → List ℕ → Result Payload TextFault

@@ -38,14 +38,14 @@ pub record BodyHas (limit : ℕ) (body : BodyState) (digits : List ℕ) : Type 0
 -- the body
 pub record ReaderState : Type 0 where
   pub limit : ℕ
-  pub fed : ℕ
+  pub bytes_read : ℕ
   pub line : LineState
   pub body : BodyState
 
 -- the reader was given this input: the count is right as far as the limit, and it keeps the header
 -- line and the body
 pub record HasRead (reader : ReaderState) (input : List ℕ) : Type 0 where
-  pub no_more : reader.fed ≤ length input
-  pub exact : reader.fed ≤ envelope_limit reader.limit → reader.fed ≡ length input
+  pub no_more : reader.bytes_read ≤ length input
+  pub exact : reader.bytes_read ≤ envelope_limit reader.limit → reader.bytes_read ≡ length input
   pub line : LineHas reader.line input
   pub body : BodyHas (ciphertext_limit reader.limit) reader.body (body input)

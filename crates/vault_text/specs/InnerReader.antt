@@ -6,7 +6,7 @@ use Rattle.vault_text.specs.Hexadecimal.{DecoderState, Decodes, new_decoder}
 use Rattle.vault_text.specs.InnerText.{Parts, is_line_feed}
 use Rattle.vault_text.specs.declared.limits.TheConstants.{SALT_LIMIT, TAG_LENGTH}
 use Rattle.vault_text.specs.declared.reader.inner_text.Part.{Part}
-use Rattle.vault_text.specs.declared.reader.inner_text.Part.TheVariants.{Salt, Tag, Cipher}
+use Rattle.vault_text.specs.declared.reader.inner_text.Part.TheVariants.{Salt, Tag, Ciphertext}
 
 -- a part of the inner text: its bytes, the decoder of its digits, how many bytes it may have, and
 -- whether it has more, where the bytes mean nothing
@@ -29,13 +29,13 @@ pub record InnerState : Type 0 where
   pub part : Part
   pub salt : PartState
   pub tag : PartState
-  pub cipher : PartState
+  pub ciphertext : PartState
 
 -- the part after a part; the ciphertext is the last
 abbrev pub next_part : Part → Part
 next_part Salt = Tag
-next_part Tag = Cipher
-next_part Cipher = Cipher
+next_part Tag = Ciphertext
+next_part Ciphertext = Ciphertext
 
 -- the text has no LF
 abbrev pub IsOneLine : List ℕ → Type 0
@@ -45,17 +45,17 @@ IsOneLine text = list_all (λ b. not (is_line_feed b)) text ≡ true
 abbrev pub MayHave : Part → List ℕ → Type 0
 MayHave Salt digits = IsOneLine digits
 MayHave Tag digits = IsOneLine digits
-MayHave Cipher digits = ⊤
+MayHave Ciphertext digits = ⊤
 
 -- the text is cut at its LF as far as the part that comes next; the parts after it are empty
 abbrev pub IsCut : Part → List ℕ → Parts → Type 0
 IsCut Salt text parts =
-    (text ≡ parts.salt) × IsOneLine parts.salt × (parts.tag ≡ []) × (parts.cipher ≡ [])
+    (text ≡ parts.salt) × IsOneLine parts.salt × (parts.tag ≡ []) × (parts.ciphertext ≡ [])
 IsCut Tag text parts =
     (text ≡ parts.salt ++ 10 ∷ parts.tag)
-    × IsOneLine parts.salt × IsOneLine parts.tag × (parts.cipher ≡ [])
-IsCut Cipher text parts =
-    (text ≡ parts.salt ++ 10 ∷ (parts.tag ++ 10 ∷ parts.cipher))
+    × IsOneLine parts.salt × IsOneLine parts.tag × (parts.ciphertext ≡ [])
+IsCut Ciphertext text parts =
+    (text ≡ parts.salt ++ 10 ∷ (parts.tag ++ 10 ∷ parts.ciphertext))
     × IsOneLine parts.salt × IsOneLine parts.tag
 
 -- the reader was given this text: each part was given its digits
@@ -64,4 +64,4 @@ pub record InnerHas (limit : ℕ) (inner : InnerState) (text : List ℕ) : Type 
   pub cut : IsCut inner.part text digits
   pub salt : PartHas SALT_LIMIT inner.salt digits.salt
   pub tag : PartHas TAG_LENGTH inner.tag digits.tag
-  pub cipher : PartHas limit inner.cipher digits.cipher
+  pub ciphertext : PartHas limit inner.ciphertext digits.ciphertext

@@ -14,7 +14,7 @@ use Rattle.vault_text.specs.declared.fault.TextFault.TheVariants.{BadPayload, Ci
 pub record Parts : Type 0 where
   pub salt : List ℕ
   pub tag : List ℕ
-  pub cipher : List ℕ
+  pub ciphertext : List ℕ
 
 -- LF
 abbrev pub is_line_feed : ℕ → Bool
@@ -27,7 +27,7 @@ cut text =
     else Some (record {
       salt = before_first is_line_feed text;
       tag = before_first is_line_feed (after_first is_line_feed text);
-      cipher = after_first is_line_feed (after_first is_line_feed text);
+      ciphertext = after_first is_line_feed (after_first is_line_feed text);
     })
 
 -- the parts, where the salt is short enough and the tag has 32 bytes
@@ -54,6 +54,6 @@ parts_of text = do
   -- each part is hexadecimal
   salt ← part_bytes digits.salt
   tag ← part_bytes digits.tag
-  cipher ← part_bytes digits.cipher
+  ciphertext ← part_bytes digits.ciphertext
   -- the salt is no longer than its limit, and the tag has its length
-  fitting (record { salt = salt; tag = tag; cipher = cipher })
+  fitting (record { salt = salt; tag = tag; ciphertext = ciphertext })

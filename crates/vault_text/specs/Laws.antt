@@ -11,12 +11,12 @@ use Rattle.vault_text.specs.declared.fault.TextFault.TheVariants.{TooLong, Ciphe
 -- what was written is read: the payload of a written envelope is what it was written from
 abbrev pub WrittenReadsBack : Type 0
 WrittenReadsBack =
-    (limit : ℕ) (label salt tag cipher : List ℕ) → is_label label ≡ true
+    (limit : ℕ) (label salt tag ciphertext : List ℕ) → is_label label ≡ true
     → IsBytes salt → length salt ≤ SALT_LIMIT
     → IsBytes tag → length tag ≡ TAG_LENGTH
-    → IsBytes cipher → length cipher ≤ ciphertext_limit limit
-    → read_within limit (written label salt tag cipher)
-    ≡ Ok (record { label = label; salt = salt; tag = tag; cipher = cipher })
+    → IsBytes ciphertext → length ciphertext ≤ ciphertext_limit limit
+    → read_within limit (written label salt tag ciphertext)
+    ≡ Ok (record { label = label; salt = salt; tag = tag; ciphertext = ciphertext })
 
 -- a larger limit changes no answer but the two that speak of a limit
 abbrev pub LargerLimits : Type 0

@@ -15,8 +15,8 @@ written_header label =
 
 -- salt, tag and ciphertext in hexadecimal, with LF between them
 abbrev pub inner_text : List ℕ → List ℕ → List ℕ → List ℕ
-inner_text salt tag cipher =
-    join_with_byte 10 (encode_lower salt ∷ encode_lower tag ∷ encode_lower cipher ∷ [])
+inner_text salt tag ciphertext =
+    join_with_byte 10 (encode_lower salt ∷ encode_lower tag ∷ encode_lower ciphertext ∷ [])
 
 -- the digits of a full line
 abbrev pub digits_per_line : ℕ
@@ -36,8 +36,8 @@ body_lines digits =
 
 -- the lines of the envelope, without their ends
 abbrev pub written_lines : List ℕ → List ℕ → List ℕ → List ℕ → List (List ℕ)
-written_lines label salt tag cipher =
-    written_header label ∷ body_lines (encode_lower (inner_text salt tag cipher))
+written_lines label salt tag ciphertext =
+    written_header label ∷ body_lines (encode_lower (inner_text salt tag ciphertext))
 
 -- lines after an indentation, each ended by LF
 unfoldable pub text_of_lines : List ℕ → List (List ℕ) → List ℕ
@@ -49,4 +49,4 @@ hexadecimal_lines indentation bytes = text_of_lines indentation (body_lines (enc
 
 -- the envelope: all its lines, each ended by LF
 unfoldable pub written : List ℕ → List ℕ → List ℕ → List ℕ → List ℕ
-written label salt tag cipher = text_of_lines [] (written_lines label salt tag cipher)
+written label salt tag ciphertext = text_of_lines [] (written_lines label salt tag ciphertext)

@@ -12,7 +12,7 @@ pub struct Payload<'a> {
     label: Label,
     salt: Salt,
     tag: [u8; TAG_LENGTH],
-    cipher: &'a mut [u8],
+    ciphertext: &'a mut [u8],
 }
 
 impl<'a> Model for Payload<'a> {
@@ -24,19 +24,19 @@ impl<'a> Model for Payload<'a> {
       label = p.label;
       salt = p.salt;
       tag = p.tag;
-      cipher = p.cipher.now;
+      ciphertext = p.ciphertext.now;
     } };
 }
 
 impl<'a> Payload<'a> {
-    pub(crate) fn new(label: Label, salt: Salt, tag: [u8; TAG_LENGTH], cipher: &'a mut [u8]) -> Self
-        ensures { result ≡ record { label = label; salt = salt; tag = tag; cipher = cipher.old } }
+    pub(crate) fn new(label: Label, salt: Salt, tag: [u8; TAG_LENGTH], ciphertext: &'a mut [u8]) -> Self
+        ensures { result ≡ record { label = label; salt = salt; tag = tag; ciphertext = ciphertext.old } }
     {
         Payload {
             label,
             salt,
             tag,
-            cipher,
+            ciphertext,
         }
     }
 
@@ -63,21 +63,21 @@ impl<'a> Payload<'a> {
 
     /// The ciphertext, which may be empty or of a length that no padding gives.
     pub fn cipher(&self) -> &[u8]
-        ensures { result.now ≡ self.now.cipher }
+        ensures { result.now ≡ self.now.ciphertext }
     {
-        self.cipher
+        self.ciphertext
     }
 
     /// The ciphertext, where it lies in the memory that the reader borrowed.
     pub fn into_body(self) -> &'a mut [u8]
-        ensures { result.now ≡ self.entry.cipher }
+        ensures { result.now ≡ self.entry.ciphertext }
     {
         let Payload {
             label: _,
             salt: _,
             tag: _,
-            cipher,
+            ciphertext,
         } = self;
-        cipher
+        ciphertext
     }
 }

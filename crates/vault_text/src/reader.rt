@@ -7,7 +7,7 @@ ghost use Rattle.vault_text.specs.Limits.{IsWorkLength, envelope_limit, limit_of
 ghost use Rattle.vault_text.specs.declared.limits.TheConstants.{ENVELOPE_LIMIT};
 
 mod body;
-mod cipher_part;
+mod ciphertext_part;
 mod header_line;
 mod inner_text;
 mod short_part;
@@ -35,7 +35,7 @@ pub struct EnvelopeReader<'a> {
     /// The limit of the plaintext.
     limit: usize,
     /// How many bytes were read so far; it saturates at `usize::MAX`.
-    fed: usize,
+    bytes_read: usize,
     line: HeaderLine,
     body: BodyReader<'a>,
 }
@@ -47,7 +47,7 @@ impl<'a> Model for EnvelopeReader<'a> {
 
     ghost Value = { ReaderState };
 
-    ghost view = { λ r. record { limit = r.limit; fed = r.fed; line = r.line; body = r.body } };
+    ghost view = { λ r. record { limit = r.limit; bytes_read = r.bytes_read; line = r.line; body = r.body } };
 
     ghost invariant = { λ r. r.limit ≤ PLAINTEXT_LIMIT };
 }
@@ -73,7 +73,7 @@ impl<'a> EnvelopeReader<'a> {
     {
         EnvelopeReader {
             limit: memory.room() - PADDING_LIMIT,
-            fed: 0,
+            bytes_read: 0,
             line: HeaderLine::new(),
             body: BodyReader::new(memory),
         }
@@ -93,7 +93,7 @@ impl<'a> EnvelopeReader<'a> {
         ensures taken { (input : List ℕ) →
             HasRead self.old input → HasRead self.new (input ++ piece.now) }
     {
-        self.fed = self.fed.saturating_add(piece.len());
+        self.bytes_read = self.bytes_read.saturating_add(piece.len());
         let rest = self.line.extend(piece);
         self.body.extend(rest);
     }
@@ -107,11 +107,11 @@ impl<'a> EnvelopeReader<'a> {
     {
         let EnvelopeReader {
             limit,
-            fed,
+            bytes_read,
             line,
             body,
         } = self;
-        if fed > envelope_limit(limit) {
+        if bytes_read > envelope_limit(limit) {
             return Err(TextFault::TooLong);
         }
         let header = line.finish()?;

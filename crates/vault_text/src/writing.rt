@@ -35,13 +35,13 @@ pub fn write_envelope<K: Sink>(
     label: &Label,
     salt: &Salt,
     tag: &[u8; TAG_LENGTH],
-    cipher: &[u8],
+    ciphertext: &[u8],
 ) -> Result<(), SinkFailed>
     requires { K.stage sink.old ≡ Stage.Begun }
     ensures takes { OnOk result
-        (K.takes sink.old (written label.now salt.now tag.now cipher.now) sink.new) }
+        (K.takes sink.old (written label.now salt.now tag.now ciphertext.now) sink.new) }
     ensures prefix { (n : ℕ)
-        × K.takes sink.old (take n (written label.now salt.now tag.now cipher.now)) sink.new }
+        × K.takes sink.old (take n (written label.now salt.now tag.now ciphertext.now)) sink.new }
     ensures stage { K.stage sink.new ≡ Stage.Begun }
     ensures failed { CountsFailure (K.failures sink.old) (K.failures sink.new) result }
     ensures full { IsLast (K.failures sink.old) → IsErr result }
@@ -50,7 +50,7 @@ pub fn write_envelope<K: Sink>(
         label,
         salt,
         tag,
-        ciphertext: cipher,
+        ciphertext,
     };
     put_lines(sink, &[], &[], &parts)
 }

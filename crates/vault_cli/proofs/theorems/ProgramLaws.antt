@@ -1,4 +1,4 @@
--- The laws of the program, from those of the outcomes.
+-- The laws of the program, from those of the answers.
 use Rattle.std.proofs.Common.{◌≡◌, ℕ, ◌+◌, List, length, length-take, take, drop, false, Option}
 use Rattle.std.proofs.Common.{Some, None, Result, Ok, Err, inl, inr, arith, refl, sym, ap, ◌∙◌}
 use Rattle.std.specs.Option.{option_map}
@@ -10,7 +10,7 @@ use Rattle.vault_text.specs.declared.limits.TheConstants.{PLAINTEXT_LIMIT}
 use Rattle.vault_files.specs.File.{FileState}
 use Rattle.vault_files.specs.File.FileState.{Whole}
 use Rattle.vault_fault.specs.declared.fault.Fault.{Fault}
-use Rattle.vault_core.proofs.theorems.SealedOpens.{bytes_eq-same}
+use Rattle.vault_core.proofs.theorems.SealedUnseals.{bytes_eq-same}
 use Rattle.vault_command_line.specs.CommandLine.{vault_app}
 use Rattle.vault_cli.specs.InMemory.{stands_after}
 use Rattle.vault_cli.specs.Laws as run_answers
@@ -44,32 +44,32 @@ prefix-enough limit amount (Ok task) None text takes = elim (cases_lt amount (le
   | inr short ↦ ap (performed limit task) (take_all (amount + 1) text (omega (arith, short)))
 ]
 
-decrypting-fed : (file : Option FileState) (stdin input : List ℕ) → IsInput file stdin input
+can_open-input : (file : Option FileState) (stdin input : List ℕ) → IsInput file stdin input
     → can_open_input file ≡ Ok tt
-decrypting-fed None stdin input fed = refl
-decrypting-fed (Some file) stdin input fed = rw fed refl
+can_open-input None stdin input is_input = refl
+can_open-input (Some file) stdin input is_input = rw is_input refl
 
-fed-answer : (limit amount : ℕ) (plans : Result Task Fault) (string : Option (List ℕ))
+ready_by-input : (limit amount : ℕ) (plans : Result Task Fault) (string : Option (List ℕ))
     (file : Option FileState) (stdin input : List ℕ)
     → ((task : Task) → plans ≡ Ok task → task_limit limit task ≡ amount) → IsInput file stdin input
     → ready_by limit plans string (input_in (amount + 1) file stdin)
     ≡ ready_by limit plans string (Ok input)
-fed-answer limit amount plans string None stdin input takes fed = rw fed
-fed-answer limit amount plans string (Some file) stdin input takes fed =
-    rw fed (prefix-enough limit amount plans string input takes)
+ready_by-input limit amount plans string None stdin input takes is_input = rw is_input
+ready_by-input limit amount plans string (Some file) stdin input takes is_input =
+    rw is_input (prefix-enough limit amount plans string input takes)
 
 pub program_is_run : ProgramIsRun
 unfolding run_answer_within
 program_is_run run =
     let found = task-found run.request run.files run.contents run.salt run.secrets run.salted
-    (decrypting-fed run.files.input run.stdin run.input run.fed) in
+    (can_open-input run.files.input run.stdin run.input run.is_input) in
     rw (run.requested, found)
     (ap answered
-    (fed-answer PLAINTEXT_LIMIT (input_limit PLAINTEXT_LIMIT run.request.command)
+    (ready_by-input PLAINTEXT_LIMIT (input_limit PLAINTEXT_LIMIT run.request.command)
     (planned run.request run.contents run.salt) run.request.string run.files.input run.stdin
     run.input
     (λ task is.
-    (rw is at (keeps-planned run.request run.salt run.contents)).0 PLAINTEXT_LIMIT) run.fed))
+    (rw is at (keeps-planned run.request run.salt run.contents)).0 PLAINTEXT_LIMIT) run.is_input))
 
 -- ---- arguments make requests of which the laws speak
 
@@ -91,21 +91,21 @@ module _ (settles : SettledRequests) where
   pub encrypt_then_decrypt : run_answers.EncryptThenDecrypt → ProgramEncryptsThenDecrypts
   encrypt_then_decrypt law encrypting decrypting list index used secrets encrypts text_bytes
       salt_bytes
-      input_bytes sealed written opens first =
+      input_bytes sealed written unseals first =
       program_is_run decrypting
       ∙ law PLAINTEXT_LIMIT encrypting.request decrypting.request encrypting.contents
       decrypting.contents encrypting.salt decrypting.salt encrypting.input decrypting.input
       list index used secrets (is-request encrypting) encrypts text_bytes salt_bytes input_bytes
-      sealed (output-of encrypting decrypting.input written) opens first
+      sealed (output-of encrypting decrypting.input written) unseals first
 
   pub rekey_keeps_the_plaintext : run_answers.RekeyKeepsThePlaintext → ProgramKeepsThePlaintext
   rekey_keeps_the_plaintext law rekeying before after secrets new used rule rekeys text_bytes
-      salt_bytes found same written old opens =
+      salt_bytes found same written old unseals =
       program_is_run after
       ∙ law PLAINTEXT_LIMIT rekeying.request before.request after.request rekeying.contents
       before.contents after.contents rekeying.salt before.salt after.salt
       rekeying.input after.input secrets new used rule (is-request rekeying) rekeys text_bytes
-      salt_bytes found (output-of rekeying after.input written) old opens
+      salt_bytes found (output-of rekeying after.input written) old unseals
       ∙ sym
       (program_is_run before ∙ ap (run_answer before.request before.contents before.salt) same)
 

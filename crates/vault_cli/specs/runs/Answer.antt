@@ -30,11 +30,11 @@ pub record Answer : Type 0 where
   pub line : List ℕ
   pub status : Status
 
--- the outcome of a fault
+-- the answer where there is a fault
 abbrev pub reported : Fault → Answer
 reported fault = record { output = None; line = line_of fault; status = status_of fault }
 
--- the outcome of what is ready to be written, or of a fault
+-- the answer where a text is ready to be written, or where there is a fault
 abbrev pub answered : Result Ready Fault → Answer
 answered (Ok ready) = record { output = Some ready.output; line = []; status = Success }
 answered (Err fault) = reported fault
@@ -43,8 +43,8 @@ answered (Err fault) = reported fault
 abbrev pub input_limit : ℕ → CommandName → ℕ
 input_limit limit command = if encrypts command then limit else envelope_limit limit
 
--- how long a text may be that has room wherever so much plaintext does: an envelope spells each
--- byte with four digits
+-- how long a text may be that has room wherever a plaintext up to the limit does: an envelope spells
+-- each byte with four digits
 abbrev pub room_limit : ℕ → CommandName → ℕ
 room_limit limit command = if encrypts command then limit else 4 * limit
 
@@ -77,7 +77,7 @@ performed limit (task.Encrypt secrets index form salt) text =
 performed limit (task.Decrypt secrets) text = decryption limit secrets text
 performed limit (task.Rekey secrets new salt) text = rekeying limit secrets new salt text
 
--- all five steps, where so much plaintext is encrypted
+-- all five steps, where plaintext up to the limit is encrypted
 abbrev pub ready_by : ℕ → Result Task Fault → Option (List ℕ) → Result (List ℕ) Fault
     → Result Ready Fault
 ready_by limit plans string input = do
@@ -93,12 +93,12 @@ input_needed limit request contents salt =
     input_needed_by (planned request contents salt) request.string
     (input_limit limit request.command)
 
--- the outcome of a request where so much plaintext is encrypted
+-- the answer to a request where plaintext up to the limit is encrypted
 unfoldable pub run_answer_within : ℕ → Request → List (List ℕ) → List ℕ → List ℕ → Answer
 run_answer_within limit request contents salt input =
     answered (ready_by limit (planned request contents salt) request.string (Ok input))
 
--- its outcome under the limit of the program
+-- the answer to a request under the limit of the program
 abbrev pub run_answer : Request → List (List ℕ) → List ℕ → List ℕ → Answer
 run_answer request contents salt input = run_answer_within PLAINTEXT_LIMIT request contents salt
     input

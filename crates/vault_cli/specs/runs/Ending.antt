@@ -22,7 +22,7 @@ pub record Output : Type 1 where
   pub failed : Type 0
   pub unfailed : Type 0
 
--- of a sink
+-- what became of a sink
 abbrev pub to_sink : {K : Type 0} → SinkCall K → Output
 to_sink out = record {
   untouched = out.new ≡ out.old;
@@ -32,7 +32,7 @@ to_sink out = record {
   unfailed = out.failures out.new ≡ out.failures out.old;
 }
 
--- of the file at a path, where there is one, or else of a sink: the other is left alone. A path may
+-- what became of the file at a path, where there is one, or else of a sink: the other is left alone. A path may
 -- be chosen where nothing is written, but its file is not begun
 abbrev pub to_path : {F R K : Type 0}
     → Option (List ℕ) → Access → StoreCall F R → SinkCall K → Output
@@ -79,7 +79,7 @@ module _ {E : Type 0} (out : Output) (err : SinkCall E) (result : Status) where
   abbrev pub Finishes : Answer → Type 0
   Finishes answer = IsAnswered answer ⊎ OutputFails answer
 
-  -- the source failed, which only a run may tell that asked it
+  -- the source failed, which only a run can report that asked it
   pub record SourceFails {S : Type 0} (src : SourceCall S) : Type 0 where
     pub status : result ≡ DeviceFailed
     pub failed : HasRisen (src.failures src.old) (src.failures src.new)
@@ -87,15 +87,15 @@ module _ {E : Type 0} (out : Output) (err : SinkCall E) (result : Status) where
     pub output : out.untouched
     pub line : Says err (line_of (Read Input))
 
-  -- there was no memory
-  pub record LacksMemory : Type 0 where
+  -- it ran out of memory
+  pub record IsOutOfMemory : Type 0 where
     pub status : result ≡ OutOfMemory
     pub unfailed : out.unfailed
     pub output : out.untouched
     pub line : Says err (line_of Memory)
 
   module _ {S : Type 0} (src : SourceCall S) where
-    -- the source did not fail, and gave so much as is taken and one byte more, or all
+    -- the source did not fail, and gave all that it had, or one byte more than the limit
     abbrev pub IsRead : ℕ → List ℕ → Type 0
     IsRead limit input =
         (src.failures src.new ≡ src.failures src.old)

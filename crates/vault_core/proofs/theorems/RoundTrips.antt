@@ -13,7 +13,7 @@ use Rattle.vault_fault.specs.declared.label_rule.LabelRule.{LabelRule}
 use Rattle.vault_core.proofs.DecryptionLemmas.{decryption-of}
 use Rattle.vault_core.proofs.EncryptionLemmas.{encryption-answers}
 use Rattle.vault_core.proofs.RekeyingLemmas.{rekeying-answers}
-use Rattle.vault_core.proofs.theorems.SealedOpens.{bytes_eq-same, sealed_opens}
+use Rattle.vault_core.proofs.theorems.SealedUnseals.{bytes_eq-same, sealed_unseals}
 use Rattle.vault_core.proofs.theorems.SealedReadsBack.{sealed_reads_back}
 
 -- ---- encrypting
@@ -28,7 +28,7 @@ encrypted_decrypts limit list index salt input ready label salt_bytes salt_fits 
     let read = sealed_reads_back limit sealing salt input label salt_bytes salt_fits bytes fits in
     ap (λ (one : Ready). decryption limit secrets one.output) made.1
     ∙ decryption-of limit secrets _ (Ok (sealed sealing salt input)) (sym read)
-    ∙ sealed_opens secrets sealing salt input tried
+    ∙ sealed_unseals secrets sealing salt input tried
 
 -- ---- rekeying
 
@@ -53,5 +53,5 @@ rekeyed_decrypts limit secrets new salt input ready label salt_bytes salt_fits r
           let alone_list : SecretList = record { secrets = new ∷ []; rule = rule } in
           ap (λ (one : Ready). decryption limit alone_list one.output) made.3
           ∙ decryption-of limit alone_list _ (Ok (sealed new salt plain)) (sym read)
-          ∙ sealed_opens alone_list new salt plain (alone new rule),
+          ∙ sealed_unseals alone_list new salt plain (alone new rule),
     )

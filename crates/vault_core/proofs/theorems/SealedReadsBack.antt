@@ -17,8 +17,8 @@ unfolding sealed text_in
 sealed_reads_back limit sealing salt plain label salt_bytes salt_fits plain_bytes fits =
     let vault : Payload = sealed sealing salt plain in
     let ciphertext = counter_mode-bytes _ _ _ (padded-bytes plain plain_bytes) in
-    let room : length vault.cipher ≤ ciphertext_limit limit =
+    let room : length vault.ciphertext ≤ ciphertext_limit limit =
     rw (length-counter_mode, length-padded plain) fits in
     ap (result_map_both (λ payload. payload) of_text)
-    (written_reads_back limit vault.label vault.salt vault.tag vault.cipher
+    (written_reads_back limit vault.label vault.salt vault.tag vault.ciphertext
     label salt_bytes salt_fits (hmac-bytes _ _) (length-hmac _ _) ciphertext room)

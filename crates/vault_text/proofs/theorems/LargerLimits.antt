@@ -36,14 +36,14 @@ steps-same (Err fault) f g same = refl
 -- a body whose ciphertext has room under the smaller limit
 read_body-same : (smaller larger : ℕ) (label digits : List ℕ) → smaller ≤ larger
     → ((inner : List ℕ) (parts : Parts) → unhex digits ≡ Some inner → parts_of inner ≡ Ok parts
-    → nat_lt (ciphertext_limit smaller) (length parts.cipher) ≡ false)
+    → nat_lt (ciphertext_limit smaller) (length parts.ciphertext) ≡ false)
     → read_body larger label digits ≡ read_body smaller label digits
 unfolding read_body
 read_body-same smaller larger label digits more fits =
     steps-same (ok_or (unhex digits) BadHex) _ _ (λ inner spelled.
     steps-same (parts_of inner) _ _ (λ parts known.
     let short = fits inner parts (ok_or-found (unhex digits) BadHex inner spelled) known in
-    let shorter : nat_lt (ciphertext_limit larger) (length parts.cipher) ≡ false =
+    let shorter : nat_lt (ciphertext_limit larger) (length parts.ciphertext) ≡ false =
     grind (arith, nat_tests) in
     rw (short, shorter) refl))
 
@@ -69,7 +69,7 @@ larger_limits smaller larger input more not_long fits =
       | inr short ↦
           read_within-same smaller larger input short more (λ header names.
           read_body-same smaller larger header.label (body input) more (λ inner parts spelled known.
-          elim (cases_Bool (nat_lt (ciphertext_limit smaller) (length parts.cipher))) [
+          elim (cases_Bool (nat_lt (ciphertext_limit smaller) (length parts.ciphertext))) [
             | inl long ↦ absurd (fits (rw (short, names, spelled, known, long) refl))
             | inr fitting ↦ fitting
           ]))
@@ -95,7 +95,7 @@ spelled_bytes-short (high ∷ low ∷ rest) =
 unhex-short : (text : List ℕ) → IfSome (unhex text) (λ found. 2 * length found ≤ length text)
 unhex-short text = rw (unhex-spelled_bytes text) (spelled_bytes-short text)
 
-cut-short : (text : List ℕ) → IfSome (cut text) (λ parts. length parts.cipher ≤ length text)
+cut-short : (text : List ℕ) → IfSome (cut text) (λ parts. length parts.ciphertext ≤ length text)
 unfolding cut
 cut-short text =
     elim (cases_Bool (nat_lt (count_by is_line_feed text) 2)) [
@@ -104,18 +104,18 @@ cut-short text =
     ]
 
 parts_of-short : (text : List ℕ)
-    → IfOk (parts_of text) (λ parts. 2 * length parts.cipher ≤ length text)
+    → IfOk (parts_of text) (λ parts. 2 * length parts.ciphertext ≤ length text)
 unfolding parts_of
 parts_of-short text =
-    let P : Parts → Type 0 = λ parts. 2 * length parts.cipher ≤ length text in
+    let P : Parts → Type 0 = λ parts. 2 * length parts.ciphertext ≤ length text in
     IfOk-steps (ok_or (cut text) BadPayload) _ P (λ digits lines.
     IfOk-steps (part_bytes digits.salt) _ P (λ salt _.
     IfOk-steps (part_bytes digits.tag) _ P (λ tag _.
-    IfOk-steps (part_bytes digits.cipher) _ P (λ cipher spelled.
+    IfOk-steps (part_bytes digits.ciphertext) _ P (λ ciphertext spelled.
     let part = rw (ok_or-found (cut text) BadPayload digits lines) at (cut-short text) in
-    let bytes = rw (ok_or-found (unhex digits.cipher) BadPayload cipher spelled)
-    at (unhex-short digits.cipher) in
-    IfOk-if _ (record { salt = salt; tag = tag; cipher = cipher }) BadPayload P
+    let bytes = rw (ok_or-found (unhex digits.ciphertext) BadPayload ciphertext spelled)
+    at (unhex-short digits.ciphertext) in
+    IfOk-if _ (record { salt = salt; tag = tag; ciphertext = ciphertext }) BadPayload P
     (omega (arith, part, bytes))))))
 
 body-short : (input : List ℕ) → length (body input) ≤ length input
@@ -134,5 +134,5 @@ short_inputs smaller larger input few more =
     read_body-same smaller larger header.label (body input) more (λ inner parts spelled known.
     let inner_short : 2 * length inner ≤ length (body input) = rw spelled
     at (unhex-short (body input)) in
-    let parts_short : 2 * length parts.cipher ≤ length inner = rw known at (parts_of-short inner) in
+    let parts_short : 2 * length parts.ciphertext ≤ length inner = rw known at (parts_of-short inner) in
     grind (arith, nat_tests)))

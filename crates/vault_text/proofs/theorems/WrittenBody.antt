@@ -67,14 +67,14 @@ bytes_from_test xs pass i =
       | inr past ↦ rw (get_or_past xs i 0 past) (omega arith)
     ]
 
-pub inner_text-bytes : (salt tag cipher : List ℕ) → IsBytes (inner_text salt tag cipher)
-inner_text-bytes salt tag cipher =
+pub inner_text-bytes : (salt tag ciphertext : List ℕ) → IsBytes (inner_text salt tag ciphertext)
+inner_text-bytes salt tag ciphertext =
     let p : ℕ → Bool = λ b. nat_lt b 256 in
-    bytes_from_test (inner_text salt tag cipher) (simp (
+    bytes_from_test (inner_text salt tag ciphertext) (simp (
       list_all-append,
       encode_lower-clean p refl refl salt,
       encode_lower-clean p refl refl tag,
-      encode_lower-clean p refl refl cipher,
+      encode_lower-clean p refl refl ciphertext,
     ))
 
 no_line_feed : (xs : List ℕ) → list_all (λ b. not (is_line_feed b)) (encode_lower xs) ≡ true
@@ -85,23 +85,23 @@ no_line_feed xs = encode_lower-clean (λ b. not (is_line_feed b)) refl refl xs
 unhex-encode_lower : (xs : List ℕ) → IsBytes xs → unhex (encode_lower xs) ≡ Some xs
 unhex-encode_lower xs bytes = ap result_ok (decode_of-encode_lower xs bytes)
 
-pub body-reads : (limit : ℕ) (label salt tag cipher : List ℕ) → IsBytes salt
+pub body-reads : (limit : ℕ) (label salt tag ciphertext : List ℕ) → IsBytes salt
     → length salt ≤ SALT_LIMIT → IsBytes tag → length tag ≡ TAG_LENGTH
-    → IsBytes cipher → length cipher ≤ ciphertext_limit limit
-    → read_body limit label (encode_lower (inner_text salt tag cipher))
-    ≡ Ok (record { label = label; salt = salt; tag = tag; cipher = cipher })
+    → IsBytes ciphertext → length ciphertext ≤ ciphertext_limit limit
+    → read_body limit label (encode_lower (inner_text salt tag ciphertext))
+    ≡ Ok (record { label = label; salt = salt; tag = tag; ciphertext = ciphertext })
 unfolding parts_of read_body
-body-reads limit label salt tag cipher salt_bytes salt_short tag_bytes tag_whole cipher_bytes
-    cipher_short =
-    let short : nat_lt (ciphertext_limit limit) (length cipher) ≡ false =
+body-reads limit label salt tag ciphertext salt_bytes salt_short tag_bytes tag_whole ciphertext_bytes
+    ciphertext_short =
+    let short : nat_lt (ciphertext_limit limit) (length ciphertext) ≡ false =
     lt-leb _ _ (omega arith) in
     rw (
-      unhex-encode_lower (inner_text salt tag cipher) (inner_text-bytes salt tag cipher),
-      cut-lines (encode_lower salt) (encode_lower tag) (encode_lower cipher) (no_line_feed salt)
+      unhex-encode_lower (inner_text salt tag ciphertext) (inner_text-bytes salt tag ciphertext),
+      cut-lines (encode_lower salt) (encode_lower tag) (encode_lower ciphertext) (no_line_feed salt)
           (no_line_feed tag),
       unhex-encode_lower salt salt_bytes,
       unhex-encode_lower tag tag_bytes,
-      unhex-encode_lower cipher cipher_bytes,
+      unhex-encode_lower ciphertext ciphertext_bytes,
       le-leb (length salt) SALT_LIMIT salt_short,
       (Decides-eqb (length tag) TAG_LENGTH).1 tag_whole,
       short,

@@ -20,24 +20,24 @@ use Rattle.vault_text.proofs.theorems.WrittenHeader.{header-clean, header-reads,
 use Rattle.vault_text.proofs.theorems.WrittenHeader.{header-starts}
 
 -- the header line, its end, and the lines of the body
-written-parts : (label salt tag cipher : List ℕ)
-    → written label salt tag cipher ≡ written_header label ++ 10
-    ∷ text_of_lines [] (body_lines (encode_lower (inner_text salt tag cipher)))
+written-parts : (label salt tag ciphertext : List ℕ)
+    → written label salt tag ciphertext ≡ written_header label ++ 10
+    ∷ text_of_lines [] (body_lines (encode_lower (inner_text salt tag ciphertext)))
 unfolding written
-written-parts label salt tag cipher =
+written-parts label salt tag ciphertext =
     rw (← text_of_lines-cons, text_of_lines-one) (append_assoc (written_header label) (10 ∷ []) _)
 
 pub written_reads_back : WrittenReadsBack
 unfolding read_within
-written_reads_back limit label salt tag cipher good salt_bytes salt_short tag_bytes tag_whole
-    cipher_bytes cipher_short =
+written_reads_back limit label salt tag ciphertext good salt_bytes salt_short tag_bytes tag_whole
+    ciphertext_bytes ciphertext_short =
     let line = written_header label in
-    let inner = inner_text salt tag cipher in
+    let inner = inner_text salt tag ciphertext in
     let digits = encode_lower inner in
     let text = text_of_lines [] (body_lines digits) in
     let input = line ++ 10 ∷ text in
     let p : ℕ → Bool = λ b. not (is_line_end b) in
-    let inner_size = length-inner_text salt tag cipher in
+    let inner_size = length-inner_text salt tag ciphertext in
     let size_digits = length-encode_lower inner in
     let count = length digits / digits_per_line + 1 in
     let few : length digits ≤ digits_per_line * count = omega arith in
@@ -52,12 +52,12 @@ written_reads_back limit label salt tag cipher good salt_bytes salt_short tag_by
     ∙ filter-clean p digits (encode_lower-clean p refl refl inner) in
     let short : nat_lt (envelope_limit limit) (length input) ≡ false = lt-leb _ _ (omega arith) in
     rw (
-      written-parts label salt tag cipher,
+      written-parts label salt tag ciphertext,
       short,
       header-starts label (10 ∷ text),
       spells,
       at,
       header-reads label good,
     )
-    (body-reads limit label salt tag cipher salt_bytes salt_short tag_bytes tag_whole cipher_bytes
-    cipher_short)
+    (body-reads limit label salt tag ciphertext salt_bytes salt_short tag_bytes tag_whole ciphertext_bytes
+    ciphertext_short)

@@ -10,20 +10,20 @@ use Rattle.vault_text.specs.Written.{body_lines, text_of_lines, written, written
 tag : List ℕ
 tag = reverse (range_with_len 224 32)
 
-cipher : List ℕ
-cipher = 5 ∷ 16 ∷ 27 ∷ 38 ∷ 49 ∷ 60 ∷ []
+ciphertext : List ℕ
+ciphertext = 5 ∷ 16 ∷ 27 ∷ 38 ∷ 49 ∷ 60 ∷ []
 
 -- the last line is full
-written-dev : written (codes "dev") (3 ∷ []) tag cipher
+written-dev : written (codes "dev") (3 ∷ []) tag ciphertext
     ≡ codes "$ANSIBLE_VAULT;1.2;AES256;dev" ++ 10 ∷ []
     ++ codes "30330a66666665666466636662666166396638663766366635663466336632663166306566656565"
     ++ 10 ∷ []
     ++ codes "6465636562656165396538653765366535653465336532653165300a303531303162323633313363"
     ++ 10 ∷ []
-unfolding written text_of_lines written_header body_lines encode_with tag cipher
+unfolding written text_of_lines written_header body_lines encode_with tag ciphertext
 written-dev = refl
 
-block-dev : block (Some (codes "key")) (codes "dev") (3 ∷ []) tag cipher
+block-dev : block (Some (codes "key")) (codes "dev") (3 ∷ []) tag ciphertext
     ≡ codes "key: !vault |" ++ 10 ∷ []
     ++ codes "          $ANSIBLE_VAULT;1.2;AES256;dev" ++ 10 ∷ []
     ++ codes
@@ -32,5 +32,5 @@ block-dev : block (Some (codes "key")) (codes "dev") (3 ∷ []) tag cipher
     ++ codes
     "          6465636562656165396538653765366535653465336532653165300a303531303162323633313363"
     ++ 10 ∷ []
-unfolding block text_of_lines written_header body_lines encode_with tag cipher
+unfolding block text_of_lines written_header body_lines encode_with tag ciphertext
 block-dev = refl

@@ -8,7 +8,7 @@ ghost use Rattle.vault_text.specs.Limits.{ciphertext_limit};
 ghost use Rattle.vault_text.specs.Pieces.{TakesPiece, TakesUpTo};
 
 use super::RUN_LIMIT;
-use super::cipher_part::CipherPart;
+use super::ciphertext_part::CiphertextPart;
 use super::short_part::ShortPart;
 use crate::fault::TextFault;
 use crate::header::split_at_byte;
@@ -24,7 +24,7 @@ use std::marker::Model;
 pub(super) enum Part {
     Salt,
     Tag,
-    Cipher,
+    Ciphertext,
 }
 
 impl Part {
@@ -33,13 +33,13 @@ impl Part {
         ensures digits { MayHave self result.0.now }
         ensures whole { IfNone result.1 (text.now ≡ result.0.now) }
         ensures cut { IfSome result.1 (λ rest. text.now ≡ result.0.now ++ 10 ∷ rest.now) }
-        ensures early { IfSome result.1 (λ rest. self ≡ Part.Cipher → ⊥) }
+        ensures early { IfSome result.1 (λ rest. self ≡ Part.Ciphertext → ⊥) }
         ensures bound { length result.0.now ≤ length text.now }
         ensures shorter { IfSome result.1 (λ rest. length rest.now < length text.now) }
     {
         match self {
             Part::Salt | Part::Tag => split_at_byte(text, b'\n'),
-            Part::Cipher => (text, None),
+            Part::Ciphertext => (text, None),
         }
     }
 
@@ -49,7 +49,7 @@ impl Part {
     {
         match self {
             Part::Salt => Part::Tag,
-            Part::Tag | Part::Cipher => Part::Cipher,
+            Part::Tag | Part::Ciphertext => Part::Ciphertext,
         }
     }
 }
@@ -61,7 +61,7 @@ pub(super) struct InnerReader<'a> {
     part: Part,
     salt: ShortPart<SALT_LIMIT>,
     tag: ShortPart<TAG_LENGTH>,
-    cipher: CipherPart<'a>,
+    ciphertext: CiphertextPart<'a>,
 }
 
 impl<'a> Model for InnerReader<'a> {
@@ -69,7 +69,7 @@ impl<'a> Model for InnerReader<'a> {
 
     ghost Value = { InnerState };
 
-    ghost view = { λ r. record { part = r.part; salt = r.salt; tag = r.tag; cipher = r.cipher } };
+    ghost view = { λ r. record { part = r.part; salt = r.salt; tag = r.tag; ciphertext = r.ciphertext } };
 }
 
 impl<'a> InnerReader<'a> {
@@ -81,7 +81,7 @@ impl<'a> InnerReader<'a> {
             part: Part::Salt,
             salt: ShortPart::new(),
             tag: ShortPart::new(),
-            cipher: CipherPart::new(memory),
+            ciphertext: CiphertextPart::new(memory),
         }
     }
 
@@ -123,7 +123,7 @@ impl<'a> InnerReader<'a> {
         match self.part {
             Part::Salt => self.salt.extend(digits),
             Part::Tag => self.tag.extend(digits),
-            Part::Cipher => self.cipher.extend(digits),
+            Part::Ciphertext => self.ciphertext.extend(digits),
         }
     }
 
@@ -136,9 +136,9 @@ impl<'a> InnerReader<'a> {
             part,
             salt,
             tag,
-            cipher,
+            ciphertext,
         } = self;
-        let Part::Cipher = part else {
+        let Part::Ciphertext = part else {
             return Err(TextFault::BadPayload);
         };
         let Some(salt) = Salt::new(salt.finish()?) else {
@@ -147,7 +147,7 @@ impl<'a> InnerReader<'a> {
         let Ok(tag) = <[u8; TAG_LENGTH]>::try_from(tag.finish()?) else {
             return Err(TextFault::BadPayload);
         };
-        let cipher = cipher.finish()?;
-        Ok(Payload::new(label, salt, tag, cipher))
+        let ciphertext = ciphertext.finish()?;
+        Ok(Payload::new(label, salt, tag, ciphertext))
     }
 }

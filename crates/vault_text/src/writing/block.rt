@@ -23,14 +23,14 @@ pub fn write_block<K: Sink>(
     label: &Label,
     salt: &Salt,
     tag: &[u8; TAG_LENGTH],
-    cipher: &[u8],
+    ciphertext: &[u8],
 ) -> Result<(), SinkFailed>
     requires { K.stage sink.old ≡ Stage.Begun }
     ensures takes { let text = block (option_copied name.entry)
-        label.now salt.now tag.now cipher.now in
+        label.now salt.now tag.now ciphertext.now in
         OnOk result (K.takes sink.old text sink.new) }
     ensures prefix { let text = block (option_copied name.entry)
-        label.now salt.now tag.now cipher.now in
+        label.now salt.now tag.now ciphertext.now in
         (n : ℕ) × K.takes sink.old (take n text) sink.new }
     ensures stage { K.stage sink.new ≡ Stage.Begun }
     ensures failed { CountsFailure (K.failures sink.old) (K.failures sink.new) result }
@@ -43,7 +43,7 @@ pub fn write_block<K: Sink>(
         label,
         salt,
         tag,
-        ciphertext: cipher,
+        ciphertext,
     };
     put_lines(sink, start, BLOCK_INDENTATION, &parts)
 }

@@ -44,51 +44,51 @@ fn salt_and_tag(salt: &Salt, tag: &[u8; TAG_LENGTH]) -> First
 }
 
 /// As much ciphertext as a batch of lines spells, and what is left.
-pub(super) fn split_batch(cipher: &[u8]) -> (&[u8], &[u8])
-    ensures parts { result.0.now ++ result.1.now ≡ cipher.now }
+pub(super) fn split_batch(ciphertext: &[u8]) -> (&[u8], &[u8])
+    ensures parts { result.0.now ++ result.1.now ≡ ciphertext.now }
     ensures batch { length result.0.now ≤ BATCH_CIPHERTEXT }
     ensures whole { (length result.0.now % LINE_CIPHERTEXT ≡ 0) ⊎ (result.1.now ≡ []) }
 {
-    cipher.split_at(cipher.len().min(BATCH_CIPHERTEXT))
+    ciphertext.split_at(ciphertext.len().min(BATCH_CIPHERTEXT))
 }
 
 /// Writes lines that spell the digits of the ciphertext, from the start of a line on.
 pub(super) fn put_ciphertext<K: Sink>(
     sink: &mut K,
     indentation: &[u8],
-    cipher: &[u8],
+    ciphertext: &[u8],
 ) -> Result<(), SinkFailed>
     requires begun { K.stage sink.old ≡ Stage.Begun }
     requires narrow { length indentation.now ≤ INDENTATION_LIMIT }
-    ensures takes { let text = hexadecimal_lines indentation.now (encode_lower cipher.now) in
+    ensures takes { let text = hexadecimal_lines indentation.now (encode_lower ciphertext.now) in
         OnOk result (K.takes sink.old text sink.new) }
-    ensures prefix { let text = hexadecimal_lines indentation.now (encode_lower cipher.now) in
+    ensures prefix { let text = hexadecimal_lines indentation.now (encode_lower ciphertext.now) in
         (n : ℕ) × K.takes sink.old (take n text) sink.new }
     ensures stage { K.stage sink.new ≡ Stage.Begun }
     ensures failed { CountsFailure (K.failures sink.old) (K.failures sink.new) result }
 {
     let mut done = 0;
-    while cipher.len() - done > BATCH_CIPHERTEXT {
-        let batch = &cipher[done..done + BATCH_CIPHERTEXT];
+    while ciphertext.len() - done > BATCH_CIPHERTEXT {
+        let batch = &ciphertext[done..done + BATCH_CIPHERTEXT];
         put_batch(sink, indentation, batch)?;
         done += BATCH_CIPHERTEXT;
     }
-    put_batch(sink, indentation, &cipher[done..])
+    put_batch(sink, indentation, &ciphertext[done..])
 }
 
 /// Writes the lines of one batch of ciphertext.
-fn put_batch<K: Sink>(sink: &mut K, indentation: &[u8], cipher: &[u8]) -> Result<(), SinkFailed>
+fn put_batch<K: Sink>(sink: &mut K, indentation: &[u8], ciphertext: &[u8]) -> Result<(), SinkFailed>
     requires begun { K.stage sink.old ≡ Stage.Begun }
     requires narrow { length indentation.now ≤ INDENTATION_LIMIT }
-    requires batch { length cipher.now ≤ BATCH_CIPHERTEXT }
-    ensures takes { let text = hexadecimal_lines indentation.now (encode_lower cipher.now) in
+    requires batch { length ciphertext.now ≤ BATCH_CIPHERTEXT }
+    ensures takes { let text = hexadecimal_lines indentation.now (encode_lower ciphertext.now) in
         OnOk result (K.takes sink.old text sink.new) }
-    ensures prefix { let text = hexadecimal_lines indentation.now (encode_lower cipher.now) in
+    ensures prefix { let text = hexadecimal_lines indentation.now (encode_lower ciphertext.now) in
         (n : ℕ) × K.takes sink.old (take n text) sink.new }
     ensures stage { K.stage sink.new ≡ Stage.Begun }
     ensures failed { CountsFailure (K.failures sink.old) (K.failures sink.new) result }
 {
     let mut text = Text::new();
-    append_ciphertext(&mut text, indentation, cipher);
+    append_ciphertext(&mut text, indentation, ciphertext);
     put_all(sink, text.as_slice())
 }

@@ -117,33 +117,33 @@ pub(super) fn append_lines(text: &mut Text, indentation: &[u8], bytes: &[u8])
 }
 
 /// Appends a line that spells the digits of ciphertext.
-fn append_ciphertext_line(text: &mut Text, indentation: &[u8], cipher: &[u8])
-    requires few { length cipher.now ≤ LINE_CIPHERTEXT }
+fn append_ciphertext_line(text: &mut Text, indentation: &[u8], ciphertext: &[u8])
+    requires few { length ciphertext.now ≤ LINE_CIPHERTEXT }
     requires narrow { length indentation.now ≤ INDENTATION_LIMIT }
     requires room { array_vec_len text.old + LINE_LIMIT ≤ TEXT_LIMIT }
     ensures text { text.new.items ≡ text.old.items
-        ++ (indentation.now ++ encode_lower (encode_lower cipher.now) ++ 10 ∷ []) }
+        ++ (indentation.now ++ encode_lower (encode_lower ciphertext.now) ++ 10 ∷ []) }
     ensures length { array_vec_len text.new ≤ array_vec_len text.old + LINE_LIMIT }
 {
     let mut digits = [0; LINE_BYTES];
-    let digits = &mut digits[..2 * cipher.len()];
-    let _ = hex::encode_to_slice(cipher, digits);
+    let digits = &mut digits[..2 * ciphertext.len()];
+    let _ = hex::encode_to_slice(ciphertext, digits);
     append_line(text, indentation, digits);
 }
 
 /// Appends the lines of at most a batch of ciphertext.
-pub(super) fn append_ciphertext(text: &mut Text, indentation: &[u8], cipher: &[u8])
+pub(super) fn append_ciphertext(text: &mut Text, indentation: &[u8], ciphertext: &[u8])
     requires opening { array_vec_len text.old ≤ OPENING_LIMIT }
     requires narrow { length indentation.now ≤ INDENTATION_LIMIT }
-    requires batch { length cipher.now ≤ BATCH_CIPHERTEXT }
+    requires batch { length ciphertext.now ≤ BATCH_CIPHERTEXT }
     ensures { text.new.items
-        ≡ text.old.items ++ hexadecimal_lines indentation.now (encode_lower cipher.now) }
+        ≡ text.old.items ++ hexadecimal_lines indentation.now (encode_lower ciphertext.now) }
 {
     let mut line = 0;
-    while line * LINE_CIPHERTEXT < cipher.len() {
+    while line * LINE_CIPHERTEXT < ciphertext.len() {
         let start = line * LINE_CIPHERTEXT;
-        let end = cipher.len().min(start + LINE_CIPHERTEXT);
-        append_ciphertext_line(text, indentation, &cipher[start..end]);
+        let end = ciphertext.len().min(start + LINE_CIPHERTEXT);
+        append_ciphertext_line(text, indentation, &ciphertext[start..end]);
         line += 1;
     }
 }

@@ -9,14 +9,14 @@ use Rattle.vault_core.proofs.decryption.prepare_decrypt_in.Goals as goal
 pub returns-in_err-payload-clause-answer : goal.returns-in_err-payload-clause-answer
 returns-in_err-payload-clause-answer g c =
     let p = err_from_is_err_and c.from_residual.result c.from_residual.ensures.1 in
-    let read = c.in_err-payload.ensures.input in
+    let read = c.in_err-payload.ensures.answer in
     let limit = limit_of c.args.memory.limit in
     let secrets = c.args.secrets.now in
     rw (p.1, p.2) (
       read.0,
       read.1,
       read.2,
-      UnlessUnreadable-Err read.3 (λ within. (within, refl))
+      UnlessUnreadable-Err read.3 (λ failed. (failed.0, refl))
           (λ refused. (
             refused.0,
             (
@@ -28,7 +28,7 @@ returns-in_err-payload-clause-answer g c =
 
 pub returns-clause-answer : goal.returns-clause-answer
 returns-clause-answer g c =
-    let read = c.in_ok-payload.ensures.input in
+    let read = c.in_ok-payload.ensures.answer in
     let limit = limit_of c.args.memory.limit in
     let secrets = c.args.secrets.now in
     let answer = c.decrypt_payload.ensures.answer

@@ -1,9 +1,51 @@
-use Rattle.std.proofs.Common.{inl, refl}
-use Rattle.std.proofs.lemmas.Result.{err_from_is_err_and}
+use Rattle.std.proofs.Common.{◌≡◌, ◌≤◌, ◌+◌, ◌-◌, ℕ, arith, eqb-true, inl, inr, length}
+use Rattle.std.proofs.Common.{length-append, length-take, rules, sym, ◌∙◌}
+use Rattle.std.proofs.lemmas.List.{nil_from_length}
+use Rattle.std.proofs.lemmas.Result.{MatchResult-from_err}
+use Rattle.vault_text.proofs.SinkLemmas.{taken_none}
 use Rattle.vault_core.proofs.input.read_plaintext.Goals as goal
 
-pub returns-in_err-put_input-clause-answer : goal.returns-in_err-put_input-clause-answer
-returns-in_err-put_input-clause-answer g c =
-    let p = err_from_is_err_and c.from_residual.result c.from_residual.ensures.1 in
-    let read = c.in_err-put_input.ensures.put in
-    rw (p.1, p.2) (inl ((refl, c.in_err-put_input.ensures.failed), read.2))
+pub returns-in_err-piece-clause-gives : goal.returns-in_err-piece-clause-gives
+returns-in_err-piece-clause-gives g c =
+    taken_none g.S.Source.gives g.met.S.Source.gives_more _ _ _ c.loop-buffer.memory.bytes
+    c.loop-buffer.invariant.gives c.in_err-piece.ensures.nothing
+
+pub returns-in_err-piece-clause-short : goal.returns-in_err-piece-clause-short
+returns-in_err-piece-clause-short g c =
+    MatchResult-from_err _ _ _ c.from_residual.ensures.0
+    (λ _. omega (arith, c.room.ensures, c.loop-buffer.invariant.limit, c.loop-buffer-test.true))
+
+pub returns-then-is_empty-clause-gives : goal.returns-then-is_empty-clause-gives
+returns-then-is_empty-clause-gives g c =
+    let empty : length c.in_ok-piece.piece.now ≡ 0 =
+    eqb-true _ _ (sym c.is_empty.ensures ∙ c.if-is_empty.true) in
+    taken_none g.S.Source.gives g.met.S.Source.gives_more _ _ _ c.loop-buffer.memory.bytes
+    c.loop-buffer.invariant.gives (rw (nil_from_length _ empty) at c.in_ok-piece.ensures.gives)
+
+pub returns-then-is_empty-clause-whole : goal.returns-then-is_empty-clause-whole
+returns-then-is_empty-clause-whole g c =
+    let empty : length c.in_ok-piece.piece.now ≡ 0 =
+    eqb-true _ _ (sym c.is_empty.ensures ∙ c.if-is_empty.true) in
+    inl (c.in_ok-piece.ensures.end.0 empty)
+
+pub loop-buffer-preserved : goal.loop-buffer-preserved
+loop-buffer-preserved g c =
+    let kept = c.loop-buffer.invariant in
+    let bytes = c.loop-buffer.memory.bytes in
+    let piece = c.in_ok-piece.piece.now in
+    let short : length piece ≤ c.room-in-loop-buffer.result - 16 + 1 =
+    omega (arith, c.in_ok-piece.ensures.bound, c.min.ensures, length-take {A = ℕ}) in
+    rw c.put.ensures (record {
+      gives = g.met.S.Source.gives_more _ _ _ bytes piece kept.gives c.in_ok-piece.ensures.gives;
+      limit = kept.limit;
+      bound = omega (
+        arith,
+        kept.limit,
+        length-append bytes piece,
+        short,
+        c.room-in-loop-buffer.ensures,
+        c.loop-buffer-test.true,
+      );
+      failures = c.in_ok-piece.ensures.failed ∙ kept.failures;
+      full = search rules;
+    })

@@ -3,10 +3,10 @@ use Rattle.std.proofs.lemmas.Result.{err_from_is_err_and}
 use Rattle.vault_text.proofs.EnvelopeReaderLemmas.{read-long, read-short}
 use Rattle.vault_text.proofs.reader.EnvelopeReader.finish.Goals as goal
 
-pub returns-then-fed-envelope_limit : goal.returns-then-fed-envelope_limit
-returns-then-fed-envelope_limit c input stands =
+pub returns-then-bytes_read-envelope_limit : goal.returns-then-bytes_read-envelope_limit
+returns-then-bytes_read-envelope_limit c input stands =
     rw (← c.self.view_is) (read-long _ input (rw (← c.self.view_is) at stands)
-    (omega (arith, c.if-fed-envelope_limit.true, c.envelope_limit.ensures.value)))
+    (omega (arith, c.if-bytes_read-envelope_limit.true, c.envelope_limit.ensures.value)))
 
 pub returns-in_err-header : goal.returns-in_err-header
 returns-in_err-header c input stands =
@@ -15,7 +15,7 @@ returns-in_err-header c input stands =
     rw (p.1, p.2, ← c.self.view_is)
     (rw (sym (c.finish.ensures input here.line) ∙ c.in_err-header.was)
     at (read-short _ input here
-    (omega (arith, c.if-fed-envelope_limit.false, c.envelope_limit.ensures.value))))
+    (omega (arith, c.if-bytes_read-envelope_limit.false, c.envelope_limit.ensures.value))))
 
 pub returns : goal.returns
 returns c input stands =
@@ -23,4 +23,4 @@ returns c input stands =
     rw (c.finish-2.ensures _ _ here.body, c.into_label.ensures, ← c.self.view_is)
     (rw (sym (c.finish.ensures input here.line) ∙ c.in_ok-header.was)
     at (read-short _ input here
-    (omega (arith, c.if-fed-envelope_limit.false, c.envelope_limit.ensures.value))))
+    (omega (arith, c.if-bytes_read-envelope_limit.false, c.envelope_limit.ensures.value))))

@@ -1,7 +1,7 @@
 use Rattle.std.proofs.Common.{◌+◌, arith, rules, refl}
 use Rattle.std.proofs.lemmas.Grind.{common_steps}
 use Rattle.std.proofs.lemmas.List.{take_rest}
-use Rattle.vault_text.proofs.WrittenLemmas.{cipher_text-nil, cipher_text-next, cipher_text-rest}
+use Rattle.vault_text.proofs.WrittenLemmas.{ciphertext_lines-nil, ciphertext_lines-next, ciphertext_lines-rest}
 use Rattle.vault_text.proofs.SinkLemmas.{prefix_first, prefix_second, takes_both, takes_second}
 use Rattle.vault_text.proofs.writing.body.put_ciphertext.Goals as goal
 
@@ -9,7 +9,7 @@ pub loop-done-init : goal.loop-done-init
 loop-done-init g c = (
   omega arith,
   refl,
-  rw (cipher_text-nil c.args.indentation.now) (g.met.K.Sink.takes_none c.args.sink.now),
+  rw (ciphertext_lines-nil c.args.indentation.now) (g.met.K.Sink.takes_none c.args.sink.now),
   c.requires.begun,
   refl,
 )
@@ -17,7 +17,7 @@ loop-done-init g c = (
 pub loop-done-preserved : goal.loop-done-preserved
 loop-done-preserved g c =
     let l = c.loop-done in
-    let next = cipher_text-next c.args.indentation.now c.args.cipher.now l.done (l.done + 4060)
+    let next = ciphertext_lines-next c.args.indentation.now c.args.ciphertext.now l.done (l.done + 4060)
     l.invariant.0 (omega arith) (omega arith) in (
       omega arith,
       omega arith,
@@ -30,9 +30,9 @@ loop-done-preserved g c =
 pub returns-in_err-put_batch-clause-prefix : goal.returns-in_err-put_batch-clause-prefix
 returns-in_err-put_batch-clause-prefix g c =
     let l = c.loop-done in
-    let next = cipher_text-next c.args.indentation.now c.args.cipher.now l.done (l.done + 4060)
+    let next = ciphertext_lines-next c.args.indentation.now c.args.ciphertext.now l.done (l.done + 4060)
     l.invariant.0 (omega arith) (omega arith) in
-    let rest = cipher_text-rest c.args.indentation.now c.args.cipher.now (l.done + 4060)
+    let rest = ciphertext_lines-rest c.args.indentation.now c.args.ciphertext.now (l.done + 4060)
     (omega arith) (omega arith) in
     prefix_first g.K.Sink.takes _ _ _ _ _ rest
     (prefix_second g.K.Sink.takes g.met.K.Sink.takes_more _ _ _ _ _ _ next l.invariant.2
@@ -41,7 +41,7 @@ returns-in_err-put_batch-clause-prefix g c =
 pub returns : goal.returns
 returns g c =
     let l = c.loop-done in
-    let whole = cipher_text-rest c.args.indentation.now c.args.cipher.now l.done l.invariant.0
+    let whole = ciphertext_lines-rest c.args.indentation.now c.args.ciphertext.now l.done l.invariant.0
     (omega arith) in
     let both = takes_second g.K.Sink.takes g.met.K.Sink.takes_more _ _ _ c.put_batch-2.result _ _ _
     whole l.invariant.2 (rw take_rest at c.put_batch-2.ensures.takes)

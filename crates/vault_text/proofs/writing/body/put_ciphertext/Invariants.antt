@@ -6,12 +6,12 @@ use Rattle.vault_text.proofs.writing.body.put_ciphertext.Given as goal
 
 abbrev pub invariant-loop-done : goal.invariant-loop-done
 invariant-loop-done g l =
-    (l.done ≤ length l.cipher)
+    (l.done ≤ length l.ciphertext)
     × (l.done % 4060 ≡ 0)
     × g.K.Sink.takes l.fn.sink
-    (hexadecimal_lines l.indentation (encode_lower (take l.done l.cipher))) l.sink
+    (hexadecimal_lines l.indentation (encode_lower (take l.done l.ciphertext))) l.sink
     × (g.K.Sink.stage l.sink ≡ Begun)
     × (g.K.Sink.failures l.sink ≡ g.K.Sink.failures l.fn.sink)
 
 abbrev pub decreases-loop-done : goal.decreases-loop-done
-decreases-loop-done g l = length l.cipher - l.done
+decreases-loop-done g l = length l.ciphertext - l.done

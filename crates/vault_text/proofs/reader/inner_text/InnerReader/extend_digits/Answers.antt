@@ -8,7 +8,7 @@ returns-in-Salt-clause-taken c limit text has =
     let d = here.digits in
     let more = c.args.digits.now in
     rw c.in-Salt.is (record {
-      digits = record { salt = d.salt ++ more; tag = d.tag; cipher = d.cipher };
+      digits = record { salt = d.salt ++ more; tag = d.tag; ciphertext = d.ciphertext };
       cut = (
         ap (λ xs. xs ++ more) here.cut.0,
         one_line-append d.salt more here.cut.1
@@ -18,7 +18,7 @@ returns-in-Salt-clause-taken c limit text has =
       );
       salt = c.extend.ensures here.digits.salt here.salt;
       tag = here.tag;
-      cipher = here.cipher;
+      ciphertext = here.ciphertext;
     })
 
 pub returns-in-Tag-clause-taken : goal.returns-in-Tag-clause-taken
@@ -27,7 +27,7 @@ returns-in-Tag-clause-taken c limit text has =
     let d = here.digits in
     let more = c.args.digits.now in
     rw c.in-Tag.is (record {
-      digits = record { salt = d.salt; tag = d.tag ++ more; cipher = d.cipher };
+      digits = record { salt = d.salt; tag = d.tag ++ more; ciphertext = d.ciphertext };
       cut = (
         rw here.cut.0 (simp append_assoc),
         here.cut.1,
@@ -37,18 +37,18 @@ returns-in-Tag-clause-taken c limit text has =
       );
       salt = here.salt;
       tag = c.extend-in-Tag.ensures here.digits.tag here.tag;
-      cipher = here.cipher;
+      ciphertext = here.ciphertext;
     })
 
-pub returns-in-Cipher-clause-taken : goal.returns-in-Cipher-clause-taken
-returns-in-Cipher-clause-taken c limit text has =
-    let here = rw (← c.self.view_is, c.in-Cipher.is) at has in
+pub returns-in-Ciphertext-clause-taken : goal.returns-in-Ciphertext-clause-taken
+returns-in-Ciphertext-clause-taken c limit text has =
+    let here = rw (← c.self.view_is, c.in-Ciphertext.is) at has in
     let d = here.digits in
     let more = c.args.digits.now in
-    rw c.in-Cipher.is (record {
-      digits = record { salt = d.salt; tag = d.tag; cipher = d.cipher ++ more };
+    rw c.in-Ciphertext.is (record {
+      digits = record { salt = d.salt; tag = d.tag; ciphertext = d.ciphertext ++ more };
       cut = (rw here.cut.0 (simp append_assoc), here.cut.1, here.cut.2);
       salt = here.salt;
       tag = here.tag;
-      cipher = c.extend-in-Cipher.ensures limit here.digits.cipher here.cipher;
+      ciphertext = c.extend-in-Ciphertext.ensures limit here.digits.ciphertext here.ciphertext;
     })

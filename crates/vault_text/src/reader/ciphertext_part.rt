@@ -12,14 +12,14 @@ use std::marker::Model;
 
 /// The ciphertext so far, in the memory of the reader.
 #[derive(Drop)]
-pub(super) struct CipherPart<'a> {
+pub(super) struct CiphertextPart<'a> {
     memory: TextMemory<'a>,
     decoder: HexDecoder,
     /// Whether the ciphertext has more bytes than fit.
     is_long: bool,
 }
 
-impl<'a> Model for CipherPart<'a> {
+impl<'a> Model for CiphertextPart<'a> {
     ghost use Rattle.vault_text.specs.InnerReader.{PartState};
 
     ghost Value = { PartState };
@@ -32,12 +32,12 @@ impl<'a> Model for CipherPart<'a> {
     } };
 }
 
-impl<'a> CipherPart<'a> {
+impl<'a> CiphertextPart<'a> {
     pub(super) fn new(memory: TextMemory<'a>) -> Self
         requires { memory.bytes ≡ [] }
         ensures { PartHas memory.entry.limit result [] }
     {
-        CipherPart {
+        CiphertextPart {
             memory,
             decoder: HexDecoder::new(),
             is_long: false,
@@ -65,7 +65,7 @@ impl<'a> CipherPart<'a> {
         ensures fault { (limit : ℕ) (digits : List ℕ) → PartHas limit self.entry digits
             → IfErr result (λ fault. ciphertext_of limit digits ≡ Err fault) }
     {
-        let CipherPart {
+        let CiphertextPart {
             memory,
             decoder,
             is_long,

@@ -1,4 +1,4 @@
--- What was sealed opens to its plaintext.
+-- What was sealed unseals to its plaintext.
 use Rattle.std.proofs.Common.{◌≡◌, ℕ, true, List, Some, refl, ap, ◌∙◌}
 use Rattle.std.specs.Str.{bytes_eq}
 use Rattle.std.proofs.lemmas.Slice.Eq.{bytes_eq-Decides}
@@ -6,7 +6,7 @@ use Rattle.vault_aes.proofs.CounterModeLemmas.{counter_mode-counter_mode}
 use Rattle.vault_aes.proofs.PaddingLemmas.{without_padding-padded}
 use Rattle.vault_text.specs.Envelope.{Payload}
 use Rattle.vault_core.specs.TriedSecrets.{matches}
-use Rattle.vault_core.specs.Laws.{SealedOpens}
+use Rattle.vault_core.specs.Laws.{SealedUnseals}
 use Rattle.vault_core.specs.Unsealing.{plaintext_of, unsealing}
 use Rattle.vault_aes.specs.Padding.{padded, without_padding}
 use Rattle.vault_core.specs.Sealing.{sealed}
@@ -33,9 +33,9 @@ module _ (sealing : Secret) (salt plain : List ℕ) where
       rw same (ap without_padding (counter_mode-counter_mode _ _ (padded plain))
       ∙ without_padding-padded plain (padded plain) refl)
 
-pub sealed_opens : SealedOpens
+pub sealed_unseals : SealedUnseals
 unfolding unsealing sealed
-sealed_opens secrets sealing salt plain tried =
+sealed_unseals secrets sealing salt plain tried =
     let first = tried.0 in
     let matched = matches-sealed sealing salt plain first tried.3 in
     let once = tries-cons_yes (sealed sealing salt plain) first tried.1 matched in

@@ -1,7 +1,7 @@
 use Rattle.std.proofs.Common.{◌≡◌, ◌<◌, ◌≤◌, ◌+◌, ◌-◌, length}
 use Rattle.vault_text.specs.Failures.{last_count}
 use Rattle.vault_text.specs.Limits.{limit_of}
-use Rattle.vault_core.proofs.input.put_input.Given as goal
+use Rattle.vault_core.proofs.input.read_plaintext.Given as goal
 
 abbrev pub invariant-loop-buffer : goal.invariant-loop-buffer
 invariant-loop-buffer g l = record {
