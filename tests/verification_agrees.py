@@ -254,13 +254,13 @@ def check_kit_words(outcome: Outcome, document: str) -> None:
 
 
 def check_kit_files(outcome: Outcome, document: str) -> None:
-    """The lengths of the kit's files, where the kit that the README names is installed."""
+    """The lengths of the kit's files, where a kit that the README names is installed."""
     rt = shutil.which("rt")
     guide = subprocess.run([rt, "doc"], capture_output=True, text=True).stdout.strip() if rt else ""
     kit = Path(guide).parent
-    named = re.search(r"rattle-kit-\w+", README.read_text())[0]
-    if not guide or not (kit / "KIT-ID").read_text().startswith(named):
-        return outcome.left_out("the lengths of the kit's files", f"{named} is not installed")
+    named = re.findall(r"rattle-kit-\w+", README.read_text())
+    if not guide or (kit / "KIT-ID").read_text().split()[0] not in named:
+        return outcome.left_out("the lengths of the kit's files", f"{' or '.join(named)} is not installed")
     for lines, name in KIT_ROW.findall(document):
         file = kit / "rattle" / name
         length = len(file.read_text().splitlines()) if file.is_file() else 0

@@ -43,7 +43,7 @@ mixing_matrix = 2 ∷ 1 ∷ 1 ∷ 3 ∷ 3 ∷ 2 ∷ 1 ∷ 1 ∷ 1 ∷ 3 ∷ 2 �
 unfoldable pub mix_columns : List ℕ → List ℕ
 mix_columns state = matrix (product_entry mixing_matrix state)
 
--- byte r of a word, where byte 0 is the highest (3.5)
+-- byte r of a word, where byte 0 is the most significant (3.5)
 abbrev pub word_byte : ℕ → ℕ → ℕ
 word_byte word r = slice_index (to_be_bytes w32 word) r
 

@@ -1,4 +1,5 @@
--- The state as the code holds it: four words, each a column with its byte of row 0 the highest.
+-- The state as the code holds it: four words, each a column with row 0 in its most significant
+-- byte.
 use Rattle.std.specs.Prelude.{ℕ, List, [], ◌∷◌, ◌++◌, bit_xor, slice_index}
 use Rattle.std.specs.Int.{w32, to_be_bytes}
 use Rattle.vault_aes.specs.Field.{mul}

@@ -5,8 +5,8 @@ use Rattle.std.specs.Int.{w128, from_be_bytes, to_be_bytes}
 use Rattle.std.specs.List.{range_with_len}
 use Rattle.vault_aes.specs.Cipher.{cipher}
 
--- counter block j, T_(j + 1), from the initial one, T_1: the counter is a number of 16 bytes, the
--- highest first (B.1)
+-- counter block j, T_(j + 1), from the initial one, T_1: the counter is a big-endian number of
+-- 16 bytes (B.1)
 unfoldable pub counter_block : List ℕ → ℕ → List ℕ
 counter_block iv j = to_be_bytes w128 ((from_be_bytes w128 iv + j) % 2 ^ 128)
 
@@ -14,12 +14,12 @@ counter_block iv j = to_be_bytes w128 ((from_be_bytes w128 iv + j) % 2 ^ 128)
 unfoldable pub keystream_byte : List ℕ → List ℕ → ℕ → ℕ
 keystream_byte words iv i = slice_index (cipher words (counter_block iv (i / 16))) (i % 16)
 
--- the input with the keystream's byte at the same place added to each byte
+-- the input with each byte XORed with the key stream's byte at its place
 abbrev pub xor_keystream : (ℕ → ℕ) → List ℕ → List ℕ
 xor_keystream keystream input =
     map (λ i. bit_xor (slice_index input i) (keystream i)) (range_with_len 0 (length input))
 
--- the input with the key stream added, under the words of a key schedule: of a plaintext the
+-- the input XORed with the key stream, under the words of a key schedule: of a plaintext the
 -- ciphertext, and of that the plaintext. Of the last output block only as many bytes are used as
 -- there is input (6.5).
 unfoldable pub counter_mode : List ℕ → List ℕ → List ℕ → List ℕ

@@ -1,5 +1,5 @@
 -- The key expansion of AES-256 (FIPS 197, section 5.2). A word is a number below 2^32 whose four
--- bytes, the highest first, are those of the standard's word.
+-- big-endian bytes are those of the standard's word.
 use Rattle.std.specs.Prelude.{ℕ, zero, suc, ◌+◌, ◌-◌, ◌*◌, ◌/◌, ◌%◌, ◌==◌, if◌then◌else◌, bit_xor}
 use Rattle.std.specs.Prelude.{List, [], ◌∷◌, ◌++◌, map, slice_index}
 use Rattle.std.specs.Int.{w32, from_be_bytes}

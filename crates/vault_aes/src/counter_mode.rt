@@ -24,7 +24,7 @@ pub fn ctr_apply(key: &Key, iv: &[u8; BLOCK_LEN], bytes: &mut [u8])
     }
 }
 
-/// The counter's bytes, the highest first. Halves are stored whole, where the 16 bytes of
+/// The counter's big-endian bytes. Halves are stored whole, where the 16 bytes of
 /// `counter.to_be_bytes()` go one by one.
 #[inline(always)]
 fn counter_block(counter: u128) -> [u8; BLOCK_LEN]

@@ -5,8 +5,8 @@ ghost use Rattle.vault_aes.specs.KeyExpansion.{key_schedule};
 
 use crate::key_expansion::expand_key;
 use crate::rounds::{
-    BLOCK_LEN, ROUND_COUNT, Words, add_round_key, bytes_of, columns_of, final_round, four_rounds,
-    round,
+    BLOCK_LEN, KeySchedule, ROUND_COUNT, add_round_key, bytes_of, columns_of, final_round,
+    four_rounds, round,
 };
 use std::marker::Model;
 
@@ -14,7 +14,7 @@ use std::marker::Model;
 /// It is not erased from memory when it is dropped.
 #[derive(Drop)]
 pub struct Key {
-    words: Words,
+    words: KeySchedule,
 }
 
 impl Model for Key {

@@ -3,7 +3,7 @@ ghost use Rattle.std.specs.Prelude.{◌≡◌, ◌<◌, ◌≤◌, map};
 ghost use Rattle.std.specs.List.{range_with_len};
 ghost use Rattle.vault_aes.specs.KeyExpansion.{key_schedule, key_word, schedule_step, sub_word};
 
-use crate::rounds::{WORD_COUNT, Words};
+use crate::rounds::{KeySchedule, WORD_COUNT};
 use crate::tables::sub_byte;
 use std::array;
 
@@ -48,7 +48,7 @@ fn schedule_step(i: usize, previous: u32) -> u32
     }
 }
 
-pub(crate) fn expand_key(key: &[u8; 32]) -> Words
+pub(crate) fn expand_key(key: &[u8; 32]) -> KeySchedule
     ensures { result ≡ key_schedule key.now }
 {
     let mut words = [0; WORD_COUNT];

@@ -10,20 +10,21 @@ ghost use Rattle.vault_aes.specs.SubstitutionBox.{s_box};
 use crate::key_expansion::expand_key;
 use crate::tables::{sub_byte, te0, te1, te2, te3};
 
-/// Each plaintext has one padded text, each text is that of one plaintext at most, and what is
-/// taken off is what was put on.
+/// Each plaintext has one padded text, each text is that of one plaintext at most, and unpadding
+/// undoes padding.
 pub fn one_padding()
     ensures exists { (plaintext : List ℕ) → IsPadded plaintext (padded plaintext) }
     ensures unique { (plaintext text : List ℕ) → IsPadded plaintext text
         → text ≡ padded plaintext }
-    ensures once { (one other text : List ℕ) → IsPadded one text → IsPadded other text
+    ensures injective { (one other text : List ℕ) → IsPadded one text → IsPadded other text
         → one ≡ other }
-    ensures put_on { (plaintext : List ℕ) → without_padding (padded plaintext) ≡ Some plaintext }
-    ensures taken_off { (plaintext text : List ℕ) → without_padding text ≡ Some plaintext
-        → padded plaintext ≡ text }
+    ensures unpads_padded { (plaintext : List ℕ)
+        → without_padding (padded plaintext) ≡ Some plaintext }
+    ensures pads_unpadded { (plaintext text : List ℕ)
+        → without_padding text ≡ Some plaintext → padded plaintext ≡ text }
 {}
 
-/// To encipher twice is to decipher, and the length stays.
+/// Counter mode applied twice gives the input back, and keeps its length.
 pub fn counter_mode_undoes_itself()
     ensures twice { (words iv input : List ℕ)
         → counter_mode words iv (counter_mode words iv input) ≡ input }

@@ -1,5 +1,5 @@
-//! The steps of the cipher (FIPS 197, 5.1) on the state's four columns, each a word with its byte
-//! of row 0 the highest.
+//! The steps of the cipher (FIPS 197, 5.1) on the state's four columns, each a word with row 0 in
+//! its most significant byte.
 ghost use Rattle.std.specs.Prelude.{◌≡◌, ℕ, ◌+◌, ◌≤◌, List};
 ghost use Rattle.std.specs.Int.{w32, to_be_bytes};
 ghost use Rattle.vault_aes.specs.Cipher.{add_round_key, round, rounds, shift_rows, sub_bytes};
@@ -16,7 +16,7 @@ pub(crate) const ROUND_COUNT: usize = 14;
 /// The number of words in a key schedule: four before the first round, and four for each.
 pub(crate) const WORD_COUNT: usize = 4 * (ROUND_COUNT + 1);
 
-pub(crate) type Words = [u32; WORD_COUNT];
+pub(crate) type KeySchedule = [u32; WORD_COUNT];
 
 pub(crate) type State = [u32; 4];
 
@@ -46,7 +46,7 @@ pub(crate) fn bytes_of(state: State) -> [u8; BLOCK_LEN]
 }
 
 #[inline(always)]
-pub(crate) fn add_round_key(words: &Words, n: usize, state: State) -> State
+pub(crate) fn add_round_key(words: &KeySchedule, n: usize, state: State) -> State
     requires { n ≤ ROUND_COUNT }
     ensures { state_of result ≡ add_round_key words.now n (state_of state) }
 {
@@ -68,7 +68,7 @@ fn round_column(a: u8, b: u8, c: u8, d: u8, key: u32) -> u32
 }
 
 #[inline(always)]
-pub(crate) fn round(words: &Words, n: usize, state: State) -> State
+pub(crate) fn round(words: &KeySchedule, n: usize, state: State) -> State
     requires { n ≤ ROUND_COUNT }
     ensures { state_of result ≡ round words.now n (state_of state) }
 {
@@ -86,7 +86,7 @@ pub(crate) fn round(words: &Words, n: usize, state: State) -> State
 
 /// The four rounds after round n.
 #[inline(always)]
-pub(crate) fn four_rounds(words: &Words, n: usize, state: State) -> State
+pub(crate) fn four_rounds(words: &KeySchedule, n: usize, state: State) -> State
     requires { n + 4 ≤ ROUND_COUNT }
     ensures { (block : List ℕ) → state_of state ≡ rounds words.now block n
         → state_of result ≡ rounds words.now block (n + 4) }
@@ -107,7 +107,7 @@ fn final_column(a: u8, b: u8, c: u8, d: u8, key: u32) -> u32
 }
 
 #[inline(always)]
-pub(crate) fn final_round(words: &Words, state: State) -> State
+pub(crate) fn final_round(words: &KeySchedule, state: State) -> State
     ensures { state_of result
         ≡ add_round_key words.now ROUND_COUNT (shift_rows (sub_bytes (state_of state))) }
 {

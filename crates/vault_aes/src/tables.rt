@@ -1,4 +1,4 @@
-//! The tables that the cipher and the key expansion read, and their readers.
+//! The S-box, the four encryption tables (T-tables), and their readers.
 ghost use Rattle.std.specs.Prelude.{◌≡◌};
 ghost use Rattle.std.specs.Int.{w32, to_be_bytes};
 ghost use Rattle.vault_aes.specs.Columns.{mixed_column};
@@ -25,7 +25,7 @@ const S_BOX: [u8; 256] = [
 ];
 
 /// The columns that SubBytes and MixColumns make of a byte in row 0 (FIPS 197, 5.1.1 and 5.1.3):
-/// twice S, S, S and three times S of it, the first of them the highest byte.
+/// twice S, S, S and three times S of it, from the most significant byte on.
 const TE0_WORDS: [u32; 256] = [
     0xc66363a5, 0xf87c7c84, 0xee777799, 0xf67b7b8d, 0xfff2f20d, 0xd66b6bbd, 0xde6f6fb1, 0x91c5c554,
     0x60303050, 0x02010103, 0xce6767a9, 0x562b2b7d, 0xe7fefe19, 0xb5d7d762, 0x4dababe6, 0xec76769a,

@@ -29,19 +29,19 @@ impl Write for Count {
     }
 }
 
-fn write_once(label: &Label, salt: &Salt, cipher: &[u8]) -> Count {
+fn write_once(label: &Label, salt: &Salt, ciphertext: &[u8]) -> Count {
     let mut sink = WriteSink::new(Count { bytes: 0, sum: 0 });
     if let Ok(()) = sink.begin() {
-        let _ = write_envelope(&mut sink, label, salt, &[9; 32], cipher);
+        let _ = write_envelope(&mut sink, label, salt, &[9; 32], ciphertext);
     }
     sink.into_inner()
 }
 
 /// Writes an envelope of `length` bytes of ciphertext, `times` times; gives the length of its text.
 pub(crate) fn write(alloc: Global, length: usize, times: u32) -> io::Result<u64> {
-    let mut cipher = vec![in alloc; 0u8; length]?;
+    let mut ciphertext = vec![in alloc; 0u8; length]?;
     let mut state: u32 = 1;
-    for byte in cipher.iter_mut() {
+    for byte in ciphertext.iter_mut() {
         state = state.wrapping_mul(1664525).wrapping_add(1013904223);
         *byte = (state >> 24) as u8;
     }
@@ -50,7 +50,7 @@ pub(crate) fn write(alloc: Global, length: usize, times: u32) -> io::Result<u64>
     };
     let mut count = Count { bytes: 0, sum: 0 };
     for _ in 0..times {
-        count = write_once(&Label::default_label(), &salt, &cipher);
+        count = write_once(&Label::default_label(), &salt, &ciphertext);
     }
     Ok(count.bytes)
 }

@@ -23,8 +23,9 @@ use Rattle.vault_cli.specs.runs.ReportLine.{line_of}
 use Rattle.vault_cli.specs.runs.Answer.{Answer, answered, input_needed_by, input_needed}
 use Rattle.vault_cli.specs.runs.Answer.{input_limit, performed, ready_by, reported, run_answer}
 use Rattle.vault_cli.specs.runs.Answer.{run_answer_within}
-use Rattle.vault_cli.specs.Program.{Files, access_of, answer_to, input_in, can_open_input}
-use Rattle.vault_cli.specs.Program.{output_access, output_path, unless_file}
+use Rattle.vault_cli.specs.Access.{access_of, output_access}
+use Rattle.vault_cli.specs.Program.{Files, answer_to, input_in, can_open_input, output_path}
+use Rattle.vault_cli.specs.Program.{unless_file}
 use Rattle.vault_cli.specs.runs.Reports.{Says}
 use Rattle.vault_request.specs.Request.{Request}
 use Rattle.vault_request.specs.Settled.{Settles}
@@ -32,7 +33,7 @@ use Rattle.vault_cli.specs.runs.Status.{status_of}
 use Rattle.vault_cli.specs.runs.Task.{Task, planned}
 use Rattle.vault_cli.specs.declared.runs.status.Status.{Status}
 use Rattle.vault_cli.proofs.EndingLemmas.{path-alone}
-use Rattle.vault_cli.proofs.OpenedPathsLemmas.{opened-behind}
+use Rattle.vault_cli.proofs.OpenedPathsLemmas.{opened_paths-found}
 use Rattle.vault_cli.proofs.ProgramLemmas.{opening, task-found}
 
 -- no standard input is asked for beside a file
@@ -118,7 +119,8 @@ module _ {F R S K E : Type 0} (files : StoreCall F R) (src : SourceCall S) (out 
         let (secrets, secrets_found, gave) = read in
         let (salt_file, salt_found, has_salt) = salted in
         let found : Files = record { secrets = secrets; salt = salt_file; input = input } in
-        let all = opened-behind (files.finds files.old) request found contents secrets_found gave in
+        let all =
+        opened_paths-found (files.finds files.old) request found contents secrets_found gave in
         let same = task-found request found contents salt gave has_salt opens in
         let ends_so = subst (λ (task : Result Task Fault). EndsWith input task) (sym same) ends in
         inr (

@@ -18,7 +18,8 @@ use Rattle.vault_request.specs.Request.{Request}
 use Rattle.vault_cli.specs.Call.{SinkCall, SourceCall, StoreCall, sink, source, store}
 use Rattle.vault_cli.specs.Drive.{Drives}
 use Rattle.vault_cli.specs.OpenedPaths.{opened_paths}
-use Rattle.vault_cli.specs.Program.{Files, access_of, answer_to, files_in, output_path}
+use Rattle.vault_cli.specs.Access.{access_of}
+use Rattle.vault_cli.specs.Program.{Files, answer_to, files_in, output_path}
 use Rattle.vault_cli.specs.Program.{stdin_needed}
 use Rattle.vault_cli.specs.InMemory.{Change, EndsInMemory, HoldsPrefix, Holds, IsCut}
 use Rattle.vault_cli.specs.InMemory.{IsFinished, IsKept, Received, Reported, Stands, Taken}
@@ -39,7 +40,7 @@ memory_store files = store
       stage = λ s. s.output.stage;
       failures = λ s. s.output.failures;
       finds = λ s path file. file ≡ file_at s.entries path;
-      opened = λ s path reader. IsReaderOf (file_at s.entries path) reader;
+      reader_at = λ s path reader. IsReaderOf (file_at s.entries path) reader;
       opens = StoreOpens;
       output_set = λ s path access t. t ≡ record s { output_file = Some path };
     }) files.old files.new
@@ -78,12 +79,12 @@ written-stands files new_files output_file bytes path empty took begun =
     rw (begun, took.output_file, took.output.appended, empty, took.entries)
 
 -- what is left after an input that reaches to the end of a text, or to one byte past a limit
-left-behind : (text input left : List ℕ) (limit : ℕ) (ended : Bool) → text ≡ input ++ left
+taken-left : (text input left : List ℕ) (limit : ℕ) (ended : Bool) → text ≡ input ++ left
     → length input ≤ limit + 1 → (IsTrue ended → left ≡ [])
     → IsTrue ended ⊎ (length input ≡ limit + 1) → left ≡ drop (limit + 1) text
-left-behind text input left limit ended e fits last (inl end) =
+taken-left text input left limit ended e fits last (inl end) =
     rw (e, last end, append-nil) (sym (drop_all (limit + 1) input fits))
-left-behind text input left limit ended e fits last (inr exact) =
+taken-left text input left limit ended e fits last (inr exact) =
     rw (e, ← exact) (sym (drop-append_seam input left))
 
 module _ (result : Status) (files : Change StoreState) (log : Option (List (List ℕ)))
@@ -183,7 +184,7 @@ module _ (result : Status) (files : Change StoreState) (log : Option (List (List
           let (ends, logged) = ends-done (answers input) done in (
             rw (same src.new.ended src.old.left input src.new.left given.0.consumed
                 (at-end input given) whole) at ends,
-            left-behind src.old.left input src.new.left limit src.new.ended given.0.consumed fits
+            taken-left src.old.left input src.new.left limit src.new.ended given.0.consumed fits
                 (at-end input given) whole,
             logged,
           )

@@ -12,7 +12,7 @@ use Rattle.vault_cli.specs.runs.FileContents.{AtPath, secret_paths}
 use Rattle.vault_cli.specs.Loaded.{ContentsFound, PrefixFound, RefusedBy, SaltFound, SecretsRefuse}
 use Rattle.vault_cli.specs.Program.{Files, task_over}
 use Rattle.vault_cli.specs.declared.limits.TheConstants.{SEALING_SALT_LENGTH}
-use Rattle.vault_cli.proofs.OpenedPathsLemmas.{opened-behind}
+use Rattle.vault_cli.proofs.OpenedPathsLemmas.{opened_paths-found}
 
 -- what is found at a path later was found there before
 pub at_path-back : {A : Type 0} (finds later : List ℕ → A → Type 0)
@@ -72,7 +72,7 @@ module _ (finds : List ℕ → FileState → Type 0)
           found,
           (seen, salt_seen, input_seen),
           rw (same, unsalted),
-          rw (opened-behind finds request found contents seen same, unsalted, append-nil) went,
+          rw (opened_paths-found finds request found contents seen same, unsalted, append-nil) went,
         )
 
     pub refused-input : (salt : List ℕ) → SaltFound finds request.salt_path (Ok salt)
@@ -88,5 +88,5 @@ module _ (finds : List ℕ → FileState → Type 0)
           found,
           (seen, salt_seen, missing),
           rw (same, salted, is),
-          rw (opened-behind finds request found contents seen same, salted) went,
+          rw (opened_paths-found finds request found contents seen same, salted) went,
         )

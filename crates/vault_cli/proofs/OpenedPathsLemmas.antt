@@ -6,7 +6,7 @@ use Rattle.vault_fault.specs.declared.fault.Role.TheVariants.{Secret}
 use Rattle.vault_core.specs.declared.limits.TheConstants.{PASSWORD_FILE_LIMIT}
 use Rattle.vault_request.specs.Request.{Request}
 use Rattle.vault_cli.specs.runs.FileContents.{contents_of, prefix_in, secret_paths}
-use Rattle.vault_cli.specs.OpenedPaths.{behind, opened_paths, opened_secrets}
+use Rattle.vault_cli.specs.OpenedPaths.{unless_refused, opened_paths, opened_secrets}
 use Rattle.vault_cli.specs.Program.{Files, salt_in}
 use Rattle.vault_cli.proofs.AnswerLemmas.{steps-ok}
 
@@ -24,13 +24,13 @@ opened-secrets finds (path ∷ paths) (file ∷ files) contents found e =
     rw (read, opened-secrets finds paths files others found.1 rest)
 
 -- all password files, the salt file, and what is after it
-pub opened-behind : (finds : List ℕ → FileState → Type 0) (request : Request) (files : Files)
+pub opened_paths-found : (finds : List ℕ → FileState → Type 0) (request : Request) (files : Files)
     (contents : List (List ℕ)) → Found finds (secret_paths request) files.secrets
     → contents_of files.secrets ≡ Ok contents
     → opened_paths (Some (Ok request)) files
     ≡ (secret_paths request ++ option_to_list request.salt_path)
-    ++ behind (salt_in files.salt) (option_to_list request.input)
-opened-behind finds request files contents found read =
+    ++ unless_refused (salt_in files.salt) (option_to_list request.input)
+opened_paths-found finds request files contents found read =
     rw (
       opened-secrets finds (secret_paths request) files.secrets contents found read,
       read,

@@ -21,7 +21,8 @@ use Rattle.vault_cli.specs.declared.runs.status.Status.TheVariants.{Refused, Suc
 use Rattle.vault_cli.proofs.PlannedLemmas.{keeps-planned}
 use Rattle.vault_cli.proofs.StatusLemmas.{alone-performed}
 
--- the status is DeviceFailed exactly where the count of a device's failures rose, and not OutOfMemory
+-- the status is DeviceFailed exactly where the count of a device's failures rose, and not
+-- OutOfMemory
 abbrev pub IsDeviceStatus : Status → ℕ → ℕ → Type 0
 IsDeviceStatus result before after =
     (result ≡ DeviceFailed → HasRisen before after) × (result ≢ DeviceFailed → after ≡ before)
@@ -129,11 +130,12 @@ module _ {S : Type 0} (src : SourceCall S) (limit : ℕ) (task : Task) where
       → (string : Option (List ℕ)) → Performs src limit task (Err fault) string
       → IsDeviceStatus result (src.failures src.old) (src.failures src.new) × (result ≢ Success)
   performed-refused result fault status (Some string) (unread, is) =
-      IsDeviceStatus-refused result _ _ (status ∙ rw (sym is) at (alone-performed limit task string))
-      (ap src.failures unread)
+      IsDeviceStatus-refused result _ _
+      (status ∙ rw (sym is) at (alone-performed limit task string)) (ap src.failures unread)
   performed-refused result fault status None (input, given, fits, inl ((unread, risen), short)) =
       let failed = status ∙ ap status_of unread in
       ((λ device. risen, λ none. absurd (none failed), λ memory. cc), λ succeeds. cc)
   performed-refused result fault status None
       (input, given, fits, inr ((other, stay), (whole, is))) =
-      IsDeviceStatus-refused result _ _ (status ∙ rw (sym is) at (alone-performed limit task input)) stay
+      IsDeviceStatus-refused result _ _
+      (status ∙ rw (sym is) at (alone-performed limit task input)) stay

@@ -51,8 +51,8 @@ limit-over limit request files task e =
     let (opened, opens, found) = steps-ok (can_open_input files.input) _ task last in
     (rw found at (keeps-planned request salt contents)).0 limit
 
--- where no input is asked for, the answer is the same for each; where some is, it depends on no byte
--- after the first past the limit
+-- where no input is asked for, the answer is the same for each; where some is, it depends on no
+-- byte after the first past the limit
 abbrev pub IsOfPrefix : Option ℕ → (List ℕ → Answer) → Type 0
 IsOfPrefix None answers = (input : List ℕ) → answers [] ≡ answers input
 IsOfPrefix (Some limit) answers =

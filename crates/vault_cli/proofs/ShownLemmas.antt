@@ -6,7 +6,7 @@ use Rattle.std.proofs.lemmas.List.Elements.{All-append, All-cons, All-nil}
 use Rattle.std.proofs.lemmas.List.Sums.{AllPass-from_list_all}
 use Rattle.vault_request.specs.Refusal.{is_control}
 use Rattle.vault_cli.specs.Explained.{IsShown}
-use Rattle.vault_cli.specs.Shown.{digit_of, escape, is_escaped, shown_behind, shown_between}
+use Rattle.vault_cli.specs.Shown.{digit_of, escape, is_escaped, shown_after, shown_between}
 
 digit-shown : (value : ℕ) → value < 16 → IsShown (digit_of value)
 digit-shown value small =
@@ -40,8 +40,8 @@ between-shown before byte after =
           All-cons IsShown byte [] (kept-shown before byte after kept) (All-nil IsShown)
     ] refl
 
-pub behind-shown : (before : ℕ) (text : List ℕ) → All IsShown (shown_behind before text)
-behind-shown before [] = All-nil IsShown
-behind-shown before (byte ∷ rest) =
-    All-append IsShown (shown_between before byte (slice_index rest 0)) (shown_behind byte rest)
-    (between-shown before byte (slice_index rest 0)) (behind-shown byte rest)
+pub shown_after-shown : (before : ℕ) (text : List ℕ) → All IsShown (shown_after before text)
+shown_after-shown before [] = All-nil IsShown
+shown_after-shown before (byte ∷ rest) =
+    All-append IsShown (shown_between before byte (slice_index rest 0)) (shown_after byte rest)
+    (between-shown before byte (slice_index rest 0)) (shown_after-shown byte rest)

@@ -45,7 +45,7 @@ StoreMembers F R = record {
   stage : F → Stage;
   failures : F → ℕ;
   finds : F → List ℕ → FileState → Type 0;
-  opened : F → List ℕ → R → Type 0;
+  reader_at : F → List ℕ → R → Type 0;
   opens : F → List (List ℕ) → F → Type 0;
   output_set : F → List ℕ → Access → F → Type 0;
 }
@@ -56,7 +56,7 @@ store members old new = record {
   output = record { takes = members.takes; stage = members.stage; failures = members.failures };
   terms = record {
     finds = members.finds;
-    opened = members.opened;
+    reader_at = members.reader_at;
     opens = members.opens;
     output_set = members.output_set;
   };

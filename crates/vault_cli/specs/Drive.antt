@@ -7,7 +7,8 @@ use Rattle.vault_cli.specs.runs.Ending.{Ends, IsOutOfMemory, to_path, to_sink}
 use Rattle.vault_cli.specs.runs.FileContents.{AtPath, secret_paths}
 use Rattle.vault_cli.specs.runs.Answer.{Answer}
 use Rattle.vault_cli.specs.OpenedPaths.{opened_paths}
-use Rattle.vault_cli.specs.Program.{Files, access_of, output_path, stdin_needed}
+use Rattle.vault_cli.specs.Access.{access_of}
+use Rattle.vault_cli.specs.Program.{Files, output_path, stdin_needed}
 use Rattle.vault_request.specs.Request.{Request}
 use Rattle.vault_cli.specs.declared.runs.status.Status.{Status}
 

@@ -1,4 +1,4 @@
--- What the program says where its arguments are no command line.
+-- What the program says where its arguments do not parse.
 use Rattle.std.specs.Prelude.{◌≡◌, ◌≢◌, ◌⊎◌, ℕ, false, List, [], All, Some}
 use Rattle.clap.specs.Words.{IsAmong, Kinds}
 use Rattle.clap.specs.declared.error.kind.ErrorKind.{ErrorKind}
@@ -11,7 +11,7 @@ use Rattle.vault_cli.specs.runs.Reports.{Reports}
 use Rattle.vault_cli.specs.declared.runs.status.Status.{Status}
 use Rattle.vault_cli.specs.declared.runs.status.Status.TheVariants.{ParseFault, Success}
 
--- a line end, or no control byte
+-- LF, or no control byte
 abbrev pub IsShown : ℕ → Type 0
 IsShown byte = (byte ≡ 10) ⊎ (is_control byte ≡ false)
 
@@ -30,7 +30,7 @@ module _ {K E : Type 0} (out : SinkCall K) (err : SinkCall E) (result : Status) 
       × Finishes (to_sink out) err result
       (record { output = Some text; line = []; status = Success })
 
-  -- some text, without a control byte but line ends, on standard error alone
+  -- some text, without a control byte but LF, on standard error alone
   pub record Rejects : Type 0 where
     pub status : result ≡ ParseFault
     pub output : out.new ≡ out.old

@@ -45,7 +45,7 @@ EncryptThenDecrypt =
     → run_answer_within limit decrypting other_contents other_salt envelope
     ≡ record { output = Some input; line = []; status = Success }
 
--- what `rekey` wrote, `decrypt` and `view` open with the new secret alone, under either rule, to
+-- what `rekey` wrote, `decrypt` and `view` decrypt with the new secret alone, under either rule, to
 -- what they gave before with the old secrets under the rule of `rekey`
 abbrev pub RekeyKeepsThePlaintext : Type 0
 RekeyKeepsThePlaintext =

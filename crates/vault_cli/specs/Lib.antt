@@ -1,4 +1,5 @@
 pub mod runs
+pub mod Access
 pub mod Call
 pub mod Explained
 pub mod Shown

@@ -10,16 +10,17 @@ use Rattle.vault_cli.specs.Program.{Files, salt_in}
 use Rattle.vault_request.specs.Request.{Request}
 
 -- none after a step that refuses
-abbrev pub behind : {T : Type 0} → Result T Fault → List (List ℕ) → List (List ℕ)
-behind (Ok value) paths = paths
-behind (Err fault) paths = []
+abbrev pub unless_refused : {T : Type 0} → Result T Fault → List (List ℕ) → List (List ℕ)
+unless_refused (Ok value) paths = paths
+unless_refused (Err fault) paths = []
 
 -- of password files
 unfoldable pub opened_secrets : List (List ℕ) → List FileState → List (List ℕ)
 opened_secrets [] files = []
 opened_secrets (path ∷ paths) [] = []
 opened_secrets (path ∷ paths) (file ∷ files) =
-    path ∷ behind (prefix_in Secret (PASSWORD_FILE_LIMIT + 1) file) (opened_secrets paths files)
+    path
+    ∷ unless_refused (prefix_in Secret (PASSWORD_FILE_LIMIT + 1) file) (opened_secrets paths files)
 
 -- of all files of a request: none where no request was made of the arguments
 abbrev pub opened_paths : Option (Result Request Fault) → Files → List (List ℕ)
@@ -27,5 +28,5 @@ opened_paths None files = []
 opened_paths (Some (Err fault)) files = []
 opened_paths (Some (Ok request)) files =
     opened_secrets (secret_paths request) files.secrets
-    ++ behind (contents_of files.secrets) (option_to_list request.salt_path
-    ++ behind (salt_in files.salt) (option_to_list request.input))
+    ++ unless_refused (contents_of files.secrets) (option_to_list request.salt_path
+    ++ unless_refused (salt_in files.salt) (option_to_list request.input))

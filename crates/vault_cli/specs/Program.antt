@@ -5,8 +5,6 @@ use Rattle.std.specs.Option.{option_map}
 use Rattle.clap.specs.Words.{Text}
 use Rattle.vault_files.specs.File.{FileState}
 use Rattle.vault_files.specs.File.FileState.{Missing, Whole, Broken}
-use Rattle.vault_files.specs.declared.access.Access.{Access}
-use Rattle.vault_files.specs.declared.access.Access.TheVariants.{Kept, OwnerOnly}
 use Rattle.vault_text.specs.Steps.{◌>>=◌}
 use Rattle.vault_text.specs.declared.limits.TheConstants.{PLAINTEXT_LIMIT}
 use Rattle.vault_core.specs.Ready.{Ready}
@@ -19,8 +17,6 @@ use Rattle.vault_cli.specs.runs.Answer.{reported}
 use Rattle.vault_request.specs.Request.{Request}
 use Rattle.vault_request.specs.Settled.{requested_by}
 use Rattle.vault_cli.specs.runs.Task.{Task, planned}
-use Rattle.vault_request.specs.declared.command_name.CommandName.{CommandName}
-use Rattle.vault_request.specs.declared.command_name.CommandName.TheVariants.{Decrypt, View}
 use Rattle.vault_cli.specs.declared.limits.TheConstants.{SEALING_SALT_LENGTH}
 use Rattle.vault_cli.specs.declared.runs.status.Status.TheVariants.{ParseFault}
 
@@ -80,18 +76,6 @@ abbrev pub output_path : Option (Result Request Fault) → Option (List ℕ)
 output_path None = None
 output_path (Some (Err fault)) = None
 output_path (Some (Ok request)) = request.output
-
--- who may read an output that exists already: plaintext is for its owner
-abbrev pub output_access : CommandName → Access
-output_access Decrypt = OwnerOnly
-output_access View = OwnerOnly
-output_access _ = Kept
-
--- the same of the request
-abbrev pub access_of : Option (Result Request Fault) → Access
-access_of None = Kept
-access_of (Some (Err fault)) = Kept
-access_of (Some (Ok request)) = output_access request.command
 
 -- the limit of what is read of standard input, where there is no FILE
 abbrev pub unless_file : Option FileState → Option ℕ → Option ℕ

@@ -23,7 +23,7 @@ new_source left = record { left = left; ended = false; failures = 0 }
 abbrev pub new_sink : Option (List ℕ) → SinkState
 new_sink held = record { held = held; stage = Unbegun; failures = 0 }
 
--- it may end so from these states on
+-- there are later states of its devices in which it ended so
 abbrev pub MayDrive : {F R S K E : Type 0} → StoreMembers F R → SourceTerms S → SinkTerms K
     → SinkTerms E → F → S → K → E → Status → Option (Result Request Fault)
     → (Files → List ℕ → Answer) → Type 0
@@ -33,7 +33,7 @@ MayDrive {F} {R} {S} {K} {E} of_files of_src of_out of_err files src out err res
     × Drives (store of_files files files_then) (source of_src src src_then)
     (sink of_out out out_then) (sink of_err err err_then) result requested answers
 
--- it may explain one of these mistakes
+-- it may explain an error of one of these kinds
 abbrev pub MayExplain : {K E : Type 0} → SinkTerms K → SinkTerms E → K → E → Status → Kinds → Type 0
 MayExplain {K} {E} of_out of_err out err result kinds =
     (out_then : K) × (err_then : E)

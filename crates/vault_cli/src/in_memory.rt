@@ -52,7 +52,7 @@ pub fn drive_in_memory(
     ensures memory { result ≡ Status.OutOfMemory
         → (files.new ≡ files.old) × (src.new ≡ src.old) }
 
-    // Others are explained, and neither a file nor the input is touched.
+    // Arguments that do not parse are explained, and neither a file nor the input is touched.
     ensures explained { let kinds = fault_of vault_app (map string_bytes words.now) in
         kinds ≢ [] → ExplainsOneOf (sink ⟦<MemSink as Sink>⟧ out.old out.new)
         (sink ⟦<MemSink as Sink>⟧ err.old err.new) result kinds }

@@ -7,8 +7,8 @@ ghost use Rattle.vault_cli.specs.ProgramLaws.{ProgramKeepsThePlaintext, WrittenI
 
 use vault_request::laws::settled_requests;
 
-/// The answer of a run is a success or a refusal. Any other status of `run` comes from its source or
-/// its output; any other status of `drive_over` from these, its files or its memory.
+/// The answer of a run is a success or a refusal. Any other status of `run` comes from its source
+/// or its output; any other status of `drive_over` from these, its files or its memory.
 pub fn answers_are_decided()
     ensures { AnswersAreDecided }
 {}

@@ -1,4 +1,4 @@
 //! Limits of a run.
 
-/// How many bytes of the salt file are the salt.
+/// How many bytes of a salt file are the salt.
 pub const SEALING_SALT_LENGTH: usize = 32;

@@ -45,7 +45,7 @@ pub(crate) fn load<F: FileSystem>(
     ensures salt { IfOk result (λ found.
         SaltFound (F.finds files.old) request.now.salt_path (Ok found.salt.items)) }
     ensures input { IfOk result (λ found.
-        AtPath (F.opened files.old) request.now.input found.input) }
+        AtPath (F.reader_at files.old) request.now.input found.input) }
     ensures opens { OnOk result (F.opens files.old (request_paths request.now) files.new) }
     ensures refused { IfErr result (λ fault.
         RefusedBy (F.finds files.old) (λ paths. F.opens files.old paths files.new)
@@ -161,7 +161,7 @@ fn read_salt<F: FileSystem>(
 fn open_input<F: FileSystem>(files: &mut F, request: &Request) -> Result<Option<F::Reader>, Fault>
     requires { F.stage files.old ≡ Stage.Unbegun }
     ensures opens { F.opens files.old (option_to_list request.now.input) files.new }
-    ensures opened { IfOk result (λ input. AtPath (F.opened files.old) request.now.input input) }
+    ensures opened { IfOk result (λ input. AtPath (F.reader_at files.old) request.now.input input) }
     ensures fault { IfErr result (λ fault. fault ≡ CannotOpen Input) }
     ensures missing { IfErr result (λ _.
         AtPath (F.finds files.old) request.now.input (Some Missing)) }

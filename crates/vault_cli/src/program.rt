@@ -10,10 +10,12 @@ ghost use Rattle.vault_cli.specs.Drive.{Drives};
 ghost use Rattle.vault_cli.specs.runs.Ending.{Ends, to_path};
 ghost use Rattle.vault_cli.specs.Explained.{ExplainsOneOf};
 ghost use Rattle.vault_cli.specs.runs.Answer.{input_needed, run_answer};
-ghost use Rattle.vault_cli.specs.Program.{answer_to, output_access, program};
+ghost use Rattle.vault_cli.specs.Access.{output_access};
+ghost use Rattle.vault_cli.specs.Program.{answer_to, program};
 ghost use Rattle.vault_request.specs.Request.{files_of};
 ghost use Rattle.vault_request.specs.Settled.{requested, requested_by};
 
+use crate::access::output_access;
 use crate::explaining::explain;
 use crate::loading::{Loaded, load};
 use crate::reserving::{Reserved, reserve};
@@ -21,8 +23,8 @@ use crate::runs::{Job, Status, report, run_job};
 use clap::ArgMatches;
 use std::alloc::Global;
 use vault_core::Fault;
-use vault_files::{Access, FileSystem};
-use vault_request::{CommandName, Request, parse, settle};
+use vault_files::FileSystem;
+use vault_request::{Request, parse, settle};
 use vault_text::{CIPHERTEXT_LIMIT, Sink, Source, Stage, TextMemory};
 
 /// All that the program does: parses the words, of which the first is the program's name, settles
@@ -41,7 +43,7 @@ pub fn drive_over<F: FileSystem, S: Source, K: Sink, E: Sink>(
     requires out_unbegun { K.stage out.old ≡ Stage.Unbegun }
     requires err_unbegun { E.stage err.old ≡ Stage.Unbegun }
 
-    // Words that parse are answered as the program says.
+    // Arguments that parse are answered as the program says.
     ensures answered { let texts = map string_bytes words.now in
         fault_of vault_app texts ≡ []
         → Drives (store F.FileSystem files.old files.new) (source S.Source src.old src.new)
@@ -52,7 +54,7 @@ pub fn drive_over<F: FileSystem, S: Source, K: Sink, E: Sink>(
     ensures memory { result ≡ Status.OutOfMemory
         → (files.new ≡ files.old) × (src.new ≡ src.old) }
 
-    // Others are explained, and neither a file nor the input is touched.
+    // Arguments that do not parse are explained, and neither a file nor the input is touched.
     ensures explained { let kinds = fault_of vault_app (map string_bytes words.now) in
         kinds ≢ [] → ExplainsOneOf (sink K.Sink out.old out.new) (sink E.Sink err.old err.new)
         result kinds }
@@ -176,15 +178,5 @@ fn run_to_output<F: FileSystem, S: Source, K: Sink, E: Sink>(
             run_job(job, src, files, err)
         }
         None => run_job(job, src, out, err),
-    }
-}
-
-/// Who may read an output that exists already: plaintext is for its owner.
-fn output_access(command: CommandName) -> Access
-    ensures { result ≡ output_access command }
-{
-    match command {
-        CommandName::Decrypt | CommandName::View => Access::OwnerOnly,
-        CommandName::Encrypt | CommandName::EncryptString | CommandName::Rekey => Access::Kept,
     }
 }

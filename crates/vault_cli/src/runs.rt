@@ -1,6 +1,6 @@
 //! The whole run of a request.
 ghost use Rattle.std.specs.Prelude.{◌≡◌, [], false, Ok, Err, is_some, length, map};
-ghost use Rattle.vault_text.specs.Failures.{IsLast};
+ghost use Rattle.vault_text.specs.Failures.{IsSaturated};
 ghost use Rattle.vault_text.specs.Limits.{IsWorkLength, limit_of};
 ghost use Rattle.vault_fault.specs.declared.fault.Fault.TheVariants.{Read};
 ghost use Rattle.vault_fault.specs.declared.fault.Role.TheVariants.{Input};
@@ -13,9 +13,9 @@ ghost use Rattle.vault_cli.specs.runs.Run.{RunsRequest};
 ghost use Rattle.vault_cli.specs.runs.StoredTask.{task_in};
 ghost use Rattle.vault_cli.specs.runs.Task.{HasValidIndex};
 
-mod passwords;
 mod report_line;
 mod salt;
+mod secret_list;
 mod status;
 mod task;
 
@@ -49,7 +49,7 @@ fn perform<'a, S: Source>(
     requires index { HasValidIndex (task_in task.now) }
     ensures performs { Performs (source S.Source src.old src.new) (limit_of memory.entry.limit)
         (task_in task.now) result request.now.string }
-    ensures full { is_some request.now.string ≡ false → IsLast (S.failures src.old)
+    ensures full { is_some request.now.string ≡ false → IsSaturated (S.failures src.old)
         → result ≡ Err (Read Input) }
 {
     match request.string() {
@@ -64,7 +64,7 @@ fn deliver<K: Sink, E: Sink>(ready: Ready<'_>, out: &mut K, err: &mut E) -> Stat
     requires err_unbegun { E.stage err.old ≡ Stage.Unbegun }
     ensures finishes { Finishes (to_sink (sink K.Sink out.old out.new))
         (sink E.Sink err.old err.new) result (answered (Ok ready.entry)) }
-    ensures full { IsLast (K.failures out.old) → result ≡ Status.DeviceFailed }
+    ensures full { IsSaturated (K.failures out.old) → result ≡ Status.DeviceFailed }
 {
     match ready.write_to(out) {
         Ok(()) => Status::Success,

@@ -17,8 +17,8 @@ use vault_files::{FileSystem, HostFiles};
 use vault_text::{ReadSource, Sink, Source, WriteSink};
 
 /// All that the program does, as `drive_over`, over the files of the system, any reader and two
-/// writers. What these hold afterwards no clause can say, since the call keeps them: that there
-/// are such states of them as `drive_over` may leave, with this status, is all.
+/// writers. The call consumes these, so no clause can name what they hold afterwards: the clauses
+/// say that there are states of them in which `drive_over` may end with this status.
 pub fn drive<'a, F: Files, R: Read + Drop, O: Write + Drop, E: Write + Drop>(
     rt: &'a F,
     alloc: Global,

@@ -45,9 +45,9 @@ fn assert_damage_refused(
 /// These bytes as ciphertext under the tests' password and salt, without padding.
 fn enciphered(alloc: Global, bytes: &[u8]) -> Result<Vec<u8>, Fail> {
     let keys = derive(b"first", SALT, &mut Meter::new());
-    let mut cipher = Vec::from_slice(alloc, bytes)?;
-    ctr_apply(&Key::new(&keys.cipher), &keys.iv, cipher.as_mut_slice());
-    Ok(cipher)
+    let mut ciphertext = Vec::from_slice(alloc, bytes)?;
+    ctr_apply(&Key::new(&keys.cipher), &keys.iv, ciphertext.as_mut_slice());
+    Ok(ciphertext)
 }
 
 #[test]
@@ -114,7 +114,7 @@ fn refuses_wrong_padding(rt: HostRuntime) -> Result<(), Fail> {
     let alloc = rt.alloc();
     let cut = tagged(alloc, "default", b"first", SALT, &[0; 15])?;
     assert_refused(&rt, alloc, cut.as_slice(), WRONG_PADDING)?;
-    let cipher = enciphered(alloc, b"fourteen bytes\x03\x02")?;
-    let unpadded = tagged(alloc, "default", b"first", SALT, cipher.as_slice())?;
+    let ciphertext = enciphered(alloc, b"fourteen bytes\x03\x02")?;
+    let unpadded = tagged(alloc, "default", b"first", SALT, ciphertext.as_slice())?;
     assert_refused(&rt, alloc, unpadded.as_slice(), WRONG_PADDING)
 }

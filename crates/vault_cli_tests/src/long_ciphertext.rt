@@ -44,8 +44,8 @@ const ONE_BYTE_MORE: End<'static> = End {
 
 /// Such an envelope, without its last three bytes.
 fn prefix(rt: &impl Abort, alloc: Global) -> Result<Vec<u8>, AllocError> {
-    let cipher = vec![in alloc; 0u8; CIPHERTEXT_LIMIT + 1]?;
-    let mut vault = spelled(alloc, "default", &[7; 32], &[0; 32], cipher.as_slice())?;
+    let ciphertext = vec![in alloc; 0u8; CIPHERTEXT_LIMIT + 1]?;
+    let mut vault = spelled(alloc, "default", &[7; 32], &[0; 32], ciphertext.as_slice())?;
     assert!(rt; vault.as_slice().ends_with(b"30\n"));
     vault.truncate(vault.len() - 3);
     Ok(vault)

@@ -22,7 +22,7 @@ repeated name = valued Append name
 abbrev pub flag : Text → Rule
 flag name = record (new_rule name) { long = Some name; action = Some SetTrue }
 
--- an argument that belongs to no option
+-- a positional argument
 abbrev pub positional : Text → Rule
 positional name = record (new_rule name) { action = Some Set }
 

@@ -35,7 +35,7 @@ pub(crate) fn flag<'a>(alloc: Global, entry: OptionEntry) -> Arg<'a>
         .help(entry.help)
 }
 
-/// An argument that belongs to no option.
+/// A positional argument.
 pub(crate) fn positional<'a>(alloc: Global, entry: OptionEntry) -> Arg<'a>
     ensures { IsArg result (positional entry.name.now) }
 {

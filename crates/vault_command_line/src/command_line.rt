@@ -103,7 +103,7 @@ fn with_secrets<'a>(alloc: Global, name: &'a str, about: &'a str) -> Result<Comm
         .arg(repeated(alloc, table::VAULT_PASSWORD_FILE))
 }
 
-/// A command that seals.
+/// A command with the options for password files and the salt.
 fn with_salt<'a>(alloc: Global, name: &'a str, about: &'a str) -> Result<Command<'a>, AllocError>
     ensures { IfOk result (λ command.
         IsCommand command (app_with name.now (secret_rules ++ salt_rules))) }

@@ -1,6 +1,6 @@
 //! The table of options: the name of each, the name of its value, and its help.
 
-/// The entry of an option in the table, or of an argument that belongs to no option.
+/// The entry of an option, or of a positional argument, in the table.
 #[derive(Clone, Copy)]
 pub struct OptionEntry {
     /// The name, without the dashes before it.

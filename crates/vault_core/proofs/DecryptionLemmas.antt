@@ -35,7 +35,8 @@ pub payload_of-answers : (limit : ℕ) (input : List ℕ)
 payload_of-answers limit input = by_read (read_within limit input) (read_within-fits limit input)
   where
     by_read : (read : Result Payload TextFault) → IfOk read (HasFittingCiphertext limit)
-        → HasAnswered (result_map_both (λ payload. payload) of_text read) (HasFittingCiphertext limit)
+        → HasAnswered (result_map_both (λ payload. payload) of_text read)
+        (HasFittingCiphertext limit)
     by_read (Ok payload) fits = fits
     by_read (Err fault) fits = of_text-is_no_read fault
 

@@ -13,7 +13,7 @@ use Rattle.std.proofs.lemmas.List.Folds.{find-append}
 use Rattle.std.proofs.lemmas.List.Sums.{count_by-le-length, length-filter}
 use Rattle.vault_text.specs.Envelope.{Payload}
 use Rattle.vault_core.specs.TriedSecrets.{matches, tries}
-use Rattle.vault_core.specs.Secrets.{Secret, SecretList, has_label, tried_behind, tried_order}
+use Rattle.vault_core.specs.Secrets.{Secret, SecretList, has_label, tried_after, tried_order}
 use Rattle.vault_fault.specs.declared.label_rule.LabelRule.{LabelRule}
 use Rattle.vault_fault.specs.declared.label_rule.LabelRule.TheVariants.{Hint, Required}
 
@@ -113,10 +113,10 @@ abbrev pub other_part : LabelRule → List ℕ → List Secret → List Secret
 other_part Hint label secrets = tried_part false label secrets
 other_part Required label secrets = []
 
-tried_behind-is : (rule : LabelRule) (label : List ℕ) (secrets : List Secret)
-    → tried_behind rule label secrets ≡ other_part rule label secrets
-tried_behind-is Hint label secrets = without_label label secrets
-tried_behind-is Required label secrets = refl
+tried_after-is : (rule : LabelRule) (label : List ℕ) (secrets : List Secret)
+    → tried_after rule label secrets ≡ other_part rule label secrets
+tried_after-is Hint label secrets = without_label label secrets
+tried_after-is Required label secrets = refl
 
 -- where a secret with the label agrees, no other is tried
 pub tried_order-parts : (payload : Payload) (list : SecretList) (label : List ℕ)
@@ -131,5 +131,5 @@ pub tried_order-parts : (payload : Payload) (list : SecretList) (label : List �
     + option_map_or (λ _. 0) (find (matches payload) first) (tries payload others))
 unfolding tried_order
 tried_order-parts payload list label rule is =
-    rw (is, with_label label list.secrets, tried_behind-is rule label list.secrets)
+    rw (is, with_label label list.secrets, tried_after-is rule label list.secrets)
     (find-append (matches payload) _ _, tries-append payload _ _)

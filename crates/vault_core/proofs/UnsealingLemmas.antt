@@ -1,5 +1,5 @@
--- What unsealing an envelope answers: a plaintext of bytes, which with its padding is as long as the
--- ciphertext, or a fault.
+-- What unsealing an envelope answers: a plaintext of bytes, which with its padding is as long as
+-- the ciphertext, or a fault.
 use Rattle.std.proofs.Common.{◌≡◌, ℕ, ◌≤◌, List, length, Some, ap, arith}
 use Rattle.std.specs.Prelude.{find}
 use Rattle.vault_aes.specs.KeyExpansion.{key_schedule}

@@ -28,16 +28,16 @@ IsUnreadable before after fault = (fault ≡ Read Input) × HasRisen before afte
 abbrev pub IsRefused : ℕ → ℕ → Fault → Type 0
 IsRefused before after fault = (fault ≢ Read Input) × (after ≡ before)
 
--- where the source failed, which the call then answered, the one fact holds, and where it did not,
--- the other
+-- where the source failed, the result is `Read Input` and the first fact holds; where it did not,
+-- the result is another and the second fact holds
 abbrev pub UnlessUnreadable : {T : Type 0} → ℕ → ℕ → Result T Fault → Type 0 → Type 0 → Type 0
 UnlessUnreadable before after (Ok x) failed read = (after ≡ before) × read
 UnlessUnreadable before after (Err fault) failed read =
     (IsUnreadable before after fault × failed) ⊎ (IsRefused before after fault × read)
 
 -- the call takes an input from its source, at most one byte more than the bound, and then answers:
--- where the source failed, the input is within the bound, and the one fact holds; where it did not,
--- the input was read to its end or past the bound, and the other fact holds of it
+-- where the source failed, the input is within the bound, and the first fact holds; where it did
+-- not, the input was read to its end or past the bound, and the second fact holds of it
 abbrev pub ReadsThenAnswers : {S T : Type 0} → SourceTerms S → S → S → ℕ → Result T Fault
     → Type 0 → (List ℕ → Type 0) → Type 0
 ReadsThenAnswers source old new bound result failed answered =

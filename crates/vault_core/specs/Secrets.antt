@@ -24,12 +24,12 @@ has_label label secret = bytes_eq secret.label label
 
 -- the secrets that are tried after those with the label: the others where the label is a hint,
 -- none where it is required
-abbrev pub tried_behind : LabelRule → List ℕ → List Secret → List Secret
-tried_behind Hint label secrets = filter (λ secret. not (has_label label secret)) secrets
-tried_behind Required label secrets = []
+abbrev pub tried_after : LabelRule → List ℕ → List Secret → List Secret
+tried_after Hint label secrets = filter (λ secret. not (has_label label secret)) secrets
+tried_after Required label secrets = []
 
 -- the secrets with an envelope's label, in the order of the list, and then those that are tried
 -- after them, in the order of the list too
 unfoldable pub tried_order : SecretList → List ℕ → List Secret
 tried_order list label =
-    filter (has_label label) list.secrets ++ tried_behind list.rule label list.secrets
+    filter (has_label label) list.secrets ++ tried_after list.rule label list.secrets

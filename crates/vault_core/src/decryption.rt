@@ -7,7 +7,7 @@ ghost use Rattle.vault_core.specs.Decryption.{decryption, decryption_derivations
 ghost use Rattle.vault_core.specs.Input.{ReadsThenAnswers};
 ghost use Rattle.vault_core.specs.Unsealing.{unsealing};
 ghost use Rattle.vault_core.specs.Secrets.{tried_order};
-ghost use Rattle.vault_text.specs.Failures.{IsLast};
+ghost use Rattle.vault_text.specs.Failures.{IsSaturated};
 ghost use Rattle.vault_text.specs.Limits.{IsWorkLength, envelope_limit, limit_of};
 
 use crate::input::read_payload;
@@ -39,7 +39,7 @@ pub fn prepare_decrypt<'a, S: Source>(
         (meter.new ≡ meter.old)
         (λ input. (result ≡ decryption limit secrets.now input)
         × (meter.new ≡ meter.old + decryption_derivations limit secrets.now input)) }
-    ensures full { IsLast (S.failures src.old) → result ≡ Err (Read Input) }
+    ensures full { IsSaturated (S.failures src.old) → result ≡ Err (Read Input) }
 {
     prepare_decrypt_in(src, TextMemory::borrowed(work), secrets, meter)
 }
@@ -59,7 +59,7 @@ pub fn prepare_decrypt_in<'a, S: Source>(
         (meter.new ≡ meter.old)
         (λ input. (result ≡ decryption limit secrets.now input)
         × (meter.new ≡ meter.old + decryption_derivations limit secrets.now input)) }
-    ensures full { IsLast (S.failures src.old) → result ≡ Err (Read Input) }
+    ensures full { IsSaturated (S.failures src.old) → result ≡ Err (Read Input) }
 {
     let payload = read_payload(src, memory)?;
     decrypt_payload(payload, secrets, meter)

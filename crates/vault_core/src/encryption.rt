@@ -6,7 +6,7 @@ ghost use Rattle.vault_core.specs.Encryption.{encryption, is_vault};
 ghost use Rattle.vault_core.specs.Form.{form_of};
 ghost use Rattle.vault_core.specs.Input.{ReadsThenAnswers};
 ghost use Rattle.vault_core.specs.Sealing.{sealing_derivations};
-ghost use Rattle.vault_text.specs.Failures.{IsLast};
+ghost use Rattle.vault_text.specs.Failures.{IsSaturated};
 ghost use Rattle.vault_text.specs.Limits.{IsWorkLength, limit_of};
 
 use crate::form::Form;
@@ -41,7 +41,7 @@ pub fn prepare_encrypt<'a, S: Source>(
         (λ input. (result
         ≡ encryption limit secrets.now.secrets choice (form_of form.entry) salt.now input)
         × (meter.new ≡ meter.old + sealing_derivations result)) }
-    ensures full { IsLast (S.failures src.old) → result ≡ Err (Read Input) }
+    ensures full { IsSaturated (S.failures src.old) → result ≡ Err (Read Input) }
 {
     prepare_encrypt_in(
         src,
@@ -73,7 +73,7 @@ pub fn prepare_encrypt_in<'a, S: Source>(
         (λ input. (result
         ≡ encryption limit secrets.now.secrets choice (form_of form.entry) salt.now input)
         × (meter.new ≡ meter.old + sealing_derivations result)) }
-    ensures full { IsLast (S.failures src.old) → result ≡ Err (Read Input) }
+    ensures full { IsSaturated (S.failures src.old) → result ≡ Err (Read Input) }
 {
     read_plaintext(src, &mut memory)?;
     encrypt_plaintext(memory, secrets, choice, form, salt, meter)

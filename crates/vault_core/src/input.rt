@@ -2,7 +2,7 @@
 ghost use Rattle.std.specs.Prelude.{◌≡◌, ℕ, ◌+◌, ◌<◌, ◌≤◌, ◌↔◌, List, [], length, ⊤};
 ghost use Rattle.std.specs.Prelude.{IsTrue, IsErr, IfOk, OnOk, OnErr, Err};
 ghost use Rattle.vault_text.specs.EnvelopeReader.{HasRead};
-ghost use Rattle.vault_text.specs.Failures.{CountsFailure, IsLast};
+ghost use Rattle.vault_text.specs.Failures.{CountsFailure, IsSaturated};
 ghost use Rattle.vault_core.specs.Decryption.{payload_of};
 ghost use Rattle.vault_core.specs.Input.{IsReadToEndOrPastLimit, ReadsInput, ReadsThenAnswers};
 ghost use Rattle.vault_text.specs.Limits.{IsWorkLength, envelope_limit, limit_of};
@@ -16,8 +16,8 @@ use vault_text::{EnvelopeReader, PADDING_LIMIT, Payload, Source, SourceFailed, T
 /// How many bytes a source is asked for at once.
 const PIECE_LIMIT: usize = 4096;
 
-/// Reads a plaintext into memory that holds no text, to its end, or to one byte more than leaves room
-/// for padding.
+/// Reads a plaintext into memory that holds no text, to its end, or to one byte more than leaves
+/// room for padding.
 pub(crate) fn read_plaintext<S: Source>(
     src: &mut S,
     memory: &mut TextMemory,
@@ -31,7 +31,7 @@ pub(crate) fn read_plaintext<S: Source>(
         (S.ended src.new) memory.new.bytes) }
     ensures short { OnErr result (length memory.new.bytes ≤ limit_of memory.old.limit) }
     ensures failed { CountsFailure (S.failures src.old) (S.failures src.new) result }
-    ensures full { IsLast (S.failures src.old) → IsErr result }
+    ensures full { IsSaturated (S.failures src.old) → IsErr result }
 {
     let mut buffer = [0; PIECE_LIMIT];
     while memory.room() >= PADDING_LIMIT {
@@ -56,7 +56,7 @@ pub(crate) fn read_payload<'a, S: Source>(
     ensures answer { let limit = limit_of memory.entry.limit in
         ReadsThenAnswers S.Source src.old src.new (envelope_limit limit) result
         ⊤ (λ input. result ≡ payload_of limit input) }
-    ensures full { IsLast (S.failures src.old) → result ≡ Err (Read Input) }
+    ensures full { IsSaturated (S.failures src.old) → result ≡ Err (Read Input) }
 {
     let mut reader = EnvelopeReader::in_memory(memory);
     feed_input(src, &mut reader)?;
@@ -70,7 +70,7 @@ fn feed_input<S: Source>(src: &mut S, reader: &mut EnvelopeReader) -> Result<(),
         (input : List ℕ) × ReadsInput S.Source src.old src.new limit result input
         × TakesPiece HasRead reader.old input reader.new }
     ensures failed { CountsFailure (S.failures src.old) (S.failures src.new) result }
-    ensures full { IsLast (S.failures src.old) → IsErr result }
+    ensures full { IsSaturated (S.failures src.old) → IsErr result }
 {
     let mut buffer = [0; PIECE_LIMIT];
     let mut left = reader.input_limit() + 1;
@@ -93,7 +93,7 @@ fn next_piece<'b, S: Source>(src: &mut S, buffer: &'b mut [u8]) -> Result<&'b [u
     ensures end { IfOk result (λ piece. (length piece.now ≡ 0) ↔ IsTrue (S.ended src.new)) }
     ensures nothing { OnErr result (S.gives src.old [] src.new) }
     ensures failed { CountsFailure (S.failures src.old) (S.failures src.new) result }
-    ensures full { IsLast (S.failures src.old) → IsErr result }
+    ensures full { IsSaturated (S.failures src.old) → IsErr result }
 {
     let n = src.fill(buffer)?;
     Ok(&buffer[..n])

@@ -1,6 +1,6 @@
 //! Output that is ready to be written.
 ghost use Rattle.std.specs.Prelude.{◌≡◌, ◌≢◌, ℕ, take, IsErr, OnOk, OnErr};
-ghost use Rattle.vault_text.specs.Failures.{CountsFailure, IsLast};
+ghost use Rattle.vault_text.specs.Failures.{CountsFailure, IsSaturated};
 ghost use Rattle.vault_fault.specs.declared.fault.Fault.TheVariants.{Write};
 ghost use Rattle.vault_core.specs.Form.{form_of};
 ghost use Rattle.vault_core.specs.Output.{output_bytes};
@@ -129,7 +129,7 @@ impl<'a> Ready<'a> {
         ensures prefix { (n : ℕ) × K.takes sink.old (take n self.entry.output) sink.new }
         ensures unfinished { OnErr result (K.stage sink.new ≢ Stage.Finished) }
         ensures failed { CountsFailure (K.failures sink.old) (K.failures sink.new) result }
-        ensures full { IsLast (K.failures sink.old) → IsErr result }
+        ensures full { IsSaturated (K.failures sink.old) → IsErr result }
     {
         sink.begin()?;
         self.output.write(sink)?;

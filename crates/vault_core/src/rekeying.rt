@@ -8,7 +8,7 @@ ghost use Rattle.vault_core.specs.Input.{ReadsThenAnswers};
 ghost use Rattle.vault_core.specs.Rekeying.{rekeying, rekeying_of_payload};
 ghost use Rattle.vault_core.specs.Sealing.{sealing_derivations};
 ghost use Rattle.vault_core.specs.Secrets.{tried_order};
-ghost use Rattle.vault_text.specs.Failures.{IsLast};
+ghost use Rattle.vault_text.specs.Failures.{IsSaturated};
 ghost use Rattle.vault_text.specs.Limits.{IsWorkLength, envelope_limit, limit_of};
 
 use crate::encryption::is_vault;
@@ -23,8 +23,8 @@ use vault_fault::Fault;
 use vault_kdf::Meter;
 use vault_text::{Label, Payload, Salt, Source, TextMemory};
 
-/// Reads an envelope, unseals it as `prepare_decrypt` does, and seals its plaintext with a new label,
-/// a new password and a new salt.
+/// Reads an envelope, unseals it as `prepare_decrypt` does, and seals its plaintext with a new
+/// label, a new password and a new salt.
 ///
 /// All of it happens in `work`, of 16 bytes to `CIPHERTEXT_LIMIT`, which holds one text at any
 /// moment. The faults are those of `prepare_decrypt`, in their order, and then
@@ -47,7 +47,7 @@ pub fn prepare_rekey<'a, S: Source>(
         (record { label = new.now; password = password.now }) salt.now input)
         × (meter.new ≡ meter.old + decryption_derivations limit secrets.now input
         + sealing_derivations result)) }
-    ensures full { IsLast (S.failures src.old) → result ≡ Err (Read Input) }
+    ensures full { IsSaturated (S.failures src.old) → result ≡ Err (Read Input) }
 {
     let new = SealingSecret {
         label: new,
@@ -74,7 +74,7 @@ pub fn prepare_rekey_in<'a, S: Source>(
         (λ input. (result ≡ rekeying limit secrets.now new.now salt.now input)
         × (meter.new ≡ meter.old + decryption_derivations limit secrets.now input
         + sealing_derivations result)) }
-    ensures full { IsLast (S.failures src.old) → result ≡ Err (Read Input) }
+    ensures full { IsSaturated (S.failures src.old) → result ≡ Err (Read Input) }
 {
     let payload = read_payload(src, memory)?;
     rekey_payload(payload, secrets, new, salt, meter)

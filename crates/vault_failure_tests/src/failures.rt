@@ -170,7 +170,7 @@ fn keeps_the_status_where_the_message_fails(rt: HostRuntime) -> Result<(), Fail>
 }
 
 /// The sink of the message fails at once, that of the output after `calls` calls.
-fn assert_untold(
+fn assert_ends_silently(
     rt: &impl Abort,
     alloc: Global,
     vault: &[u8],
@@ -182,8 +182,8 @@ fn assert_untold(
         message: 0,
     };
     let trial = Trial::new(DECRYPT, FIRST, &[]);
-    let told = assert_leaves(rt, alloc, &trial, vault, calls, expected)?;
-    assert!(rt; !told, "{calls:?}");
+    let has_reported = assert_leaves(rt, alloc, &trial, vault, calls, expected)?;
+    assert!(rt; !has_reported, "{calls:?}");
     Ok(())
 }
 
@@ -195,6 +195,6 @@ fn a_failing_error_sink_changes_nothing_else(rt: HostRuntime) -> Result<(), Fail
         message: "",
         ..output_failed(true, &PLAINTEXT[..99])
     };
-    assert_untold(&rt, alloc, vault.as_slice(), 100, failed)?;
-    assert_untold(&rt, alloc, vault.as_slice(), 202, Left::success(PLAINTEXT))
+    assert_ends_silently(&rt, alloc, vault.as_slice(), 100, failed)?;
+    assert_ends_silently(&rt, alloc, vault.as_slice(), 202, Left::success(PLAINTEXT))
 }

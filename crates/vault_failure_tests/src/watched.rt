@@ -45,7 +45,7 @@ impl<S: Source + Drop> Source for Watched<S> {
 
     ghost nothing_after_end = { λ s t xs g. S.nothing_after_end s.device t.device xs g };
 
-    ghost failures_stay = { λ s t xs g. S.failures_stay s.device t.device xs g };
+    ghost failures_monotone = { λ s t xs g. S.failures_monotone s.device t.device xs g };
 
     fn fill(&mut self, buf: &mut [u8]) -> Result<usize, SourceFailed> {
         self.count();
@@ -66,7 +66,7 @@ impl<K: Sink + Drop> Sink for Watched<K> {
 
     ghost takes_more = { λ s t u xs ys g h. K.takes_more s.device t.device u.device xs ys g h };
 
-    ghost failures_stay = { λ s t xs g. K.failures_stay s.device t.device xs g };
+    ghost failures_monotone = { λ s t xs g. K.failures_monotone s.device t.device xs g };
 
     fn begin(&mut self) -> Result<(), SinkFailed> {
         self.count();

@@ -11,14 +11,14 @@ use std::alloc::{AllocError, AllocFailed};
 use thiserror::Error;
 use vault_text::{BadLabel, SinkFailed, SourceFailed, TextFault};
 
-/// What a file that cannot be opened or read was to give.
+/// What a file that cannot be opened or read was opened for.
 #[derive(Clone, Copy, Debug, PartialEq, Eq)]
 pub enum Role {
     /// The plaintext or the envelope.
     Input,
     /// A password.
     Secret,
-    /// The salt that a vault is sealed with.
+    /// The salt that a plaintext is sealed with.
     Salt,
 }
 
@@ -32,11 +32,11 @@ pub enum Fault {
     NotVault,
     /// The header line is longer than the limit.
     HeaderTooLong,
-    /// It is not ASCII, has fewer than three fields, or its fourth is no label.
+    /// The header line is not ASCII, has fewer than three fields, or its fourth is no label.
     BadHeader,
-    /// Its version is neither 1.1 nor 1.2.
+    /// The version in the header line is neither 1.1 nor 1.2.
     BadVersion,
-    /// Its cipher is not AES256.
+    /// The cipher in the header line is not AES256.
     BadCipher,
     /// The body has a byte that is no digit, or an odd number of digits.
     BadHex,
@@ -57,9 +57,9 @@ pub enum Fault {
     TooManySecrets,
     /// There is no secret to encrypt with.
     NoEncryptSecret,
-    /// There are several, and no label was chosen.
+    /// There are several secrets to encrypt with, and no label was chosen.
     ManyEncryptSecrets,
-    /// None of them has the label that was chosen.
+    /// No secret has the label that was chosen to encrypt with.
     UnknownEncryptId,
     /// A block was asked for, and there is nothing to encrypt.
     EmptyString,
@@ -89,7 +89,7 @@ pub enum Fault {
     SaltShort,
     /// A file could not be opened.
     CannotOpen(Role),
-    /// There was no memory. A list, a path or a text could not grow.
+    /// Memory for a list, a path or a text could not be allocated.
     Memory,
     /// Both `--salt` and `--salt-file` were given.
     SaltChoice,

@@ -4,7 +4,7 @@ use Rattle.std.proofs.Common.{inl, inr, true, false, if◌then◌else◌, IsTrue
 use Rattle.std.specs.Result.{is_ok}
 use Rattle.std.proofs.lemmas.Bool.{cases_lt, false≢true}
 use Rattle.std.proofs.lemmas.List.{append-nil}
-use Rattle.vault_text.specs.Failures.{HasRisen, IsLast, last_count}
+use Rattle.vault_text.specs.Failures.{HasRisen, IsSaturated, u64_max}
 use Rattle.vault_text.specs.declared.sink.Stage.{Stage}
 use Rattle.vault_text.specs.declared.sink.Stage.TheVariants.{Unbegun, Begun}
 use Rattle.vault_files.specs.System.{OpenCalls, SystemCall, if_failed}
@@ -14,10 +14,10 @@ use Rattle.vault_files.specs.Host.{HostState, HostTakes, OutputCalls, beginning}
 use Rattle.vault_files.specs.Host.OutputCalls.{none, begins, writes}
 
 -- a count that has not stopped rises by one
-pub rises : (before after : ℕ) → (IsTrue false ↔ IsLast before) → HasRisen before after
+pub rises : (before after : ℕ) → (IsTrue false ↔ IsSaturated before) → HasRisen before after
     → after ≡ before + 1
 rises before after unstopped risen =
-    elim (cases_lt before last_count) [
+    elim (cases_lt before u64_max) [
       | inl below ↦ omega (arith, below, risen)
       | inr last ↦ absurd (false≢true (unstopped.1 last))
     ]

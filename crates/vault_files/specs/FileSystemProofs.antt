@@ -33,7 +33,8 @@ prefix-given : (file : FileState) (r t : ReaderState) (xs : List ℕ) (n : ℕ)
 prefix-given Missing r t xs n e g fits end = absurd e
 prefix-given (Whole bytes) r t xs n e g fits (inl ended) =
     let given : bytes ≡ xs ++ t.left = sym (ap (λ s. s.left) e) ∙ g.consumed in
-    ap Ok (take-given bytes xs t.left n given fits (inl (IsAtEnd-ended bytes xs false r t e g ended).0))
+    ap Ok
+    (take-given bytes xs t.left n given fits (inl (IsAtEnd-ended bytes xs false r t e g ended).0))
 prefix-given (Whole bytes) r t xs n e g fits (inr exact) =
     let given : bytes ≡ xs ++ t.left = sym (ap (λ s. s.left) e) ∙ g.consumed in
     ap Ok (take-given bytes xs t.left n given fits (inr exact))

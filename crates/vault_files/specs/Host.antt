@@ -1,4 +1,4 @@
--- The files of a program over a disk: one output, and the calls of the system that it takes.
+-- A program's files over any system: one output, and the system calls that it takes.
 use Rattle.std.specs.Prelude.{◌≡◌, ℕ, ◌+◌, ◌≤◌, true, List, [], ◌∷◌, ◌++◌, take}
 use Rattle.std.specs.Prelude.{Option, Some, None, is_some}
 use Rattle.vault_text.specs.declared.sink.Stage.{Stage}
@@ -8,8 +8,8 @@ use Rattle.vault_files.specs.System.SystemCall.{Create, ChmodOwnerOnly, Write, S
 use Rattle.vault_files.specs.declared.access.Access.{Access}
 use Rattle.vault_files.specs.declared.access.Access.TheVariants.{Kept, OwnerOnly}
 
--- the disk, the path of the output where one was chosen, who may read it, how far its use has come,
--- and its failures
+-- the system, the path of the output where one was chosen, its permissions, how far its use has
+-- come, and its failures
 pub record HostState (System : Type 0) : Type 0 where
   pub system : System
   pub output_file : Option (List ℕ)
@@ -62,8 +62,8 @@ pub data OutputCalls (first : List SystemCall) : Stage → List SystemCall → L
       → OutputCalls first Begun (Sync ∷ Failed ∷ calls) bytes (failed + 1) t
 
 module _ {System : Type 0} (executes : System → List SystemCall → System → Type 0) where
-  -- between two states the output took these bytes: the disk was asked for nothing else, each call
-  -- that failed counts, and, where a path was chosen, nothing else does; all else stayed
+  -- between two states the output took these bytes: the system was asked for nothing else, each
+  -- call that failed counts, and, where a path was chosen, nothing else does; all else stayed
   pub record HostTakes (old : HostState System) (bytes : List ℕ) (new : HostState System)
       : Type 0 where
     pub calls : List SystemCall
@@ -76,7 +76,7 @@ module _ {System : Type 0} (executes : System → List SystemCall → System →
     pub output_file : new.output_file ≡ old.output_file
     pub access : new.access ≡ old.access
 
-  -- between two states the disk was asked to open these paths, in this order, and all else stayed
+  -- between two states the system was asked to open these paths, in this order, and all else stayed
   pub record HostOpens (old : HostState System) (paths : List (List ℕ)) (new : HostState System)
       : Type 0 where
     pub calls : List SystemCall

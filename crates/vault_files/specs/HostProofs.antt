@@ -1,4 +1,4 @@
--- What a disk was asked for in two calls, one after the other.
+-- What a system was asked for in two calls, one after the other.
 use Rattle.std.specs.Prelude.{◌≡◌, ℕ, ◌+◌, List, [], ◌∷◌, ◌++◌, take, refl}
 use Rattle.std.proofs.Common.{arith, ◌∙◌, append_assoc}
 use Rattle.vault_text.specs.declared.sink.Stage.{Stage}

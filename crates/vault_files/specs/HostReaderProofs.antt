@@ -11,7 +11,7 @@ use Rattle.vault_files.specs.File.{Answers, FileState}
 use Rattle.vault_files.specs.File.FileState.{Missing, Whole, Broken}
 use Rattle.vault_files.specs.FileSystemProofs.{take-given}
 use Rattle.vault_files.specs.Host.{HostOpens, HostState}
-use Rattle.vault_files.specs.HostReaders.{HostFinds, HostOpened, IsOf}
+use Rattle.vault_files.specs.HostReaders.{HostFinds, HostOpened, IsFileOf}
 use Rattle.vault_files.specs.declared.fault.FileFault.TheVariants.{CannotRead}
 
 -- a source that was not read yet
@@ -55,7 +55,7 @@ prefix-left (Some bytes) (Some rest) xs gives = (rest, gives)
 module _ {System Reader : Type 0} (reader_at : System → List ℕ → Option Reader → Type 0)
     (remaining : Reader → Option (List ℕ)) where
   -- a file of each reader, and of none
-  file-of : (found : Option Reader) → (file : FileState) × IsOf reader_at remaining file found
+  file-of : (found : Option Reader) → (file : FileState) × IsFileOf reader_at remaining file found
   file-of None = (Missing, tt)
   file-of (Some reader) =
       let (bytes, known) = some-file (remaining reader) in (Whole bytes, known)

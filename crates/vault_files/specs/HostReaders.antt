@@ -1,4 +1,4 @@
--- What the files of a program over a disk hold: what its readers have left.
+-- What a program's files hold, over any system: what its readers have left.
 use Rattle.std.specs.Prelude.{◌≡◌, ℕ, false, List, ◌++◌, Option, Some, None, IfSome}
 use Rattle.vault_text.specs.Source.{SourceState}
 use Rattle.vault_files.specs.File.{FileState}
@@ -7,20 +7,22 @@ use Rattle.vault_files.specs.Host.{HostState}
 
 module _ {System Reader : Type 0} (reader_at : System → List ℕ → Option Reader → Type 0)
     (remaining : Reader → Option (List ℕ)) where
-  -- no reader is that of no file; one may be that of a whole file, of what it has left, where that
-  -- is known, and of one that breaks after a prefix of it
-  abbrev pub IsOf : FileState → Option Reader → Type 0
-  IsOf Missing None = Unit {0}
-  IsOf Missing (Some reader) = ⊥
-  IsOf (Whole bytes) None = ⊥
-  IsOf (Whole bytes) (Some reader) = IfSome (remaining reader) (λ left. bytes ≡ left)
-  IsOf (Broken bytes) None = ⊥
-  IsOf (Broken bytes) (Some reader) =
+  -- opening this file may have given this: no reader where it is missing; where it is whole, a
+  -- reader that has its bytes left, if that is known; where it breaks, one that has these bytes
+  -- left first
+  abbrev pub IsFileOf : FileState → Option Reader → Type 0
+  IsFileOf Missing None = Unit {0}
+  IsFileOf Missing (Some reader) = ⊥
+  IsFileOf (Whole bytes) None = ⊥
+  IsFileOf (Whole bytes) (Some reader) = IfSome (remaining reader) (λ left. bytes ≡ left)
+  IsFileOf (Broken bytes) None = ⊥
+  IsFileOf (Broken bytes) (Some reader) =
       IfSome (remaining reader) (λ left. (rest : List ℕ) × (left ≡ bytes ++ rest))
 
   -- opening the path may give the reader of this file
   abbrev pub HostFinds : HostState System → List ℕ → FileState → Type 0
-  HostFinds s path file = (found : Option Reader) × reader_at s.system path found × IsOf file found
+  HostFinds s path file =
+      (found : Option Reader) × reader_at s.system path found × IsFileOf file found
 
   -- a source over a reader that opening the path gives, from where it stands
   abbrev pub HostOpened : HostState System → List ℕ → SourceState → Type 0

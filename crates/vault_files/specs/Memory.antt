@@ -51,7 +51,7 @@ pub record Reads (old : ReaderState) (given : List ℕ) (new : ReaderState) : Ty
   pub nothing_after_end : IsTrue old.ended → (given ≡ []) × IsTrue new.ended
   pub end_is_real : (IsTrue old.ended → IsAtEnd old) → IsTrue new.ended → IsAtEnd new
   pub break_is_real : old.failures < new.failures → IsAtBreak new
-  pub failures_stay : old.failures ≤ new.failures
+  pub failures_monotone : old.failures ≤ new.failures
 
 -- files in memory, the path of the output where one was chosen, what the output has taken, and the
 -- paths that were opened, in their order, unless there was no memory to log one of them

@@ -13,7 +13,7 @@ Reads-none s = record {
   nothing_after_end = λ e. (refl, e);
   end_is_real = λ sound e. sound e;
   break_is_real = λ risen. absurd (omega (arith, risen));
-  failures_stay = omega arith;
+  failures_monotone = omega arith;
 }
 
 -- a reader at the break stays there
@@ -38,5 +38,5 @@ Reads-more s t u xs ys p q = record {
         | inl later ↦ q.break_is_real later
         | inr stayed ↦ break-stays t u ys q (p.break_is_real (omega (arith, risen, stayed)))
       ];
-  failures_stay = let a = p.failures_stay in let b = q.failures_stay in omega arith;
+  failures_monotone = let a = p.failures_monotone in let b = q.failures_monotone in omega arith;
 }

@@ -23,13 +23,13 @@ pub trait FileSystem: Sink {
     // What may be found at a path.
     ghost finds: { Self → List ℕ → FileState → Type 0 };
 
-    // What was opened at a path.
-    ghost opened: { Self → List ℕ → Self.Reader → Type 0 };
+    // Opening the path gives this reader.
+    ghost reader_at: { Self → List ℕ → Self.Reader → Type 0 };
 
     // Between two states it was asked to open these paths, in this order.
     ghost opens: { Self → List (List ℕ) → Self → Type 0 };
 
-    // The same files, the output at this path, for those who may read it.
+    // The same files, the output at this path, with these permissions.
     ghost output_set: { Self → List ℕ → Access → Self → Type 0 };
 
     /// Opens a file for reading, before the output is begun. It answers `CannotOpen` where that
@@ -37,11 +37,11 @@ pub trait FileSystem: Sink {
     fn open(&mut self, path: &str) -> Result<Self::Reader, FileFault>
         requires { Self.stage self.old ≡ Stage.Unbegun }
         ensures opens { opens self.old (path.now ∷ []) self.new }
-        ensures opened { IfOk result (λ reader. opened self.old path.now reader) }
+        ensures reader { IfOk result (λ reader. reader_at self.old path.now reader) }
         ensures fault { IfErr result (λ fault. fault ≡ FileFault.CannotOpen) }
         ensures missing { IfErr result (λ _. finds self.old path.now Missing) };
 
-    /// Chooses the path of the output, and who may read it. Nothing is created yet.
+    /// Chooses the path of the output, and its permissions. Nothing is created yet.
     fn set_output(&mut self, path: String, access: Access)
         requires { Self.stage self.old ≡ Stage.Unbegun }
         ensures output_set { output_set self.old (string_bytes path) access self.new }
@@ -63,9 +63,9 @@ pub trait FileSystem: Sink {
     ghost opens_finds: { (s t : Self) (paths : List (List ℕ)) (path : List ℕ) (file : FileState)
         → opens s paths t → finds t path file → finds s path file };
 
-    // What was opened after them could be opened before.
-    ghost opens_opened: { (s t : Self) (paths : List (List ℕ)) (path : List ℕ) (r : Self.Reader)
-        → opens s paths t → opened t path r → opened s path r };
+    // A reader that opening gives after them it could give before.
+    ghost opens_reader: { (s t : Self) (paths : List (List ℕ)) (path : List ℕ) (r : Self.Reader)
+        → opens s paths t → reader_at t path r → reader_at s path r };
 
     // Something may be found at each path.
     ghost finds_some: { (s : Self) (path : List ℕ) → (file : FileState) × finds s path file };
@@ -73,13 +73,13 @@ pub trait FileSystem: Sink {
     // What a reader gave to its end, or up to a limit, without a failure, is a prefix of a file
     // that may be found.
     ghost prefix_found: { (s : Self) (path : List ℕ) (r t : Self.Reader) (xs : List ℕ) (n : ℕ)
-        → opened s path r → Self.Reader.gives r xs t → length xs ≤ n
+        → reader_at s path r → Self.Reader.gives r xs t → length xs ≤ n
         → IsTrue (Self.Reader.ended t) ⊎ (length xs ≡ n)
         → Self.Reader.failures t ≡ Self.Reader.failures r → Answers (finds s path) n (Ok xs) };
 
     // Where it failed before that, such a file breaks there.
     ghost break_found: { (s : Self) (path : List ℕ) (r t : Self.Reader) (xs : List ℕ) (n : ℕ)
-        → opened s path r → Self.Reader.gives r xs t → length xs < n
+        → reader_at s path r → Self.Reader.gives r xs t → length xs < n
         → HasRisen (Self.Reader.failures r) (Self.Reader.failures t)
         → Answers (finds s path) n (Err CannotRead) };
 }

@@ -100,10 +100,10 @@ impl<D: System> Sink for HostFiles<D> {
 
     ghost takes_more = { HostTakes-more D.executes D.executes_more };
 
-    ghost failures_stay = { λ s t xs g. Prim.omega (arith, g.failures) };
+    ghost failures_monotone = { λ s t xs g. Prim.omega (arith, g.failures) };
 
     fn begin(&mut self) -> Result<(), SinkFailed> {
-        if self.failures.is_last() {
+        if self.failures.is_saturated() {
             return Err(SinkFailed);
         }
         let created = match &self.output_file {
@@ -124,7 +124,7 @@ impl<D: System> Sink for HostFiles<D> {
     }
 
     fn put(&mut self, bytes: &[u8]) -> Result<usize, SinkFailed> {
-        if self.failures.is_last() {
+        if self.failures.is_saturated() {
             return Err(SinkFailed);
         }
         let written = match &mut self.output {
@@ -141,7 +141,7 @@ impl<D: System> Sink for HostFiles<D> {
     }
 
     fn finish(&mut self) -> Result<(), SinkFailed> {
-        if self.failures.is_last() {
+        if self.failures.is_saturated() {
             return Err(SinkFailed);
         }
         let synced = match &self.output {
@@ -169,7 +169,7 @@ impl<D: System> FileSystem for HostFiles<D> {
 
     ghost finds = { HostFinds D.reader_at D.Reader.remaining };
 
-    ghost opened = { HostOpened D.reader_at D.Reader.remaining };
+    ghost reader_at = { HostOpened D.reader_at D.Reader.remaining };
 
     ghost opens = { HostOpens D.executes };
 
@@ -186,7 +186,7 @@ impl<D: System> FileSystem for HostFiles<D> {
 
     ghost opens_finds = { HostFinds-back D.reader_at D.Reader.remaining D.executes D.opens_give };
 
-    ghost opens_opened = { HostOpened-back D.reader_at D.Reader.remaining D.executes D.opens_give };
+    ghost opens_reader = { HostOpened-back D.reader_at D.Reader.remaining D.executes D.opens_give };
 
     ghost finds_some = { HostFinds-some D.reader_at D.Reader.remaining D.reader_some };
 

@@ -10,8 +10,8 @@ mod runtime;
 use std::io;
 use std::io::Read;
 
-/// All that files ask of the system. Each method makes its calls once: `chmod_owner_only` looks
-/// whether the file is a regular one, and each of the others is the call of its name.
+/// All that files ask of the system. Each method makes one system call, but `chmod_owner_only`,
+/// which first asks whether the file is a regular one.
 pub trait System {
     type Reader: Read + Drop;
 

@@ -17,7 +17,7 @@ unfoldable pub iterates : List ℕ → List ℕ → ℕ → List (List ℕ)
 iterates password message c = map (iterate password message) (range_with_len 1 c)
 
 -- T_i, which is F (P, S, c, i): the exclusive or of U_1 to U_c, where U_1 is the tag of the salt
--- and then i as four bytes, high byte first (step 3)
+-- and then i as four big-endian bytes (step 3)
 unfoldable pub block : List ℕ → List ℕ → ℕ → ℕ → List ℕ
 block password salt c i = xor_all (iterates password (salt ++ to_be_bytes w32 i) c)
 

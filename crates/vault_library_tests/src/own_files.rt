@@ -56,7 +56,7 @@ impl<'a> Sink for OnePassword<'a> {
 
     ghost takes_more = { Takes-more };
 
-    ghost failures_stay = { λ s t xs taken. taken.output.0.failures_stay };
+    ghost failures_monotone = { λ s t xs taken. taken.output.0.failures_monotone };
 
     fn begin(&mut self) -> Result<(), SinkFailed> {
         self.output.begin()
@@ -81,7 +81,7 @@ impl<'a> FileSystem for OnePassword<'a> {
 
     ghost finds = { λ s path file. file ≡ Whole s.password };
 
-    ghost opened = { λ s path reader. reader ≡ new_reader s.password };
+    ghost reader_at = { λ s path reader. reader ≡ new_reader s.password };
 
     ghost opens = { λ s paths t. t ≡ s };
 
@@ -97,7 +97,7 @@ impl<'a> FileSystem for OnePassword<'a> {
 
     ghost opens_finds = { λ s t paths path file opens found. rw opens at found };
 
-    ghost opens_opened = { λ s t paths path reader opens opened. rw opens at opened };
+    ghost opens_reader = { λ s t paths path reader opens opened. rw opens at opened };
 
     ghost finds_some = { λ s path. (Whole s.password, refl) };
 

@@ -20,7 +20,7 @@ use Rattle.vault_files.specs.File.FileState.{Missing, Whole, Broken}
 use Rattle.vault_files.specs.Host.{HostOpens, HostState, HostTakes, OutputCalls, beginning}
 use Rattle.vault_files.specs.Host.OutputCalls.{none, begins, writes, finishes, writes_nothing}
 use Rattle.vault_files.specs.Host.OutputCalls.{fails_to_begin, fails_to_write, fails_to_finish}
-use Rattle.vault_files.specs.HostReaders.{HostFinds, HostOpened, IsOf}
+use Rattle.vault_files.specs.HostReaders.{HostFinds, HostOpened, IsFileOf}
 use Rattle.vault_files.specs.declared.access.Access.{Access}
 use Rattle.vault_files.specs.declared.access.Access.TheVariants.{Kept, OwnerOnly}
 use Rattle.vault_request.specs.Request.{Request}
@@ -46,7 +46,7 @@ left_of reader = Some reader
 -- ---- the files that are found
 
 is-on : (files : List SystemFile) (path : List ℕ) (file : FileState) (found : Option (List ℕ))
-    → found ≡ bytes_at files path → IsOf SystemGives left_of file found → IsOn files path file
+    → found ≡ bytes_at files path → IsFileOf SystemGives left_of file found → IsOn files path file
 is-on files path Missing None given is = sym given
 is-on files path Missing (Some bytes) given is = absurd is
 is-on files path (Whole bytes) None given is = absurd is
@@ -184,7 +184,7 @@ disk_store old new = record {
   };
   terms = record {
     finds = HostFinds SystemGives left_of;
-    opened = HostOpened SystemGives left_of;
+    reader_at = HostOpened SystemGives left_of;
     opens = HostOpens SystemExecutes;
     output_set = λ s path access t. t ≡ record s { output_file = Some path; access = access };
   };

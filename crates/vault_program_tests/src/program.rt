@@ -50,7 +50,7 @@ fn assert_explained(
     Ok(())
 }
 
-/// Asserts that these words are no command line, which a message says.
+/// Asserts that these words do not parse, and that a message says so.
 fn assert_misspelled(rt: &impl Abort, alloc: Global, words: &[&str]) -> Result<(), Fail> {
     let refused = ran_alone(alloc, words, b"")?;
     let message = refused.message.as_str();

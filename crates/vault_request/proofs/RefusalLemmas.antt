@@ -16,11 +16,12 @@ use Rattle.vault_request.specs.Refusal.{count_fault, label_fault, mismatch_fault
 use Rattle.vault_request.specs.Refusal.{new_secret_fault, output_fault, refusal, rekey_fault}
 use Rattle.vault_request.specs.Refusal.{salt_fault}
 use Rattle.vault_request.specs.Request.{IsSaltText, SecretFile}
-use Rattle.vault_request.specs.Settled.{file_of_id, new_secret_of, plain_file}
-use Rattle.vault_request.specs.VaultId.{fault_of_id, first_fault, label_of_id, or_later}
+use Rattle.vault_request.specs.Settled.{file_of_id, new_secret_of, file_of_path}
+use Rattle.std.specs.Option.{option_or}
+use Rattle.vault_request.specs.VaultId.{fault_of_id, first_fault, label_of_id}
 use Rattle.vault_request.specs.declared.limits.TheConstants.{SALT_TEXT_LIMIT}
 
-pub neither : (first later : Option Fault) → or_later first later ≡ None
+pub neither : (first later : Option Fault) → option_or first later ≡ None
     → (first ≡ None) × (later ≡ None)
 neither None later e = (refl, e)
 neither (Some fault) later e = cc
@@ -53,7 +54,7 @@ fine false fault rest e = refl
 
 -- there are at most as many secrets as the limit
 pub few_files : (given : Options) → count_fault given ≡ None
-    → length (map file_of_id given.vault_ids ++ map plain_file given.password_files)
+    → length (map file_of_id given.vault_ids ++ map file_of_path given.password_files)
     ≤ SECRET_COUNT_LIMIT
 few_files given e =
     simp (length-append, length-map) (ltb-false _ _ (fine _ TooManySecrets None e))
@@ -87,7 +88,7 @@ new_secrets given e =
     ]
   where
     some_new : (id path : Option (List ℕ)) → new_secret_fault id path ≡ None
-        → let file = option_or (option_map file_of_id id) (option_map plain_file path) in
+        → let file = option_or (option_map file_of_id id) (option_map file_of_path path) in
         (is_some file ≡ true) × AreLabelled (option_to_list file)
     some_new None None h = absurd cc
     some_new None (Some path) h = (refl, (refl, tt))

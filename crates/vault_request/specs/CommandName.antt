@@ -17,7 +17,7 @@ command_of name =
     else if bytes_eq name (codes "encrypt_string") then Some EncryptString
     else None
 
--- the commands that encrypt plaintext; the others open an envelope
+-- the commands that encrypt plaintext; the others decrypt an envelope
 abbrev pub encrypts : CommandName → Bool
 encrypts Encrypt = true
 encrypts EncryptString = true

@@ -1,4 +1,5 @@
 pub mod CommandName
+pub mod Dash
 pub mod Options
 pub mod VaultId
 pub mod Request

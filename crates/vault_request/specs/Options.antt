@@ -6,6 +6,7 @@ use Rattle.clap.specs.Walk.{Row, all_of, first_of}
 use Rattle.vault_fault.specs.declared.label_rule.LabelRule.{LabelRule}
 use Rattle.vault_fault.specs.declared.label_rule.LabelRule.TheVariants.{Hint, Required}
 use Rattle.vault_request.specs.CommandName.{encrypts, has_output, rekeys, seals, takes_string}
+use Rattle.vault_request.specs.Dash.{unless_dash}
 use Rattle.vault_request.specs.declared.command_name.CommandName.{CommandName}
 
 -- what a command was given, where it has the option
@@ -33,11 +34,6 @@ values_of option rows = unwrap_or (all_of option rows) []
 abbrev pub value_if : Bool → List ℕ → List Row → Option (List ℕ)
 value_if has option rows = if has then first_of option rows else None
 
--- `-` names no file
-abbrev pub not_dash : Option (List ℕ) → Option (List ℕ)
-not_dash None = None
-not_dash (Some word) = if bytes_eq word (codes "-") then None else Some word
-
 -- the parser puts `true` under a flag that was given
 abbrev pub is_true : Option (List ℕ) → Bool
 is_true None = false
@@ -47,7 +43,7 @@ is_true (Some value) = bytes_eq value (codes "true")
 abbrev pub is_given : List ℕ → List Row → Bool
 is_given flag rows = is_true (first_of flag rows)
 
--- the flag makes the label of an envelope binding, for the commands that open one
+-- the flag makes the label of an envelope binding, for the commands that decrypt one
 abbrev pub rule_of : CommandName → List Row → LabelRule
 rule_of command rows =
     if not (encrypts command) && is_given (codes "require-id-match") rows then Required else Hint
@@ -63,10 +59,10 @@ options_of command rows = record {
   new_password_file = value_if (rekeys command) (codes "new-vault-password-file") rows;
   name = value_if (takes_string command) (codes "name") rows;
   stdin_name = value_if (takes_string command) (codes "stdin-name") rows;
-  string = not_dash (value_if (takes_string command) (codes "STRING") rows);
+  string = unless_dash (value_if (takes_string command) (codes "STRING") rows);
   salt_file = value_if (seals command) (codes "salt-file") rows;
   salt_text = value_if (seals command) (codes "salt") rows;
   rule = rule_of command rows;
-  file = not_dash (value_if (not (takes_string command)) (codes "FILE") rows);
+  file = unless_dash (value_if (not (takes_string command)) (codes "FILE") rows);
   output = value_if (has_output command) (codes "output") rows;
 }

@@ -2,6 +2,7 @@
 use Rattle.std.specs.Prelude.{◌+◌, ◌==◌, ◌&&◌, ◌||◌, ℕ, nat_lt, not, Bool, if◌then◌else◌, List, []}
 use Rattle.std.specs.Prelude.{◌∷◌, length, Option, Some, None, is_some}
 use Rattle.std.specs.List.{list_any}
+use Rattle.std.specs.Option.{option_or}
 use Rattle.vault_text.specs.Label.{is_label}
 use Rattle.vault_fault.specs.declared.fault.Fault.{Fault}
 use Rattle.vault_fault.specs.declared.fault.Fault.TheVariants.{BadLabel, BadName, BadSalt}
@@ -11,7 +12,7 @@ use Rattle.vault_fault.specs.declared.fault.Fault.TheVariants.{TooManySecrets}
 use Rattle.vault_fault.specs.declared.limits.TheConstants.{SECRET_COUNT_LIMIT}
 use Rattle.vault_request.specs.CommandName.{has_output, rekeys}
 use Rattle.vault_request.specs.Options.{Options}
-use Rattle.vault_request.specs.VaultId.{fault_of_id, first_fault, or_later}
+use Rattle.vault_request.specs.VaultId.{fault_of_id, first_fault}
 use Rattle.vault_request.specs.declared.limits.TheConstants.{SALT_TEXT_LIMIT}
 
 -- a fault under a condition
@@ -71,13 +72,13 @@ salt_fault (Some text) None =
 salt_fault (Some text) (Some path) = Some SaltChoice
 
 -- the first fault, where there is one
-abbrev pub earliest : List (Option Fault) → Option Fault
-earliest [] = None
-earliest (fault ∷ faults) = or_later fault (earliest faults)
+abbrev pub first_some : List (Option Fault) → Option Fault
+first_some [] = None
+first_some (fault ∷ faults) = option_or fault (first_some faults)
 
 -- the first fault of these options, in the order in which they are looked for
 unfoldable pub refusal : Options → Option Fault
-refusal given = earliest (
+refusal given = first_some (
     count_fault given
     ∷ first_fault given.vault_ids
     ∷ label_fault given.encrypt_vault_id

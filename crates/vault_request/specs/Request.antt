@@ -36,7 +36,7 @@ pub record Request : Type 0 where
 abbrev pub files_of : Request → List SecretFile
 files_of request = request.secrets ++ option_to_list request.new_secret
 
--- the bytes of a salt text
+-- a salt text: 1 byte to as many as the limit
 pub record IsSaltText (text : List ℕ) : Type 0 where
   pub some : 1 ≤ length text
   pub limit : length text ≤ SALT_TEXT_LIMIT

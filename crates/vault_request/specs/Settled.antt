@@ -9,7 +9,8 @@ use Rattle.vault_fault.specs.declared.fault.Fault.{Fault}
 use Rattle.vault_fault.specs.declared.fault.Fault.TheVariants.{Memory}
 use Rattle.vault_command_line.specs.CommandLine.{vault_app}
 use Rattle.vault_request.specs.CommandName.{command_of, rekeys, seals}
-use Rattle.vault_request.specs.Options.{Options, not_dash, options_of}
+use Rattle.vault_request.specs.Dash.{unless_dash}
+use Rattle.vault_request.specs.Options.{Options, options_of}
 use Rattle.vault_request.specs.Refusal.{refusal}
 use Rattle.vault_request.specs.Request.{Request, SecretFile}
 use Rattle.vault_request.specs.VaultId.{label_of_id, source_of_id}
@@ -20,15 +21,15 @@ abbrev pub file_of_id : List ℕ → SecretFile
 file_of_id id = record { label = label_of_id id; path = source_of_id id }
 
 -- a password file without a label of its own
-abbrev pub plain_file : List ℕ → SecretFile
-plain_file path = record { label = default_label; path = path }
+abbrev pub file_of_path : List ℕ → SecretFile
+file_of_path path = record { label = default_label; path = path }
 
 -- what `rekey` seals with
 abbrev pub new_secret_of : Options → Option SecretFile
 new_secret_of given =
     if rekeys given.command
     then option_or (option_map file_of_id given.new_vault_id)
-    (option_map plain_file given.new_password_file)
+    (option_map file_of_path given.new_password_file)
     else None
 
 -- the salt file, `/dev/urandom` where none is given; none beside a salt text, nor where no salt is
@@ -43,7 +44,7 @@ salt_path_of given =
 abbrev pub request_of : Options → Request
 request_of given = record {
   command = given.command;
-  secrets = map file_of_id given.vault_ids ++ map plain_file given.password_files;
+  secrets = map file_of_id given.vault_ids ++ map file_of_path given.password_files;
   new_secret = new_secret_of given;
   choice = given.encrypt_vault_id;
   name = option_or given.name given.stdin_name;
@@ -52,7 +53,7 @@ request_of given = record {
   salt_path = salt_path_of given;
   rule = given.rule;
   input = given.file;
-  output = not_dash given.output;
+  output = unless_dash given.output;
 }
 
 -- a fault where there is one, else the request

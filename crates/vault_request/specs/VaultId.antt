@@ -2,8 +2,9 @@
 use Rattle.std.specs.Prelude.{ℕ, ◌==◌, nat_lt, not, Bool, if◌then◌else◌, List, [], ◌∷◌, length}
 use Rattle.std.specs.Prelude.{codes, Option, Some, None}
 use Rattle.std.specs.List.{before_first, after_first, position_or_len}
+use Rattle.std.specs.Option.{option_or}
 use Rattle.std.specs.Str.{bytes_eq}
-use Rattle.vault_text.specs.Header.{named_label}
+use Rattle.vault_text.specs.Header.{label_or_default}
 use Rattle.vault_text.specs.Label.{is_label}
 use Rattle.vault_fault.specs.declared.fault.Fault.{Fault}
 use Rattle.vault_fault.specs.declared.fault.Fault.TheVariants.{BadLabel, PromptSource}
@@ -26,7 +27,7 @@ source_of_id id = if has_at_sign id then after_first is_at_sign id else id
 
 -- the label `default` where nothing comes before an `@`, or where there is none
 abbrev pub label_of_id : List ℕ → List ℕ
-label_of_id id = named_label (label_part id)
+label_of_id id = label_or_default (label_part id)
 
 -- why a vault id is refused: first for its label, then for a source that would be asked for
 abbrev pub fault_of_id : List ℕ → Option Fault
@@ -35,12 +36,7 @@ fault_of_id id =
     else if bytes_eq (source_of_id id) (codes "prompt") then Some PromptSource
     else None
 
--- the first of two faults, where there is one
-abbrev pub or_later : Option Fault → Option Fault → Option Fault
-or_later (Some fault) later = Some fault
-or_later None later = later
-
 -- the fault of the first vault id that has one
 abbrev pub first_fault : List (List ℕ) → Option Fault
 first_fault [] = None
-first_fault (id ∷ ids) = or_later (fault_of_id id) (first_fault ids)
+first_fault (id ∷ ids) = option_or (fault_of_id id) (first_fault ids)

@@ -33,7 +33,7 @@ impl CommandName {
         }
     }
 
-    /// Whether plaintext is encrypted. The other commands open an envelope.
+    /// Whether plaintext is encrypted. The other commands decrypt an envelope.
     pub(crate) fn encrypts(self) -> bool
         ensures { result ≡ encrypts self }
     {

@@ -13,6 +13,7 @@
 #![tactic(auto)]
 
 mod command_name;
+mod dash;
 pub mod laws;
 mod limits;
 mod options;

@@ -2,9 +2,10 @@
 ghost use Rattle.std.specs.Prelude.{◌≡◌, map};
 ghost use Rattle.std.specs.Option.{option_copied};
 ghost use Rattle.clap.specs.Words.{first_of, found_of, rows_of};
-ghost use Rattle.vault_request.specs.Options.{is_given, not_dash, options_of, rule_of, value_if};
+ghost use Rattle.vault_request.specs.Options.{is_given, options_of, rule_of, value_if};
 
 use crate::command_name::CommandName;
+use crate::dash::unless_dash;
 use clap::ArgMatches;
 use std::marker::Model;
 use vault_command_line::option_table as table;
@@ -78,11 +79,11 @@ impl<'m, 'a> Options<'m, 'a> {
             new_password_file: value_if(rekeys, given, table::NEW_VAULT_PASSWORD_FILE.name),
             name: value_if(takes_string, given, table::NAME.name),
             stdin_name: value_if(takes_string, given, table::STDIN_NAME.name),
-            string: not_dash(value_if(takes_string, given, table::STRING.name)),
+            string: unless_dash(value_if(takes_string, given, table::STRING.name)),
             salt_file: value_if(command.seals(), given, table::SALT_FILE.name),
             salt_text: value_if(command.seals(), given, table::SALT.name),
             rule: rule_of(command, given),
-            file: not_dash(value_if(!takes_string, given, table::FILE.name)),
+            file: unless_dash(value_if(!takes_string, given, table::FILE.name)),
             output: value_if(command.has_output(), given, table::OUTPUT.name),
         }
     }
@@ -100,16 +101,6 @@ fn value_if<'a>(has: bool, given: &ArgMatches<'a>, option: &str) -> Option<&'a s
         ≡ value_if has option.now (rows_of (found_of given.now)) }
 {
     if has { value(given, option) } else { None }
-}
-
-/// `-` names no file.
-pub(crate) fn not_dash(word: Option<&str>) -> Option<&str>
-    ensures { option_copied result ≡ not_dash (option_copied word.entry) }
-{
-    match word {
-        Some(word) if word != "-" => Some(word),
-        _ => None,
-    }
 }
 
 /// Whether a flag was given, under which the parser puts `true`.

@@ -72,7 +72,7 @@ fn new_secret_of<'a>(options: &Options<'_, 'a>) -> Result<Option<SecretPath<'a>>
     }
     match (options.new_vault_id, options.new_password_file) {
         (Some(id), None) => Ok(Some(vault_id::parse(id)?)),
-        (None, Some(path)) => Ok(Some(SecretPath::plain(path))),
+        (None, Some(path)) => Ok(Some(SecretPath::with_default_label(path))),
         _ => Err(Fault::NeedNewSecret),
     }
 }

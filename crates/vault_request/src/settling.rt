@@ -6,12 +6,13 @@ ghost use Rattle.std.specs.String.{string_bytes};
 ghost use Rattle.clap.specs.Words.{found_of, rows_of, subcommand_rows_of};
 ghost use Rattle.vault_request.specs.Refusal.{refusal};
 ghost use Rattle.vault_request.specs.Settled.{Settles, requested, command_in, file_of_id};
-ghost use Rattle.vault_request.specs.Settled.{new_secret_of, plain_file, request_of};
+ghost use Rattle.vault_request.specs.Settled.{new_secret_of, file_of_path, request_of};
 ghost use Rattle.vault_request.specs.Settled.{salt_path_of, settled_by};
 ghost use Rattle.vault_fault.specs.declared.fault.Fault.TheVariants.{Memory};
 
 use crate::command_name::CommandName;
-use crate::options::{Options, not_dash};
+use crate::dash::unless_dash;
+use crate::options::Options;
 use crate::refusals::{Checked, check};
 use crate::request::{Request, SecretFile};
 use crate::vault_id::SecretPath;
@@ -57,13 +58,13 @@ fn add_labelled(
 }
 
 /// Adds password files without labels of their own.
-fn add_plain_files(alloc: Global, files: &mut Vec<SecretFile>, paths: &[&str]) -> Result<(), Fault>
+fn add_unlabelled(alloc: Global, files: &mut Vec<SecretFile>, paths: &[&str]) -> Result<(), Fault>
     ensures added { OnOk result (files.new.items
-        ≡ files.old.items ++ map plain_file (map (λ path. path.now) paths.now)) }
+        ≡ files.old.items ++ map file_of_path (map (λ path. path.now) paths.now)) }
     ensures refused { IfErr result (λ fault. fault ≡ Memory) }
 {
     for path in paths {
-        files.push(file_of(alloc, &SecretPath::plain(path))?)?;
+        files.push(file_of(alloc, &SecretPath::with_default_label(path))?)?;
     }
     Ok(())
 }
@@ -85,12 +86,12 @@ fn secret_files_of(
     paths: &[&str],
 ) -> Result<Vec<SecretFile>, Fault>
     ensures files { IfOk result (λ files. files.items
-        ≡ labelled.now ++ map plain_file (map (λ path. path.now) paths.now)) }
+        ≡ labelled.now ++ map file_of_path (map (λ path. path.now) paths.now)) }
     ensures refused { IfErr result (λ fault. fault ≡ Memory) }
 {
     let mut files = Vec::new(alloc);
     add_labelled(alloc, &mut files, labelled)?;
-    add_plain_files(alloc, &mut files, paths)?;
+    add_unlabelled(alloc, &mut files, paths)?;
     Ok(files)
 }
 
@@ -145,7 +146,7 @@ fn request_of(
         salt_path: copied(alloc, salt_path_of(options))?,
         rule: options.rule,
         input: copied(alloc, options.file)?,
-        output: copied(alloc, not_dash(options.output))?,
+        output: copied(alloc, unless_dash(options.output))?,
     })
 }
 

@@ -2,7 +2,7 @@
 ghost use Rattle.std.specs.Prelude.{◌≡◌, ◌≤◌, IfOk, length, map};
 ghost use Rattle.std.specs.Result.{result_err};
 ghost use Rattle.vault_fault.specs.declared.limits.TheConstants.{SECRET_COUNT_LIMIT};
-ghost use Rattle.vault_request.specs.Settled.{file_of_id, plain_file};
+ghost use Rattle.vault_request.specs.Settled.{file_of_id, file_of_path};
 ghost use Rattle.vault_request.specs.VaultId.{fault_of_id, first_fault, label_part, source_of_id};
 
 use arrayvec::ArrayVec;
@@ -27,8 +27,8 @@ impl<'a> Model for SecretPath<'a> {
 
 impl<'a> SecretPath<'a> {
     /// That of `--vault-password-file`, with the label `default`.
-    pub(crate) fn plain(path: &'a str) -> Self
-        ensures { result ≡ plain_file path.now }
+    pub(crate) fn with_default_label(path: &'a str) -> Self
+        ensures { result ≡ file_of_path path.now }
     {
         SecretPath {
             label: Label::default_label(),
@@ -40,7 +40,7 @@ impl<'a> SecretPath<'a> {
 /// An unused place of a list.
 impl<'a> Default for SecretPath<'a> {
     fn default() -> Self {
-        SecretPath::plain("")
+        SecretPath::with_default_label("")
     }
 }
 
@@ -64,7 +64,7 @@ pub(crate) fn parse(id: &str) -> Result<SecretPath<'_>, Fault>
     ensures refused { result_err result ≡ fault_of_id id.now }
 {
     let (label, path) = split(id);
-    let Ok(label) = Label::named(label) else {
+    let Ok(label) = Label::new_or_default(label) else {
         return Err(Fault::BadLabel);
     };
     if path == "prompt" {

@@ -21,10 +21,10 @@ pub fn envelope(
     plaintext: &[u8],
 ) -> Result<Vec<u8>, AllocError> {
     let keys = derive(password, salt, &mut Meter::new());
-    let mut cipher = padded(alloc, plaintext)?;
-    ctr_apply(&Key::new(&keys.cipher), &keys.iv, cipher.as_mut_slice());
-    let tag = hmac(&keys.mac, cipher.as_slice());
-    spelled(alloc, label, salt, &tag, cipher.as_slice())
+    let mut ciphertext = padded(alloc, plaintext)?;
+    ctr_apply(&Key::new(&keys.cipher), &keys.iv, ciphertext.as_mut_slice());
+    let tag = hmac(&keys.mac, ciphertext.as_slice());
+    spelled(alloc, label, salt, &tag, ciphertext.as_slice())
 }
 
 /// An envelope over ciphertext as it is, with the right tag.
@@ -33,10 +33,10 @@ pub fn tagged(
     label: &str,
     password: &[u8],
     salt: &[u8],
-    cipher: &[u8],
+    ciphertext: &[u8],
 ) -> Result<Vec<u8>, AllocError> {
     let keys = derive(password, salt, &mut Meter::new());
-    spelled(alloc, label, salt, &hmac(&keys.mac, cipher), cipher)
+    spelled(alloc, label, salt, &hmac(&keys.mac, ciphertext), ciphertext)
 }
 
 /// The text of an envelope, whatever its parts are.
@@ -45,14 +45,14 @@ pub fn spelled(
     label: &str,
     salt: &[u8],
     tag: &[u8],
-    cipher: &[u8],
+    ciphertext: &[u8],
 ) -> Result<Vec<u8>, AllocError> {
     let mut inner = String::new(alloc);
     inner.push_str(hex::encode(alloc, salt)?.as_str())?;
     inner.push_str("\n")?;
     inner.push_str(hex::encode(alloc, tag)?.as_str())?;
     inner.push_str("\n")?;
-    inner.push_str(hex::encode(alloc, cipher)?.as_str())?;
+    inner.push_str(hex::encode(alloc, ciphertext)?.as_str())?;
     let digits = hex::encode(alloc, inner.as_bytes())?;
     let mut text = header(alloc, label)?;
     for line in digits.as_bytes().chunks(LINE) {

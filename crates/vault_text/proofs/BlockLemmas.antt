@@ -5,7 +5,8 @@ use Rattle.hex.specs.Hex.{encode_lower}
 use Rattle.vault_text.specs.Block.{block, block_indentation, first_line}
 use Rattle.vault_text.specs.Written.{hexadecimal_lines, inner_text, text_of_lines}
 use Rattle.vault_text.specs.Written.{written_header, written_lines}
-use Rattle.vault_text.proofs.WrittenLemmas.{body_text-split, ciphertext_lines-parts, text_of_lines-cons}
+use Rattle.vault_text.proofs.WrittenLemmas.{body_text-split, ciphertext_lines-parts}
+use Rattle.vault_text.proofs.WrittenLemmas.{text_of_lines-cons}
 
 -- the name, what follows it on the first line, and the lines of the envelope
 pub block-parts : (name : Option (List ℕ)) (start label salt tag ciphertext : List ℕ)
@@ -28,7 +29,8 @@ pub batches-parts : (start indentation label salt tag ciphertext inner left batc
     → batch ++ rest ≡ left → (length batch % 20 ≡ 0) ⊎ (rest ≡ [])
     → text ++ hexadecimal_lines indentation (encode_lower rest)
     ≡ start ++ text_of_lines indentation (written_lines label salt tag ciphertext)
-batches-parts start indentation label salt tag ciphertext inner left batch rest head digits opening text
+batches-parts start indentation label salt tag ciphertext inner left batch rest head digits opening
+    text
     begins goes_on same ends all full both whole =
     rw (ends, goes_on, same, begins) (simp (
       append_assoc,

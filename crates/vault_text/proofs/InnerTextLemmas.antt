@@ -55,7 +55,8 @@ cut-lines x y z first second =
     rw (many, salt.0, salt.1, tag.0, tag.1) refl
 
 -- before the ciphertext there is at most one LF
-early-few : (part : Part) (text : List ℕ) (parts : Parts) → part ≢ Ciphertext → IsCut part text parts
+early-few : (part : Part) (text : List ℕ) (parts : Parts) → part ≢ Ciphertext
+    → IsCut part text parts
     → count_by is_line_feed text ≤ 1
 early-few Salt text parts early is =
     let none = rw append-nil at (count_by-line parts.salt [] is.1) in
@@ -77,7 +78,12 @@ payload_of room label salt tag ciphertext = (do
   c ← ok_or ciphertext BadPayload
   fitting (record { salt = s; tag = t; ciphertext = c })) >>= (λ parts.
     if nat_lt room (length parts.ciphertext) then Err CipherTooLong
-    else Ok (record { label = label; salt = parts.salt; tag = parts.tag; ciphertext = parts.ciphertext }))
+    else Ok (record {
+      label = label;
+      salt = parts.salt;
+      tag = parts.tag;
+      ciphertext = parts.ciphertext;
+    }))
 
 -- the bytes of a ciphertext, by what its digits spell
 abbrev within : ℕ → Option (List ℕ) → Result (List ℕ) TextFault
@@ -144,4 +150,5 @@ module _ (limit : ℕ) (label : List ℕ) where
   unfolding parts_of
   read_inner-parts text inner has here =
       let is = subst (λ (part : Part). IsCut part text has.digits) here has.cut in
-      rw (ap cut is.0 ∙ cut-lines has.digits.salt has.digits.tag has.digits.ciphertext is.1 is.2) refl
+      let d = has.digits in
+      rw (ap cut is.0 ∙ cut-lines d.salt d.tag d.ciphertext is.1 is.2) refl

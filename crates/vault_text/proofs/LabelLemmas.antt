@@ -7,7 +7,7 @@ use Rattle.std.proofs.lemmas.Bool.{and_parts, cases_lt, false_from_ne_true}
 use Rattle.std.proofs.lemmas.List.{get_or_past}
 use Rattle.std.proofs.lemmas.Bool.Decides.{nat_tests}
 use Rattle.std.proofs.lemmas.Str.{IsUtf8-from_ascii}
-use Rattle.vault_text.specs.Header.{named_label}
+use Rattle.vault_text.specs.Header.{label_or_default}
 use Rattle.vault_text.specs.Label.{is_label, is_label_character}
 use Rattle.vault_text.proofs.ListLemmas.{passes_at}
 
@@ -23,7 +23,8 @@ characters-ascii text h i =
     ]
 
 -- what is no text names no label
-pub no_text_is_no_label : (text : List ℕ) → (IsUtf8 text → ⊥) → is_label (named_label text) ≡ false
+pub no_text_is_no_label : (text : List ℕ) → (IsUtf8 text → ⊥)
+    → is_label (label_or_default text) ≡ false
 no_text_is_no_label [] not_text =
     absurd (not_text (IsUtf8-from_ascii [] (characters-ascii [] refl)))
 no_text_is_no_label (c ∷ rest) not_text =

@@ -181,7 +181,8 @@ encode_lower-next bytes done end forward =
 -- ---- the inner text
 
 pub length-inner_text : (salt tag ciphertext : List ℕ)
-    → length (inner_text salt tag ciphertext) ≡ 2 * length salt + 2 * length tag + 2 * length ciphertext + 2
+    → length (inner_text salt tag ciphertext)
+    ≡ 2 * length salt + 2 * length tag + 2 * length ciphertext + 2
 length-inner_text salt tag ciphertext = simp (length-append, length-encode_lower) (omega arith)
 
 -- a part of the ciphertext, and what follows it
@@ -195,7 +196,8 @@ inner_text-split salt tag ciphertext loaded inner prefix rest start spells both 
 
 -- the text of a body whose first lines spell the inner text as far as the rest of the ciphertext
 pub body_text-split : (indentation salt tag ciphertext inner rest : List ℕ)
-    → inner ++ encode_lower rest ≡ inner_text salt tag ciphertext → (length inner ≡ 600) ⊎ (rest ≡ [])
+    → inner ++ encode_lower rest ≡ inner_text salt tag ciphertext
+    → (length inner ≡ 600) ⊎ (rest ≡ [])
     → hexadecimal_lines indentation inner ++ hexadecimal_lines indentation (encode_lower rest)
     ≡ hexadecimal_lines indentation (inner_text salt tag ciphertext)
 body_text-split indentation salt tag ciphertext inner rest all full =
@@ -213,7 +215,8 @@ body_text-split indentation salt tag ciphertext inner rest all full =
 
 -- ---- the ciphertext
 
-pub ciphertext_lines-nil : (indentation : List ℕ) → hexadecimal_lines indentation (encode_lower []) ≡ []
+pub ciphertext_lines-nil : (indentation : List ℕ)
+    → hexadecimal_lines indentation (encode_lower []) ≡ []
 ciphertext_lines-nil indentation = rw (encode_lower-nil, encode_lower-nil, body_text-nil) refl
 
 -- the lines of two texts, where the first fills whole lines unless the second is empty
@@ -231,7 +234,8 @@ ciphertext_lines-parts indentation xs ys (inr none) =
     (append-nil (hexadecimal_lines indentation (encode_lower xs)))
 
 -- one more piece of the ciphertext
-pub ciphertext_lines-next : (indentation ciphertext : List ℕ) (done end : ℕ) → done ≤ length ciphertext
+pub ciphertext_lines-next : (indentation ciphertext : List ℕ) (done end : ℕ)
+    → done ≤ length ciphertext
     → done % 20 ≡ 0 → done ≤ end
     → hexadecimal_lines indentation (encode_lower (take done ciphertext))
     ++ hexadecimal_lines indentation (encode_lower (take (end - done) (drop done ciphertext)))
@@ -242,19 +246,22 @@ ciphertext_lines-next indentation ciphertext done end inside whole forward =
     (ciphertext_lines-parts indentation (take done ciphertext) _ (inl (omega arith)))
 
 -- the pieces so far, and the rest of the ciphertext
-pub ciphertext_lines-rest : (indentation ciphertext : List ℕ) (end : ℕ) → end ≤ length ciphertext → end % 20 ≡ 0
+pub ciphertext_lines-rest : (indentation ciphertext : List ℕ) (end : ℕ)
+    → end ≤ length ciphertext → end % 20 ≡ 0
     → hexadecimal_lines indentation (encode_lower (take end ciphertext))
     ++ hexadecimal_lines indentation (encode_lower (drop end ciphertext))
     ≡ hexadecimal_lines indentation (encode_lower ciphertext)
 ciphertext_lines-rest indentation ciphertext end inside whole =
     let prefix = length-take-le end ciphertext inside in
     rw (
-      ciphertext_lines-parts indentation (take end ciphertext) (drop end ciphertext) (inl (omega arith)),
+      ciphertext_lines-parts indentation (take end ciphertext) (drop end ciphertext)
+          (inl (omega arith)),
       take-append-drop,
     ) refl
 
 -- one more line
-pub ciphertext_lines-line : (indentation ciphertext : List ℕ) (line end : ℕ) → line * 20 < length ciphertext
+pub ciphertext_lines-line : (indentation ciphertext : List ℕ) (line end : ℕ)
+    → line * 20 < length ciphertext
     → end ≡ min (length ciphertext) (line * 20 + 20)
     → hexadecimal_lines indentation (encode_lower (take (line * 20) ciphertext))
     ++ (indentation

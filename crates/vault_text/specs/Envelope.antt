@@ -44,7 +44,12 @@ read_inner limit label text = do
   parts ← parts_of text
   -- 9: the ciphertext is no longer than the limit allows
   if nat_lt (ciphertext_limit limit) (length parts.ciphertext) then Err CipherTooLong
-      else Ok (record { label = label; salt = parts.salt; tag = parts.tag; ciphertext = parts.ciphertext })
+      else Ok (record {
+        label = label;
+        salt = parts.salt;
+        tag = parts.tag;
+        ciphertext = parts.ciphertext;
+      })
 
 -- steps 7 to 9: the payload of a body, under the label of the header line
 unfoldable pub read_body : ℕ → List ℕ → List ℕ → Result Payload TextFault

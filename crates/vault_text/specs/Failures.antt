@@ -2,16 +2,16 @@
 use Rattle.std.specs.Prelude.{◌≡◌, ℕ, ◌+◌, ◌-◌, ◌^◌, ◌≤◌, min, Result, Ok, Err}
 
 -- `u64::MAX`, at which a count of failures saturates
-abbrev pub last_count : ℕ
-last_count = 2 ^ 64 - 1
+abbrev pub u64_max : ℕ
+u64_max = 2 ^ 64 - 1
 
--- the count has stopped
-abbrev pub IsLast : ℕ → Type 0
-IsLast count = last_count ≤ count
+-- the count is saturated
+abbrev pub IsSaturated : ℕ → Type 0
+IsSaturated count = u64_max ≤ count
 
--- the count rose by one, or has stopped
+-- the count rose by one, or is saturated
 abbrev pub HasRisen : ℕ → ℕ → Type 0
-HasRisen before after = after ≡ min (before + 1) last_count
+HasRisen before after = after ≡ min (before + 1) u64_max
 
 -- a call that answers an error counts one failure, and no other call counts any
 abbrev pub CountsFailure : {T E : Type 0} → ℕ → ℕ → Result T E → Type 0

@@ -42,12 +42,12 @@ abbrev pub field : ℕ → List ℕ → List ℕ
 field place line = strip (slice_index_or (parts_of_line line) place [])
 
 -- an empty field names the label `default`
-abbrev pub named_label : List ℕ → List ℕ
-named_label text = if length text == 0 then default_label else text
+abbrev pub label_or_default : List ℕ → List ℕ
+label_or_default text = if length text == 0 then default_label else text
 
 -- the fourth field, or `default` where it is absent or empty
 abbrev pub label_of : List ℕ → List ℕ
-label_of line = named_label (field 3 line)
+label_of line = label_or_default (field 3 line)
 
 -- a byte of ASCII
 abbrev pub is_ascii : ℕ → Bool

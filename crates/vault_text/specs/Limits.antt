@@ -1,4 +1,4 @@
--- How much is taken, where the plaintext may have any limit.
+-- The limits that follow from that of the plaintext.
 use Rattle.std.specs.Prelude.{ℕ, ◌+◌, ◌-◌, ◌*◌, ◌≤◌}
 use Rattle.vault_text.specs.declared.limits.TheConstants.{CIPHERTEXT_LIMIT, PADDING_LIMIT}
 
@@ -10,7 +10,7 @@ ciphertext_limit limit = limit + PADDING_LIMIT
 abbrev pub envelope_limit : ℕ → ℕ
 envelope_limit limit = 6 * limit + 8192
 
--- borrowed memory may be shorter than the longest ciphertext
+-- memory of this length has room for padding, and is no longer than the longest ciphertext
 abbrev pub IsWorkLength : ℕ → Type 0
 IsWorkLength length = (PADDING_LIMIT ≤ length) × (length ≤ CIPHERTEXT_LIMIT)
 

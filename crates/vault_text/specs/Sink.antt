@@ -20,7 +20,7 @@ pub record SinkState : Type 0 where
 -- between two states a sink took these bytes
 pub record Takes (old : SinkState) (taken : List ℕ) (new : SinkState) : Type 0 where
   pub appended : Appends old.held new.held taken
-  pub failures_stay : old.failures ≤ new.failures
+  pub failures_monotone : old.failures ≤ new.failures
 
 -- whether `begin` was answered Ok
 abbrev pub has_begun : Stage → Bool

@@ -20,14 +20,14 @@ Appends-more (Some a) (Some b) (Some c) xs ys p q = rw (q, p) (append_assoc a xs
 
 -- a sink that was not called took nothing
 pub Takes-none : (s : SinkState) → Takes s [] s
-Takes-none s = record { appended = Appends-none s.held; failures_stay = omega arith }
+Takes-none s = record { appended = Appends-none s.held; failures_monotone = omega arith }
 
 -- what was taken first and what was taken then are taken one after the other
 pub Takes-more : (s t u : SinkState) (xs ys : List ℕ)
     → Takes s xs t → Takes t ys u → Takes s (xs ++ ys) u
 Takes-more s t u xs ys p q = record {
   appended = Appends-more s.held t.held u.held xs ys p.appended q.appended;
-  failures_stay = let a = p.failures_stay in let b = q.failures_stay in omega arith;
+  failures_monotone = let a = p.failures_monotone in let b = q.failures_monotone in omega arith;
 }
 
 -- over memory

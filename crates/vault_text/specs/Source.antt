@@ -21,7 +21,7 @@ pub record Gives (old : SourceState) (given : List ℕ) (new : SourceState) : Ty
   pub consumed : Consumes old.left new.left given
   pub nothing_after_end : IsTrue old.ended → (given ≡ []) × IsTrue new.ended
   pub end_is_real : (IsTrue old.ended → IsAtEnd old.left) → IsTrue new.ended → IsAtEnd new.left
-  pub failures_stay : old.failures ≤ new.failures
+  pub failures_monotone : old.failures ≤ new.failures
 
 -- a source over memory, which never fails: its bytes left, whether it reported its end, and how
 -- many bytes it gives per call at most

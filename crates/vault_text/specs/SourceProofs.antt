@@ -23,7 +23,7 @@ Gives-none s = record {
   consumed = Consumes-none s.left;
   nothing_after_end = λ e. (refl, e);
   end_is_real = λ sound e. sound e;
-  failures_stay = omega arith;
+  failures_monotone = omega arith;
 }
 
 -- what was given first and what was given then are given one after the other
@@ -36,7 +36,7 @@ Gives-more s t u xs ys p q = record {
       let then = q.nothing_after_end first.1 in
       (rw (first.0, then.0) refl, then.1);
   end_is_real = λ sound e. q.end_is_real (p.end_is_real sound) e;
-  failures_stay = let a = p.failures_stay in let b = q.failures_stay in omega arith;
+  failures_monotone = let a = p.failures_monotone in let b = q.failures_monotone in omega arith;
 }
 
 -- over memory

@@ -4,7 +4,7 @@ use Rattle.vault_text.specs.declared.text_memory.Place.{Place}
 use Rattle.vault_text.specs.declared.text_memory.Place.TheVariants.{Borrowed, Reserved}
 
 -- the text so far, and how many bytes it may have
-pub record MemoryText : Type 0 where
+pub record TextMemoryState : Type 0 where
   pub bytes : List ℕ
   pub limit : ℕ
 

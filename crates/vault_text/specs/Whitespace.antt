@@ -2,7 +2,7 @@
 use Rattle.std.specs.Prelude.{ℕ, ◌-◌, ◌==◌, ◌&&◌, ◌||◌, nat_le, Bool, List, length, take, drop}
 use Rattle.std.specs.List.{prefix_len, suffix_len}
 
--- the six bytes from tab to carriage return, and the space
+-- the bytes 9 (tab) to 13 (carriage return), and the space
 abbrev pub is_whitespace : ℕ → Bool
 is_whitespace b = (nat_le 9 b && nat_le b 13) || b == 32
 

@@ -1,6 +1,6 @@
 //! Counting the failures of a source or a sink.
 ghost use Rattle.std.specs.Prelude.{◌≡◌, ◌≤◌, ◌↔◌, IsTrue};
-ghost use Rattle.vault_text.specs.Failures.{HasRisen, IsLast, last_count};
+ghost use Rattle.vault_text.specs.Failures.{HasRisen, IsSaturated, u64_max};
 
 use std::marker::Model;
 
@@ -29,15 +29,15 @@ impl FailureCount {
     /// Counts one failure.
     pub fn raise(&mut self)
         ensures risen { HasRisen self.old self.new }
-        ensures later { self.old ≤ self.new }
+        ensures monotone { self.old ≤ self.new }
     {
         self.count = self.count.saturating_add(1);
     }
 
-    /// Whether it has stopped, so that no call can be answered any more.
-    pub fn is_last(&self) -> bool
-        ensures last { IsTrue result ↔ IsLast self.now }
-        ensures bound { self.now ≤ last_count }
+    /// Whether it is saturated: then each call must fail, since a failure could not be counted.
+    pub fn is_saturated(&self) -> bool
+        ensures last { IsTrue result ↔ IsSaturated self.now }
+        ensures bound { self.now ≤ u64_max }
     {
         self.count == u64::MAX
     }

@@ -166,7 +166,7 @@ pub(crate) fn read_header(line: &[u8]) -> Result<Header, TextFault>
     let Some(fields) = fields_of(line) else {
         return Err(TextFault::BadHeader);
     };
-    let Some(label) = Label::named_by_bytes(fields.label) else {
+    let Some(label) = Label::from_bytes_or_default(fields.label) else {
         return Err(TextFault::BadHeader);
     };
     let Some(version) = version_of(fields.version) else {

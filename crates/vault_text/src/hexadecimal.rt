@@ -30,7 +30,8 @@ fn digit_value(digit: u8) -> Option<u8>
 }
 
 /// Decodes pairs of digits, each to a byte, and answers whether all were digits. Where one was not,
-/// the bytes mean nothing. There is no branch on a digit, which would be mispredicted.
+/// the bytes mean nothing. A bad digit does not end a loop early: that branch would be
+/// mispredicted.
 fn decode_pairs(pairs: &[u8], bytes: &mut [u8]) -> bool
     requires { length pairs.now ≡ 2 * length bytes.old }
     ensures { unhex pairs.now ≡ (if result then Some bytes.new else None) }
@@ -144,8 +145,8 @@ impl HexDecoder {
         1 + self.decode_aligned(rest, &mut bytes[1..])
     }
 
-    /// Decodes pairs of digits to as many bytes, and answers whether all digits were good, those
-    /// before among them, and none waited for its second. Where not, the bytes mean nothing.
+    /// Decodes pairs of digits, each to a byte. It answers false where a digit is bad, here or
+    /// before, or where one waits for its second; then the bytes mean nothing.
     pub(crate) fn decode_whole(&self, pairs: &[u8], bytes: &mut [u8]) -> bool
         requires { length pairs.now ≡ 2 * length bytes.old }
         ensures answer { unhex_on self.now pairs.now ≡ (if result then Some bytes.new else None) }

@@ -4,7 +4,7 @@ ghost use Rattle.std.specs.Str.{bytes_eq};
 ghost use Rattle.std.specs.Cmp.{on_equiv, on_per, partial_equiv_from_equiv};
 ghost use Rattle.std.specs.Cmp.Lexicographic.{nat_list_eq_equiv};
 ghost use Rattle.std.specs.List.{list_all};
-ghost use Rattle.vault_text.specs.Header.{named_label};
+ghost use Rattle.vault_text.specs.Header.{label_or_default};
 ghost use Rattle.vault_text.specs.Label.{is_label, is_label_character, default_label};
 
 use crate::limits::LABEL_LIMIT;
@@ -19,7 +19,7 @@ use thiserror::Error;
 pub struct BadLabel;
 
 /// The label of a vault id: 1 to 128 characters of printable ASCII without semicolons, of which
-/// the first and the last are no spaces.
+/// the first and the last are not spaces.
 #[derive(Debug, Drop)]
 pub struct Label {
     text: ArrayString<LABEL_LIMIT>,
@@ -73,9 +73,9 @@ impl Label {
     }
 
     /// The label of this text, `default` where it is empty.
-    pub fn named(text: &str) -> Result<Self, BadLabel>
-        ensures allowed { is_ok result ≡ is_label (named_label text.now) }
-        ensures text { IfOk result (λ label. label ≡ named_label text.now) }
+    pub fn new_or_default(text: &str) -> Result<Self, BadLabel>
+        ensures allowed { is_ok result ≡ is_label (label_or_default text.now) }
+        ensures text { IfOk result (λ label. label ≡ label_or_default text.now) }
     {
         if text.is_empty() {
             Ok(Label::default_label())
@@ -84,13 +84,13 @@ impl Label {
         }
     }
 
-    /// The label that these bytes name; None where they are not allowed as one.
-    pub(crate) fn named_by_bytes(bytes: &[u8]) -> Option<Self>
-        ensures allowed { is_some result ≡ is_label (named_label bytes.now) }
-        ensures text { IfSome result (λ label. label ≡ named_label bytes.now) }
+    /// The label of these bytes, `default` where they are none; None where they may not be one.
+    pub(crate) fn from_bytes_or_default(bytes: &[u8]) -> Option<Self>
+        ensures allowed { is_some result ≡ is_label (label_or_default bytes.now) }
+        ensures text { IfSome result (λ label. label ≡ label_or_default bytes.now) }
     {
         match str::from_utf8(bytes) {
-            Ok(text) => Label::named(text).ok(),
+            Ok(text) => Label::new_or_default(text).ok(),
             Err(_) => None,
         }
     }

@@ -1,16 +1,16 @@
-//! How much of each thing is taken. All sizes are in bytes.
+//! The limits. All are in bytes.
 
 ghost use Rattle.std.specs.Prelude.{◌≡◌, ◌≤◌};
 ghost use Rattle.vault_text.specs.Limits.{envelope_limit};
 ghost use Rattle.vault_text.specs.declared.limits.TheConstants.{ENVELOPE_LIMIT, PLAINTEXT_LIMIT};
 
-/// Plaintext that is encrypted.
+/// The longest plaintext that is encrypted.
 pub const PLAINTEXT_LIMIT: usize = 16_777_216;
 
-/// Padding, at most a whole block.
+/// The longest padding: a whole block.
 pub const PADDING_LIMIT: usize = 16;
 
-/// Ciphertext, read or written.
+/// The longest ciphertext, read or written.
 pub const CIPHERTEXT_LIMIT: usize = PLAINTEXT_LIMIT + PADDING_LIMIT;
 
 /// Four digits for each byte of plaintext, and room for line ends.
@@ -19,22 +19,22 @@ const ENVELOPE_FACTOR: usize = 6;
 /// Room for the header line, the salt, the tag and the padding.
 const ENVELOPE_MARGIN: usize = 8_192;
 
-/// An envelope as it is read, line ends included.
+/// The longest envelope that is read, line ends included.
 pub const ENVELOPE_LIMIT: usize = ENVELOPE_FACTOR * PLAINTEXT_LIMIT + ENVELOPE_MARGIN;
 
-/// The header line of an envelope without its end.
+/// The longest header line of an envelope, without its end.
 pub const HEADER_LIMIT: usize = 256;
 
-/// A salt that is read.
+/// The longest salt that is read.
 pub const SALT_LIMIT: usize = 256;
 
-/// The label of a vault id.
+/// The longest label of a vault id.
 pub const LABEL_LIMIT: usize = 128;
 
-/// The tag of an envelope, a SHA-256 digest.
+/// The length of a tag, which is a SHA-256 digest.
 pub const TAG_LENGTH: usize = 32;
 
-/// An envelope as it is read, where the plaintext has this limit.
+/// The longest envelope that is read where the plaintext has this limit.
 pub(crate) fn envelope_limit(limit: usize) -> usize
     requires { limit ≤ PLAINTEXT_LIMIT }
     ensures value { result ≡ envelope_limit limit }

@@ -29,8 +29,18 @@ impl<'a> Model for Payload<'a> {
 }
 
 impl<'a> Payload<'a> {
-    pub(crate) fn new(label: Label, salt: Salt, tag: [u8; TAG_LENGTH], ciphertext: &'a mut [u8]) -> Self
-        ensures { result ≡ record { label = label; salt = salt; tag = tag; ciphertext = ciphertext.old } }
+    pub(crate) fn new(
+        label: Label,
+        salt: Salt,
+        tag: [u8; TAG_LENGTH],
+        ciphertext: &'a mut [u8],
+    ) -> Self
+        ensures { result ≡ record {
+          label = label;
+          salt = salt;
+          tag = tag;
+          ciphertext = ciphertext.old;
+        } }
     {
         Payload {
             label,

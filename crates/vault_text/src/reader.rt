@@ -21,11 +21,11 @@ use body::BodyReader;
 use header_line::HeaderLine;
 use std::marker::Model;
 
-/// How many bytes of the inner text are decoded at once, as many as a written line spells.
-const RUN_LIMIT: usize = LINE_BYTES;
+/// How many bytes of the inner text are decoded at once: as many as a written line spells.
+const CHUNK_LIMIT: usize = LINE_BYTES;
 
-/// How many bytes of a part of the inner text that many digits can complete.
-const PART_LIMIT: usize = RUN_LIMIT / 2;
+/// How many bytes of a part of the inner text the digits of a chunk can complete.
+const CHUNK_BYTES: usize = CHUNK_LIMIT / 2;
 
 /// Reads an envelope that comes in pieces of any length. Only `finish` reports a fault, since one
 /// that comes earlier in the order may still be found. The ciphertext lies in the memory
@@ -47,7 +47,12 @@ impl<'a> Model for EnvelopeReader<'a> {
 
     ghost Value = { ReaderState };
 
-    ghost view = { λ r. record { limit = r.limit; bytes_read = r.bytes_read; line = r.line; body = r.body } };
+    ghost view = { λ r. record {
+      limit = r.limit;
+      bytes_read = r.bytes_read;
+      line = r.line;
+      body = r.body;
+    } };
 
     ghost invariant = { λ r. r.limit ≤ PLAINTEXT_LIMIT };
 }

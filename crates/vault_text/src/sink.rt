@@ -1,7 +1,7 @@
 //! Where output goes.
 ghost use Rattle.std.specs.Prelude.{◌≡◌, ℕ, ◌<◌, ◌≤◌, ◌++◌, List, [], IsErr, IfOk};
 ghost use Rattle.std.specs.Prelude.{OnOk, OnErr, length, take};
-ghost use Rattle.vault_text.specs.Failures.{CountsFailure, IsLast};
+ghost use Rattle.vault_text.specs.Failures.{CountsFailure, IsSaturated};
 ghost use Rattle.vault_text.specs.Sink.{taken};
 
 mod failing;
@@ -48,7 +48,7 @@ pub trait Sink {
         ensures begun { OnOk result (stage self.new ≡ Stage.Begun) }
         ensures unbegun { OnErr result (stage self.new ≡ Stage.Unbegun) }
         ensures failed { CountsFailure (failures self.old) (failures self.new) result }
-        ensures full { IsLast (failures self.old) → IsErr result };
+        ensures full { IsSaturated (failures self.old) → IsErr result };
 
     /// Takes a prefix of `bytes` and answers its length, at least 1. A failed call takes none.
     fn put(&mut self, bytes: &[u8]) -> Result<usize, SinkFailed>
@@ -59,7 +59,7 @@ pub trait Sink {
         ensures bound { IfOk result (λ n. n ≤ length bytes.now) }
         ensures stage { stage self.new ≡ stage self.old }
         ensures failed { CountsFailure (failures self.old) (failures self.new) result }
-        ensures full { IsLast (failures self.old) → IsErr result };
+        ensures full { IsSaturated (failures self.old) → IsErr result };
 
     /// Flushes what was taken.
     fn finish(&mut self) -> Result<(), SinkFailed>
@@ -68,14 +68,15 @@ pub trait Sink {
         ensures finished { OnOk result (stage self.new ≡ Stage.Finished) }
         ensures unfinished { OnErr result (stage self.new ≡ Stage.Begun) }
         ensures failed { CountsFailure (failures self.old) (failures self.new) result }
-        ensures full { IsLast (failures self.old) → IsErr result };
+        ensures full { IsSaturated (failures self.old) → IsErr result };
 
     ghost takes_none: { (s : Self) → takes s [] s };
 
     ghost takes_more: { (s t u : Self) (xs ys : List ℕ)
         → takes s xs t → takes t ys u → takes s (xs ++ ys) u };
 
-    ghost failures_stay: { (s t : Self) (xs : List ℕ) → takes s xs t → failures s ≤ failures t };
+    ghost failures_monotone: { (s t : Self) (xs : List ℕ)
+        → takes s xs t → failures s ≤ failures t };
 }
 
 /// Makes the sink take all of `bytes`; after a failure it has taken a prefix of them.
@@ -85,7 +86,7 @@ pub fn put_all<K: Sink>(sink: &mut K, bytes: &[u8]) -> Result<(), SinkFailed>
     ensures prefix { (n : ℕ) × K.takes sink.old (take n bytes.now) sink.new }
     ensures stage { K.stage sink.new ≡ Stage.Begun }
     ensures failed { CountsFailure (K.failures sink.old) (K.failures sink.new) result }
-    ensures full { IsLast (K.failures sink.old) → 0 < length bytes.now → IsErr result }
+    ensures full { IsSaturated (K.failures sink.old) → 0 < length bytes.now → IsErr result }
 {
     let mut done = 0;
     while done < bytes.len() {

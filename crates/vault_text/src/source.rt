@@ -1,7 +1,7 @@
 //! Where input comes from.
 ghost use Rattle.std.specs.Prelude.{◌≡◌, ℕ, ◌<◌, ◌≤◌, ◌↔◌, ◌++◌, List, [], Bool};
 ghost use Rattle.std.specs.Prelude.{IsTrue, IsErr, IfOk, OnErr, Ok, length, take};
-ghost use Rattle.vault_text.specs.Failures.{CountsFailure, IsLast};
+ghost use Rattle.vault_text.specs.Failures.{CountsFailure, IsSaturated};
 ghost use Rattle.vault_text.specs.Source.{given};
 
 mod failing;
@@ -37,7 +37,7 @@ pub trait Source {
         ensures bound { IfOk result (λ n. n ≤ length buf.new) }
         ensures end { IfOk result (λ n. (n ≡ 0) ↔ IsTrue (ended self.new)) }
         ensures failed { CountsFailure (failures self.old) (failures self.new) result }
-        ensures full { IsLast (failures self.old) → IsErr result };
+        ensures full { IsSaturated (failures self.old) → IsErr result };
 
     ghost gives_none: { (s : Self) → gives s [] s };
 
@@ -47,7 +47,8 @@ pub trait Source {
     ghost nothing_after_end: { (s t : Self) (xs : List ℕ)
         → gives s xs t → IsTrue (ended s) → (xs ≡ []) × IsTrue (ended t) };
 
-    ghost failures_stay: { (s t : Self) (xs : List ℕ) → gives s xs t → failures s ≤ failures t };
+    ghost failures_monotone: { (s t : Self) (xs : List ℕ)
+        → gives s xs t → failures s ≤ failures t };
 }
 
 /// Reads until the end or until `buf` is full, and answers how many bytes are at its start. An
@@ -60,7 +61,7 @@ pub fn fill_up<S: Source>(source: &mut S, buf: &mut [u8]) -> Result<usize, Sourc
     ensures bound { IfOk result (λ n. n ≤ length buf.new) }
     ensures short { IfOk result (λ n. n < length buf.new → IsTrue (S.ended source.new)) }
     ensures failed { CountsFailure (S.failures source.old) (S.failures source.new) result }
-    ensures full { IsLast (S.failures source.old) → 0 < length buf.old → IsErr result }
+    ensures full { IsSaturated (S.failures source.old) → 0 < length buf.old → IsErr result }
 {
     let mut filled = 0;
     while filled < buf.len() {

@@ -22,9 +22,9 @@ pub struct TextMemory<'a> {
 }
 
 impl<'a> Model for TextMemory<'a> {
-    ghost use Rattle.vault_text.specs.TextMemory.{HasRoom, MemoryText, bytes_of};
+    ghost use Rattle.vault_text.specs.TextMemory.{HasRoom, TextMemoryState, bytes_of};
 
-    ghost Value = { MemoryText };
+    ghost Value = { TextMemoryState };
 
     ghost view = { λ m. record { bytes = bytes_of m.place; limit = m.limit } };
 

@@ -1,6 +1,6 @@
 //! Envelopes, written into a sink.
 ghost use Rattle.std.specs.Prelude.{◌≡◌, ◌≤◌, ◌++◌, ℕ, IsErr, OnOk, length, take};
-ghost use Rattle.vault_text.specs.Failures.{CountsFailure, IsLast};
+ghost use Rattle.vault_text.specs.Failures.{CountsFailure, IsSaturated};
 ghost use Rattle.vault_text.specs.Written.{text_of_lines, written, written_lines};
 
 mod block;
@@ -44,7 +44,7 @@ pub fn write_envelope<K: Sink>(
         × K.takes sink.old (take n (written label.now salt.now tag.now ciphertext.now)) sink.new }
     ensures stage { K.stage sink.new ≡ Stage.Begun }
     ensures failed { CountsFailure (K.failures sink.old) (K.failures sink.new) result }
-    ensures full { IsLast (K.failures sink.old) → IsErr result }
+    ensures full { IsSaturated (K.failures sink.old) → IsErr result }
 {
     let parts = Parts {
         label,
@@ -74,7 +74,7 @@ fn put_lines<K: Sink>(
         (n : ℕ) × K.takes sink.old (take n text) sink.new }
     ensures stage { K.stage sink.new ≡ Stage.Begun }
     ensures failed { CountsFailure (K.failures sink.old) (K.failures sink.new) result }
-    ensures full { IsLast (K.failures sink.old) → IsErr result }
+    ensures full { IsSaturated (K.failures sink.old) → IsErr result }
 {
     let mut text = Text::new();
     append_head(&mut text, start, indentation, parts.label);

@@ -8,7 +8,7 @@ pub struct Contents<'a> {
     pub label: &'a str,
     pub salt: &'a [u8],
     pub tag: &'a [u8],
-    pub cipher: &'a [u8],
+    pub ciphertext: &'a [u8],
 }
 
 impl<'a> Contents<'a> {
@@ -17,7 +17,7 @@ impl<'a> Contents<'a> {
             label: payload.label().as_str(),
             salt: payload.salt().as_bytes(),
             tag: payload.tag().as_slice(),
-            cipher: payload.cipher(),
+            ciphertext: payload.cipher(),
         }
     }
 }

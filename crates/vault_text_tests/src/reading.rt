@@ -63,7 +63,7 @@ pub fn text_of(
 /// The reader of pieces gave this payload.
 fn assert_payload(rt: &impl Abort, payload: Payload<'_>, expected: Contents<'_>) {
     assert_eq!(rt; Contents::of(&payload), expected);
-    assert_bytes(rt, payload.into_body(), expected.cipher);
+    assert_bytes(rt, payload.into_body(), expected.ciphertext);
 }
 
 /// The reader of pieces gave this answer.
@@ -201,7 +201,7 @@ fn assert_empty(rt: &impl Abort, alloc: Global, input: &[u8], label: &str) -> Re
         label,
         salt: b"",
         tag: &[0; TAG_LENGTH],
-        cipher: b"",
+        ciphertext: b"",
     };
     assert_read(rt, alloc, input, Ok(contents))
 }

@@ -11,7 +11,7 @@ pub struct OwnedPayload {
     pub label: Label,
     pub salt: Vec<u8>,
     pub tag: Vec<u8>,
-    pub cipher: Vec<u8>,
+    pub ciphertext: Vec<u8>,
 }
 
 impl OwnedPayload {
@@ -20,7 +20,7 @@ impl OwnedPayload {
             label: self.label.as_str(),
             salt: self.salt.as_slice(),
             tag: self.tag.as_slice(),
-            cipher: self.cipher.as_slice(),
+            ciphertext: self.ciphertext.as_slice(),
         }
     }
 }
@@ -127,7 +127,7 @@ fn read_body(
     let Some(payload) = payload_of(alloc, label, inner.as_slice())? else {
         return Ok(Err(TextFault::BadPayload));
     };
-    if payload.cipher.len() > WORK_LENGTH {
+    if payload.ciphertext.len() > WORK_LENGTH {
         return Ok(Err(TextFault::CipherTooLong));
     }
     Ok(Ok(payload))
@@ -142,7 +142,7 @@ fn payload_of(
     let Some((salt, rest)) = split_at_line_feed(text) else {
         return Ok(None);
     };
-    let Some((tag, cipher)) = split_at_line_feed(rest) else {
+    let Some((tag, ciphertext)) = split_at_line_feed(rest) else {
         return Ok(None);
     };
     let Some(salt) = unhex(alloc, salt)? else {
@@ -151,7 +151,7 @@ fn payload_of(
     let Some(tag) = unhex(alloc, tag)? else {
         return Ok(None);
     };
-    let Some(cipher) = unhex(alloc, cipher)? else {
+    let Some(ciphertext) = unhex(alloc, ciphertext)? else {
         return Ok(None);
     };
     if salt.len() > SALT_LIMIT || tag.len() != TAG_LENGTH {
@@ -161,7 +161,7 @@ fn payload_of(
         label,
         salt,
         tag,
-        cipher,
+        ciphertext,
     }))
 }
 

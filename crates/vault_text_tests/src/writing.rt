@@ -160,7 +160,7 @@ fn envelope(
     step: usize,
     label: &str,
     salt_length: u16,
-    cipher: &[u8],
+    ciphertext: &[u8],
 ) -> Result<Vec<u8>, Fail>
     requires { 1 ≤ step }
 {
@@ -168,7 +168,7 @@ fn envelope(
     let salt = salt_of(alloc, salt_length)?;
     let mut sink = MemSink::new(alloc, step);
     sink.begin()?;
-    write_envelope(&mut sink, &label, &salt, &tag(), cipher)?;
+    write_envelope(&mut sink, &label, &salt, &tag(), ciphertext)?;
     sink.finish()?;
     Ok(sink.bytes().to_vec(alloc)?)
 }
@@ -180,12 +180,12 @@ fn assert_written(
     step: usize,
     label: &str,
     salt_length: u16,
-    cipher: &[u8],
+    ciphertext: &[u8],
     text: &str,
 ) -> Result<(), Fail>
     requires { 1 ≤ step }
 {
-    let bytes = envelope(alloc, step, label, salt_length, cipher)?;
+    let bytes = envelope(alloc, step, label, salt_length, ciphertext)?;
     assert_bytes(rt, bytes.as_slice(), text.as_bytes());
     Ok(())
 }
@@ -199,11 +199,11 @@ fn assert_envelope(
     length: u16,
     text: &str,
 ) -> Result<(), Fail> {
-    let cipher = counting(alloc, length, 11, 5)?;
-    let cipher = cipher.as_slice();
-    assert_written(rt, alloc, 1, label, salt_length, cipher, text)?;
-    assert_written(rt, alloc, 7, label, salt_length, cipher, text)?;
-    assert_written(rt, alloc, 10_000, label, salt_length, cipher, text)
+    let ciphertext = counting(alloc, length, 11, 5)?;
+    let ciphertext = ciphertext.as_slice();
+    assert_written(rt, alloc, 1, label, salt_length, ciphertext, text)?;
+    assert_written(rt, alloc, 7, label, salt_length, ciphertext, text)?;
+    assert_written(rt, alloc, 10_000, label, salt_length, ciphertext, text)
 }
 
 #[test]
@@ -237,13 +237,13 @@ fn assert_reads_back(
     length: u16,
 ) -> Result<(), Fail> {
     let salt = salt_of(alloc, salt_length)?;
-    let cipher = counting(alloc, length, 11, 5)?;
-    let bytes = envelope(alloc, 4_096, label, salt_length, cipher.as_slice())?;
+    let ciphertext = counting(alloc, length, 11, 5)?;
+    let bytes = envelope(alloc, 4_096, label, salt_length, ciphertext.as_slice())?;
     let expected = Contents {
         label,
         salt: salt.as_bytes(),
         tag: &tag(),
-        cipher: cipher.as_slice(),
+        ciphertext: ciphertext.as_slice(),
     };
     assert_contents(rt, bytes.as_slice(), expected)?;
     Ok(())
@@ -266,11 +266,11 @@ fn block(
     name: Option<&str>,
     label: &Label,
     salt: &Salt,
-    cipher: &[u8],
+    ciphertext: &[u8],
 ) -> Result<Vec<u8>, Fail> {
     let mut sink = MemSink::new(alloc, 4_096);
     sink.begin()?;
-    write_block(&mut sink, name, label, salt, &tag(), cipher)?;
+    write_block(&mut sink, name, label, salt, &tag(), ciphertext)?;
     Ok(sink.bytes().to_vec(alloc)?)
 }
 
@@ -286,8 +286,8 @@ fn assert_block(
 ) -> Result<(), Fail> {
     let label = Label::new(label)?;
     let salt = salt_of(alloc, salt_length)?;
-    let cipher = counting(alloc, length, 11, 5)?;
-    let bytes = block(alloc, name, &label, &salt, cipher.as_slice())?;
+    let ciphertext = counting(alloc, length, 11, 5)?;
+    let bytes = block(alloc, name, &label, &salt, ciphertext.as_slice())?;
     assert_bytes(rt, bytes.as_slice(), text.as_bytes());
     Ok(())
 }

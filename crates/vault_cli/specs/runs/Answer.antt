@@ -43,8 +43,8 @@ answered (Err fault) = reported fault
 abbrev pub input_limit : ℕ → CommandName → ℕ
 input_limit limit command = if encrypts command then limit else envelope_limit limit
 
--- how long a text may be that has room wherever a plaintext up to the limit does: an envelope spells
--- each byte with four digits
+-- how long a text may be that has room wherever a plaintext up to the limit does: an envelope
+-- spells each byte with four digits
 abbrev pub room_limit : ℕ → CommandName → ℕ
 room_limit limit command = if encrypts command then limit else 4 * limit
 

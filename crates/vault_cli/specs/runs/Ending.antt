@@ -32,8 +32,8 @@ to_sink out = record {
   unfailed = out.failures out.new ≡ out.failures out.old;
 }
 
--- what became of the file at a path, where there is one, or else of a sink: the other is left alone. A path may
--- be chosen where nothing is written, but its file is not begun
+-- what became of the file at a path, where there is one, or else of a sink: the other is left
+-- alone. A path may be chosen where nothing is written, but its file is not begun
 abbrev pub to_path : {F R K : Type 0}
     → Option (List ℕ) → Access → StoreCall F R → SinkCall K → Output
 to_path None access files out = record {

@@ -1,6 +1,6 @@
 -- What holds of the run of a request, over a source, an output and an error sink.
 use Rattle.std.specs.Prelude.{◌≡◌, ◌≢◌, ◌⊎◌, ℕ, List, is_some, true}
-use Rattle.vault_text.specs.Failures.{HasRisen, IsLast}
+use Rattle.vault_text.specs.Failures.{HasRisen, IsSaturated}
 use Rattle.vault_request.specs.Request.{Request}
 use Rattle.vault_cli.specs.Call.{SinkCall, SourceCall}
 use Rattle.vault_cli.specs.runs.Answer.{input_needed, run_answer_within}
@@ -15,11 +15,10 @@ module _ (limit : ℕ) (request : Request) (contents : List (List ℕ)) (salt : 
     {S K E : Type 0} (src : SourceCall S) (out : SinkCall K) (err : SinkCall E)
     (result : Status) where
   pub record RunsRequest : Type 0 where
-    -- what the source gave decides all, unless a device fails; the source is left alone where the
-    -- passwords, the secret or the salt are refused, and where there is a STRING
+    -- it ends with the answer to what the source gave, unless a device fails; the source is left
+    -- alone where the passwords, the secret or the salt are refused, and where there is a STRING
     pub ends : Ends (to_sink out) err result src (input_needed limit request contents salt)
         (run_answer_within limit request contents salt)
-
     -- the status says so exactly where a device failed, and never that memory ran out
     pub device_failed : result ≡ DeviceFailed
         → HasRisen (src.failures src.old) (src.failures src.new)
@@ -28,8 +27,8 @@ module _ (limit : ℕ) (request : Request) (contents : List (List ℕ)) (salt : 
         → (src.failures src.new ≡ src.failures src.old)
         × (out.failures out.new ≡ out.failures out.old)
     pub memory_suffices : result ≢ OutOfMemory
-
-    -- at the full count each call of a device fails, which a run reports that makes one
+    -- once the count of a device's failures is saturated, each of its calls fails, and so does a
+    -- run that needs one
     pub full_source : is_some (input_needed limit request contents salt) ≡ true
-        → IsLast (src.failures src.old) → result ≡ DeviceFailed
-    pub full_output : IsLast (out.failures out.old) → result ≢ Success
+        → IsSaturated (src.failures src.old) → result ≡ DeviceFailed
+    pub full_output : IsSaturated (out.failures out.old) → result ≢ Success

@@ -1,4 +1,4 @@
-//! The one line on standard error that says why a run was refused.
+//! The one line on standard error that says why a run failed.
 ghost use Rattle.std.specs.Prelude.{◌≡◌, ℕ, take, OnOk};
 ghost use Rattle.vault_text.specs.Failures.{CountsFailure};
 ghost use Rattle.vault_cli.specs.Call.{sink};

@@ -11,7 +11,7 @@ pub enum Status {
     Success,
     /// The input, a secret or an option was refused.
     Refused,
-    /// The arguments are no command line.
+    /// The arguments do not parse.
     ParseFault,
     /// A file, a source or a sink failed.
     DeviceFailed,

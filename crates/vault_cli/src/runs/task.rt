@@ -2,7 +2,7 @@
 ghost use Rattle.std.specs.Prelude.{◌≡◌, [], length, map, slice_index_or, true};
 ghost use Rattle.std.specs.Prelude.{Err, IfErr, IfOk};
 ghost use Rattle.vault_core.specs.Form.{form_of};
-ghost use Rattle.vault_text.specs.Failures.{IsLast};
+ghost use Rattle.vault_text.specs.Failures.{IsSaturated};
 ghost use Rattle.vault_text.specs.Limits.{IsWorkLength, limit_of};
 ghost use Rattle.vault_fault.specs.declared.fault.Fault.TheVariants.{Read};
 ghost use Rattle.vault_fault.specs.declared.fault.Role.TheVariants.{Input};
@@ -13,8 +13,8 @@ ghost use Rattle.vault_request.specs.Request.{files_of};
 ghost use Rattle.vault_cli.specs.runs.StoredTask.{task_in};
 ghost use Rattle.vault_cli.specs.runs.Task.{HasValidIndex, encrypt_task, planned, rekey_task};
 
-use crate::runs::passwords::{new_secret_in, secrets_of};
 use crate::runs::salt::salt_of;
+use crate::runs::secret_list::{new_secret_in, secrets_of};
 use vault_core::{
     Fault, Form, Ready, SealingSecret, Secrets, prepare_decrypt_in, prepare_encrypt_in,
     prepare_rekey_in,
@@ -133,7 +133,7 @@ impl<'p> Task<'p> {
         requires index { HasValidIndex (task_in self.now) }
         ensures performs { PerformsOnInput (source S.Source src.old src.new)
             (limit_of memory.entry.limit) (task_in self.now) result }
-        ensures full { IsLast (S.failures src.old) → result ≡ Err (Read Input) }
+        ensures full { IsSaturated (S.failures src.old) → result ≡ Err (Read Input) }
     {
         let mut meter = Meter::new();
         match self {

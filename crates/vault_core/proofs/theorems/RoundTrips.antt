@@ -8,7 +8,7 @@ use Rattle.vault_core.specs.Laws.{EncryptedDecrypts, IsTriedFirst, RekeyedDecryp
 use Rattle.vault_aes.specs.Padding.{padded_length}
 use Rattle.vault_core.specs.Ready.{Ready}
 use Rattle.vault_core.specs.Sealing.{sealed}
-use Rattle.vault_core.specs.Secrets.{Secret, SecretList, secret_at, tried_behind, tried_order}
+use Rattle.vault_core.specs.Secrets.{Secret, SecretList, secret_at, tried_after, tried_order}
 use Rattle.vault_fault.specs.declared.label_rule.LabelRule.{LabelRule}
 use Rattle.vault_core.proofs.DecryptionLemmas.{decryption-of}
 use Rattle.vault_core.proofs.EncryptionLemmas.{encryption-answers}
@@ -37,7 +37,7 @@ alone : (new : Secret) (rule : LabelRule)
     → IsTriedFirst (record { secrets = new ∷ []; rule = rule }) new
 unfolding tried_order
 alone new rule =
-    (new, tried_behind rule new.label (new ∷ []), rw (bytes_eq-same new.label) refl, refl)
+    (new, tried_after rule new.label (new ∷ []), rw (bytes_eq-same new.label) refl, refl)
 
 pub rekeyed_decrypts : RekeyedDecrypts
 rekeyed_decrypts limit secrets new salt input ready label salt_bytes salt_fits rekeyed =

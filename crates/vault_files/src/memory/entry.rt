@@ -1,4 +1,4 @@
-//! A file in memory, as a test gives it.
+//! A file in memory, as a caller gives it.
 ghost use Rattle.std.specs.Prelude.{◌≡◌};
 ghost use Rattle.vault_files.specs.File.FileState.{Broken, Whole};
 ghost use Rattle.vault_files.specs.Memory.{IsReaderOf};

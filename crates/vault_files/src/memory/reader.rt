@@ -40,10 +40,10 @@ impl<'a> Source for MemFileReader<'a> {
 
     ghost nothing_after_end = { λ s t xs g. g.nothing_after_end };
 
-    ghost failures_stay = { λ s t xs g. g.failures_stay };
+    ghost failures_monotone = { λ s t xs g. g.failures_monotone };
 
     fn fill(&mut self, buf: &mut [u8]) -> Result<usize, SourceFailed> {
-        if self.failures.is_last() {
+        if self.failures.is_saturated() {
             return Err(SourceFailed);
         }
         if self.ended {

@@ -3,7 +3,7 @@ ghost use Rattle.std.specs.Prelude.{◌≡◌, [], ◌∷◌, ◌++◌, MatchOpt
 ghost use Rattle.std.specs.Option.{option_map};
 ghost use Rattle.std.specs.String.{string_bytes};
 ghost use Rattle.vault_files.specs.File.FileState.{Missing};
-ghost use Rattle.vault_text.specs.Failures.{CountsFailure, IsLast};
+ghost use Rattle.vault_text.specs.Failures.{CountsFailure, IsSaturated};
 ghost use Rattle.vault_files.specs.Memory.{StoreOpens, StoreTakes, bytes_of, file_at};
 ghost use Rattle.vault_files.specs.Memory.{new_store, stands_at};
 
@@ -58,7 +58,7 @@ impl<'a> MemFiles<'a> {
         }
     }
 
-    /// The bytes of the file at a path; None where no file does. Those of a file that breaks are
+    /// The bytes of the file at a path; None where there is none. Those of a file that breaks are
     /// the ones before the break.
     pub fn content(&self, path: &str) -> Option<&[u8]>
         ensures { option_map (λ bytes. bytes.now) result ≡ bytes_of (stands_at self.now path.now) }
@@ -123,7 +123,7 @@ impl<'a> Sink for MemFiles<'a> {
 
     ghost takes_more = { StoreTakes-more };
 
-    ghost failures_stay = { λ s t xs g. g.output.failures_stay };
+    ghost failures_monotone = { λ s t xs g. g.output.failures_monotone };
 
     fn begin(&mut self) -> Result<(), SinkFailed>
         requires { self.old.output.stage ≡ Stage.Unbegun }
@@ -131,8 +131,8 @@ impl<'a> Sink for MemFiles<'a> {
         ensures begun { OnOk result (self.new.output.stage ≡ Stage.Begun) }
         ensures unbegun { OnErr result (self.new.output.stage ≡ Stage.Unbegun) }
         ensures failed { CountsFailure self.old.output.failures self.new.output.failures result }
-        ensures full { IsLast self.old.output.failures → IsErr result }
-        ensures only_full { OnErr result (IsLast self.old.output.failures) }
+        ensures full { IsSaturated self.old.output.failures → IsErr result }
+        ensures only_full { OnErr result (IsSaturated self.old.output.failures) }
     {
         self.output.begin()
     }
@@ -147,8 +147,8 @@ impl<'a> Sink for MemFiles<'a> {
         ensures finished { OnOk result (self.new.output.stage ≡ Stage.Finished) }
         ensures unfinished { OnErr result (self.new.output.stage ≡ Stage.Begun) }
         ensures failed { CountsFailure self.old.output.failures self.new.output.failures result }
-        ensures full { IsLast self.old.output.failures → IsErr result }
-        ensures only_full { OnErr result (IsLast self.old.output.failures) }
+        ensures full { IsSaturated self.old.output.failures → IsErr result }
+        ensures only_full { OnErr result (IsSaturated self.old.output.failures) }
     {
         self.output.finish()
     }
@@ -164,7 +164,7 @@ impl<'a> FileSystem for MemFiles<'a> {
 
     ghost finds = { λ s path file. file ≡ file_at s.entries path };
 
-    ghost opened = { λ s path reader. IsReaderOf (file_at s.entries path) reader };
+    ghost reader_at = { λ s path reader. IsReaderOf (file_at s.entries path) reader };
 
     ghost opens = { StoreOpens };
 
@@ -180,7 +180,7 @@ impl<'a> FileSystem for MemFiles<'a> {
 
     ghost opens_finds = { λ s t paths path file opens found. rw opens.rest at found };
 
-    ghost opens_opened = { λ s t paths path reader opens opened. rw opens.rest at opened };
+    ghost opens_reader = { λ s t paths path reader opens opened. rw opens.rest at opened };
 
     ghost finds_some = { λ s path. (file_at s.entries path, refl) };
 

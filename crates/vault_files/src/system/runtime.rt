@@ -8,8 +8,8 @@ use std::{fs, io};
 /// Readable and writable by its owner alone.
 const OWNER_ONLY: u32 = 0o600;
 
-/// The system itself. No contract sees it: that each method asks for what the trait says, and for
-/// nothing else, is taken from these lines.
+/// The system itself. No contract covers it: that each method asks for what the trait says, and for
+/// nothing else, is trusted.
 impl<R: Files> System for &R {
     ghost use Rattle.std.specs.Prelude.{None};
 

@@ -6,7 +6,7 @@ use Rattle.vault_request.specs.Laws.{SettledRequests}
 use Rattle.vault_request.specs.Options.{options_of}
 use Rattle.vault_request.specs.Refusal.{refusal}
 use Rattle.vault_request.specs.Request.{Request, SecretFile}
-use Rattle.vault_request.specs.Settled.{file_of_id, plain_file, refused_or, request_of}
+use Rattle.vault_request.specs.Settled.{file_of_id, file_of_path, refused_or, request_of}
 use Rattle.vault_request.specs.VaultId.{fault_of_id, first_fault}
 use Rattle.vault_request.specs.declared.command_name.CommandName.{CommandName}
 use Rattle.vault_request.specs.declared.command_name.CommandName.TheVariants as command
@@ -24,7 +24,7 @@ labels-ids (id ∷ ids) e =
     let both = neither (fault_of_id id) (first_fault ids) e in
     (label-id id both.0, labels-ids ids both.1)
 
-labels-plain : (paths : List (List ℕ)) → AreLabelled (map plain_file paths)
+labels-plain : (paths : List (List ℕ)) → AreLabelled (map file_of_path paths)
 labels-plain [] = tt
 labels-plain (path ∷ paths) = (refl, labels-plain paths)
 

@@ -134,5 +134,6 @@ short_inputs smaller larger input few more =
     read_body-same smaller larger header.label (body input) more (λ inner parts spelled known.
     let inner_short : 2 * length inner ≤ length (body input) = rw spelled
     at (unhex-short (body input)) in
-    let parts_short : 2 * length parts.ciphertext ≤ length inner = rw known at (parts_of-short inner) in
+    let parts_short : 2 * length parts.ciphertext ≤ length inner =
+    rw known at (parts_of-short inner) in
     grind (arith, nat_tests)))

@@ -91,8 +91,8 @@ pub body-reads : (limit : ℕ) (label salt tag ciphertext : List ℕ) → IsByte
     → read_body limit label (encode_lower (inner_text salt tag ciphertext))
     ≡ Ok (record { label = label; salt = salt; tag = tag; ciphertext = ciphertext })
 unfolding parts_of read_body
-body-reads limit label salt tag ciphertext salt_bytes salt_short tag_bytes tag_whole ciphertext_bytes
-    ciphertext_short =
+body-reads limit label salt tag ciphertext salt_bytes salt_short tag_bytes tag_whole
+    ciphertext_bytes ciphertext_short =
     let short : nat_lt (ciphertext_limit limit) (length ciphertext) ≡ false =
     lt-leb _ _ (omega arith) in
     rw (

@@ -59,5 +59,5 @@ written_reads_back limit label salt tag ciphertext good salt_bytes salt_short ta
       at,
       header-reads label good,
     )
-    (body-reads limit label salt tag ciphertext salt_bytes salt_short tag_bytes tag_whole ciphertext_bytes
-    ciphertext_short)
+    (body-reads limit label salt tag ciphertext salt_bytes salt_short tag_bytes tag_whole
+    ciphertext_bytes ciphertext_short)

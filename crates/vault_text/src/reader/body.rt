@@ -5,7 +5,7 @@ ghost use Rattle.vault_text.specs.EnvelopeReader.{BodyHas};
 ghost use Rattle.vault_text.specs.Limits.{ciphertext_limit};
 ghost use Rattle.vault_text.specs.Pieces.{TakesPiece, TakesUpTo};
 
-use super::RUN_LIMIT;
+use super::CHUNK_LIMIT;
 use super::inner_text::InnerReader;
 use crate::fault::TextFault;
 use crate::header::{before_line_end, is_line_end};
@@ -16,8 +16,9 @@ use crate::text_memory::TextMemory;
 use crate::writing::{LINE_BYTES, LINE_DIGITS};
 use std::marker::Model;
 
-/// How many digits are decoded at once.
-const DIGITS_LIMIT: usize = 2 * RUN_LIMIT - 1;
+/// How many digits are decoded at once: with one that waits for its second, they spell one chunk at
+/// most.
+const DIGITS_LIMIT: usize = 2 * CHUNK_LIMIT - 1;
 
 /// The body so far.
 #[derive(Drop)]
@@ -52,12 +53,12 @@ impl<'a> BodyReader<'a> {
     {
         let mut rest = text;
         while !rest.is_empty() {
-            rest = self.extend_run(rest);
+            rest = self.extend_chunk(rest);
         }
     }
 
     /// Takes a line end, or digits of a line, and answers what follows.
-    fn extend_run<'t>(&mut self, text: &'t [u8]) -> &'t [u8]
+    fn extend_chunk<'t>(&mut self, text: &'t [u8]) -> &'t [u8]
         requires { 0 < length text.now }
         ensures shorter { length result.now < length text.now }
         ensures taken { (limit : ℕ) → TakesUpTo (BodyHas limit) self.old
@@ -96,7 +97,7 @@ impl<'a> BodyReader<'a> {
         requires { length digits.now ≤ DIGITS_LIMIT }
         ensures { (limit : ℕ) → TakesPiece (BodyHas limit) self.old digits.now self.new }
     {
-        let mut text = [0; RUN_LIMIT];
+        let mut text = [0; CHUNK_LIMIT];
         let count = self.decoder.decode(digits, &mut text);
         self.inner.extend(&text[..count]);
     }

@@ -4,7 +4,7 @@ ghost use Rattle.vault_text.specs.InnerReader.{PartHas};
 ghost use Rattle.vault_text.specs.InnerText.{ciphertext_of};
 ghost use Rattle.vault_text.specs.Pieces.{TakesPiece};
 
-use super::{PART_LIMIT, RUN_LIMIT};
+use super::{CHUNK_BYTES, CHUNK_LIMIT};
 use crate::fault::TextFault;
 use crate::hexadecimal::HexDecoder;
 use crate::text_memory::TextMemory;
@@ -46,10 +46,10 @@ impl<'a> CiphertextPart<'a> {
 
     /// Takes the digits that come next.
     pub(super) fn extend(&mut self, digits: &[u8])
-        requires { length digits.now ≤ RUN_LIMIT }
+        requires { length digits.now ≤ CHUNK_LIMIT }
         ensures { (limit : ℕ) → TakesPiece (PartHas limit) self.old digits.now self.new }
     {
-        let mut bytes = [0; PART_LIMIT];
+        let mut bytes = [0; CHUNK_BYTES];
         let count = self.decoder.decode(digits, &mut bytes);
         if count <= self.memory.room() {
             self.memory.put(&bytes[..count]);

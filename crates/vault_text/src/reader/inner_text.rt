@@ -7,7 +7,7 @@ ghost use Rattle.vault_text.specs.InnerReader.{InnerHas, MayHave, next_part};
 ghost use Rattle.vault_text.specs.Limits.{ciphertext_limit};
 ghost use Rattle.vault_text.specs.Pieces.{TakesPiece, TakesUpTo};
 
-use super::RUN_LIMIT;
+use super::CHUNK_LIMIT;
 use super::ciphertext_part::CiphertextPart;
 use super::short_part::ShortPart;
 use crate::fault::TextFault;
@@ -69,7 +69,12 @@ impl<'a> Model for InnerReader<'a> {
 
     ghost Value = { InnerState };
 
-    ghost view = { λ r. record { part = r.part; salt = r.salt; tag = r.tag; ciphertext = r.ciphertext } };
+    ghost view = { λ r. record {
+      part = r.part;
+      salt = r.salt;
+      tag = r.tag;
+      ciphertext = r.ciphertext;
+    } };
 }
 
 impl<'a> InnerReader<'a> {
@@ -87,7 +92,7 @@ impl<'a> InnerReader<'a> {
 
     /// Takes the text that comes next.
     pub(super) fn extend(&mut self, text: &[u8])
-        requires { length text.now ≤ RUN_LIMIT }
+        requires { length text.now ≤ CHUNK_LIMIT }
         ensures { (limit : ℕ) → TakesPiece (InnerHas limit) self.old text.now self.new }
     {
         let mut rest = text;
@@ -99,7 +104,7 @@ impl<'a> InnerReader<'a> {
     /// Takes what the text gives to the part that comes next, and answers what follows.
     fn extend_part<'t>(&mut self, text: &'t [u8]) -> &'t [u8]
         requires some { 0 < length text.now }
-        requires short { length text.now ≤ RUN_LIMIT }
+        requires short { length text.now ≤ CHUNK_LIMIT }
         ensures shorter { length result.now < length text.now }
         ensures taken { (limit : ℕ) →
             TakesUpTo (InnerHas limit) self.old text.now result.now self.new }
@@ -115,7 +120,7 @@ impl<'a> InnerReader<'a> {
 
     /// Gives digits to the part that comes next.
     fn extend_digits(&mut self, digits: &[u8])
-        requires short { length digits.now ≤ RUN_LIMIT }
+        requires short { length digits.now ≤ CHUNK_LIMIT }
         requires digits { MayHave self.old.part digits.now }
         ensures part { self.new.part ≡ self.old.part }
         ensures taken { (limit : ℕ) → TakesPiece (InnerHas limit) self.old digits.now self.new }

@@ -1,11 +1,12 @@
 //! A part of the inner text that is short: the salt or the tag.
-ghost use Rattle.std.specs.Prelude.{◌≡◌, ◌<◌, ◌≤◌, ℕ, List, [], MatchResult, IfSome, Some, length};
+ghost use Rattle.std.specs.Prelude.{◌≡◌, ◌<◌, ◌≤◌, ℕ, List, [], IfErr, IfOk, IfSome, OnErr, Some};
+ghost use Rattle.std.specs.Prelude.{length};
 ghost use Rattle.vault_text.specs.Hexadecimal.{unhex};
 ghost use Rattle.vault_text.specs.InnerReader.{PartHas};
 ghost use Rattle.vault_text.specs.Pieces.{TakesPiece};
 ghost use Rattle.vault_text.specs.declared.fault.TextFault.TheVariants.{BadPayload};
 
-use super::{PART_LIMIT, RUN_LIMIT};
+use super::{CHUNK_BYTES, CHUNK_LIMIT};
 use crate::fault::TextFault;
 use crate::hexadecimal::HexDecoder;
 use arrayvec::ArrayVec;
@@ -46,10 +47,10 @@ impl<const LIMIT: usize> ShortPart<LIMIT> {
 
     /// Takes the digits that come next.
     pub(super) fn extend(&mut self, digits: &[u8])
-        requires { length digits.now ≤ RUN_LIMIT }
+        requires { length digits.now ≤ CHUNK_LIMIT }
         ensures { TakesPiece (PartHas LIMIT) self.old digits.now self.new }
     {
-        let mut bytes = [0; PART_LIMIT];
+        let mut bytes = [0; CHUNK_BYTES];
         let count = self.decoder.decode(digits, &mut bytes);
         if self.bytes.try_extend_from_slice(&bytes[..count]).is_err() {
             self.is_long = true;
@@ -58,10 +59,12 @@ impl<const LIMIT: usize> ShortPart<LIMIT> {
 
     /// The bytes of the part, where no digit follows.
     pub(super) fn finish(&self) -> Result<&[u8], TextFault>
-        ensures { (digits : List ℕ) → PartHas LIMIT self.now digits → MatchResult result
-            (λ bytes. (unhex digits ≡ Some bytes.now) × (length bytes.now ≤ LIMIT))
-            (λ fault. (fault ≡ BadPayload)
-            × IfSome (unhex digits) (λ bytes. LIMIT < length bytes)) }
+        ensures bytes { (digits : List ℕ) → PartHas LIMIT self.now digits
+            → IfOk result (λ bytes. unhex digits ≡ Some bytes.now) }
+        ensures fits { IfOk result (λ bytes. length bytes.now ≤ LIMIT) }
+        ensures fault { IfErr result (λ fault. fault ≡ BadPayload) }
+        ensures long { (digits : List ℕ) → PartHas LIMIT self.now digits
+            → OnErr result (IfSome (unhex digits) (λ bytes. LIMIT < length bytes)) }
     {
         if self.is_long || !self.decoder.is_complete() {
             return Err(TextFault::BadPayload);

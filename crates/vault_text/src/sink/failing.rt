@@ -1,7 +1,7 @@
 //! A sink for tests, which fails after some calls.
 ghost use Rattle.std.specs.Prelude.{◌≡◌, ◌-◌, ◌<◌, ◌≤◌, ◌⊎◌, ◌↔◌, [], IsErr, IfOk, OnOk};
 ghost use Rattle.std.specs.Prelude.{OnErr, length, min};
-ghost use Rattle.vault_text.specs.Failures.{CountsFailure, IsLast};
+ghost use Rattle.vault_text.specs.Failures.{CountsFailure, IsSaturated};
 ghost use Rattle.vault_text.specs.Sink.{Takes, failing_state_of, has_begun, taken};
 
 use super::{MemSink, Sink, SinkFailed, Stage};
@@ -9,7 +9,7 @@ use crate::failure_count::FailureCount;
 use std::alloc::Global;
 use std::marker::Model;
 
-/// A sink that keeps what it took in memory, and fails at each call after a number of them. A
+/// A sink that keeps what it took in memory, and fails at each call after a number of them. An
 /// allocation that fails counts as a failure too, and takes nothing.
 #[derive(Drop)]
 pub struct FailingSink {
@@ -67,12 +67,13 @@ impl FailingSink {
         ensures takes { Takes (failing_state_of self.old) [] (failing_state_of self.new) }
         ensures memory { self.new.memory ≡ self.old.memory }
         ensures calls { self.new.calls ≡ self.old.calls - 1 }
-        ensures fails { IsErr result ↔ ((self.old.calls ≡ 0) ⊎ IsLast self.old.failures) }
+        ensures out_of_calls { IsErr result
+            ↔ ((self.old.calls ≡ 0) ⊎ IsSaturated self.old.failures) }
         ensures failed { CountsFailure self.old.failures self.new.failures result }
     {
         let calls = self.calls;
         self.calls = calls.saturating_sub(1);
-        if calls == 0 || self.failures.is_last() {
+        if calls == 0 || self.failures.is_saturated() {
             self.failures.raise();
             return Err(SinkFailed);
         }
@@ -94,7 +95,7 @@ impl Sink for FailingSink {
 
     ghost takes_more = { FailingTakes-more };
 
-    ghost failures_stay = { λ s t xs g. g.0.failures_stay };
+    ghost failures_monotone = { λ s t xs g. g.0.failures_monotone };
 
     fn begin(&mut self) -> Result<(), SinkFailed>
         requires { self.old.memory.stage ≡ Stage.Unbegun }
@@ -102,9 +103,10 @@ impl Sink for FailingSink {
         ensures begun { OnOk result (self.new.memory.stage ≡ Stage.Begun) }
         ensures unbegun { OnErr result (self.new.memory.stage ≡ Stage.Unbegun) }
         ensures calls { self.new.calls ≡ self.old.calls - 1 }
-        ensures fails { IsErr result ↔ ((self.old.calls ≡ 0) ⊎ IsLast self.old.failures) }
+        ensures out_of_calls { IsErr result
+            ↔ ((self.old.calls ≡ 0) ⊎ IsSaturated self.old.failures) }
         ensures failed { CountsFailure self.old.failures self.new.failures result }
-        ensures full { IsLast self.old.failures → IsErr result }
+        ensures full { IsSaturated self.old.failures → IsErr result }
     {
         self.use_call()?;
         self.memory.begin()
@@ -119,9 +121,9 @@ impl Sink for FailingSink {
         ensures bound { IfOk result (λ n. n ≤ length bytes.now) }
         ensures stage { self.new.memory.stage ≡ self.old.memory.stage }
         ensures calls { self.new.calls ≡ self.old.calls - 1 }
-        ensures fails { self.old.calls ≡ 0 → IsErr result }
+        ensures out_of_calls { self.old.calls ≡ 0 → IsErr result }
         ensures failed { CountsFailure self.old.failures self.new.failures result }
-        ensures full { IsLast self.old.failures → IsErr result }
+        ensures full { IsSaturated self.old.failures → IsErr result }
     {
         self.use_call()?;
         let result = self.memory.put(bytes);
@@ -137,9 +139,10 @@ impl Sink for FailingSink {
         ensures finished { OnOk result (self.new.memory.stage ≡ Stage.Finished) }
         ensures unfinished { OnErr result (self.new.memory.stage ≡ Stage.Begun) }
         ensures calls { self.new.calls ≡ self.old.calls - 1 }
-        ensures fails { IsErr result ↔ ((self.old.calls ≡ 0) ⊎ IsLast self.old.failures) }
+        ensures out_of_calls { IsErr result
+            ↔ ((self.old.calls ≡ 0) ⊎ IsSaturated self.old.failures) }
         ensures failed { CountsFailure self.old.failures self.new.failures result }
-        ensures full { IsLast self.old.failures → IsErr result }
+        ensures full { IsSaturated self.old.failures → IsErr result }
     {
         self.use_call()?;
         self.memory.finish()

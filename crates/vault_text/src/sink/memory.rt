@@ -1,7 +1,7 @@
 //! A sink in memory.
 ghost use Rattle.std.specs.Prelude.{◌≡◌, ◌<◌, ◌≤◌, [], IsErr, IfOk, OnOk, OnErr};
 ghost use Rattle.std.specs.Prelude.{length, min};
-ghost use Rattle.vault_text.specs.Failures.{CountsFailure, IsLast};
+ghost use Rattle.vault_text.specs.Failures.{CountsFailure, IsSaturated};
 ghost use Rattle.vault_text.specs.Sink.{taken, has_begun};
 
 use super::{Sink, SinkFailed, Stage};
@@ -78,7 +78,7 @@ impl Sink for MemSink {
 
     ghost takes_more = { MemoryTakes-more };
 
-    ghost failures_stay = { λ s t xs g. g.0.failures_stay };
+    ghost failures_monotone = { λ s t xs g. g.0.failures_monotone };
 
     fn begin(&mut self) -> Result<(), SinkFailed>
         requires { self.old.stage ≡ Stage.Unbegun }
@@ -86,10 +86,10 @@ impl Sink for MemSink {
         ensures begun { OnOk result (self.new.stage ≡ Stage.Begun) }
         ensures unbegun { OnErr result (self.new.stage ≡ Stage.Unbegun) }
         ensures failed { CountsFailure self.old.failures self.new.failures result }
-        ensures full { IsLast self.old.failures → IsErr result }
-        ensures only_full { OnErr result (IsLast self.old.failures) }
+        ensures full { IsSaturated self.old.failures → IsErr result }
+        ensures only_full { OnErr result (IsSaturated self.old.failures) }
     {
-        if self.failures.is_last() {
+        if self.failures.is_saturated() {
             return Err(SinkFailed);
         }
         self.stage = Stage::Begun;
@@ -105,9 +105,9 @@ impl Sink for MemSink {
         ensures bound { IfOk result (λ n. n ≤ length bytes.now) }
         ensures stage { self.new.stage ≡ self.old.stage }
         ensures failed { CountsFailure self.old.failures self.new.failures result }
-        ensures full { IsLast self.old.failures → IsErr result }
+        ensures full { IsSaturated self.old.failures → IsErr result }
     {
-        if self.failures.is_last() {
+        if self.failures.is_saturated() {
             return Err(SinkFailed);
         }
         let n = bytes.len().min(self.step);
@@ -124,10 +124,10 @@ impl Sink for MemSink {
         ensures finished { OnOk result (self.new.stage ≡ Stage.Finished) }
         ensures unfinished { OnErr result (self.new.stage ≡ Stage.Begun) }
         ensures failed { CountsFailure self.old.failures self.new.failures result }
-        ensures full { IsLast self.old.failures → IsErr result }
-        ensures only_full { OnErr result (IsLast self.old.failures) }
+        ensures full { IsSaturated self.old.failures → IsErr result }
+        ensures only_full { OnErr result (IsSaturated self.old.failures) }
     {
-        if self.failures.is_last() {
+        if self.failures.is_saturated() {
             return Err(SinkFailed);
         }
         self.stage = Stage::Finished;

@@ -1,6 +1,6 @@
 //! A sink over `std::io::Write`.
 ghost use Rattle.std.specs.Prelude.{◌≡◌, [], IsErr, OnOk, OnErr};
-ghost use Rattle.vault_text.specs.Failures.{CountsFailure, IsLast};
+ghost use Rattle.vault_text.specs.Failures.{CountsFailure, IsSaturated};
 
 use super::{Sink, SinkFailed, Stage};
 use crate::failure_count::FailureCount;
@@ -64,7 +64,7 @@ impl<W: Write> Sink for WriteSink<W> {
 
     ghost takes_more = { Takes-more };
 
-    ghost failures_stay = { λ s t xs g. g.failures_stay };
+    ghost failures_monotone = { λ s t xs g. g.failures_monotone };
 
     fn begin(&mut self) -> Result<(), SinkFailed>
         requires { self.old.stage ≡ Stage.Unbegun }
@@ -72,10 +72,10 @@ impl<W: Write> Sink for WriteSink<W> {
         ensures begun { OnOk result (self.new.stage ≡ Stage.Begun) }
         ensures unbegun { OnErr result (self.new.stage ≡ Stage.Unbegun) }
         ensures failed { CountsFailure self.old.failures self.new.failures result }
-        ensures full { IsLast self.old.failures → IsErr result }
-        ensures only_full { OnErr result (IsLast self.old.failures) }
+        ensures full { IsSaturated self.old.failures → IsErr result }
+        ensures only_full { OnErr result (IsSaturated self.old.failures) }
     {
-        if self.failures.is_last() {
+        if self.failures.is_saturated() {
             return Err(SinkFailed);
         }
         self.stage = Stage::Begun;
@@ -83,7 +83,7 @@ impl<W: Write> Sink for WriteSink<W> {
     }
 
     fn put(&mut self, bytes: &[u8]) -> Result<usize, SinkFailed> {
-        if self.failures.is_last() {
+        if self.failures.is_saturated() {
             return Err(SinkFailed);
         }
         match self.writer.write(bytes) {
@@ -96,7 +96,7 @@ impl<W: Write> Sink for WriteSink<W> {
     }
 
     fn finish(&mut self) -> Result<(), SinkFailed> {
-        if self.failures.is_last() {
+        if self.failures.is_saturated() {
             return Err(SinkFailed);
         }
         if self.writer.flush().is_err() {

@@ -1,7 +1,7 @@
 //! A source for tests, which fails after some calls.
 ghost use Rattle.std.specs.Prelude.{◌≡◌, ◌-◌, ◌<◌, ◌≤◌, ◌↔◌, IsTrue, IsErr, IfOk, false};
 ghost use Rattle.std.specs.Prelude.{length, min};
-ghost use Rattle.vault_text.specs.Failures.{CountsFailure, IsLast};
+ghost use Rattle.vault_text.specs.Failures.{CountsFailure, IsSaturated};
 ghost use Rattle.vault_text.specs.Source.{given};
 
 use super::{MemSource, Source, SourceFailed};
@@ -62,19 +62,19 @@ impl<'a> Source for FailingSource<'a> {
 
     ghost nothing_after_end = { λ s t xs g. g.0.nothing_after_end };
 
-    ghost failures_stay = { λ s t xs g. g.0.failures_stay };
+    ghost failures_monotone = { λ s t xs g. g.0.failures_monotone };
 
     fn fill(&mut self, buf: &mut [u8]) -> Result<usize, SourceFailed>
         requires { 0 < length buf.old }
         ensures gives { FailingGives self.old (given result buf.new) self.new }
         ensures calls { self.new.calls ≡ self.old.calls - 1 }
-        ensures fails { IsErr result ↔ (self.old.calls ≡ 0) }
+        ensures out_of_calls { IsErr result ↔ (self.old.calls ≡ 0) }
         ensures count { let memory = self.old.memory in IfOk result
             (λ n. n ≡ min (min (length buf.new) memory.step) (length memory.left)) }
         ensures bound { IfOk result (λ n. n ≤ length buf.new) }
         ensures end { IfOk result (λ n. (n ≡ 0) ↔ IsTrue self.new.memory.ended) }
         ensures failed { CountsFailure self.old.failures self.new.failures result }
-        ensures full { IsLast self.old.failures → IsErr result }
+        ensures full { IsSaturated self.old.failures → IsErr result }
     {
         if self.calls == 0 {
             self.failures.raise();

@@ -1,7 +1,7 @@
 //! A source in memory.
 ghost use Rattle.std.specs.Prelude.{◌≡◌, ◌<◌, ◌≤◌, ◌↔◌, IsTrue, IsErr, IfOk, false};
 ghost use Rattle.std.specs.Prelude.{length, min};
-ghost use Rattle.vault_text.specs.Failures.{CountsFailure, IsLast};
+ghost use Rattle.vault_text.specs.Failures.{CountsFailure, IsSaturated};
 ghost use Rattle.vault_text.specs.Source.{given};
 
 use super::{Source, SourceFailed};
@@ -56,7 +56,7 @@ impl<'a> Source for MemSource<'a> {
 
     ghost nothing_after_end = { λ s t xs g. g.0.nothing_after_end };
 
-    ghost failures_stay = { λ s t xs g. g.0.failures_stay };
+    ghost failures_monotone = { λ s t xs g. g.0.failures_monotone };
 
     fn fill(&mut self, buf: &mut [u8]) -> Result<usize, SourceFailed>
         requires { 0 < length buf.old }
@@ -66,7 +66,7 @@ impl<'a> Source for MemSource<'a> {
         ensures bound { IfOk result (λ n. n ≤ length buf.new) }
         ensures end { IfOk result (λ n. (n ≡ 0) ↔ IsTrue self.new.ended) }
         ensures failed { CountsFailure 0 0 result }
-        ensures full { IsLast 0 → IsErr result }
+        ensures full { IsSaturated 0 → IsErr result }
     {
         let n = buf.len().min(self.step).min(self.left.len());
         let (prefix, rest) = self.left.split_at(n);

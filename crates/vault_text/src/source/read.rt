@@ -1,6 +1,6 @@
 //! A source over `std::io::Read`.
 ghost use Rattle.std.specs.Prelude.{◌≡◌, ◌<◌, ◌≤◌, ◌↔◌, IsTrue, IsErr, IfOk, OnErr, false, length};
-ghost use Rattle.vault_text.specs.Failures.{CountsFailure, IsLast};
+ghost use Rattle.vault_text.specs.Failures.{CountsFailure, IsSaturated};
 ghost use Rattle.vault_text.specs.Source.{given};
 
 use super::{Source, SourceFailed};
@@ -58,7 +58,7 @@ impl<R: Read> Source for ReadSource<R> {
 
     ghost nothing_after_end = { λ s t xs g. g.nothing_after_end };
 
-    ghost failures_stay = { λ s t xs g. g.failures_stay };
+    ghost failures_monotone = { λ s t xs g. g.failures_monotone };
 
     fn fill(&mut self, buf: &mut [u8]) -> Result<usize, SourceFailed>
         requires { 0 < length buf.old }
@@ -66,10 +66,10 @@ impl<R: Read> Source for ReadSource<R> {
         ensures bound { IfOk result (λ n. n ≤ length buf.new) }
         ensures end { IfOk result (λ n. (n ≡ 0) ↔ IsTrue self.new.ended) }
         ensures failed { CountsFailure self.old.failures self.new.failures result }
-        ensures full { IsLast self.old.failures → IsErr result }
-        ensures after_end { IsTrue self.old.ended → OnErr result (IsLast self.old.failures) }
+        ensures full { IsSaturated self.old.failures → IsErr result }
+        ensures after_end { IsTrue self.old.ended → OnErr result (IsSaturated self.old.failures) }
     {
-        if self.failures.is_last() {
+        if self.failures.is_saturated() {
             return Err(SourceFailed);
         }
         if self.ended {

@@ -2,7 +2,7 @@
 ghost use Rattle.std.specs.Prelude.{◌≡◌, ◌≤◌, ◌++◌, [], ℕ, IsErr, OnOk, length, take, unwrap_or};
 ghost use Rattle.std.specs.Option.{option_copied};
 ghost use Rattle.vault_text.specs.Block.{block, first_line};
-ghost use Rattle.vault_text.specs.Failures.{CountsFailure, IsLast};
+ghost use Rattle.vault_text.specs.Failures.{CountsFailure, IsSaturated};
 
 use super::header::START_LIMIT;
 use super::lines::INDENTATION_LIMIT;
@@ -34,7 +34,7 @@ pub fn write_block<K: Sink>(
         (n : ℕ) × K.takes sink.old (take n text) sink.new }
     ensures stage { K.stage sink.new ≡ Stage.Begun }
     ensures failed { CountsFailure (K.failures sink.old) (K.failures sink.new) result }
-    ensures full { IsLast (K.failures sink.old) → IsErr result }
+    ensures full { IsSaturated (K.failures sink.old) → IsErr result }
 {
     let name = name_or_empty(name);
     let start = block_start(name);

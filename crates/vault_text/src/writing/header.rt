@@ -3,7 +3,7 @@ ghost use Rattle.std.specs.Prelude.{◌≡◌, ◌+◌, ◌<◌, ◌≤◌, ◌+
 ghost use Rattle.arrayvec.specs.ArrayVec.{array_vec_len};
 ghost use Rattle.vault_text.specs.Written.{text_of_lines, written_header};
 
-use super::lines::{HEAD_LIMIT, INDENTATION_LIMIT, TEXT_LIMIT, Text, append};
+use super::lines::{HEAD_ROOM, INDENTATION_LIMIT, TEXT_LIMIT, Text, append};
 use crate::label::Label;
 
 /// What may come before the header line.
@@ -17,7 +17,7 @@ pub(super) fn append_head(text: &mut Text, start: &[u8], indentation: &[u8], lab
     requires narrow { length indentation.now ≤ INDENTATION_LIMIT }
     ensures text { text.new.items
         ≡ start.now ++ text_of_lines indentation.now (written_header label.now ∷ []) }
-    ensures length { array_vec_len text.new ≤ HEAD_LIMIT }
+    ensures length { array_vec_len text.new ≤ HEAD_ROOM }
     ensures some { 0 < array_vec_len text.new }
 {
     append(text, start);

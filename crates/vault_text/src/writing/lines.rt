@@ -32,11 +32,11 @@ const BATCH_LINES: usize = 203;
 /// Bytes of ciphertext on the lines of a batch.
 pub(super) const BATCH_CIPHERTEXT: usize = BATCH_LINES * LINE_CIPHERTEXT;
 
-/// The longest text before the lines of a body: what begins a block, and the header line.
-pub(super) const HEAD_LIMIT: usize = 256;
+/// Room for the text before the lines of a body: what begins a block, and the header line.
+pub(super) const HEAD_ROOM: usize = 256;
 
 /// The longest text before the lines of a batch: the head, and the first lines of the body.
-pub(super) const OPENING_LIMIT: usize = HEAD_LIMIT + FIRST_LINES * LINE_LIMIT;
+pub(super) const OPENING_LIMIT: usize = HEAD_ROOM + FIRST_LINES * LINE_LIMIT;
 
 /// The longest text that is handed to a sink at once.
 pub(super) const TEXT_LIMIT: usize = OPENING_LIMIT + BATCH_LINES * LINE_LIMIT;
@@ -100,7 +100,7 @@ fn append_line(text: &mut Text, indentation: &[u8], bytes: &[u8])
 
 /// Appends the first lines of a body, which spell these bytes, after an indentation.
 pub(super) fn append_lines(text: &mut Text, indentation: &[u8], bytes: &[u8])
-    requires head { array_vec_len text.old ≤ HEAD_LIMIT }
+    requires head { array_vec_len text.old ≤ HEAD_ROOM }
     requires narrow { length indentation.now ≤ INDENTATION_LIMIT }
     requires few { length bytes.now ≤ FIRST_BYTES }
     ensures text { text.new.items

@@ -8,8 +8,8 @@ pub returns : goal.returns
 returns c = record {
   exists = IsPadded-padded;
   unique = padded-unique;
-  once = λ one other text is also.
+  injective = λ one other text is also.
       padded-once one other (sym (padded-unique one text is) ∙ padded-unique other text also);
-  put_on = λ plain. without_padding-padded plain (padded plain) refl;
-  taken_off = padded-without_padding;
+  unpads_padded = λ plain. without_padding-padded plain (padded plain) refl;
+  pads_unpadded = padded-without_padding;
 }

@@ -29,7 +29,7 @@ returns-in-Some-clause-drives g c =
     (map (λ file. file.items) c.as_slice-secret_files.result.now) c.as_slice-salt.result.now
     (rw c.as_slice-secret_files.ensures.value c.in-Ok-load.ensures.secrets)
     (rw c.as_slice-salt.ensures.value c.in-Ok-load.ensures.salt)
-    c.load.new.files c.in-Ok-load.ensures.opens refl (g.F.FileSystem.opened c.args.files.now)
+    c.load.new.files c.in-Ok-load.ensures.opens refl (g.F.FileSystem.reader_at c.args.files.now)
     (source g.F.Reader.Source c.in-Some.reader c.run_to_output.new.src)
     (rw c.in-Some.is at c.in-Ok-load.ensures.input)
     (g.met.F.Reader.Source.gives_none c.in-Some.reader)
@@ -44,5 +44,5 @@ returns-clause-drives g c =
     (rw c.as_slice-secret_files.ensures.value c.in-Ok-load.ensures.secrets)
     (rw c.as_slice-salt.ensures.value c.in-Ok-load.ensures.salt)
     c.load.new.files c.in-Ok-load.ensures.opens
-    (g.F.FileSystem.opened c.args.files.now) (rw c.in-None.is at c.in-Ok-load.ensures.input)
+    (g.F.FileSystem.reader_at c.args.files.now) (rw c.in-None.is at c.in-Ok-load.ensures.input)
     c.run_to_output-in-None.ensures.ends

@@ -6,7 +6,8 @@ use Rattle.vault_core.specs.Form.{form_of}
 use Rattle.vault_core.proofs.EncryptionLemmas.{encryption-in, encryption-too_long}
 use Rattle.vault_core.proofs.encryption.encrypt_plaintext.Goals as goal
 
-pub returns-then-room-lt-PADDING_LIMIT-clause-answer : goal.returns-then-room-lt-PADDING_LIMIT-clause-answer
+pub returns-then-room-lt-PADDING_LIMIT-clause-answer :
+    goal.returns-then-room-lt-PADDING_LIMIT-clause-answer
 returns-then-room-lt-PADDING_LIMIT-clause-answer c =
     sym (encryption-too_long (limit_of c.args.memory.limit) c.args.secrets.now.secrets c.args.choice
     (form_of c.args.form) c.args.salt.now c.args.memory.bytes

@@ -1,5 +1,5 @@
 use Rattle.std.proofs.Common.{◌≡◌, ◌<◌, ◌≤◌, ◌+◌, ◌-◌, length}
-use Rattle.vault_text.specs.Failures.{last_count}
+use Rattle.vault_text.specs.Failures.{u64_max}
 use Rattle.vault_text.specs.Limits.{limit_of}
 use Rattle.vault_core.proofs.input.read_plaintext.Given as goal
 
@@ -9,7 +9,7 @@ invariant-loop-buffer g l = record {
   limit : l.memory.limit ≡ l.fn.memory.limit;
   bound : length l.memory.bytes ≤ limit_of l.fn.memory.limit + 1;
   failures : g.S.Source.failures l.src ≡ g.S.Source.failures l.fn.src;
-  full : 0 < length l.memory.bytes → g.S.Source.failures l.fn.src < last_count;
+  full : 0 < length l.memory.bytes → g.S.Source.failures l.fn.src < u64_max;
 }
 
 abbrev pub decreases-loop-buffer : goal.decreases-loop-buffer

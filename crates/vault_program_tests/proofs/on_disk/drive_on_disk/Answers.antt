@@ -2,7 +2,8 @@ use Rattle.std.proofs.Common.{inl, inr, map}
 use Rattle.std.specs.String.{string_bytes}
 use Rattle.vault_request.specs.Settled.{requested_by}
 use Rattle.vault_cli.specs.OpenedPaths.{opened_paths}
-use Rattle.vault_cli.specs.Program.{access_of, answer_to, output_path, stdin_needed}
+use Rattle.vault_cli.specs.Access.{access_of}
+use Rattle.vault_cli.specs.Program.{answer_to, output_path, stdin_needed}
 use Rattle.vault_program_tests.proofs.OnDiskLemmas.{all-on, leaves}
 use Rattle.vault_program_tests.proofs.on_disk.drive_on_disk.Goals as goal
 

@@ -6,8 +6,8 @@ use Rattle.vault_files.proofs.HostLemmas.{begins_once, by_calls, rises, unexecut
 use Rattle.vault_files.proofs.host.HostFilesSink.begin.Goals as goal
 use Rattle.vault_files.proofs.host.HostFilesSink.begin.Goals.{in-Some, in-None}
 
-pub returns-then-is_last-clause-takes : goal.returns-then-is_last-clause-takes
-returns-then-is_last-clause-takes g c = HostTakes-none g.D.System.executes
+pub returns-then-is_saturated-clause-takes : goal.returns-then-is_saturated-clause-takes
+returns-then-is_saturated-clause-takes g c = HostTakes-none g.D.System.executes
     g.met.D.System.executes_none _
 
 pub returns-in-Some-created-clause-takes : goal.returns-in-Some-created-clause-takes
@@ -35,9 +35,9 @@ returns-in-None-created-clause-takes g c =
           let risen = rw w.self-inside-is at c.raise.ensures.risen in
           rw (← c.self.view_is, w.self-inside-is) (by_calls g.D.System.executes _ _ _ _ _ _ _
           (fails_to_begin executed.0 [] [] 0 Unbegun (none Unbegun)) (rw w.in-Some.is executed.1)
-          stage stage (rises _ _ c.if-is_last.ensures.last risen) refl)
+          stage stage (rises _ _ c.if-is_saturated.ensures.last risen) refl)
       | in-None w ↦
-          let later = rw w.self-inside-is at c.raise.ensures.later in
+          let later = rw w.self-inside-is at c.raise.ensures.monotone in
           rw (← c.self.view_is, w.self-inside-is) (unexecuted g.D.System.executes _ _
           (g.met.D.System.executes_none _) refl later (rw w.in-None.is refl) refl)
     ]

@@ -8,8 +8,8 @@ use Rattle.vault_files.proofs.HostLemmas.{by_calls, if_failed-is, rises}
 use Rattle.vault_files.proofs.host.HostFilesSink.finish.Goals as goal
 use Rattle.vault_files.proofs.host.HostFilesSink.finish.Goals.{in-Some, in-None}
 
-pub returns-then-is_last-clause-takes : goal.returns-then-is_last-clause-takes
-returns-then-is_last-clause-takes g c = HostTakes-none g.D.System.executes
+pub returns-then-is_saturated-clause-takes : goal.returns-then-is_saturated-clause-takes
+returns-then-is_saturated-clause-takes g c = HostTakes-none g.D.System.executes
     g.met.D.System.executes_none _
 
 pub returns-then-not-synced-clause-takes : goal.returns-then-not-synced-clause-takes
@@ -23,7 +23,7 @@ returns-then-not-synced-clause-takes g c =
           rw (← c.self.view_is, w.self-inside-is) (by_calls g.D.System.executes _ _ _ _ _ _ _
           (fails_to_finish [] [] 0 Begun (none Begun))
           (rw (if_failed-is w.sync.result, made) at w.sync.ensures) stage stage
-          (rises _ _ c.if-is_last.ensures.last risen) refl)
+          (rises _ _ c.if-is_saturated.ensures.last risen) refl)
       | in-None w ↦
           let never : true ≡ false = rw (stage, w.in-None.is) at c.self.invariant in
           absurd (false≢true (sym never))

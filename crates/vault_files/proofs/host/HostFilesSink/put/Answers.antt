@@ -9,8 +9,8 @@ use Rattle.vault_files.proofs.host.HostFilesSink.put.Goals.{in-Some, in-None}
 use Rattle.vault_files.proofs.host.HostFilesSink.put.Goals.{in_default-via-in-Ok+else-n-gt0}
 use Rattle.vault_files.proofs.host.HostFilesSink.put.Goals.{in_default-via-in_default}
 
-pub returns-then-is_last-clause-takes : goal.returns-then-is_last-clause-takes
-returns-then-is_last-clause-takes g c = HostTakes-none g.D.System.executes
+pub returns-then-is_saturated-clause-takes : goal.returns-then-is_saturated-clause-takes
+returns-then-is_saturated-clause-takes g c = HostTakes-none g.D.System.executes
     g.met.D.System.executes_none _
 
 pub returns-in-Ok-clause-takes : goal.returns-in-Ok-clause-takes
@@ -33,7 +33,7 @@ returns-in_default-clause-takes g c =
       | in-Some w ↦
           let call = w.write-written.ensures.executes in
           let risen =
-          rises _ _ c.if-is_last.ensures.last (rw w.self-inside-is at c.raise.ensures.risen) in
+          rises _ _ c.if-is_saturated.ensures.last (rw w.self-inside-is at c.raise.ensures.risen) in
           rw (← c.self.view_is, w.self-inside-is) (elim c.in_default.branch [
             | in_default-via-in-Ok+else-n-gt0 v ↦
                 let nothing : v.in-Ok.n ≡ 0 = omega (arith, v.if-n-gt0.false) in

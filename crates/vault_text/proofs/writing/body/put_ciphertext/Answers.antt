@@ -1,7 +1,8 @@
 use Rattle.std.proofs.Common.{◌+◌, arith, rules, refl}
 use Rattle.std.proofs.lemmas.Grind.{common_steps}
 use Rattle.std.proofs.lemmas.List.{take_rest}
-use Rattle.vault_text.proofs.WrittenLemmas.{ciphertext_lines-nil, ciphertext_lines-next, ciphertext_lines-rest}
+use Rattle.vault_text.proofs.WrittenLemmas.{ciphertext_lines-nil, ciphertext_lines-next}
+use Rattle.vault_text.proofs.WrittenLemmas.{ciphertext_lines-rest}
 use Rattle.vault_text.proofs.SinkLemmas.{prefix_first, prefix_second, takes_both, takes_second}
 use Rattle.vault_text.proofs.writing.body.put_ciphertext.Goals as goal
 
@@ -17,7 +18,8 @@ loop-done-init g c = (
 pub loop-done-preserved : goal.loop-done-preserved
 loop-done-preserved g c =
     let l = c.loop-done in
-    let next = ciphertext_lines-next c.args.indentation.now c.args.ciphertext.now l.done (l.done + 4060)
+    let next =
+    ciphertext_lines-next c.args.indentation.now c.args.ciphertext.now l.done (l.done + 4060)
     l.invariant.0 (omega arith) (omega arith) in (
       omega arith,
       omega arith,
@@ -30,7 +32,8 @@ loop-done-preserved g c =
 pub returns-in_err-put_batch-clause-prefix : goal.returns-in_err-put_batch-clause-prefix
 returns-in_err-put_batch-clause-prefix g c =
     let l = c.loop-done in
-    let next = ciphertext_lines-next c.args.indentation.now c.args.ciphertext.now l.done (l.done + 4060)
+    let next =
+    ciphertext_lines-next c.args.indentation.now c.args.ciphertext.now l.done (l.done + 4060)
     l.invariant.0 (omega arith) (omega arith) in
     let rest = ciphertext_lines-rest c.args.indentation.now c.args.ciphertext.now (l.done + 4060)
     (omega arith) (omega arith) in
@@ -41,7 +44,8 @@ returns-in_err-put_batch-clause-prefix g c =
 pub returns : goal.returns
 returns g c =
     let l = c.loop-done in
-    let whole = ciphertext_lines-rest c.args.indentation.now c.args.ciphertext.now l.done l.invariant.0
+    let whole =
+    ciphertext_lines-rest c.args.indentation.now c.args.ciphertext.now l.done l.invariant.0
     (omega arith) in
     let both = takes_second g.K.Sink.takes g.met.K.Sink.takes_more _ _ _ c.put_batch-2.result _ _ _
     whole l.invariant.2 (rw take_rest at c.put_batch-2.ensures.takes)

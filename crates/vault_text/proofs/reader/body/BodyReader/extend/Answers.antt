@@ -8,7 +8,7 @@ use Rattle.vault_text.proofs.reader.body.BodyReader.extend.Goals as goal
 pub loop-rest-preserved : goal.loop-rest-preserved
 loop-rest-preserved c limit =
     TakesUpTo-more (BodyHas limit) _ _ _ _ _ _ (c.loop-rest.invariant limit)
-    (c.extend_run-rest.ensures.taken limit)
+    (c.extend_chunk-rest.ensures.taken limit)
 
 pub returns : goal.returns
 returns c limit =

@@ -1,6 +1,6 @@
 use Rattle.std.proofs.lemmas.List.{take_rest}
 use Rattle.vault_text.proofs.HeaderLemmas.{without_line_ends-run}
-use Rattle.vault_text.proofs.reader.body.BodyReader.extend_run.Goals as goal
+use Rattle.vault_text.proofs.reader.body.BodyReader.extend_chunk.Goals as goal
 
 pub returns-clause-taken : goal.returns-clause-taken
 returns-clause-taken c limit =

@@ -1,7 +1,7 @@
 use Rattle.std.proofs.Common.{◌≡◌, drop, length, map}
 use Rattle.vault_cli.specs.runs.Task.{secrets_of}
 use Rattle.vault_cli.proofs.TaskLemmas.{with_prefix}
-use Rattle.vault_cli.proofs.runs.passwords.secrets_of.Given as goal
+use Rattle.vault_cli.proofs.runs.secret_list.secrets_of.Given as goal
 
 abbrev pub invariant-loop-i : goal.invariant-loop-i
 invariant-loop-i l =

@@ -1,6 +1,6 @@
 use Rattle.std.proofs.Common.{sym}
 use Rattle.vault_text.proofs.LabelLemmas.{no_text_is_no_label}
-use Rattle.vault_text.proofs.label.Label.named_by_bytes.Goals as goal
+use Rattle.vault_text.proofs.label.Label.from_bytes_or_default.Goals as goal
 
 pub returns-in-Err-clause-allowed : goal.returns-in-Err-clause-allowed
 returns-in-Err-clause-allowed c =

@@ -6,7 +6,7 @@ use Rattle.vault_core.specs.Secrets.{Secret}
 use Rattle.vault_cli.specs.runs.Task.{secrets_of}
 use Rattle.vault_cli.proofs.TaskLemmas.{content_at, label_at, no_file, secrets_of-added}
 use Rattle.vault_cli.proofs.TaskLemmas.{secrets_of-refused, within_all}
-use Rattle.vault_cli.proofs.runs.passwords.secrets_of.Goals as goal
+use Rattle.vault_cli.proofs.runs.secret_list.secrets_of.Goals as goal
 
 pub returns-in_err-password : goal.returns-in_err-password
 returns-in_err-password c =
