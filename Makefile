@@ -24,7 +24,7 @@ INSTALLED := bin/ansible-vault $(MANUALS:man/%=$(PAGES)/%) $(BASH_FOLDER)/ansibl
 	$(DOCUMENTS)/README.md $(DOCUMENTS)/coming-from-ansible.md $(DOCUMENTS)/workflows.md \
 	$(COMPANIONS:%=$(LIBRARY)/ansible-vault-%) \
 	$(patsubst companions/%,$(LIBRARY)/%,$(wildcard companions/ansible_vault_companions/*.py))
-# Each with what it leads to, behind the colon.
+# Each with what it leads to, after the colon.
 LINKS := $(foreach name,$(COMPANIONS),\
 	bin/ansible-vault-$(name):../$(LIBRARY)/ansible-vault-$(name) \
 	$(BASH_FOLDER)/ansible-vault-$(name):ansible-vault \
@@ -91,7 +91,7 @@ test-outcomes: all
 	$(PYTEST) --quiet --numprocesses=$(PYTEST_PROCESSES)
 
 test-fuzz: all
-	tests/fuzz bin/ansible-vault --seed 1 --runs 6000 --seconds 120 --least 200
+	tests/fuzz bin/ansible-vault --seed 1 --runs 6000 --seconds 120 --minimum 200
 
 test-with_valgrind test-faults test-failed_allocations: test-%: all
 	tests/$* bin/ansible-vault
@@ -102,11 +102,11 @@ test-failed_allocations_in_memory: bin/vault_allocation_failures
 test-lint:
 	tools/lint
 
-# Random requests, until told to stop.
+# Random requests, until interrupted.
 fuzz: all
 	tests/fuzz bin/ansible-vault
 
-# Every call of the system refused in turn, and the other disturbances of a run.
+# Makes every system call fail in turn, and injects the other faults.
 faults: all
 	tests/faults bin/ansible-vault --share 1
 
@@ -150,7 +150,7 @@ package: all
 	cd bin/package/source && dpkg-buildpackage --build=binary --no-pre-clean --no-sign
 	@mv bin/package/*.deb bin/ && rm -r bin/package
 
-# Every script, the manual pages, the length of lines, and names that nothing uses.
+# The scripts in Python, sh and bash, the manual pages, the length of lines, and names that nothing uses.
 lint:
 	tools/lint
 

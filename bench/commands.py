@@ -1,12 +1,13 @@
 #!/usr/bin/env -S python3 -B
-"""Times the commands of the built program beside Ansible's own tool, the two taking turns.
+"""Times the commands of the built program and those of Ansible's own tool, in alternation.
 
-Usage: commands.py PROGRAM [--runs N] [--time clock|processor] [--chart FILE.svg]. Of the runs of a tool, five
-or more, the median counts, and beside it stand the least and the most. A ratio is that of the medians, and
-beside it stand those of single turns. It is of processor time, on which other work on the machine tells
-least; of the clock it stands only where clock and processor agree. The vaults are made by the tests' own
-Python; Ansible's tool is found as `tests/lib/ansible.py` says. The last lines are the table of README.md.
-The chart shows time and memory of `view` against the size of the vault.
+Usage: commands.py PROGRAM [--runs N] [--time clock|processor] [--only START] [--chart FILE.svg]
+
+Of five or more runs of a tool the median is shown, with the minimum and the maximum in parentheses. A ratio is that of
+the medians, with the extremes of single turns in parentheses. It is of processor time, which other work on the machine
+affects least; a ratio of wall-clock times is printed only if both times agree. The vaults are made by the tests' own
+Python; Ansible's tool is found as `tests/lib/ansible.py` says. The last lines are the table of README.md. The chart
+shows time and memory of `view` against the size of the vault.
 """
 
 import argparse
@@ -23,7 +24,7 @@ TESTS = HERE.parent / "tests"
 sys.path.insert(0, str(TESTS))
 
 from lib.ansible import ansible_vault
-from measured import CLOCK, PROCESSOR, Spread, Times, Work, spread, taken_in_turn
+from measured import CLOCK, PROCESSOR, Spread, Times, Task, spread, measure_in_turn
 from model.vaults import seal
 
 SIZES = {"1 KiB": 1 << 10, "64 KiB": 1 << 16, "1 MiB": 1 << 20, "16 MiB": 1 << 24}
@@ -53,7 +54,7 @@ TIMES = {CLOCK: "the clock", PROCESSOR: "processor time"}
 class Row(NamedTuple):
     name: str
     size: int
-    works: dict[str, Work]
+    tasks: dict[str, Task]
 
 
 class Rows:
@@ -66,48 +67,48 @@ class Rows:
         right = self.file("right", RIGHT + b"\n")
         self.new = self.file("new", b"the new one\n")
         self.alone = ["--vault-password-file", right]
-        wrong = [self.file(f"wrong{place}", b"wrong password %d\n" % place) for place in range(15)]
-        ids = [word for place, path in enumerate(wrong) for word in ("--vault-id", f"w{place}@{path}")]
+        wrong = [self.file(f"wrong{index}", b"wrong password %d\n" % index) for index in range(15)]
+        ids = [word for index, path in enumerate(wrong) for word in ("--vault-id", f"w{index}@{path}")]
         self.last = [*ids, "--vault-id", f"right@{right}"]
 
     def file(self, name: str, content: bytes) -> str:
         (self.folder / name).write_bytes(content)
         return str(self.folder / name)
 
-    def both(self, ours: Work, theirs: list[str], **other) -> dict[str, Work]:
+    def both(self, ours: Task, theirs: list[str], **other) -> dict[str, Task]:
         """Theirs has the input and the test of ours where it has none of its own."""
-        works = {OURS: Work([self.program, *ours.command], ours.stdin, ours.accepts)}
+        tasks = {OURS: Task([self.program, *ours.command], ours.stdin, ours.accepts)}
         if self.ansible is not None:
             stdin = other.pop("stdin", ours.stdin)
-            works[THEIRS] = Work([self.ansible, *theirs], stdin, other.pop("accepts", ours.accepts), **other)
-        return works
+            tasks[THEIRS] = Task([self.ansible, *theirs], stdin, other.pop("accepts", ours.accepts), **other)
+        return tasks
 
     def view(self, name: str, size: int, options: list[str]) -> Row:
         text = plaintext(size)
-        work = Work(["view", *options], seal(RIGHT, text), lambda output: output.rstrip(b"\n") == text.rstrip(b"\n"))
-        return Row(f"view, {name}", size, self.both(work, ["decrypt", "--output", "-", *options]))
+        task = Task(["view", *options], seal(RIGHT, text), lambda output: output.rstrip(b"\n") == text.rstrip(b"\n"))
+        return Row(f"view, {name}", size, self.both(task, ["decrypt", "--output", "-", *options]))
 
     def view_file(self, name: str, size: int) -> Row:
         text = plaintext(size)
         path = self.file(f"vault{size}", seal(RIGHT, text))
-        work = Work(["view", *self.alone, path], b"", lambda output: output.rstrip(b"\n") == text.rstrip(b"\n"))
-        return Row(f"view FILE, {name}", size, self.both(work, ["decrypt", *self.alone, "--output", "-", path]))
+        task = Task(["view", *self.alone, path], b"", lambda output: output.rstrip(b"\n") == text.rstrip(b"\n"))
+        return Row(f"view FILE, {name}", size, self.both(task, ["decrypt", *self.alone, "--output", "-", path]))
 
     def encrypt(self, name: str, size: int) -> Row:
         text = plaintext(size)
         length = len(seal(RIGHT, text))
         # Ansible's tool may end its output with one more line feed.
-        work = Work(["encrypt", *self.alone], text, lambda output: 0 <= len(output) - length <= 1)
-        return Row(f"encrypt, {name}", size, self.both(work, ["encrypt", "--output", "-", *self.alone]))
+        task = Task(["encrypt", *self.alone], text, lambda output: 0 <= len(output) - length <= 1)
+        return Row(f"encrypt, {name}", size, self.both(task, ["encrypt", "--output", "-", *self.alone]))
 
     def rekey(self, name: str, size: int) -> Row:
         """Ansible's tool rekeys in place, so it gets a new file before each run."""
         vault = seal(RIGHT, plaintext(size))
         options = [*self.alone, "--new-vault-password-file", self.new]
         path = self.file(f"rekeyed{size}", vault)
-        work = Work(["rekey", *options], vault, lambda output: len(output) == len(vault))
+        task = Task(["rekey", *options], vault, lambda output: len(output) == len(vault))
         prepare = lambda: Path(path).write_bytes(vault)
-        theirs = self.both(work, ["rekey", *options, path], stdin=b"", accepts=lambda _: True, prepare=prepare)
+        theirs = self.both(task, ["rekey", *options, path], stdin=b"", accepts=lambda _: True, prepare=prepare)
         return Row(f"rekey, {name}", size, theirs)
 
     def every(self) -> list[Row]:
@@ -129,8 +130,8 @@ def ratio_of(times: dict[str, Times], kind: str) -> Spread:
     return turns._replace(median=spread(theirs).median / spread(ours).median)
 
 
-def is_told(times: dict[str, Times], kind: str) -> bool:
-    """Whether there is a ratio, and it says something."""
+def has_ratio(times: dict[str, Times], kind: str) -> bool:
+    """Whether there is a ratio, and it is meaningful."""
     return THEIRS in times and (kind == PROCESSOR or all(took.is_steady for took in times.values()))
 
 
@@ -141,7 +142,7 @@ def line_of(name: str, times: dict[str, Times], kind: str) -> str:
             took = times[tool]
             line += f" {spread(took.clock)!s:>24} {spread(took.processor)!s:>24} {took.memory:7.1f}"
     if THEIRS in times:
-        line += f" {ratio_of(times, kind)!s:>20}" if is_told(times, kind) else "   none: clock and processor differ"
+        line += f" {ratio_of(times, kind)!s:>20}" if has_ratio(times, kind) else "   none: clock and processor differ"
         line += f"  (goal: {GOALS[name]})" if name in GOALS else ""
     return line
 
@@ -157,7 +158,7 @@ def print_table(measured: dict[str, dict[str, Times]], runs: int, kind: str) -> 
     print(f"\nTimes of {TIMES[kind]}: the median of {runs} runs, and in parentheses the least and the most.\n")
     print("| | this tool | Ansible's tool | times faster |\n|---|---|---|---|")
     for name, title in README.items():
-        if is_told(measured.get(name, {}), kind):
+        if has_ratio(measured.get(name, {}), kind):
             ours, theirs = (spread(measured[name][tool].of(kind)) for tool in (OURS, THEIRS))
             print(f"| {title} | {ours.shown(' ms')} | {theirs.shown(' ms')} | {ratio_of(measured[name], kind)} |")
 
@@ -171,7 +172,7 @@ def draw(points: list[dict], path: str) -> None:
 def chart_points(rows: Rows, runs: int, kind: str, measured: dict[str, dict[str, Times]]) -> list[dict]:
     taken = {size: measured[f"view, {name}"] for name, size in SIZES.items() if f"view, {name}" in measured}
     for name, size in CHART_SIZES.items():
-        taken[size] = taken_in_turn(rows.view(name, size, rows.alone).works, runs)
+        taken[size] = measure_in_turn(rows.view(name, size, rows.alone).tasks, runs)
     return [
         {"size": size, "tool": tool, "milliseconds": spread(took.of(kind)).median, "memory": took.memory}
         for size, times in sorted(taken.items())
@@ -186,28 +187,28 @@ def parsed_arguments() -> argparse.Namespace:
     parser.add_argument("--time", choices=list(TIMES), default=PROCESSOR, help="what ratios, table and chart are of")
     parser.add_argument("--only", default="", help="rows whose names begin so")
     parser.add_argument("--chart")
-    given = parser.parse_args()
-    if given.runs < RUNS:
+    args = parser.parse_args()
+    if args.runs < RUNS:
         parser.error(f"at least {RUNS} runs")
-    return given
+    return args
 
 
 def main() -> None:
-    given = parsed_arguments()
+    args = parsed_arguments()
     ansible = ansible_vault()
     if ansible is None:
         print("Ansible's own tool (Debian's package ansible-core) is not installed: no ratios")
     measured: dict[str, dict[str, Times]] = {}
     with tempfile.TemporaryDirectory() as folder:
-        rows = Rows(os.path.abspath(given.program), ansible, Path(folder))
-        print(heading(ansible is not None, given.time))
+        rows = Rows(os.path.abspath(args.program), ansible, Path(folder))
+        print(heading(ansible is not None, args.time))
         for row in rows.every():
-            if row.name.startswith(given.only):
-                measured[row.name] = taken_in_turn(row.works, given.runs)
-                print(line_of(row.name, measured[row.name], given.time), flush=True)
-        if given.chart:
-            draw(chart_points(rows, given.runs, given.time, measured), given.chart)
-    print_table(measured, given.runs, given.time)
+            if row.name.startswith(args.only):
+                measured[row.name] = measure_in_turn(row.tasks, args.runs)
+                print(line_of(row.name, measured[row.name], args.time), flush=True)
+        if args.chart:
+            draw(chart_points(rows, args.runs, args.time, measured), args.chart)
+    print_table(measured, args.runs, args.time)
 
 
 if __name__ == "__main__":

@@ -61,14 +61,14 @@ def milliseconds(work):
 
 def main():
     build()
-    works = {
+    tasks = {
         "derivation": lambda: program("derive"),
         "compressions": lambda: program("compressions"),
         "openssl": repeated_openssl,
     }
-    best = dict.fromkeys(works, float("inf"))
+    best = dict.fromkeys(tasks, float("inf"))
     for _ in range(RUNS):
-        for name, work in works.items():
+        for name, work in tasks.items():
             best[name] = min(best[name], milliseconds(work))
     derivation = best["derivation"]
     to_compressions = derivation / best["compressions"]

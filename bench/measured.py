@@ -13,13 +13,13 @@ from typing import Callable, NamedTuple
 
 CLOCK, PROCESSOR = "clock", "processor"
 # Times of the clock and of the processor that differ by more than this part show that the machine was busy.
-DIFFERENCE = 0.5
+TOLERANCE = 0.5
 # How often the memory of a running program is looked at, in seconds.
-LOOKS = 0.0005
+SAMPLING_INTERVAL = 0.0005
 
 
 @dataclass
-class Work:
+class Task:
     """A command, its standard input, and what its standard output must satisfy; `prepare` runs before
     each run and is not timed."""
 
@@ -33,14 +33,14 @@ class Spread(NamedTuple):
     """The median of several figures, the least and the most."""
 
     median: float
-    least: float
-    most: float
+    minimum: float
+    maximum: float
 
     def __str__(self) -> str:
         return self.shown("")
 
     def shown(self, unit: str) -> str:
-        return f"{figure(self.median)}{unit} ({figure(self.least)} to {figure(self.most)})"
+        return f"{figure(self.median)}{unit} ({figure(self.minimum)} to {figure(self.maximum)})"
 
 
 def figure(value: float) -> str:
@@ -66,62 +66,62 @@ class Times:
     @property
     def is_steady(self) -> bool:
         """Whether both times say the same; only then a ratio of the clock says anything."""
-        return median(self.clock) <= (1 + DIFFERENCE) * median(self.processor)
+        return median(self.clock) <= (1 + TOLERANCE) * median(self.processor)
 
 
 def peak_memory(process: int, seen: list[float]) -> None:
-    """Notes the most resident memory in MiB for as long as the process runs: what the system tells
-    behind its end would hold this program's own memory."""
+    """Notes the peak resident memory in MiB while the process runs: the figure that the system reports after its
+    end includes this program's own memory."""
     try:
         while True:
             status = Path(f"/proc/{process}/status").read_text()
             [line] = [line for line in status.splitlines() if line.startswith("VmHWM:")]
             seen.append(int(line.split()[1]) / 1024)
-            time.sleep(LOOKS)
+            time.sleep(SAMPLING_INTERVAL)
     except (OSError, ValueError):
         pass
 
 
-def run_once(work: Work, times: Times) -> None:
-    work.prepare()
+def run_once(task: Task, times: Times) -> None:
+    task.prepare()
     with tempfile.TemporaryFile() as stdin, tempfile.TemporaryFile() as stdout:
-        stdin.write(work.stdin)
+        stdin.write(task.stdin)
         stdin.seek(0)
         start = time.perf_counter()
-        child = subprocess.Popen(work.command, stdin=stdin, stdout=stdout, stderr=subprocess.DEVNULL)
+        child = subprocess.Popen(task.command, stdin=stdin, stdout=stdout, stderr=subprocess.DEVNULL)
         _, status, used = os.wait4(child.pid, 0)
         clock = time.perf_counter() - start
         child.returncode = os.waitstatus_to_exitcode(status)
         stdout.seek(0)
-        if child.returncode != 0 or not work.accepts(stdout.read()):
-            sys.exit(f"{' '.join(work.command)[:200]}: status {child.returncode}, or another output")
+        if child.returncode != 0 or not task.accepts(stdout.read()):
+            sys.exit(f"{' '.join(task.command)[:200]}: status {child.returncode}, or another output")
     times.clock.append(clock * 1000)
     times.processor.append((used.ru_utime + used.ru_stime) * 1000)
 
 
-def memory_of(work: Work) -> float:
+def memory_of(task: Task) -> float:
     """In a run of its own, since to look takes time."""
-    work.prepare()
+    task.prepare()
     seen: list[float] = [0.0]
     with tempfile.TemporaryFile() as stdin:
-        stdin.write(work.stdin)
+        stdin.write(task.stdin)
         stdin.seek(0)
-        child = subprocess.Popen(work.command, stdin=stdin, stdout=subprocess.PIPE, stderr=subprocess.DEVNULL)
-        looker = threading.Thread(target=peak_memory, args=(child.pid, seen))
-        looker.start()
+        child = subprocess.Popen(task.command, stdin=stdin, stdout=subprocess.PIPE, stderr=subprocess.DEVNULL)
+        sampler = threading.Thread(target=peak_memory, args=(child.pid, seen))
+        sampler.start()
         child.stdout.read()
         child.stdout.close()
-        looker.join()
+        sampler.join()
         child.wait()
     return max(seen)
 
 
-def taken_in_turn(works: dict[str, Work], runs: int) -> dict[str, Times]:
-    """Each of the works once, then each of them again."""
-    times = {name: Times() for name in works}
+def measure_in_turn(tasks: dict[str, Task], runs: int) -> dict[str, Times]:
+    """Runs each task once, then each again, and so on; what each run took, by task."""
+    times = {name: Times() for name in tasks}
     for _ in range(runs):
-        for name, work in works.items():
-            run_once(work, times[name])
-    for name, work in works.items():
-        times[name].memory = max(memory_of(work) for _ in range(2))
+        for name, task in tasks.items():
+            run_once(task, times[name])
+    for name, task in tasks.items():
+        times[name].memory = max(memory_of(task) for _ in range(2))
     return times

@@ -51,8 +51,8 @@ class Part(NamedTuple):
 
     def milliseconds(self) -> float:
         """What one time takes, without the program's start."""
-        often, never = (run([*self.words, str(times)], self.stdin).whole for times in (self.repeats, 0))
-        return (often - never) / self.repeats
+        total, startup = (run([*self.words, str(times)], self.stdin).whole for times in (self.repeats, 0))
+        return (total - startup) / self.repeats
 
 
 def run(command: list[str], stdin: str) -> Used:
@@ -79,7 +79,7 @@ def times_for(size: int) -> int:
 
 
 def tag_compressions(size: int) -> int:
-    """Of the message behind the key's block, with its end, and then of the digest behind the key's block."""
+    """The compressions of HMAC: the inner key block, the padded message, and two for the outer hash."""
     return 1 + (size + 9 + BLOCK - 1) // BLOCK + 2
 
 
@@ -127,7 +127,7 @@ class Parts:
                 used = run(words, stdin)
                 taken.setdefault(name, []).append(used.whole)
                 kernel.setdefault(name, []).append(used.kernel)
-        # The system tells the kernel's time by its ticks: only the mean of several runs says something.
+        # The kernel's time is counted in clock ticks: only the mean of several runs is meaningful.
         shares = {name: mean(times) / mean(taken[name]) for name, times in kernel.items()}
         return {name: min(times) for name, times in taken.items()}, shares
 

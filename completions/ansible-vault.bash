@@ -49,15 +49,15 @@ _ansible_vault_is_argument() {
     return 1
 }
 
-# The word before the one that is completed, its option where it is a value. Readline takes `=` and
-# `@` for words of their own, so the pieces in front of them are passed over.
+# The word before the one that is completed: its option, if it is a value. Readline makes `=` and `@`
+# words of their own, so these and the pieces before them are skipped.
 _ansible_vault_before() {
-    local place=$COMP_CWORD
-    while [[ ${COMP_WORDS[place]} == [=@] || ${COMP_WORDS[place - 1]} == [=@] ]]; do
-        place=$((place - 1))
+    local index=$COMP_CWORD
+    while [[ ${COMP_WORDS[index]} == [=@] || ${COMP_WORDS[index - 1]} == [=@] ]]; do
+        index=$((index - 1))
     done
-    [[ $place -lt $COMP_CWORD && ${COMP_WORDS[place]} == -* ]] || place=$((place - 1))
-    echo "${COMP_WORDS[place]}"
+    [[ $index -lt $COMP_CWORD && ${COMP_WORDS[index]} == -* ]] || index=$((index - 1))
+    echo "${COMP_WORDS[index]}"
 }
 
 # Whether the word follows the `=` of an option, where the shell expands no `~`.
@@ -82,7 +82,7 @@ _ansible_vault_files() {
     compopt -o filenames 2>/dev/null
 }
 
-# Such files behind a label, whose `@` readline keeps in the word.
+# Such files after a label, whose `@` readline keeps in the word.
 _ansible_vault_labelled_files() {
     local path
     while IFS= read -r path; do
@@ -143,7 +143,7 @@ _ansible_vault() {
     return 0
 }
 
-# The options of ansible-vault-with, before a command or behind it.
+# The options of ansible-vault-with, before a command or after it.
 _ansible_vault_with_options() {
     case $1 in
     create | edit) _ansible_vault_companion_options ansible-vault-edit ;;

@@ -1,6 +1,6 @@
 # Completion of ansible-vault's commands, options and files for fish, and of its companions.
 
-# The files whose path begins so, behind a label where there is one. `~` is offered only where the word begins with
+# The files whose path begins so, after a label where there is one. `~` is offered only where the word begins with
 # it: nowhere else is it expanded.
 function __ansible_vault_paths -a label start
     set -l home
@@ -28,7 +28,7 @@ function __ansible_vault_files
     __ansible_vault_paths '' (__ansible_vault_value)
 end
 
-# The files behind the label of a vault id.
+# The files after the label of a vault id.
 function __ansible_vault_ids
     set -l value (__ansible_vault_value)
     set -l label (string match -r '^[^@]*@' -- $value)
@@ -105,7 +105,7 @@ complete -c ansible-vault-rotate -l new-vault-password-file -x -a '(__ansible_va
     -d 'The password file of a new secret for the label default'
 complete -c ansible-vault-rotate -l dry-run -d 'Write nothing, and report what would be done'
 complete -c ansible-vault-rotate -l jobs -x -d 'How many files at once'
-complete -c ansible-vault-check -l label -x -d 'Open only what has this label, and just count the rest'
+complete -c ansible-vault-check -l label -x -d 'Decrypt only what has this label, and just count the rest'
 complete -c ansible-vault-hook -l all -d 'Look at every file of the commit that is checked out'
 complete -c ansible-vault-hook -l since -x -d 'Look at each commit since this one, which is left out'
 complete -c ansible-vault-hook -l install -d 'Install the hooks of this clone'

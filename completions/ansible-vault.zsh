@@ -1,7 +1,7 @@
 #compdef ansible-vault ansible-vault-with ansible-vault-edit ansible-vault-rotate ansible-vault-check ansible-vault-textconv ansible-vault-hook ansible-vault-merge
 # Completion of ansible-vault's commands, options and files for zsh, and of its companions.
 
-# A file. A `~` that the shell would leave as it is, behind `=` or a label, is expanded here.
+# A file. A `~` that the shell would leave as it is, after `=` or a label, is expanded here.
 _ansible_vault_files() {
     if [[ -n $IPREFIX && $PREFIX == \~* ]]; then
         [[ $PREFIX == \~(|/*) ]] || return 1
@@ -10,7 +10,7 @@ _ansible_vault_files() {
     _files
 }
 
-# A file, behind a label and `@` where there is one.
+# A file, after a label and `@` where there is one.
 _ansible_vault_id() {
     compset -P '*@'
     _ansible_vault_files
@@ -35,8 +35,8 @@ _ansible_vault_commands() {
 _ansible_vault_arguments() {
     local -a help=('(- *)'{-h,--help}'[print help]')
     # Of a companion.
-    local -a about=($help '(- *)'{-V,--version}'[print version]')
-    local -a labels=('*--label=[open only what has this label, and just count the rest]:label: ')
+    local -a common=($help '(- *)'{-V,--version}'[print version]')
+    local -a labels=('*--label=[decrypt only what has this label, and just count the rest]:label: ')
     local -a commits=(
         '(--since --install)--all[look at every file of the commit that is checked out]'
         '(--all --install)--since=[look at each commit since this one, which is left out]:commit: '
@@ -47,19 +47,19 @@ _ansible_vault_arguments() {
         '*--vault-password-file=[a password file for the label default]:file:_ansible_vault_files'
     )
     # Those that a companion takes.
-    local -a sources=(
+    local -a all_secrets=(
         $secrets
         '*--vault-pass-file=[a password file for the label default]:file:_ansible_vault_files'
         '*'{-J,--ask-vault-password,--ask-vault-pass}'[ask for a password of the label default]'
     )
-    [[ $service == ansible-vault-with ]] && secrets=($sources)
-    local -a choice=('--encrypt-vault-id=[the label of the secret to encrypt with]:label: ')
-    local -a binding=('--require-id-match[try only the secrets with the label of the encrypted file]')
+    [[ $service == ansible-vault-with ]] && secrets=($all_secrets)
+    local -a encrypt_id=('--encrypt-vault-id=[the label of the secret to encrypt with]:label: ')
+    local -a label_match=('--require-id-match[try only the secrets with the label of the encrypted file]')
     local -a salt=(
         '(--salt)--salt-file=[the file whose first 32 bytes are the salt]:file:_ansible_vault_files'
         '(--salt-file)--salt=[the salt itself, used once]:text: '
     )
-    local -a renewal=(
+    local -a rekey_options=(
         '(--new-vault-password-file)--new-vault-id=[the new password file, with its label]:[label@]file:_ansible_vault_id'
         '(--new-vault-id)--new-vault-password-file=[a new password file for the label default]:file:_ansible_vault_files'
     )
@@ -81,17 +81,17 @@ _ansible_vault_arguments() {
     )
 
     case $1 in
-        encrypt) _arguments -s -S $help $secrets $choice $salt $output $file ;;
-        decrypt) _arguments -s -S $help $secrets $binding $output $file ;;
-        view) _arguments -s -S $help $secrets $binding $file ;;
-        rekey) _arguments -s -S $help $secrets $renewal $binding $salt $output $file ;;
-        encrypt_string) _arguments -s -S $help $secrets $choice $salt $names $output '1:text: ' ;;
-        create|edit) _arguments -s -S $about $sources $choice $file ;;
-        rotate) _arguments -s -S $about $sources $new_secrets $rotation '*:path:_ansible_vault_files' ;;
-        check) _arguments -s -S $about $sources $labels '*:path:_ansible_vault_files' ;;
-        textconv) _arguments -s -S $about $sources $file ;;
-        merge) _arguments -s -S $about $sources '*:file:_ansible_vault_files' ;;
-        hook) _arguments -s -S $about $commits ;;
+        encrypt) _arguments -s -S $help $secrets $encrypt_id $salt $output $file ;;
+        decrypt) _arguments -s -S $help $secrets $label_match $output $file ;;
+        view) _arguments -s -S $help $secrets $label_match $file ;;
+        rekey) _arguments -s -S $help $secrets $rekey_options $label_match $salt $output $file ;;
+        encrypt_string) _arguments -s -S $help $secrets $encrypt_id $salt $names $output '1:text: ' ;;
+        create|edit) _arguments -s -S $common $all_secrets $encrypt_id $file ;;
+        rotate) _arguments -s -S $common $all_secrets $new_secrets $rotation '*:path:_ansible_vault_files' ;;
+        check) _arguments -s -S $common $all_secrets $labels '*:path:_ansible_vault_files' ;;
+        textconv) _arguments -s -S $common $all_secrets $file ;;
+        merge) _arguments -s -S $common $all_secrets '*:file:_ansible_vault_files' ;;
+        hook) _arguments -s -S $common $commits ;;
     esac
 }
 

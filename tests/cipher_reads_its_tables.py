@@ -46,10 +46,10 @@ def test_other_entries(cases: Cases, name: str) -> None:
     words, sealed = sealing(cases), seal(b"right", TEXT, salt=SALT_TEXT)
     copy = Path(cases.file(content, 0o755))
     cases.check(f"{name} stands in the program once", content.count(table), 1)
-    for place in range(0, len(table), len(table) // 32):
+    for offset in range(0, len(table), len(table) // 32):
         changed = bytearray(content)
-        changed[content.find(table) + place] ^= 1
+        changed[content.find(table) + offset] ^= 1
         copy.write_bytes(changed)
         done = subprocess.run([copy, *words], input=TEXT, capture_output=True, timeout=SECONDS)
         found = done.returncode, done.stdout != sealed
-        cases.check(f"{name}: the text under another entry at byte {place}", found, (0, True))
+        cases.check(f"{name}: the text under another entry at byte {offset}", found, (0, True))

@@ -93,7 +93,7 @@ COMPANION_PATHS = [
 
 
 def offered_options(shell: str, words: str, folder: pathlib.Path, alias: str = "") -> list[str]:
-    """The options that a shell offers behind words, by one dash and by two."""
+    """The options that a shell offers after words, by one dash and by two."""
     offered = SHELLS[shell](f"{words} -", folder, alias) | SHELLS[shell](f"{words} --", folder, alias)
     return sorted(offered - set(FILES))
 
@@ -117,7 +117,7 @@ def test_companions(outcome: Outcome, shell: str, folder: pathlib.Path) -> None:
 
 @pytest.mark.parametrize("shell", SHELLS)
 def test_with(outcome: Outcome, shell: str, folder: pathlib.Path) -> None:
-    """Behind a command ansible-vault-with takes the options of the tool's, and its own for secrets."""
+    """After a command ansible-vault-with takes the options of the tool's, and its own for secrets."""
     needs_shell(shell)
     check_options_of_commands(outcome, shell, "ansible-vault-with", folder)
 
@@ -241,6 +241,7 @@ def test_quoted_in_fish(outcome: Outcome, folder: pathlib.Path) -> None:
 def test_typed_in_bash(
     outcome: Outcome, line: str, folder: pathlib.Path, monkeypatch: pytest.MonkeyPatch
 ) -> None:
+    needs_shell("bash")
     monkeypatch.setenv("HOME", str(folder))
     wanted = [word.replace("HOME", str(folder)) for word in TYPED[line]]
     outcome.check(f"bash on a terminal completes `{line}`", typed_in_bash(line, folder), wanted)

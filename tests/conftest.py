@@ -1,8 +1,8 @@
 """What pytest knows of these tests: the program that they run, and how a test ends by its `Outcome`.
 
-A test fails where a check of it does not hold, and goes on behind it; one that checks nothing fails, too. What it
-leaves out, since the machine lacks something, is a skip, and under --require-all a failure. The last line counts
-checks: a test may hold a table of hundreds.
+A test fails if one of its checks fails, but continues after it; one that checks nothing fails, too. What it skips,
+because the machine does not have a tool or a right, is a skip, and with --require-all a failure. The last line
+counts checks: a test may hold a table of hundreds.
 """
 
 import locale
@@ -30,7 +30,7 @@ def pytest_addoption(parser: pytest.Parser) -> None:
     group = parser.getgroup("ansible-vault")
     group.addoption("--program", type=Path, default=PROGRAM, help="the program; by default bin/ansible-vault")
     required = os.environ.get("REQUIRE_ALL") == "1"
-    group.addoption("--require-all", action="store_true", default=required, help="what is left out fails")
+    group.addoption("--require-all", action="store_true", default=required, help="a skipped check is a failure")
     group.addoption("--vaults", type=int, default=200, metavar="N", help="how many are rotated for the time")
 
 
@@ -46,16 +46,16 @@ def pytest_sessionstart(session: pytest.Session) -> None:
 
 
 class Topic(pytest.Module):
-    """The companions' cases of a topic are the functions in its list GROUPS."""
+    """The tests of a module in companion_cases are the functions in its list TESTS."""
 
     def collect(self):
-        groups = getattr(self.obj, "GROUPS", [])
-        listed = {group.__name__ for group in groups}
-        alone = lambda value: isfunction(value) and list(signature(value).parameters) == ["cases"]
-        own = {name for name, value in getmembers(self.obj, alone) if value.__module__ == self.obj.__name__}
+        tests = getattr(self.obj, "TESTS", [])
+        listed = {test.__name__ for test in tests}
+        takes_cases = lambda value: isfunction(value) and list(signature(value).parameters) == ["cases"]
+        own = {name for name, value in getmembers(self.obj, takes_cases) if value.__module__ == self.obj.__name__}
         if own - listed:
-            raise self.CollectError(f"GROUPS lacks {', '.join(sorted(own - listed))}")
-        return [pytest.Function.from_parent(self, name=group.__name__, callobj=group) for group in groups]
+            raise self.CollectError(f"TESTS does not list {', '.join(sorted(own - listed))}")
+        return [pytest.Function.from_parent(self, name=test.__name__, callobj=test) for test in tests]
 
 
 def pytest_pycollect_makemodule(module_path: Path, parent: pytest.Collector) -> pytest.Module | None:
@@ -64,21 +64,21 @@ def pytest_pycollect_makemodule(module_path: Path, parent: pytest.Collector) -> 
 
 def conclude(item: pytest.Function, report: pytest.TestReport, outcome: Outcome) -> None:
     """Ends a test by what it has checked."""
-    failures, omitted = [*outcome.failures], [*outcome.omitted]
+    failures, skipped = [*outcome.failures], [*outcome.skipped]
     if item.config.getoption("--require-all"):
-        failures += [f"{each}: it is left out, and all is required" for each in omitted]
-        omitted = []
-    if not (outcome.passed or failures or omitted or report.failed):
+        failures += [f"{each}: it is skipped, and --require-all is set" for each in skipped]
+        skipped = []
+    if not (outcome.passed or failures or skipped or report.failed):
         failures = ["nothing is checked"]
     if report.failed:
         report.sections.append(("checks that failed before", "\n".join(failures)))
         failures.append("it ends by an exception")
     elif failures:
         report.outcome, report.longrepr = "failed", "\n".join(failures)
-    elif omitted:
-        reason = f"Skipped: {'; '.join(omitted)}"
+    elif skipped:
+        reason = f"Skipped: {'; '.join(skipped)}"
         report.outcome, report.longrepr = "skipped", (str(item.path), item.location[1] or 0, reason)
-    counts = {"passed": outcome.passed, "failed": len(failures), "skipped": len(omitted)}
+    counts = {"passed": outcome.passed, "failed": len(failures), "skipped": len(skipped)}
     item.user_properties.extend(counts.items())
     report.user_properties = [*item.user_properties]
 
@@ -91,7 +91,7 @@ def pytest_runtest_makereport(item: pytest.Function, call: pytest.CallInfo) -> I
         conclude(item, report, outcomes[0])
     elif report.skipped and item.config.getoption("--require-all"):
         report.outcome = "failed"
-        report.longrepr = f"{report.longrepr[2]}: it is left out, and all is required"
+        report.longrepr = f"{report.longrepr[2]}: it is skipped, and --require-all is set"
     if report.failed:
         item.has_failed = True
         if "tmp_path" in item.funcargs:
@@ -99,8 +99,8 @@ def pytest_runtest_makereport(item: pytest.Function, call: pytest.CallInfo) -> I
 
 
 def counted(report: pytest.TestReport | pytest.CollectReport, what: str) -> int:
-    """How many checks of a test ended so; one that counts none is a check itself, and so is a module that cannot be
-    collected."""
+    """How many checks of a test had this result. A test that counts no checks is one check itself, and so is a module
+    that cannot be collected."""
     counts = dict(report.user_properties) if report.when == "call" else {}
     return counts.get(what, int(report.outcome == what))
 
@@ -112,7 +112,7 @@ def pytest_terminal_summary(terminalreporter, config: pytest.Config) -> None:
     ends = [each for each in reports if each.when == "call" or not each.passed]
     for each in ends:
         if each.skipped:
-            terminalreporter.write_line(f"left out: {each.nodeid}: {each.longrepr[2].removeprefix('Skipped: ')}")
+            terminalreporter.write_line(f"skipped: {each.nodeid}: {each.longrepr[2].removeprefix('Skipped: ')}")
     counts = [f"{sum(counted(each, what) for each in ends)} {what}" for what in ("passed", "failed", "skipped")]
     terminalreporter.write_line(f"pytest: {', '.join(counts)}")
 
@@ -124,7 +124,7 @@ def program(request: pytest.FixtureRequest) -> str:
 
 @pytest.fixture
 def tmp_path(request: pytest.FixtureRequest) -> Iterator[Path]:
-    """A folder to which everybody may come, unlike to pytest's own. It stays where the test fails."""
+    """A folder that everybody may enter, unlike pytest's own `tmp_path`. It is kept if the test fails."""
     folder = Path(tempfile.mkdtemp(prefix="ansible-vault-test-"))
     folder.chmod(0o755)
     yield folder
@@ -140,7 +140,7 @@ def outcome() -> Outcome:
 
 @pytest.fixture
 def cases(request: pytest.FixtureRequest, program: str, tmp_path: Path) -> Cases | Companions:
-    """What runs the program; for the cases of the companions, what runs those beside it."""
+    """Runs the program; for the tests in companion_cases, the companions beside it."""
     if request.path.parent == COMPANION_CASES:
         return Companions(program, tmp_path, request.config.getoption("--vaults"))
     return Cases(program, tmp_path)

@@ -13,7 +13,7 @@ from typing import NamedTuple
 from cases import SECONDS, TEXT, Cases, by_file, by_id
 from cases.samples import SALT_TEXT, SALT_WORDS
 from model.faults import Fault
-from model.vaults import ENVELOPE, parts, seal, spelled
+from model.vaults import ENVELOPE, parts, seal, serialized
 
 WORKERS = 2
 COLLECTED = re.compile(r"Collected *: *(\d+)")
@@ -37,7 +37,7 @@ def runs(cases: Cases) -> list[Run]:
     right, wrong, new = (cases.file(each) for each in (b"right\n", b"wrong\n", b"new\n"))
     vault, rekeyed = seal(b"right", TEXT), seal(b"new", TEXT, salt=SALT_TEXT)
     others = lambda count: by_id(wrong, "other") * count
-    unpadded = spelled(*parts(b"right", bytes(16)))
+    unpadded = serialized(*parts(b"right", bytes(16)))
     refused = Fault.NO_SECRET_FITS.status
     to_new = ["--new-vault-password-file", new, *SALT_WORDS]
     chosen = ["--encrypt-vault-id", "dev", *SALT_WORDS]
@@ -77,8 +77,10 @@ def check_derivations(cases: Cases) -> None:
         counted = list(pool.map(lambda run: collected(cases.program, run), every))
     base, one = counted[0][1], counted[1][1] - counted[0][1]
     cases.holds("a derivation takes its rounds", one > LEAST_DERIVATION, f"it takes {one} instructions")
-    for run, (done, count) in zip(every, counted):
+    for run, (done, _) in zip(every, counted):
         cases.check(f"{run.name}: answer", (done.returncode, done.stdout), (run.status, run.output))
+    # The first two runs are the measure of the others.
+    for run, (_, count) in zip(every[2:], counted[2:]):
         found = (count - base) / max(one, 1)
         cases.holds(
             f"{run.name}: derivations", abs(found - run.derivations) < TOLERANCE,

@@ -65,7 +65,7 @@ def code_faults() -> dict[int, tuple[list[str], int]]:
 
 
 def document_faults() -> dict[int, tuple[list[str], int]]:
-    """A number and a status, and the texts in the lines behind them."""
+    """The texts and the status of each number."""
     rows = re.findall(r"^ +(\d+) +(\d) +(\S.*(?:\n {5,}\D.*)*)$", FORMATS, re.MULTILINE)
     return {int(number): (re.split(r"\n +", texts), int(status)) for number, status, texts in rows}
 
@@ -135,7 +135,7 @@ def unspaced(code: str) -> str:
 
 
 def test_examples(outcome: Outcome) -> None:
-    """Each library's example stands in a test, behind the allocator where it needs one."""
+    """Each library's example is also a test, which may first get an allocator."""
     tests = (CRATES / "vault_program_tests" / "src" / "examples.rt").read_text()
     bodies = dict(re.findall(r"^fn of_(\w+)\(.*?\{\n(.*?)^\}", tests, re.MULTILINE | re.DOTALL))
     tested = {

@@ -28,13 +28,13 @@ SAMPLES = {
         "1 passed, 2 failed, 0 skipped",
     ),
     "nothing is checked": ("pass", [], 1, "0 passed, 1 failed, 0 skipped"),
-    "a part is left out": (
-        "outcome.check('a', 1, 1); outcome.left_out('b', 'why')",
+    "a part is skipped": (
+        "outcome.check('a', 1, 1); outcome.skip('b', 'why')",
         [],
         0,
         "1 passed, 0 failed, 1 skipped",
     ),
-    "a part is required": ("outcome.left_out('b', 'why')", ["--require-all"], 1, "0 passed, 1 failed, 0 skipped"),
+    "a part is required": ("outcome.skip('b', 'why')", ["--require-all"], 1, "0 passed, 1 failed, 0 skipped"),
     "a skip": ("import pytest; pytest.skip('why')", [], 0, "0 passed, 0 failed, 1 skipped"),
     "a skip that is required": (
         "import pytest; pytest.skip('why')",

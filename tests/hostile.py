@@ -1,8 +1,8 @@
 """Runs the built program under limits and on devices that fail midway.
 
-Under each limit of address space a run ends with its whole output, or with `out of memory` and none,
-and 20 MiB are enough for each. What a run has resident goes with its text, whether that comes from a
-file or through a pipe. Where writing fails behind some bytes, the output is a prefix.
+Under each limit of address space a run ends with its whole output, or with `out of memory` and none; 20 MiB
+are enough for each. Its resident memory grows with its input, whether that is a file or a pipe. If a write
+fails after some bytes, the output is a prefix.
 """
 
 import resource
@@ -14,7 +14,7 @@ import pytest
 from cases import SECONDS, TEXT, Cases, answer_of, by_file
 from cases.samples import SALT_WORDS, Sample, samples
 from lib import resident
-from lib.mounts import file_system
+from lib.mounts import tmpfs
 from model.faults import Fault
 from model.vaults import PLAINTEXT_LIMIT, seal
 
@@ -25,15 +25,15 @@ UNREADABLE = "/proc/self/mem"
 FILE_SYSTEM_SIZE = 64 * KIB
 # The address space in which every run ends well.
 ENOUGH = 20 * MIB
-# The most memory that a run over so much plaintext has resident, in MiB.
+# The peak resident memory of a run, in MiB, by the size of its plaintext.
 RESIDENT = {KIB: 3, MIB: 5, PLAINTEXT_LIMIT: 20}
 # Limits of address space that are tried for each run.
 STEPS = 20
 
 
 def run_with(program: str, words: list[str], limit: int, amount: int, **streams) -> subprocess.CompletedProcess:
-    """Runs with a limit of the system; SIGXFSZ stays ignored, as Python has it, so that a write behind a limit
-    of file size fails in the place of ending the program."""
+    """Runs with a resource limit. SIGXFSZ stays ignored, as in Python, so that a write past the limit of file size
+    fails instead of ending the program."""
     def restrict() -> None:
         resource.setrlimit(resource.RLIMIT_CORE, (0, 0))
         resource.setrlimit(limit, (amount, amount))
@@ -49,7 +49,7 @@ def in_memory(program: str, sample: Sample, amount: int) -> subprocess.Completed
 
 
 def least_memory(program: str) -> int:
-    """The address space, in whole pages, in which the version is just told."""
+    """The least address space, in whole pages, in which `--version` succeeds."""
     version = Sample(["--version"], b"", b"")
     fits = lambda pages: in_memory(program, version, pages * resource.getpagesize()).returncode == 0
     low, high = 1, 1 << 16
@@ -137,9 +137,9 @@ def check_written(cases: Cases, name: str, done, wanted, path: Path, content: by
 def test_full_file_system(cases: Cases) -> None:
     """A small file system in memory, where the tests may mount one."""
     folder = Path(cases.path())
-    with file_system(folder, FILE_SYSTEM_SIZE) as is_mounted:
+    with tmpfs(folder, FILE_SYSTEM_SIZE) as is_mounted:
         if not is_mounted:
-            return cases.left_out("a full file system", "none can be mounted here")
+            return cases.skip("a full file system", "none can be mounted here")
         for sample in samples(cases, TEXT * FILE_SYSTEM_SIZE):
             fill_file_system(cases, sample, folder / sample.command)
 
@@ -190,5 +190,5 @@ def test_long_words(cases: Cases) -> None:
     cases.refuses("a long path", by_file(longest), vault, Fault.SECRET_NOT_OPENED)
     cases.refuses("a long label", ["--vault-id", f"{longest[:-2]}@x"], vault, Fault.BAD_LABEL)
     cases.refuses("many paths", by_file("x" * 100) * 5_000, vault, Fault.TOO_MANY_SECRETS)
-    cases.no_command_line("a long command", [longest], b"")
-    cases.no_command_line("a long option", ["view", f"--{longest[:-2]}"], b"")
+    cases.usage_error("a long command", [longest], b"unrecognized subcommand")
+    cases.usage_error("a long option", ["view", f"--{longest[:-2]}"], b"unexpected argument")

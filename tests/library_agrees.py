@@ -52,7 +52,7 @@ def test_crate_lines(outcome: Outcome) -> None:
 
 
 def test_picture(outcome: Outcome) -> None:
-    """The picture and the table of the libraries have those of crates.txt, in front of the tests."""
+    """The picture and the table of the libraries list those that crates.txt has before its tests."""
     libraries, _, _ = (ROOT / "crates.txt").read_text().partition("\n# tests")
     crates = sorted(name for name, _ in CRATE_LINE.findall(libraries))
     picture = re.findall(r'class="name"[^>]*>(\w+)<', (ROOT / "docs" / "crates.svg").read_text())

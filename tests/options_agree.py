@@ -1,6 +1,6 @@
 """Compares the table of options in the code with the definitions, the manual page, the completions of each
-shell, the model, the stored texts and the program's own help, and says what each of them lacks; and the
-options of each companion in its page and its help. `mandoc` and `groff` look the pages over.
+shell, the model, the stored texts and the program's own help, and says what is missing in each of them; and the
+options of each companion in its page and its help. `mandoc` and `groff` check the pages.
 """
 
 import re
@@ -19,7 +19,7 @@ from model.options import COMMON, FLAGS, OPTIONS
 from shells import SHELLS, needs_shell
 
 # What the help of an option has to say, wherever the option stands.
-SAID = {
+REQUIRED = {
     "--vault-password-file": "default",
     "--salt-file": "/dev/urandom by default",
     "--salt": "used twice",
@@ -30,14 +30,14 @@ SAID = {
 SPECS = ["vault_command_line/specs/CommandLine.antt", "vault_request/specs/Options.antt"]
 CODE = ["vault_command_line", "vault_request"]
 
-# Who looks the page over, and shows it.
-LOOKS = {
+# The tools that check a page and render it.
+CHECKERS = {
     "mandoc": ["mandoc", "-W", "all", "-T", "utf8"],
     "groff": ["groff", "-ww", "-mdoc", "-T", "utf8", "-P", "-c"],
 }
 COLUMNS = 80
-# Remarks that say nothing against a page. The pages to which it refers are not installed where the tests run, and its
-# foot names the program in the place of the system.
+# Warnings that are expected. The pages that a page refers to are not installed where the tests run, and its footer
+# names the program instead of the operating system.
 EXPECTED = (
     "referenced manual not found",
     "outdated mandoc.db",
@@ -53,7 +53,7 @@ FURTHER = ["CAVEATS", "SECURITY CONSIDERATIONS"]
 
 
 def completed(name: str, command: str | None) -> set[str]:
-    """The options that a shell offers, behind one dash and behind two."""
+    """The options that a shell offers, after one dash and after two."""
     start = f"ansible-vault {command} " if command else "ansible-vault "
     return SHELLS[name](start + "-", ROOT) | SHELLS[name](start + "--", ROOT)
 
@@ -119,7 +119,7 @@ VALUES = {
 
 @pytest.mark.parametrize("shell", SHELLS)
 def test_completed_values(outcome: Outcome, shell: str, tmp_path: Path) -> None:
-    """Behind an option a shell offers files where its value is a path, and none elsewhere."""
+    """After an option a shell offers files where its value is a path, and none elsewhere."""
     needs_shell(shell)
     (tmp_path / "one.pass").touch()
     for entry in table_options():
@@ -139,7 +139,7 @@ def test_help(outcome: Outcome, program: str) -> None:
         found = help_options(text)
         what = f"the help of {command or 'the program'} has the page's options"
         outcome.check(what, sorted(found), sorted(sets[command]))
-        silent = [option for option in SAID.keys() & found if SAID[option] not in help_of(text, option)]
+        silent = [option for option in REQUIRED.keys() & found if REQUIRED[option] not in help_of(text, option)]
         outcome.check("and says of them what it has to", silent, [])
         for entry in table_options():
             if entry.option in found:
@@ -171,15 +171,15 @@ def test_companion(outcome: Outcome, name: str) -> None:
     page = companion_page(name)
     titles = [title for title in page if title not in FURTHER]
     outcome.check("its page has the sections of every companion's", titles, SECTIONS)
-    described, told = spellings(page["OPTIONS"]), companion_options(name)
+    described, in_help = spellings(page["OPTIONS"]), companion_options(name)
     in_order = lambda options: sorted(map(sorted, options))
-    outcome.check("its page describes the options of its help", in_order(described), in_order(told))
+    outcome.check("its page describes the options of its help", in_order(described), in_order(in_help))
     named = options_in(page["SYNOPSIS"])
     outcome.check("the synopsis names each option", [each for each in described if not each & named], [])
     outcome.check("and no other", sorted(named - set(flat(described))), [])
     statuses = {int(status) for status in re.findall(r"^\.It (\d)$", page["EXIT STATUS"], re.MULTILINE)}
     outcome.check("its page has the exit statuses of its help", statuses, companion_statuses(name))
-    takes_secrets = "--vault-id" in flat(told)
+    takes_secrets = "--vault-id" in flat(in_help)
     settings = {"ANSIBLE_VAULT_IDENTITY_LIST", "ANSIBLE_VAULT_PASSWORD_FILE", "ANSIBLE_CONFIG"}
     variables = set(re.findall(r"\bEv (\w+)", page["ENVIRONMENT"]))
     outcome.check("its page names the settings", settings & variables, settings if takes_secrets else set())
@@ -207,17 +207,17 @@ def test_references(outcome: Outcome) -> None:
 
 
 @pytest.mark.parametrize("page", PAGES, ids=lambda page: page.stem)
-@pytest.mark.parametrize("tool", LOOKS)
+@pytest.mark.parametrize("tool", CHECKERS)
 def test_page_as_it_is_shown(outcome: Outcome, tool: str, page: Path) -> None:
     if not shutil.which(tool):
         pytest.skip(f"{tool} is not installed")
-    done = subprocess.run([*LOOKS[tool], str(page)], capture_output=True, text=True)
+    done = subprocess.run([*CHECKERS[tool], str(page)], capture_output=True, text=True)
     lines = [re.sub(".\b", "", line) for line in done.stdout.splitlines()]
     remarks = [line for line in done.stderr.splitlines() if not any(each in line for each in EXPECTED)]
     outcome.check(f"{tool} finds nothing in the page", remarks, [])
     outcome.check("the page is no wider than a terminal", [line for line in lines if len(line) > COLUMNS], [])
-    foot = next(line for line in reversed(lines) if line)
-    outcome.holds("its foot has the program and the version", foot.startswith(f"ansible-vault {version()} "), foot)
+    footer, start = next(line for line in reversed(lines) if line), f"ansible-vault {version()} "
+    outcome.holds("its footer has the program and the version", footer.startswith(start), footer)
 
 
 # Documents with commands of the companions.
@@ -233,7 +233,7 @@ def shell_of(text: str) -> str:
 @pytest.mark.parametrize("document", DOCUMENTS, ids=lambda path: path.name)
 def test_commands(outcome: Outcome, document: Path) -> None:
     """The options that a document gives to a companion are some of it, or of a command of the tool."""
-    sets = page_sets()
+    sets, unknown = page_sets(), []
     for name, words in COMMAND.findall(shell_of(document.read_text())):
         if name not in COMPANIONS:
             continue
@@ -241,5 +241,5 @@ def test_commands(outcome: Outcome, document: Path) -> None:
         if name == "ansible-vault-with":
             known |= set().union(*(sets[word] for word in words.split() if word in sets))
         given = {word.partition("=")[0] for word in words.split() if re.match(r"--?[A-Za-z]", word)}
-        outcome.check(f"{name}{words}", sorted(given - known - {"-v"}), [])
-    outcome.holds("it is read", True)
+        unknown += [f"{name}{words}: {option}" for option in sorted(given - known - {"-v"})]
+    outcome.check("the options that no command has", unknown, [])

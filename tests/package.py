@@ -62,8 +62,8 @@ def files_below(folder: pathlib.Path) -> set[str]:
 
 
 def check_program(outcome: Outcome, program: pathlib.Path, where: str):
-    told = printed(str(program), "--version").strip()
-    outcome.check(f"{where} tells its version", told, f"ansible-vault {VERSION}")
+    output = printed(str(program), "--version").strip()
+    outcome.check(f"{where} prints its version", output, f"ansible-vault {VERSION}")
     password = str(FIXTURES / "one.password")
     with open(FIXTURES / "format-1.1.vault") as vault:
         command = [str(program), "view", "--vault-password-file", password]
@@ -75,12 +75,12 @@ def check_program(outcome: Outcome, program: pathlib.Path, where: str):
 def check_companions(outcome: Outcome, program: pathlib.Path, where: str, secret: list[str]):
     """Each runs and says what it is; and one calls the program beside it."""
     for name in sorted(COMPANIONS):
-        told = printed(str(program.with_name(name)), "--help", PATH=os.defpath)
-        outcome.holds(f"{name} beside {where} has a help", told.startswith(f"usage: {name}"), told)
+        output = printed(str(program.with_name(name)), "--help", PATH=os.defpath)
+        outcome.holds(f"{name} beside {where} has a help", output.startswith(f"usage: {name}"), output)
     vault = str(FIXTURES / "format-1.1.vault")
-    told = printed(str(program.with_name("ansible-vault-check")), *secret, vault, PATH=os.defpath)
-    wanted = f"{vault}: default: opened by {secret[-1]}\n1 opened, 0 not\n"
-    outcome.check(f"the companions beside {where} call it", told, wanted)
+    output = printed(str(program.with_name("ansible-vault-check")), *secret, vault, PATH=os.defpath)
+    wanted = f"{vault}: default: decrypted by {secret[-1]}\n1 decrypted, 0 not\n"
+    outcome.check(f"the companions beside {where} call it", output, wanted)
 
 
 # Loads what bash-completion finds for the command.
@@ -100,7 +100,7 @@ def check_found(outcome: Outcome, prefix: pathlib.Path):
         if is_installed:
             check(outcome, prefix)
         else:
-            outcome.left_out(f"what {tool} finds", "it is not installed")
+            outcome.skip(f"what {tool} finds", "it is not installed")
 
 
 def check_man(outcome: Outcome, prefix: pathlib.Path):
@@ -125,7 +125,8 @@ def check_fish(outcome: Outcome, prefix: pathlib.Path):
     outcome.holds("fish finds that of a companion", "--dry-run" in offered)
 
 
-def check_zsh(outcome: Outcome, prefix: pathlib.Path):
+def check_zsh(outcome: Outcome, _prefix: pathlib.Path):
+    """zsh searches the folders below /usr and /usr/local; what is installed below another prefix it does not find."""
     folders = printed("zsh", "-f", "-c", "print -l $fpath").split()
     wanted = {"/usr/local/share/zsh/site-functions", "/usr/share/zsh/vendor-completions"}
     outcome.holds("zsh looks where its completion is put", wanted <= {*folders}, str(folders))
@@ -150,15 +151,15 @@ def check_install(outcome: Outcome, folder: pathlib.Path):
     outcome.check("make uninstall ends well", make("uninstall", *words).returncode, 0)
     outcome.check("make uninstall leaves no file", files_below(folder), set())
     outcome.check("nor a folder of its own", [each for each in folder.rglob("ansible*")], [])
-    outcome.holds("make uninstall tells where there is nothing", make("uninstall", *words).returncode != 0)
+    outcome.holds("make uninstall fails if nothing is installed", make("uninstall", *words).returncode != 0)
 
 
 def check_next_step(outcome: Outcome, folder: pathlib.Path):
-    """On the system itself, a line tells what to type."""
+    """Without DESTDIR, a line says what to type next."""
     done = make("install", "DESTDIR=", f"PREFIX={folder}")
     wanted = (0, "Type next: hash -r; ansible-vault --version\n", "")
-    outcome.check("make install tells the next step", (done.returncode, done.stdout, done.stderr), wanted)
-    outcome.check("below another root it does not", make("install", f"DESTDIR={folder}").stdout, "")
+    outcome.check("make install prints the next step", (done.returncode, done.stdout, done.stderr), wanted)
+    outcome.check("with DESTDIR it does not", make("install", f"DESTDIR={folder}").stdout, "")
 
 
 # Stands for dpkg-query where a package owns one file.
@@ -179,9 +180,9 @@ def check_owned(outcome: Outcome, folder: pathlib.Path):
         (prefix / name).write_text("theirs")
         environment = os.environ | {"PATH": f"{tools}{os.pathsep}{os.environ['PATH']}"}
         done = make("install", "DESTDIR=", f"PREFIX={prefix}", env=environment)
-        told = f"{prefix / name} belongs to the package ansible-core: "
+        reason = f"{prefix / name} belongs to the package ansible-core: "
         outcome.holds(f"make install refuses a package's {name}", done.returncode != 0)
-        outcome.holds(f"and tells whose {name} is", done.stderr.startswith(told), done.stderr)
+        outcome.holds(f"and says whose {name} is", done.stderr.startswith(reason), done.stderr)
         found = files_below(prefix), (prefix / name).read_text()
         outcome.check(f"and writes nothing beside {name}", found, ({name}, "theirs"))
 
@@ -213,7 +214,7 @@ def check_replaced(outcome: Outcome, folder: pathlib.Path):
 
 
 def check_changed(outcome: Outcome, folder: pathlib.Path):
-    """make uninstall leaves what it did not put there, and tells of it."""
+    """make uninstall leaves what it did not put there, and lists what was changed."""
     words = ["DESTDIR=", f"PREFIX={folder}"]
     make("install", *words)
     program, page = folder / "bin/ansible-vault", folder / "share/man/man1/ansible-vault-edit.1"
@@ -228,8 +229,8 @@ def check_changed(outcome: Outcome, folder: pathlib.Path):
     done = make("uninstall", *words)
     kept = {str(path.relative_to(folder)) for path in (program, page, *links, stray)}
     outcome.check("make uninstall leaves what is not its own", files_below(folder), kept)
-    told = {f"left, since it was changed: {path}" for path in (program, page, *links)}
-    outcome.check("and tells of it", (done.returncode, {*done.stdout.splitlines()}), (0, told))
+    listed = {f"left, since it was changed: {path}" for path in (program, page, *links)}
+    outcome.check("and lists it", (done.returncode, {*done.stdout.splitlines()}), (0, listed))
 
 
 def check_upgraded(outcome: Outcome, folder: pathlib.Path):
@@ -276,8 +277,8 @@ def check_package(outcome: Outcome, package: pathlib.Path, folder: pathlib.Path)
     outcome.check("the companions run by Debian's Python", shebangs, {"#!/usr/bin/python3 -ESB"})
     files = [f"usr/{each}" for each in PACKAGE_FILES if not (folder / "usr" / each).is_symlink()]
     sums = printed("md5sum", *files, cwd=folder)
-    told = (folder / "DEBIAN" / "md5sums").read_text()
-    outcome.check("it has the sums of its files", sorted(told.splitlines()), sorted(sums.splitlines()))
+    recorded = (folder / "DEBIAN" / "md5sums").read_text()
+    outcome.check("it has the sums of its files", sorted(recorded.splitlines()), sorted(sums.splitlines()))
     check_lint(outcome, package)
 
 
@@ -312,7 +313,7 @@ def check_same(outcome: Outcome, folder: pathlib.Path, name: str):
 
 def check_lint(outcome: Outcome, package: pathlib.Path):
     if not shutil.which("lintian"):
-        return outcome.left_out("the look over the package", "lintian is not installed")
+        return outcome.skip("the look over the package", "lintian is not installed")
     found = subprocess.run(["lintian", "--pedantic", str(package)], capture_output=True, text=True)
     outcome.check("lintian finds nothing in the package", (found.returncode, found.stdout), (0, ""))
 
@@ -355,8 +356,8 @@ class Beside:
 
     def check_both(self, when: str, mark: str = ""):
         """Our program has its name, all of theirs stands aside, and playbooks run."""
-        told = self.root.run("/usr/bin/ansible-vault", "--version")
-        self.outcome.check(f"{when}: our program has the name", told, f"ansible-vault {VERSION}\n")
+        output = self.root.run("/usr/bin/ansible-vault", "--version")
+        self.outcome.check(f"{when}: our program has the name", output, f"ansible-vault {VERSION}\n")
         aside = [self.root.aside(f"/{path}") for path in BOTH_HAVE]
         found = {path: self.root.read(other) for path, other in zip(BOTH_HAVE, aside)}
         self.outcome.check(f"{when}: their files stand aside", found, {path: THEIRS[path] + mark for path in BOTH_HAVE})
@@ -398,10 +399,10 @@ class Beside:
     def check_theirs_behind_ours(self):
         self.do("our package", "-i", str(self.package))
         self.do("Ansible", "-i", self.theirs("2.14"))
-        self.check_both("Ansible behind ours")
+        self.check_both("Ansible after ours")
         self.do("removal of Ansible", "-P", "ansible-core")
-        told = self.root.run("/usr/bin/ansible-vault", "--version")
-        self.outcome.check("Ansible removed: our program stays", told, f"ansible-vault {VERSION}\n")
+        output = self.root.run("/usr/bin/ansible-vault", "--version")
+        self.outcome.check("Ansible removed: our program stays", output, f"ansible-vault {VERSION}\n")
         self.do("purge", "-P", "ansible-vault")
         self.check_nothing_left("both removed")
         self.outcome.check("both removed: no program", files_below(self.root.path / "usr/bin"), {"dpkg-divert", "sh"})
@@ -429,7 +430,7 @@ def test_package(outcome: Outcome, tmp_path: pathlib.Path, package: pathlib.Path
     check_package(outcome, package, tmp_path / "package")
     check_same(outcome, tmp_path, package.name)
     if os.geteuid() != 0:
-        return outcome.left_out("the package beside Ansible's", "a root of its own takes the rights of root")
+        return outcome.skip("the package beside Ansible's", "a root of its own takes the rights of root")
     beside = Beside(outcome, package, tmp_path)
     beside.check_ours_behind_theirs()
     beside.check_theirs_behind_ours()

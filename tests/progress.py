@@ -19,7 +19,7 @@ CRATES = re.findall(r"^(\w+):", (ROOT / "crates.txt").read_text(), re.MULTILINE)
 GATE = "".join(f"== {crate}\nits own lines\nrt: {crate} proved\n" for crate in CRATES)
 # What `make check` prints of the gate and of two tests, one of which leaves something out, with their sum.
 TESTS = """\
-left out: zsh: it is not installed
+skipped: zsh: it is not installed
 one: 3 passed, {failed} failed, 1 skipped
 two: 5 passed, 0 failed, 0 skipped
 """
@@ -88,7 +88,7 @@ def test_mutants(outcome: Outcome, tmp_path: pathlib.Path) -> None:
         done = run_mutants(folder, said, status, "vault_aes", "vault_kdf")
         outcome.check(f"mutants, {what}", (done.returncode, done.stdout.splitlines()[-1]), end)
     outcome.check("the words of rt", (folder / "words").read_text(), "must-fail vault_aes vault_kdf\n")
-    mutants = sorted(f"{it.parent.parent.name}/{it.name}" for it in ROOT.glob("crates/*/mutants/*"))
+    mutants = sorted(f"{path.parent.parent.name}/{path.name}" for path in ROOT.glob("crates/*/mutants/*"))
     tried = [re.sub(r"crates/(\w+)/must-fail/", r"\1/", line) for line in (folder / "edits").read_text().split()]
     outcome.check("the edits that rt is to try", sorted(tried), mutants)
 
@@ -165,4 +165,4 @@ def test_ci(outcome: Outcome, tmp_path: pathlib.Path, what: str) -> None:
     done = run_ci(tmp_path, check, status, installs)
     outcome.check(f"{what}: all is required", done.stdout.splitlines()[0], "REQUIRE_ALL is 1")
     outcome.check(f"{what}: the end", (done.returncode, done.stdout.splitlines()[-1]), end)
-    outcome.check(f"{what}: the reason is told", "E: no package" in done.stdout, not installs)
+    outcome.check(f"{what}: the reason is printed", "E: no package" in done.stdout, not installs)

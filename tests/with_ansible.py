@@ -80,7 +80,7 @@ def both(cases: Cases, request: pytest.FixtureRequest) -> Both:
 
 
 def test_theirs_to_ours(both: Both) -> None:
-    """Their vaults are opened here; sealed here with their salts, they are the same bytes."""
+    """Their vaults are decrypted here; encrypted here with their salts, they are the same bytes."""
     vaults = both.changed_by_them("encrypt", [*both.options, *both.choice], list(TEXTS.values()))
     for (name, text), vault in zip(TEXTS.items(), vaults):
         salt = salt_of(vault)
@@ -92,11 +92,11 @@ def test_theirs_to_ours(both: Both) -> None:
 
 
 def test_ours_to_theirs(both: Both) -> None:
-    """Our vaults are opened there."""
+    """Our vaults are decrypted there."""
     words = ["encrypt", *both.options]
     vaults = [both.ours(f"encrypt {name}", words, text, lambda _: True) for name, text in TEXTS.items()]
-    for (name, text), opened in zip(TEXTS.items(), both.changed_by_them("decrypt", both.options, vaults)):
-        both.cases.check(f"{name}: Ansible's tool opens it, label {both.label!r}", opened, text)
+    for (name, text), plaintext in zip(TEXTS.items(), both.changed_by_them("decrypt", both.options, vaults)):
+        both.cases.check(f"{name}: Ansible's tool decrypts it, label {both.label!r}", plaintext, text)
 
 
 def test_files(both: Both) -> None:
@@ -128,7 +128,7 @@ def test_playbook_values(both: Both) -> None:
     """Ansible reads our blocks as values of a file of variables."""
     tool = Path(both.ansible).parent / "ansible"
     if not tool.exists():
-        return both.cases.left_out("values in playbooks", f"{tool} is not installed")
+        return both.cases.skip("values in playbooks", f"{tool} is not installed")
     words = ["encrypt_string", *both.options, "--name", "secret"]
     for name, string in STRINGS.items():
         variables = both.cases.file(both.ours(f"block of {name}", [*words, string], b"", lambda _: True))
@@ -141,14 +141,15 @@ def test_playbook_values(both: Both) -> None:
 
 
 def test_rekeyed(both: Both) -> None:
-    """Rekeyed here, opened and rekeyed back there, opened here."""
+    """Rekeyed here, decrypted and rekeyed back there, decrypted here."""
     for new_label in ("", "prod"):
         options = ["--new-vault-id", f"{new_label}@{both.new}"]
         new = by_id(both.new, new_label) if new_label else by_file(both.new)
         words = ["rekey", *both.options, *options]
         given = [both.sealed(text, bytes(32)) for text in TEXTS.values()]
         ours = [both.ours(f"rekey of {name}", words, vault, lambda _: True) for name, vault in zip(TEXTS, given)]
-        both.cases.check("Ansible's tool opens them", both.changed_by_them("decrypt", new, ours), list(TEXTS.values()))
+        decrypted = both.changed_by_them("decrypt", new, ours)
+        both.cases.check("Ansible's tool decrypts them", decrypted, list(TEXTS.values()))
         back = (
             ["--new-vault-id", f"{both.label}@{both.password}"]
             if both.label

@@ -1,9 +1,9 @@
 """Watches the calls that the built program makes of the system.
 
-Which paths are opened, in which order and how; how many bytes of each are read, at most and at least, and
-none behind its end; that standard input is left alone where it is not asked for; what is created, when and
-with which mode, and how many bytes go where; that no other call is made. The loader's own calls are passed
-over where they open its list, or a library of the program, for reading. The runs stand in `watched`.
+Checked are: which paths are opened, in which order and how; how many bytes of each are read, and that none is
+read past its end; that standard input is not read if it is not needed; what is created, when and with which mode;
+how many bytes are written where; and that no other call is made. Calls of the loader are allowed if they open its
+cache, or a library of the program, for reading. The runs are in `watched`.
 """
 
 import os
@@ -49,9 +49,9 @@ def check_opens(cases: Cases, run: Run, watched: Watched) -> None:
         creates = opened.path == run.created
         wanted = (CREATING, OWNER_ALONE) if creates else (READING, "")
         cases.check(f"{run.name}: how {opened.path} is opened", (opened.flags - HARMLESS, opened.mode), wanted)
-    taken = [opened.number for opened in watched.stand_ins()]
+    taken = [opened.fd for opened in watched.stand_ins()]
     cases.check(f"{run.name}: closed streams are replaced", taken[: len(run.closed)], list(run.closed))
-    low = [opened.path for opened in files if 0 <= opened.number <= STDERR]
+    low = [opened.path for opened in files if 0 <= opened.fd <= STDERR]
     cases.check(f"{run.name}: no file takes the number of a stream", low, [])
 
 
@@ -73,7 +73,7 @@ def check_source(cases: Cases, name: str, reads: list[tuple[int, int]], limit: i
         most = max(most, given + asked)
         given += max(got, 0)
     cases.holds(f"{name} is asked for {most} bytes", most <= limit)
-    ends = [place for place, (_, got) in enumerate(reads, 1) if got <= 0]
+    ends = [number for number, (_, got) in enumerate(reads, 1) if got <= 0]
     cases.holds(f"{name} is asked to its end or its limit", ends == [len(reads)] or not ends and given == limit)
 
 
@@ -87,15 +87,15 @@ def check_writes(cases: Cases, run: Run, watched: Watched) -> None:
     private = run.words[0] == "decrypt"
     wanted = ["openat", *(["fchmod"] if private else []), *(["write"] if run.written else []), "fsync"]
     cases.check(f"{run.name}: how the file is written", names, wanted)
-    modes = [call.words.partition(", ")[2] for call in calls if call.name == "fchmod"]
+    modes = [call.args.partition(", ")[2] for call in calls if call.name == "fchmod"]
     cases.check(f"{run.name}: its mode", modes, [OWNER_ALONE] if private else [])
     number = next((call.result for call in calls if call.name == "openat"), None)
     cases.check(
-        f"{run.name}: nothing else is written", {call.number for call in calls if call.name != "openat"}, {number}
+        f"{run.name}: nothing else is written", {call.fd for call in calls if call.name != "openat"}, {number}
     )
     own = watched.traced.own
-    read_before = [call.name for call in own[own.index(calls[0]) :] if call.name == "read"] if calls else None
-    cases.check(f"{run.name}: what is read once it is there", read_before, [])
+    read_after = [call.name for call in own[own.index(calls[0]) :] if call.name == "read"] if calls else None
+    cases.check(f"{run.name}: what is read once it is there", read_after, [])
     check_lengths(cases, run, watched, number)
 
 
@@ -105,7 +105,7 @@ def check_lengths(cases: Cases, run: Run, watched: Watched, target: int | None) 
     lengths = {number: 0 for number in (target, STDOUT, STDERR)}
     for call in watched.writes:
         if call.name == "write":
-            lengths[call.number] = lengths.get(call.number, 0) + max(call.result, 0)
+            lengths[call.fd] = lengths.get(call.fd, 0) + max(call.result, 0)
     wanted = {number: 0 for number in (target, STDOUT, STDERR)}
     if run.written is None:
         wanted[STDERR if run.status else STDOUT] = len(traced.message if run.status else traced.output)
@@ -120,12 +120,12 @@ def check_lengths(cases: Cases, run: Run, watched: Watched, target: int | None) 
 def check_others(cases: Cases, run: Run, watched: Watched) -> None:
     own = watched.traced.own
     cases.check(f"{run.name}: other calls", {call.name for call in own} - OF_FILES - OF_MEMORY - OTHERS, set())
-    signals = {call.words.partition(",")[0] for call in own if call.name == "rt_sigaction"}
+    signals = {call.args.partition(",")[0] for call in own if call.name == "rt_sigaction"}
     cases.check(f"{run.name}: other signals", signals - {"SIGPIPE"}, set())
-    mapped = [call.words for call in own if call.name == "mmap" and "MAP_ANONYMOUS" not in call.words]
+    mapped = [call.args for call in own if call.name == "mmap" and "MAP_ANONYMOUS" not in call.args]
     cases.check(f"{run.name}: files that are mapped", mapped, [])
     of_open_files = ('""', "NULL")
-    looks = [call.words.partition(", ")[2] for call in own if call.name == "statx"]
+    looks = [call.args.partition(", ")[2] for call in own if call.name == "statx"]
     by_path = [words for words in looks if not words.startswith(of_open_files)]
     cases.check(f"{run.name}: paths that are looked for", by_path, [])
 

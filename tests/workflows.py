@@ -34,7 +34,7 @@ PASSWORDS = {
 MARKS = "*.vault.yml diff=ansible-vault merge=ansible-vault\nvault.yml diff=ansible-vault merge=ansible-vault\n"
 SETTINGS = "[defaults]\nvault_identity_list = prod@~/.vault/prod.pass\n"
 INVENTORY = "web1 ansible_connection=local\n"
-# What a piece needs of the machine besides git.
+# The tools that a recipe needs besides git.
 TOOLS = {
     "Secrets, named once": ["ansible-playbook"],
     "Vaults and blocks for playbooks": ["ansible-playbook"],
@@ -64,7 +64,7 @@ printf 'in production\\nuser: me\\n'
 """
 
 
-def pieces() -> dict[str, str]:
+def recipes() -> dict[str, str]:
     """The shell below each heading of the document."""
     document = (ROOT / "docs" / "workflows.md").read_text()
     _, *parts = re.split(r"^## (.+)$", document, flags=re.MULTILINE)
@@ -79,7 +79,7 @@ def shown_settings() -> str:
 
 
 def examples(page: pathlib.Path = PAGE) -> dict[str, str]:
-    """The shell of each of the EXAMPLES of a manual page, below the first words in front of it."""
+    """The shell of each of the EXAMPLES of a manual page, by the first three words of the text before it."""
     display = r"(?:\A|^\.Pp)\n((?:(?!\.Pp$).+\n)+?)\.Bd .*\n((?:.*\n)+?)\.Ed$"
     found = re.findall(display, sections(page.read_text())["EXAMPLES"], re.MULTILINE)
     lines = lambda text: [line.removeprefix("$ ") for line in shown(text).splitlines()]
@@ -165,7 +165,7 @@ def check_differences(outcome: Outcome, repository: Repository, shell: str):
 
 
 def played(shown: str) -> list[str]:
-    """What the tasks of a playbook tell."""
+    """The messages of a playbook's tasks."""
     return re.findall(r'"msg": "(.*)"', shown)
 
 
@@ -177,7 +177,7 @@ def check_settings(outcome: Outcome, repository: Repository, shell: str):
     repository.put("ansible.cfg", shown_settings().encode())
     ran = repository.shell(shell)
     outcome.check("the commands end well", (ran.returncode, ran.stderr), (0, ""))
-    outcome.check("the other pieces have the same settings", shown_settings(), SETTINGS)
+    outcome.check("the other recipes have the same settings", shown_settings(), SETTINGS)
     outcome.check("the vault is shown", ran.stdout.splitlines()[:1], ["shared: battery staple"])
     outcome.check("ansible-playbook reads it by the same settings", played(ran.stdout), ["battery staple"])
     for name in ("host_vars/web1/secrets.yml", "group_vars/all/vault.yml"):
@@ -229,19 +229,19 @@ def check_typed(outcome: Outcome, repository: Repository, shell: str):
 
 def pasted(repository: Repository, shell: str, password: str) -> str:
     """What a terminal shows where the shell is pasted, and the password is typed when it is waited for."""
-    here, there = pty.openpty()
+    controller, terminal = pty.openpty()
     command = ["bash", "--norc", "--noprofile", "-i"]
     environment = repository.environment | {"PS1": "$ ", "TERM": "dumb"}
-    streams = {"stdin": there, "stdout": there, "stderr": there}
+    streams = {"stdin": terminal, "stdout": terminal, "stderr": terminal}
     process = subprocess.Popen(command, cwd=repository.folder, env=environment, start_new_session=True, **streams)
-    os.close(there)
-    os.write(here, shell.encode())
-    wait_for_question(here)
-    os.write(here, f"{password}\nexit\n".encode())
-    shown = all_shown(here)
+    os.close(terminal)
+    os.write(controller, shell.encode())
+    wait_for_question(controller)
+    os.write(controller, f"{password}\nexit\n".encode())
+    shown = all_shown(controller)
     process.kill()
     process.wait()
-    os.close(here)
+    os.close(controller)
     return shown.decode()
 
 
@@ -262,12 +262,12 @@ def check_rotation(outcome: Outcome, repository: Repository, shell: str):
     repository.put("c.yml", kept)
     repository.shell("rm ~/.vault/new.pass")
     ran = repository.shell(shell)
-    told = ["2 rotated, 0 under the new secret already, 1 of other labels (prod 1), 0 failed"]
-    outcome.check("a rotation", (ran.returncode, ran.stdout.splitlines()[-1:], ran.stderr), (0, told, ""))
+    summary = ["2 rotated, 0 under the new secret already, 1 of other labels (prod 1), 0 failed"]
+    outcome.check("a rotation", (ran.returncode, ran.stdout.splitlines()[-1:], ran.stderr), (0, summary, ""))
     shown = repository.shell('ansible-vault view --vault-password-file "$HOME"/.vault/new.pass vars/a.yml').stdout
     outcome.check("the vault is under the new secret", (shown, repository.get("c.yml")), ("a", kept))
-    told = repository.shell("stat -c %a ~/.vault/new.pass; base64 --decode < ~/.vault/new.pass | wc -c").stdout
-    outcome.check("which is of 32 bytes, for its owner alone", told, "600\n32\n")
+    output = repository.shell("stat -c %a ~/.vault/new.pass; base64 --decode < ~/.vault/new.pass | wc -c").stdout
+    outcome.check("which has 32 bytes, and is readable by its owner only", output, "600\n32\n")
 
 
 def check_check(outcome: Outcome, repository: Repository, shell: str):
@@ -276,9 +276,9 @@ def check_check(outcome: Outcome, repository: Repository, shell: str):
     ran = repository.shell(shell)
     home = repository.environment["HOME"]
     lines = [
-        "./b.yml:2: secret: prod: opened by prod@~/.vault/prod.pass",
-        f"./vars/a.yml: default: opened by {home}/.vault/new.pass",
-        "2 opened, 0 not",
+        "./b.yml:2: secret: prod: decrypted by prod@~/.vault/prod.pass",
+        f"./vars/a.yml: default: decrypted by {home}/.vault/new.pass",
+        "2 decrypted, 0 not",
     ]
     outcome.check("a check", (ran.returncode, ran.stdout.splitlines(), ran.stderr), (0, lines, ""))
     repository.put("b.yml", seal(b"unknown", b"b"))
@@ -297,8 +297,8 @@ def check_hook(outcome: Outcome, repository: Repository, shell: str):
     outcome.check("the hook lets a vault pass", repository.shell("git add . && git commit -qm one").returncode, 0)
     repository.put("c.vault.yml", b"password: plain\n")
     ran = repository.shell("git add . && git commit -qm two")
-    told = "ansible-vault-hook: c.vault.yml is not encrypted\n"
-    outcome.check("it refuses plaintext", (ran.returncode, ran.stderr.splitlines(True)[0]), (1, told))
+    message = "ansible-vault-hook: c.vault.yml is not encrypted\n"
+    outcome.check("it refuses plaintext", (ran.returncode, ran.stderr.splitlines(True)[0]), (1, message))
 
 
 def check_first_day(outcome: Outcome, repository: Repository, shell: str):
@@ -310,8 +310,8 @@ def check_first_day(outcome: Outcome, repository: Repository, shell: str):
     repository.shell("rm -r ~/.vault; git add -A")
     ran = repository.shell(shell)
     outcome.check("the first day", (ran.returncode, ran.stderr), (0, ""))
-    told = ["2 opened, 0 not, 1 of other labels (default 1)", "password: first"]
-    outcome.check("counts, and shows a vault", ran.stdout.splitlines()[-2:], told)
+    last_lines = ["2 decrypted, 0 not, 1 of other labels (default 1)", "password: first"]
+    outcome.check("counts, and shows a vault", ran.stdout.splitlines()[-2:], last_lines)
     modes = repository.shell("stat -c %a ~/.vault ~/.vault/prod.pass; ls prod.pass").stdout
     outcome.check("the password file is outside, for its owner alone", modes, "700\n600\n")
     shown = repository.shell("git commit -qm one && git show").stdout
@@ -347,7 +347,7 @@ def check_merge(outcome: Outcome, repository: Repository, shell: str):
     repository.put(name, seal(PASSWORDS["prod.pass"], b"a: 5\nb: 2\nc: 4\n", b"prod"))
     repository.shell("git commit -qam other && git checkout -q -")
     ran = repository.shell(merge)
-    outcome.check("git tells of a conflict", (ran.returncode, "CONFLICT" in ran.stdout), (1, True))
+    outcome.check("git reports a conflict", (ran.returncode, "CONFLICT" in ran.stdout), (1, True))
     outcome.holds("nothing is in plaintext", repository.get(name).startswith(b"$ANSIBLE_VAULT;1.2;AES256;prod\n"))
     ran = repository.shell("ansible-vault-check --vault-id prod@prod.pass .")
     outcome.check("a check refuses it", ran.returncode, 1)
@@ -396,11 +396,11 @@ def check_marks(outcome: Outcome, repository: Repository, shell: str):
         "group_vars/all/vars.yml: diff: unspecified",
     ]
     outcome.check("the marks", (ran.returncode, ran.stdout.splitlines(), ran.stderr), (0, lines, ""))
-    told = repository.shell("git check-attr merge vault.yml").stdout
-    outcome.check("and those of a merge", told, "vault.yml: merge: ansible-vault\n")
+    output = repository.shell("git check-attr merge vault.yml").stdout
+    outcome.check("and those of a merge", output, "vault.yml: merge: ansible-vault\n")
     names = ["vault.yml", "roles/web/vars/vault.yml", "roles/web/vars/vault/db.yml", "group_vars/db.vault.yml"]
-    told = repository.shell(f"git check-attr diff {' '.join(names)}").stdout
-    outcome.check("of other names", told.count("diff: ansible-vault\n"), len(names))
+    output = repository.shell(f"git check-attr diff {' '.join(names)}").stdout
+    outcome.check("of other names", output.count("diff: ansible-vault\n"), len(names))
 
 
 def check_pipeline(outcome: Outcome, repository: Repository, shell: str):
@@ -412,7 +412,8 @@ def check_pipeline(outcome: Outcome, repository: Repository, shell: str):
     repository.shell("git add -A && git commit -qm one && git update-ref refs/remotes/origin/main HEAD")
     ran = repository.shell(f"set -e\n{shell}", VAULT_PASSWORD=PASSWORDS["ci.pass"].decode())
     outcome.check("all is well", (ran.returncode, ran.stderr), (0, ""))
-    outcome.holds("and counted", "1 opened, 0 not, 1 of other labels (prod 1)" in ran.stdout.splitlines(), ran.stdout)
+    counts = "1 decrypted, 0 not, 1 of other labels (prod 1)"
+    outcome.holds("and counted", counts in ran.stdout.splitlines(), ran.stdout)
     outcome.check("the playbook is run with the same password", played(ran.stdout), ["battery staple"])
     checks = shell.splitlines()[:4]
     statuses = lambda: [
@@ -443,7 +444,7 @@ def check_string(outcome: Outcome, repository: Repository, shell: str):
     ran = repository.shell(shell, secret="correct horse")
     outcome.check("a block is made", (ran.returncode, ran.stderr), (0, ""))
     first, second, text = repository.get("vars.yml").decode().split("\n", 2)
-    outcome.check("behind what stood there", (first, second), ("first: 1", "db_password: !vault |"))
+    outcome.check("it is appended", (first, second), ("first: 1", "db_password: !vault |"))
     repository.put("block", "".join(line.strip() + "\n" for line in text.splitlines()).encode())
     shown = repository.shell("ansible-vault view --vault-password-file prod.pass block").stdout
     outcome.check("of the secret", shown, "correct horse")
@@ -474,7 +475,7 @@ def check_cut_log(outcome: Outcome, repository: Repository, shell: str):
         repository.put("log", b"first\n")
         ran = repository.shell(shell.format(path))
         found = ran.returncode, ran.stderr, repository.get("log")
-        outcome.check(f"a log behind --output {path}", found, (0, "", wanted))
+        outcome.check(f"a log with --output {path}", found, (0, "", wanted))
 
 
 RECIPES = {
@@ -485,7 +486,7 @@ RECIPES = {
     "Editing a vault": check_edit,
     "One secret in a YAML file": check_one_secret,
     "A new password for a whole repository": check_rotation,
-    "Which secret opens what": check_check,
+    "Which secret decrypts what": check_check,
     "Which files are to be encrypted": check_marks,
     "Differences in git": check_differences,
     "A password manager": check_manager,
@@ -554,8 +555,8 @@ def test_companions_have_examples(outcome: Outcome) -> None:
 WARNINGS = {"A lost password": (LOST_PASSWORD, check_lost_password), "A cut log": (CUT_LOG, check_cut_log)}
 
 
-def test_each_piece_is_run(outcome: Outcome) -> None:
-    outcome.check("the pieces of docs/workflows.md", sorted(pieces()), sorted(RECIPES))
+def test_each_recipe_is_run(outcome: Outcome) -> None:
+    outcome.check("the sections of docs/workflows.md", sorted(recipes()), sorted(RECIPES))
     outcome.check("the examples of the manual page", sorted(examples()), sorted(DISPLAYS))
 
 
@@ -566,7 +567,7 @@ def repository(tmp_path: pathlib.Path, program: str) -> Repository:
     return Repository(tmp_path, program)
 
 
-def check_piece(outcome: Outcome, repository: Repository, title: str, check: Callable, shell: str) -> None:
+def check_recipe(outcome: Outcome, repository: Repository, title: str, check: Callable, shell: str) -> None:
     missing = [tool for tool in TOOLS.get(title, []) if not shutil.which(tool)]
     if missing:
         pytest.skip(f"without {', '.join(missing)}")
@@ -575,12 +576,12 @@ def check_piece(outcome: Outcome, repository: Repository, title: str, check: Cal
 
 @pytest.mark.parametrize("title", RECIPES)
 def test_recipe(outcome: Outcome, repository: Repository, title: str) -> None:
-    check_piece(outcome, repository, title, RECIPES[title], pieces()[title])
+    check_recipe(outcome, repository, title, RECIPES[title], recipes()[title])
 
 
 @pytest.mark.parametrize("title", DISPLAYS)
 def test_example(outcome: Outcome, repository: Repository, title: str) -> None:
-    check_piece(outcome, repository, title, DISPLAYS[title], examples()[title])
+    check_recipe(outcome, repository, title, DISPLAYS[title], examples()[title])
 
 
 @pytest.mark.parametrize("title", WARNINGS)

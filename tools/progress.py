@@ -59,22 +59,22 @@ class Progress:
         self.begun = time.monotonic()
         self.count = None
 
-    def tell(self, text: str, end: str = "\n"):
+    def report(self, text: str, end: str = "\n"):
         ahead = "\r\033[K" if sys.stdout.isatty() else ""
         print(f"{ahead}{clock(time.monotonic() - self.begun):>6}  {text}", end=end, flush=True)
 
     def take(self, line: str):
         if found := PROVED.match(line):
             self.left = [each for each in self.left if each != found[1]]
-            self.tell(f"{found[1]} is proved, {self.total - len(self.left)} of {self.total}")
+            self.report(f"{found[1]} is proved, {self.total - len(self.left)} of {self.total}")
         elif found := NOT_PROVED.match(line):
-            self.tell(found[1])
+            self.report(found[1])
         elif found := TESTS_PROVED.match(line):
-            self.tell(f"{found[1]}: its tests are {found[2]}")
+            self.report(f"{found[1]}: its tests are {found[2]}")
         elif found := EDITS.match(line):
-            self.tell(f"{found[1]}: {found[2]} must-fail edits are tried")
+            self.report(f"{found[1]}: {found[2]} must-fail edits are tried")
         elif found := EDIT_FAILED.match(line) or RAN.match(line):
-            self.tell(found[1])
+            self.report(found[1])
         elif COUNT.match(line):
             self.count = line
 
@@ -93,10 +93,10 @@ def lines_of(process, lines: queue.Queue, log):
 
 
 def follow(progress: Progress, lines: queue.Queue):
-    """Takes each line as it comes, and gives a sign of life where none comes."""
+    """Takes each line as it comes, and prints the state at intervals, whether lines come or not."""
     pause = TERMINAL_PAUSE if sys.stdout.isatty() else PAUSE
     end = "" if sys.stdout.isatty() else "\n"
-    told = time.monotonic()
+    last_report = time.monotonic()
     while True:
         try:
             line = lines.get(timeout=1)
@@ -105,9 +105,9 @@ def follow(progress: Progress, lines: queue.Queue):
         if line is None:
             return
         progress.take(line)
-        if time.monotonic() - told >= pause:
-            progress.tell(progress.state(), end)
-            told = time.monotonic()
+        if time.monotonic() - last_report >= pause:
+            progress.report(progress.state(), end)
+            last_report = time.monotonic()
 
 
 def main():
@@ -126,7 +126,7 @@ def main():
         status = process.wait()
     if status:
         print(textwrap.indent(pathlib.Path(path).read_text(errors="replace"), "    "), end="")
-    progress.tell(f"{'FAILED' if status else 'done'}; the whole log is {path}")
+    progress.report(f"{'FAILED' if status else 'done'}; the whole log is {path}")
     if progress.count:
         print(progress.count)
     return status

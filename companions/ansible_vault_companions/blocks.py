@@ -33,9 +33,9 @@ def changed(data: bytes, changes: Iterable[Change]) -> bytes:
     return b"".join([*pieces, data[place:]])
 
 
-def replacement(value: Value, marks: bytes, body: bytes, end: int) -> list[Change]:
-    """Makes another block scalar of a value that ends there. What follows its marks in their line stays."""
-    return [Change(value.start, value.marks_end, marks), Change(value.line_end, end, body)]
+def replacement(value: Value, header: bytes, body: bytes, end: int) -> list[Change]:
+    """Replaces a value that ends there by another block scalar. What follows its header in that line stays."""
+    return [Change(value.start, value.header_end, header), Change(value.line_end, end, body)]
 
 
 def line_end(data: bytes, place: int) -> bytes:
@@ -52,8 +52,8 @@ class Block:
     """A value that is a vault."""
 
     value: Value
-    # As they stand there: its marks, and all below their line.
-    marks: bytes
+    # As they are in the file: the header, and all below its line.
+    header: bytes
     body: bytes
     # As the tool reads it.
     envelope: bytes
@@ -62,15 +62,15 @@ class Block:
     def in_place_of(self, value: Value) -> list[Change]:
         """The same envelope where a value stands."""
         if value.column == self.value.column:
-            return replacement(value, self.marks, self.body, value.end)
-        return self.resealed(value, self.envelope)
+            return replacement(value, self.header, self.body, value.end)
+        return self.replace(value, self.envelope)
 
-    def resealed(self, value: Value, envelope: bytes) -> list[Change]:
+    def replace(self, value: Value, envelope: bytes) -> list[Change]:
         """Another envelope where a value stands."""
-        marks = self.marks if value.column == self.value.column else b"|"
+        header = self.header if value.column == self.value.column else b"|"
         found = BODY.match(self.body)
         indentation = len(found["spaces"]) - max(self.value.column, 0)
-        return replacement(value, marks, _body(value, envelope, indentation, line_end(self.body, 0)), value.end)
+        return replacement(value, header, _body(value, envelope, indentation, line_end(self.body, 0)), value.end)
 
 
 def new_block(value: Value, envelope: bytes, end: bytes) -> list[Change]:
@@ -93,11 +93,11 @@ def block_of(data: bytes, value: Value) -> Block:
     envelope = value.content.strip() + b"\n"
     # Empty lines below are none of the envelope's.
     body = data[value.line_end : value.content_end]
-    return Block(value, data[value.start : value.marks_end], body, envelope, label_of(envelope))
+    return Block(value, data[value.start : value.header_end], body, envelope, label_of(envelope))
 
 
-class Opened(NamedTuple):
-    """A block with its plaintext, and the secret that opened it."""
+class Decrypted(NamedTuple):
+    """A block with its plaintext, and the secret that decrypted it."""
 
     block: Block
     secret: Secret

@@ -1,4 +1,4 @@
-"""Envelopes in files: a vault is one, and a block of YAML has one behind the spaces of its lines.
+"""Envelopes in files: a vault is one, and a block of YAML is an indented one.
 
 They are found by their bytes, in one pass and with no parser of YAML: all else in a file keeps every
 byte. One in a form that cannot be put back as it stands is found, too, and says what to do about it.
@@ -40,7 +40,7 @@ TAG = re.compile(
 # What stands before an envelope in the line of its tag.
 TAG_IN_LINE = re.compile(rb"!vault(?:-encrypted)?[ \t]+(?:&\S+[ \t]+)?[\"']?\Z")
 TAG_NAME = b"!vault"
-# As much of a line as is looked at in front of a tag, or of an envelope behind its tag.
+# How much of a line is searched before a tag, and before an envelope in the line of its tag.
 LONGEST_TAG = 4096
 LONGEST_TAG_IN_LINE = 128
 # How a line begins: with spaces, other blanks, and the mark of a comment.
@@ -49,7 +49,7 @@ LINE_HEAD = re.compile(rb"(?P<spaces> *)(?P<blanks>[ \t]*)(?P<comment>#?)")
 HEADER = re.compile(rb"[^\r\n\"'\\]{0,256}")
 KNOWN_HEADER = re.compile(rb"\$ANSIBLE_VAULT;1\.\d;AES")
 DIGITS = re.compile(rb"[0-9a-fA-F]{32}")
-# How far behind the beginning of such an envelope its digits are looked for.
+# How far after the start of such an envelope its digits are searched.
 WINDOW = 512
 
 
@@ -80,13 +80,13 @@ class Envelope:
         return self.text
 
     def in_place(self, text: bytes) -> bytes:
-        """A text as it would stand here, behind the same spaces."""
+        """A text with the same indentation as this envelope."""
         if not self.line:
             return text
         return self._end().join(self.spaces + line if line else b"" for line in text.split(b"\n"))
 
-    def resealed(self, envelope: bytes) -> bytes:
-        """Another envelope as it would stand here, with the same line ends."""
+    def with_layout(self, envelope: bytes) -> bytes:
+        """Another envelope with the same indentation and line endings as this one."""
         if not self.line:
             return envelope.replace(b"\n", self._end())
         # The end of a block's last line is none of the block's.
@@ -178,18 +178,18 @@ def _block(line: _Line) -> Envelope | None:
 def _elsewhere(line: _Line) -> Envelope | None:
     """The envelope at this place, where it has digits nearby or a tag before it."""
     data, place = line.data, line.place
-    behind = place + len(START)
-    following = data.find(START, behind, behind + WINDOW)
-    digits = DIGITS.search(data, behind, following if following >= 0 else behind + WINDOW)
+    after = place + len(START)
+    following = data.find(START, after, after + WINDOW)
+    digits = DIGITS.search(data, after, following if following >= 0 else after + WINDOW)
     has_digits = digits is not None and KNOWN_HEADER.match(data, place) is not None
     first = max(line.start, place - LONGEST_TAG)
     tag = TAG_IN_LINE.search(data, max(first, place - LONGEST_TAG_IN_LINE), place)
     if not (has_digits or tag):
         return None
     header = HEADER.match(data, place, digits.start() if has_digits else len(data))[0]
-    # Behind the brace or the comma that it stands after.
+    # Only what follows the last brace or comma.
     name = _name(re.split(rb"[{,]", data[first : tag.start()])[-1]) if tag else None
-    return Envelope(place, behind, line.number, b"", b"", label_of(header), name, _obstacle(line))
+    return Envelope(place, after, line.number, b"", b"", label_of(header), name, _obstacle(line))
 
 
 def _obstacle(line: _Line) -> str:

@@ -12,7 +12,7 @@ from ansible_vault_companions.envelopes import MAGIC, UTF_16, mentions_envelope
 from ansible_vault_companions.program import Refused
 
 # What is read at once of a file that may be no text at all.
-PIECE = 1 << 20
+CHUNK_SIZE = 1 << 20
 # Bytes of an envelope's beginning that may end one piece and continue in the next.
 OVERLAP = max(map(len, UTF_16)) - 1
 # Prose shows blocks that are not meant.
@@ -66,8 +66,8 @@ def _candidates(path: str, refuse: Callable[[str, Exception], None]) -> Iterator
 def work_on(
     files: Iterable[str], jobs: int, work: Callable[[str], Result], take: Callable[[Result], None]
 ) -> None:
-    """Works on several files at once, and takes what comes of each in their order. Where that ends early,
-    the files that are worked on are finished, and no other is begun."""
+    """Processes several files at once, and takes the results in order. If that is ended early, the files in process
+    are finished, and no other is begun."""
     with ThreadPoolExecutor(jobs) as pool:
         # It cancels the others when it is left.
         for result in pool.map(work, files):
@@ -79,7 +79,7 @@ def processors() -> int:
 
 
 def contents(path: str, with_prose: bool = False) -> bytes:
-    """What a file holds; nothing of one that has no envelope for us."""
+    """The content of a file; empty if it has no envelope that is to be looked at."""
     with _opened(path) as file:
         begins = file.read(len(MAGIC)) == MAGIC
         file.seek(0)
@@ -92,10 +92,10 @@ def contents(path: str, with_prose: bool = False) -> bytes:
 
 def _mentions_envelope(file: BinaryIO) -> bool:
     end = b""
-    while piece := file.read(PIECE):
-        if mentions_envelope(end + piece):
+    while chunk := file.read(CHUNK_SIZE):
+        if mentions_envelope(end + chunk):
             return True
-        end = piece[-OVERLAP:]
+        end = chunk[-OVERLAP:]
     return False
 
 
@@ -117,4 +117,4 @@ def _opened(path: str) -> BinaryIO:
     os.close(descriptor)
     if stat.S_ISDIR(mode):
         raise IsADirectoryError(errno.EISDIR, os.strerror(errno.EISDIR), path)
-    raise Refused("it is no file")
+    raise Refused("it is not a regular file")

@@ -11,15 +11,15 @@ from dataclasses import dataclass, field
 from typing import Callable, NamedTuple
 
 from ansible_vault_companions import blocks, literals, matching
-from ansible_vault_companions.blocks import Change, Opened, named
+from ansible_vault_companions.blocks import Change, Decrypted, named
 from ansible_vault_companions.matching import Choice, Typed
 from ansible_vault_companions.program import Refused
 from ansible_vault_companions.secret_files import Secret
 from ansible_vault_companions.tool import Tool
 from ansible_vault_companions.yaml_values import SPACES, Scan, Value, scan
 
-# Opens an envelope.
-Opening = Callable[[bytes], tuple[Secret, bytes]]
+# Decrypts an envelope.
+Decrypt = Callable[[bytes], tuple[Secret, bytes]]
 
 # How many columns a literal stands to the right of its key.
 INDENTATION = 2
@@ -33,7 +33,7 @@ JOINED = "it is empty, and the comment below would become its text"
 HIDDEN = "`!vault` within a comment or another text is no tag, and what follows it would stay in plaintext"
 
 
-class Closed(NamedTuple):
+class StillEncrypted(NamedTuple):
     """A value that stays encrypted, and why."""
 
     value: Value
@@ -49,13 +49,13 @@ class Showing:
     # What its notes begin with; none where they are left out.
     note: bytes
     changes: list[Change] = field(default_factory=list)
-    opened: list[Opened] = field(default_factory=list)
-    closed: list[Closed] = field(default_factory=list)
+    decrypted: list[Decrypted] = field(default_factory=list)
+    still_encrypted: list[StillEncrypted] = field(default_factory=list)
 
     def text(self) -> bytes:
         return blocks.changed(self.data, self.changes)
 
-    def open(self, each: Opened) -> None:
+    def show(self, each: Decrypted) -> None:
         """Shows a plaintext as a literal, whose lines no comment and no empty line below can join."""
         value, text = each.block.value, each.plaintext
         end = blocks.line_end(self.data, value.line_end)
@@ -64,30 +64,30 @@ class Showing:
         indentation = max(INDENTATION, len(comment["spaces"]) + 1 - base if comment else 0)
         if comment and not text.strip(b"\n") and len(comment["spaces"]) > max(value.column, 0):
             raise Refused(JOINED)
-        marks = literals.marks(text, indentation)
+        header = literals.header(text, indentation)
         body = literals.lines(text, base + indentation, end)
-        if self.lacks_end(each):
+        if self.needs_final_newline(each):
             body += end
-        elif self.note and marks.endswith(b"+") and EMPTY_LINE.match(self.data, value.content_end):
+        elif self.note and header.endswith(b"+") and EMPTY_LINE.match(self.data, value.content_end):
             body += end + b" " * base + self.note + b"the empty lines above belong to %s" % _named(value)
-        self.changes += blocks.replacement(value, marks, body, value.content_end)
-        self.opened.append(each)
+        self.changes += blocks.replacement(value, header, body, value.content_end)
+        self.decrypted.append(each)
 
-    def close(self, value: Value, why: str) -> None:
-        self.closed.append(Closed(value, why))
+    def keep_encrypted(self, value: Value, why: str) -> None:
+        self.still_encrypted.append(StillEncrypted(value, why))
         if self.note and not value.in_flow:
             spaces = SPACES.match(self.data, value.line_start)[0]
             end = blocks.line_end(self.data, value.line_end)
             text = spaces + self.note + b"%s stays encrypted: %s" % (_named(value), why.encode()) + end
             self.changes.append(Change(value.line_start, value.line_start, text))
 
-    def lacks_end(self, each: Opened) -> bool:
+    def needs_final_newline(self, each: Decrypted) -> bool:
         """Whether the last line of the file needs an end, which it has not, for this plaintext."""
         return each.plaintext.endswith(b"\n") and each.block.value.content_end == len(self.data)
 
     def contents(self) -> list[bytes]:
         """What its values have to be in the text."""
-        texts = {each.block.value: each.plaintext for each in self.opened}
+        texts = {each.block.value: each.plaintext for each in self.decrypted}
         return [texts.get(value, value.content) for value in self.found.values]
 
 
@@ -95,7 +95,7 @@ def _named(value: Value) -> bytes:
     return named(value).encode()
 
 
-def showing(data: bytes, opening: Opening, with_notes: bool) -> Showing:
+def showing(data: bytes, decrypt: Decrypt, with_notes: bool) -> Showing:
     """A file with its values in plaintext. Notes say which of them stay encrypted."""
     made = Showing(data, scan(data), NOTE if with_notes else b"")
     while made.note and made.note in data:
@@ -104,42 +104,42 @@ def showing(data: bytes, opening: Opening, with_notes: bool) -> Showing:
         if not blocks.is_envelope(value):
             continue
         try:
-            made.open(_opened(data, value, opening))
+            made.show(_decrypted(data, value, decrypt))
         except Refused as fault:
-            made.close(value, str(fault))
+            made.keep_encrypted(value, str(fault))
     if [value.content for value in scan(made.text()).values] != made.contents():
         raise Refused("its values cannot be shown as literals of YAML")
     return made
 
 
-def _opened(data: bytes, value: Value, opening: Opening) -> Opened:
+def _decrypted(data: bytes, value: Value, decrypt: Decrypt) -> Decrypted:
     block = blocks.block_of(data, value)
-    secret, plaintext = opening(block.envelope)
+    secret, plaintext = decrypt(block.envelope)
     if "@" in block.label:
         raise Refused(f"no option can give the label {block.label}, which has an @")
     why = literals.obstacle(plaintext)
     if why:
         raise Refused(why)
-    return Opened(block, secret, plaintext)
+    return Decrypted(block, secret, plaintext)
 
 
-def sealed(shown: Showing, text: bytes, tool: Tool, choice: Choice) -> bytes:
+def encrypted(shown: Showing, text: bytes, tool: Tool, choice: Choice) -> bytes:
     """The file for an edited text."""
     found = scan(text)
     _check_hidden(shown.found, found)
     typed = [Typed(value, _plain(value)) for value in found.values if not blocks.is_envelope(value)]
     changes = [Change(start, end, b"") for start, end in found.comments if _is_note(shown, text[start:end])]
-    for (value, plaintext), fate in zip(typed, matching.fates(shown.opened, typed, choice)):
-        if fate.key is None:
-            changes += fate.block.block.in_place_of(value)
+    for (value, plaintext), action in zip(typed, matching.actions(shown.decrypted, typed, choice)):
+        if action.key is None:
+            changes += action.block.block.in_place_of(value)
             continue
-        envelope = tool.seal(plaintext, *fate.key)
-        if fate.block:
-            changes += fate.block.block.resealed(value, envelope)
+        envelope = tool.encrypt(plaintext, *action.key)
+        if action.block:
+            changes += action.block.block.replace(value, envelope)
         else:
             changes += blocks.new_block(value, envelope, blocks.line_end(text, value.line_end))
     after = blocks.changed(text, changes)
-    has_end_of_ours = any(map(shown.lacks_end, shown.opened))
+    has_end_of_ours = any(map(shown.needs_final_newline, shown.decrypted))
     return after.removesuffix(b"\n").removesuffix(b"\r") if has_end_of_ours else after
 
 

@@ -1,4 +1,4 @@
-"""What is plaintext where an envelope is to be. No secret is needed to see it."""
+"""Finds plaintext where there has to be an envelope. This takes no secret."""
 
 from __future__ import annotations
 
@@ -31,7 +31,7 @@ ITEM = re.compile(rb"^[ \t]*-[ \t]", re.MULTILINE)
 
 
 def is_whole(text: bytes) -> bool:
-    """Whether an envelope has a header, and behind it nothing but the digits of salt, tag and ciphertext."""
+    """Whether an envelope has a header, and after it nothing but the digits of salt, tag and ciphertext."""
     header = HEADER.match(text)
     if not header:
         return False
@@ -80,7 +80,7 @@ def decrypted(before: bytes, after: bytes) -> str | None:
     if before.startswith(MAGIC):
         was_damaged = not is_whole(before)
         is_encrypted = is_whole(after) or (was_damaged and after.startswith(MAGIC))
-        return None if is_encrypted or not after.strip() else "was a vault in the parent commit, and is none now"
+        return None if is_encrypted or not after.strip() else "was a vault in the parent commit, and is not one now"
     names = now_plain(before, after)
     return f"has {', '.join(names)} in plaintext, encrypted in the parent commit" if names else None
 

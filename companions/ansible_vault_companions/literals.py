@@ -28,7 +28,7 @@ BELOW = "stands below its tag; write it in the line of `!vault`"
 SEVERAL_LINES = "continues in further lines; write `!vault |-`, and its lines below"
 FOLDED = "is a folded scalar (`>`); write `!vault |-`, and its lines below"
 NOTHING = 'is missing after `!vault`; write `""` for an empty one'
-NO_TEXT = "is no text: a list, a mapping, a key or an alias"
+NO_TEXT = "is not a string: a list, a mapping, a key or an alias"
 SURROGATE = "has an escape for half of a character; write the character"
 STRANGE_ESCAPE = "has an escape that YAML does not have"
 
@@ -71,18 +71,18 @@ def is_envelope(text: bytes) -> bool:
     return text.lstrip(b"\"' \t\r\n").startswith(MAGIC)
 
 
-def marks(text: bytes, indentation: int) -> bytes:
-    """What begins the literal, whose lines are indented so much more than its key."""
-    sign = b"-" if not text.endswith(b"\n") else b"+" if text == b"\n" or text.endswith(b"\n\n") else b""
+def header(text: bytes, indentation: int) -> bytes:
+    """The header of a literal whose lines are indented by this many columns more than its key."""
+    chomping = b"-" if not text.endswith(b"\n") else b"+" if text == b"\n" or text.endswith(b"\n\n") else b""
     if not BEGINS_WITH_BLANK.match(text):
-        return b"|" + sign
+        return b"|" + chomping
     if indentation > MOST_INDENTATION:
         raise Refused(TOO_DEEP)
-    return b"|%d%s" % (indentation, sign)
+    return b"|%d%s" % (indentation, chomping)
 
 
 def lines(text: bytes, spaces: int, end: bytes) -> bytes:
-    """Its lines behind spaces, each behind the end of the line above; the end of the last is none of them."""
+    """Its lines, indented, each after the line ending of the one above; no line ending follows the last."""
     if not text:
         return b""
     margin = b" " * spaces

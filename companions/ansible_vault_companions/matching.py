@@ -1,14 +1,14 @@
 """Which of the values that stood encrypted in a file are those of its edited text.
 
-A value is known by the keys that lead to it, and in lists by its text and its place. Where that does not tell the
-secret that it is to get, it is refused.
+A value is identified by the keys that lead to it, and in lists by its text and its position. If that leaves open
+which secret it gets, it is refused.
 """
 
 from __future__ import annotations
 
 from typing import NamedTuple
 
-from ansible_vault_companions.blocks import Opened, named
+from ansible_vault_companions.blocks import Decrypted, named
 from ansible_vault_companions.program import Refused
 from ansible_vault_companions.secret_files import Secret
 from ansible_vault_companions.yaml_values import Value
@@ -29,11 +29,11 @@ class Typed(NamedTuple):
     plaintext: bytes
 
 
-class Fate(NamedTuple):
+class Action(NamedTuple):
     """What becomes of a value: it keeps the envelope of a block, or is encrypted by a key, and if it was changed,
     with the looks of a block."""
 
-    block: Opened | None
+    block: Decrypted | None
     key: Key | None = None
 
 
@@ -66,14 +66,14 @@ def unclear(value: Value, why: str) -> Refused:
     return Refused(f"line {value.line}: {named(value)} {why}")
 
 
-def fates(blocks: list[Opened], typed: list[Typed], choice: Choice) -> list[Fate]:
+def actions(blocks: list[Decrypted], typed: list[Typed], choice: Choice) -> list[Action]:
     """What becomes of each value."""
-    found: dict[int, Fate] = {}
-    left: dict[tuple[str, ...], list[Opened]] = {}
+    found: dict[int, Action] = {}
+    left: dict[tuple[str, ...], list[Decrypted]] = {}
     for block in blocks:
         left.setdefault(block.path, []).append(block)
     _keep(found, left, typed)
-    kept = [fate.block for fate in found.values()]
+    kept = [action.block for action in found.values()]
     unkept = [block for block in blocks if block not in kept]
     for path in dict.fromkeys(each.value.path for each in typed):
         numbers = [number for number, each in enumerate(typed) if each.value.path == path and number not in found]
@@ -81,40 +81,40 @@ def fates(blocks: list[Opened], typed: list[Typed], choice: Choice) -> list[Fate
             _change(found, left[path], [(number, typed[number]) for number in numbers], choice)
     for number, each in enumerate(typed):
         if number not in found:
-            found[number] = _moved(unkept, each.plaintext) or Fate(None, choice.key(each.value))
+            found[number] = _moved(unkept, each.plaintext) or Action(None, choice.key(each.value))
     return [found[number] for number in range(len(typed))]
 
 
-def _keep(found: dict[int, Fate], left: dict[tuple[str, ...], list[Opened]], typed: list[Typed]) -> None:
+def _keep(found: dict[int, Action], left: dict[tuple[str, ...], list[Decrypted]], typed: list[Typed]) -> None:
     """Those that stayed as they were."""
     for number, each in enumerate(typed):
         candidates = left.get(each.value.path, [])
         same = next((block for block in candidates if block.plaintext == each.plaintext), None)
         if same:
             candidates.remove(same)
-            found[number] = Fate(same)
+            found[number] = Action(same)
 
 
-def _change(found: dict[int, Fate], left: list[Opened], typed: list[tuple[int, Typed]], choice: Choice) -> None:
+def _change(found: dict[int, Action], left: list[Decrypted], typed: list[tuple[int, Typed]], choice: Choice) -> None:
     """Those that were changed in their places: as many as there are blocks, or fewer, or more."""
     keys = {block.key for block in left}
     for place, (number, each) in enumerate(typed):
         if len(typed) == len(left):
-            found[number] = Fate(left[place], left[place].key)
+            found[number] = Action(left[place], left[place].key)
         elif len(typed) > len(left) and keys != {*choice.keys()}:
             raise unclear(each.value, NEW_OR_CHANGED)
         elif len(keys) == 1:
-            found[number] = Fate(left[0], left[0].key)
+            found[number] = Action(left[0], left[0].key)
         elif choice.label is not None:
-            found[number] = Fate(None, choice.key(each.value))
+            found[number] = Action(None, choice.key(each.value))
         else:
             raise unclear(each.value, SEVERAL)
 
 
-def _moved(unkept: list[Opened], plaintext: bytes) -> Fate | None:
+def _moved(unkept: list[Decrypted], plaintext: bytes) -> Action | None:
     """The envelope of a value that has another key now."""
     candidates = [block for block in unkept if block.plaintext == plaintext]
     if len({block.key for block in candidates}) != 1:
         return None
     unkept.remove(candidates[0])
-    return Fate(candidates[0])
+    return Action(candidates[0])

@@ -15,7 +15,7 @@ from typing import NamedTuple
 
 from ansible_vault_companions import blocks, stopping
 from ansible_vault_companions.blocks import Block, Change
-from ansible_vault_companions.inline import Opening
+from ansible_vault_companions.inline import Decrypt
 from ansible_vault_companions.envelopes import MAGIC, label_of
 from ansible_vault_companions.program import Refused
 from ansible_vault_companions.secret_files import Secret
@@ -24,9 +24,9 @@ from ansible_vault_companions.yaml_values import Style, scan
 
 # What git names the sides of a conflict by.
 SIDES = ("ours", "base", "theirs")
-# A status above it is that of a failure, and none counts the conflicts.
+# The status of `git merge-file` is the number of conflicts, up to this; a greater one is a failure.
 MOST_CONFLICTS = 127
-KINDS_DIFFER = "one side is a vault and the other is none"
+KINDS_DIFFER = "one side is a vault and the other is not"
 LABELS_DIFFER = "the labels differ: {} in ours, {} in theirs"
 SECRETS_DIFFER = "both sides have put it under new secrets, and these differ"
 
@@ -37,7 +37,7 @@ class Merged(NamedTuple):
 
 
 class Version(NamedTuple):
-    """A vault of one side, opened."""
+    """The vault of one side, decrypted."""
 
     envelope: bytes
     label: str
@@ -59,7 +59,7 @@ def merged_lines(ours: bytes, base: bytes, theirs: bytes) -> Merged:
         for file in files:
             os.close(file)
     if not 0 <= done.returncode <= MOST_CONFLICTS:
-        raise Refused("git merge-file cannot merge it; it may be no text")
+        raise Refused("git merge-file cannot merge it; it may be binary")
     return Merged(done.stdout, done.returncode)
 
 
@@ -70,20 +70,20 @@ def _in_memory(text: bytes) -> int:
     return file
 
 
-def merged(tool: Tool, opening: Opening, base: bytes, ours: bytes, theirs: bytes) -> Merged:
+def merged(tool: Tool, decrypt: Decrypt, base: bytes, ours: bytes, theirs: bytes) -> Merged:
     """The merged file, with how many conflicts are in it."""
     are_vaults = [each.startswith(MAGIC) for each in (ours, theirs)]
     if all(are_vaults):
-        return _merged_vaults(tool, opening, base, ours, theirs)
+        return _merged_vaults(tool, decrypt, base, ours, theirs)
     if any(are_vaults):
         raise Refused(KINDS_DIFFER)
     # A base that was a vault would show its plaintext in a conflict.
-    return Values(opening, b"" if base.startswith(MAGIC) else base, ours, theirs).merged(tool)
+    return Values(decrypt, b"" if base.startswith(MAGIC) else base, ours, theirs).merged(tool)
 
 
-def _merged_vaults(tool: Tool, opening: Opening, base: bytes, ours: bytes, theirs: bytes) -> Merged:
-    first, second = _opened(opening, ours), _opened(opening, theirs)
-    before = _opened(opening, base) if base.startswith(MAGIC) else None
+def _merged_vaults(tool: Tool, decrypt: Decrypt, base: bytes, ours: bytes, theirs: bytes) -> Merged:
+    first, second = _decrypted(decrypt, ours), _decrypted(decrypt, theirs)
+    before = _decrypted(decrypt, base) if base.startswith(MAGIC) else None
     if first.label != second.label:
         raise Refused(LABELS_DIFFER.format(first.label, second.label))
     text, conflicts = merged_lines(first.plaintext, before.plaintext if before else base, second.plaintext)
@@ -91,11 +91,11 @@ def _merged_vaults(tool: Tool, opening: Opening, base: bytes, ours: bytes, their
     for each in (first, second):
         if each.plaintext == text and _is_same(each.secret, secret):
             return Merged(each.envelope, conflicts)
-    return Merged(tool.seal(text, secret, first.label), conflicts)
+    return Merged(tool.encrypt(text, secret, first.label), conflicts)
 
 
-def _opened(opening: Opening, envelope: bytes) -> Version:
-    secret, plaintext = opening(envelope)
+def _decrypted(decrypt: Decrypt, envelope: bytes) -> Version:
+    secret, plaintext = decrypt(envelope)
     return Version(envelope, label_of(envelope) or "", secret, plaintext)
 
 
@@ -138,8 +138,8 @@ class _Side:
 class Values:
     """Three versions of YAML with tokens in the places of its blocks."""
 
-    def __init__(self, opening: Opening, base: bytes, ours: bytes, theirs: bytes) -> None:
-        self.opening = opening
+    def __init__(self, decrypt: Decrypt, base: bytes, ours: bytes, theirs: bytes) -> None:
+        self.decrypt = decrypt
         self.mark = f"ansible-vault-{randomness.token_hex(16)}".encode()
         self.tokens: dict[tuple, bytes] = {}
         self.ours, self.base, self.theirs = map(self._side, (ours, base, theirs))
@@ -156,7 +156,7 @@ class Values:
 
     def _place(self, block: Block) -> _Place:
         try:
-            secret, plaintext = self.opening(block.envelope)
+            secret, plaintext = self.decrypt(block.envelope)
             known_by = (block.label, plaintext)
         except Refused:
             secret, plaintext, known_by = None, b"", (block.envelope,)
@@ -185,9 +185,9 @@ class Values:
         if token is None:
             return b""
         block, envelope = self._chosen(tool, token)
-        body = block.body if envelope is None else _resealed(block, envelope)
+        body = block.body if envelope is None else _body_with(block, envelope)
         end = found["end"] if found["last"] is None else found["last"]
-        return block.marks + found["rest"] + body + end
+        return block.header + found["rest"] + body + end
 
     def _chosen(self, tool: Tool, token: bytes) -> tuple[Block, bytes | None]:
         """The block for a token, and another envelope where its secret is that of an older version."""
@@ -202,9 +202,9 @@ class Values:
             each and each.secret and each.block.label == chosen.block.label for each in (other, before)
         )
         if is_moved and _is_same(chosen.secret, before.secret) and not _is_same(other.secret, before.secret):
-            return chosen.block, tool.seal(chosen.plaintext, other.secret, chosen.block.label)
+            return chosen.block, tool.encrypt(chosen.plaintext, other.secret, chosen.block.label)
         return chosen.block, None
 
 
-def _resealed(block: Block, envelope: bytes) -> bytes:
-    return block.resealed(block.value, envelope)[1].text
+def _body_with(block: Block, envelope: bytes) -> bytes:
+    return block.replace(block.value, envelope)[1].text

@@ -18,7 +18,7 @@ ansible-vault, which is proved."""
 
 
 class Refused(Exception):
-    """Something is not done; the text says why. The status is that of the tool, where it is the tool's text."""
+    """Something is refused; the text says why. If the text is the tool's, so is the status."""
 
     def __init__(self, text: str, status: int = 1) -> None:
         super().__init__(text)
@@ -80,7 +80,7 @@ def run(name: str, main: Callable[[list[str]], int]) -> None:
     """Runs a companion over its words, and ends with its status or by a signal."""
     _prepare_streams()
     _prepare_signals()
-    # What is written to a core would be plaintext and passwords.
+    # A core dump would hold plaintext and passwords.
     resource.setrlimit(resource.RLIMIT_CORE, (0, resource.getrlimit(resource.RLIMIT_CORE)[1]))
     try:
         status = _status_of(main)
@@ -110,8 +110,8 @@ def _status_of(main: Callable[[list[str]], int]) -> int:
 
 
 def _prepare_streams() -> None:
-    """No file that is opened later gets the number of a stream that is closed, and reading or writing one
-    fails."""
+    """Opens /dev/null for each standard stream that is closed, so that no other file gets its number. Reading or
+    writing it still fails."""
     for number, mode in enumerate((os.O_WRONLY, os.O_RDONLY, os.O_RDONLY)):
         try:
             os.fstat(number)

@@ -12,8 +12,8 @@ TERMINAL = "/dev/tty"
 NO_TERMINAL = "there is no terminal to ask for the password"
 # What stands for a path in Ansible's options.
 PROMPT, ASK = "prompt", "prompt_ask_vault_pass"
-# What is asked to open, and what is asked to encrypt.
-TO_OPEN = {PROMPT: ["Vault password ({}): "], ASK: ["Vault password: "]}
+# The prompts for decrypting, and those for encrypting.
+TO_DECRYPT = {PROMPT: ["Vault password ({}): "], ASK: ["Vault password: "]}
 TO_ENCRYPT = {
     PROMPT: ["New vault password ({}): ", "Confirm new vault password ({}): "],
     ASK: ["New Vault password: ", "Confirm New Vault password: "],
@@ -21,8 +21,8 @@ TO_ENCRYPT = {
 
 
 def password(kind: str, label: str, encrypts: bool) -> bytes:
-    """What is typed, once to open and twice to encrypt."""
-    questions = (TO_ENCRYPT if encrypts else TO_OPEN)[kind]
+    """The password that is typed: once to decrypt, twice to encrypt."""
+    questions = (TO_ENCRYPT if encrypts else TO_DECRYPT)[kind]
     typed = [_answer(question.format(shown(label))) for question in questions]
     if len(set(typed)) > 1:
         raise Refused("the passwords that were typed differ")
@@ -37,7 +37,7 @@ def _answer(question: str) -> bytes:
     except EOFError:
         raise Refused("nothing was typed") from None
     except UnicodeError:
-        raise Refused("what was typed is no text") from None
+        raise Refused("what was typed is not valid text") from None
     typed = text.encode(errors="surrogateescape").strip()
     if not typed:
         raise Refused("an empty password was typed")

@@ -18,21 +18,17 @@ PRIVATE = 0o600
 NO_LINKS = (errno.EPERM, errno.EOPNOTSUPP, errno.ENOSYS, errno.EMLINK)
 
 
-class Changed(Refused):
-    """The file is no longer what it was when it was read."""
-
-
 def replace(path: str, content: bytes, before: bytes | None, is_private: bool = False) -> None:
-    """Puts content in the place of what stands there, and still is as it was read; links are followed. What is
-    private is for its owner alone, whatever the mode was. The folder is synced, so that the old content does
-    not come back after a power failure."""
+    """Replaces the content of a file that is still as it was read; links are followed. A private file is readable by
+    its owner only, whatever its mode was. The folder is synced, so that the old content does not come back after
+    a power failure."""
     target = os.path.realpath(path)
     beside = _write_beside(target, content, is_private)
     try:
         if files.read(target) != before:
-            raise Changed("it was changed meanwhile")
+            raise Refused("it was changed meanwhile")
         if before is None:
-            _make(beside, target)
+            _create(beside, target)
         else:
             os.replace(beside, target)
     except BaseException:
@@ -41,14 +37,14 @@ def replace(path: str, content: bytes, before: bytes | None, is_private: bool = 
     _sync(os.path.dirname(target))
 
 
-def rehearse(target: str) -> None:
+def check_replaceable(target: str) -> None:
     """Refuses now what `replace` would refuse."""
     if target in _mount_points():
         raise Refused("it is itself a mount point, so no other file can take its place")
     os.unlink(_write_beside(target, b""))
 
 
-def keep_somewhere(target: str, content: bytes) -> str:
+def save_copy(target: str, content: bytes) -> str:
     """The path of a new file with this content, for its owner alone: beside the target, or where
     temporary files stand."""
     try:
@@ -57,7 +53,7 @@ def keep_somewhere(target: str, content: bytes) -> str:
         return _write_new(tempfile.gettempdir(), content)
 
 
-def _make(beside: str, target: str) -> None:
+def _create(beside: str, target: str) -> None:
     """Gives a new file its name, which nobody else may have taken meanwhile."""
     try:
         try:
@@ -69,7 +65,7 @@ def _make(beside: str, target: str) -> None:
             os.replace(beside, target)
             return
     except FileExistsError:
-        raise Changed("it was made meanwhile") from None
+        raise Refused("it was created meanwhile") from None
     os.unlink(beside)
 
 
@@ -86,7 +82,7 @@ def _write_new(folder: str, content: bytes, like: str | None = None, is_private:
             file.write(content)
             file.flush()
             if like is not None:
-                _take_over(descriptor, like, is_private)
+                _copy_metadata(descriptor, like, is_private)
             os.fsync(descriptor)
     except BaseException:
         os.unlink(path)
@@ -94,9 +90,9 @@ def _write_new(folder: str, content: bytes, like: str | None = None, is_private:
     return path
 
 
-def _take_over(descriptor: int, target: str, is_private: bool) -> None:
-    """Owner, mode and attributes (as lists of access), in the order in which each leaves the others. What is
-    private has the owner alone."""
+def _copy_metadata(descriptor: int, target: str, is_private: bool) -> None:
+    """Copies owner, mode and extended attributes (such as ACLs), in the order in which none resets another. A
+    private file gets the owner only, and the mode 0600."""
     old, new = os.stat(target), os.fstat(descriptor)
     if stat.S_ISREG(old.st_mode) and old.st_nlink > 1:
         raise Refused(f"it has {old.st_nlink} names (hard links), and one alone would change")

@@ -32,7 +32,7 @@ def password(path: str, label: str) -> bytes:
         # A script may ask at the terminal by its streams. Of a client only faults are shown.
         done = stopping.run(words, stdout=subprocess.PIPE, stderr=subprocess.PIPE if is_client else None)
     except OSError as fault:
-        raise Refused(f"this script cannot be run: {reason(fault)}; if it is none, `chmod -x` it") from None
+        raise Refused(f"this script cannot be run: {reason(fault)}; if it is not a script, `chmod -x` it") from None
     if done.returncode != 0:
         raise Refused(_failure(done, is_client))
     return _whole(done.stdout.strip(b"\r\n"))
@@ -45,8 +45,8 @@ def _failure(done: subprocess.CompletedProcess, is_client: bool) -> str:
         why = "this script has no secret of this label"
     else:
         why = f"this script ended with status {done.returncode}"
-    told = " ".join((done.stderr or b"").decode(errors="replace").split())
-    return f"{why}: {shown(told)}" if told else why
+    message = " ".join((done.stderr or b"").decode(errors="replace").split())
+    return f"{why}: {shown(message)}" if message else why
 
 
 def _whole(password: bytes) -> bytes:

@@ -105,13 +105,13 @@ def from_options(
 
 
 def of_options(ids: list[str], paths: list[str], encrypts: bool = False) -> list[Secret]:
-    return [_got(source, encrypts) for source in [*map(_of_id, ids), *map(_of_path, paths)]]
+    return [_load(source, encrypts) for source in [*map(_of_id, ids), *map(_of_path, paths)]]
 
 
 def of_settings(companion: str, encrypts: bool = False) -> list[Secret]:
-    """The secrets that Ansible's settings name. What opens may lack some, as with Ansible; what encrypts may
-    not, since it would choose another."""
-    secrets = [_got(source, encrypts) for source in _sources(Settings(_warning(companion)))]
+    """The secrets that Ansible's settings name. To decrypt, some may be missing, as with Ansible; to encrypt, none
+    may, since another would be chosen."""
+    secrets = [_load(source, encrypts) for source in _sources(Settings(_warning(companion)))]
     there = [secret for secret in secrets if secret.descriptor is not None]
     if encrypts or not there:
         return secrets
@@ -145,7 +145,7 @@ def _of_id(text: str) -> Source:
     label, at, place = text.partition("@")
     if not at:
         label, place = "", text
-    if place in prompts.TO_OPEN:
+    if place in prompts.TO_DECRYPT:
         return Source(label, place, ASKING[1] if text == ASKED else text, is_prompt=True)
     return Source(label, settings.expanded(place), text)
 
@@ -154,9 +154,9 @@ def _of_path(path: str) -> Source:
     return Source(DEFAULT, settings.expanded(path), path)
 
 
-def _got(source: Source, encrypts: bool) -> Secret:
-    """The password is kept in memory for all runs of the tool: the file may be one that can be read but
-    once, as `<(..)`, or be gone before the last run. What cannot be read is left to the tool to refuse."""
+def _load(source: Source, encrypts: bool) -> Secret:
+    """Reads the password, which is kept in memory for all runs of the tool: a file such as `<(..)` can be read only
+    once, or may be gone before the last run. If it cannot be read, the tool reports that."""
     # As the value of --vault-id this name alone would ask for a password.
     path = "./prompt" if source.place == prompts.PROMPT else source.place
     secret = Secret(source.label or DEFAULT, path, source.given)

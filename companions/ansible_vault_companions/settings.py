@@ -78,10 +78,10 @@ def _configuration(warn: Callable[[str], None]) -> str | None:
     if _is_readable(named):
         return named
     places = [os.path.expanduser(HOME), SYSTEM]
-    if not _is_writable_for_all("."):
+    if not _is_world_writable("."):
         places.insert(0, NAME)
     elif os.path.exists(NAME):
-        warn(f"{shown(os.path.abspath(NAME))} is ignored, since everybody may write to its folder")
+        warn(f"{shown(os.path.abspath(NAME))} is ignored, since its folder is world-writable")
     return next(filter(_is_readable, places), None)
 
 
@@ -89,7 +89,7 @@ def _is_readable(path: str) -> bool:
     return os.path.exists(path) and os.access(path, os.R_OK)
 
 
-def _is_writable_for_all(folder: str) -> bool:
+def _is_world_writable(folder: str) -> bool:
     """Whether it is; and so is one that is not there."""
     try:
         return os.stat(folder).st_mode & stat.S_IWOTH != 0

@@ -1,8 +1,7 @@
-"""How a companion ends by a signal: between its steps and never inside of one, with nothing left behind.
+"""How a signal ends a companion: between its steps and never within one, and with nothing left behind.
 
-A signal is noted and passed on to the programs that run; what comes of it is an exception before or
-behind the run of a program, or where a password is waited for, and nowhere else. So what stands in a
-`finally` is always done whole.
+A signal is recorded, and forwarded to the programs that run. It raises an exception only before or after the
+run of a program, or while a password is awaited. So a `finally` block is never interrupted.
 """
 
 from __future__ import annotations
@@ -12,7 +11,7 @@ import signal
 import subprocess
 import time
 from contextlib import contextmanager, suppress
-from typing import Iterable, Iterator, NoReturn
+from typing import Iterator, NoReturn
 
 # Those that cannot be noted, that end no program by default, and that a fault of Python itself would
 # raise again at once.
@@ -20,15 +19,15 @@ NOT_NOTED = ("KILL", "STOP", "CHLD", "CONT", "URG", "WINCH", "TSTP", "TTIN", "TT
 # All others: those of real time among them.
 ENDING = sorted(signal.valid_signals() - {getattr(signal, f"SIG{name}") for name in NOT_NOTED})
 # What a terminal sends to all that run on it.
-KEYS = {signal.SIGINT, signal.SIGQUIT}
+KEYBOARD_SIGNALS = {signal.SIGINT, signal.SIGQUIT}
 # Seconds.
-PATIENCE = 5
+GRACE_PERIOD = 5
 
 _noted: list[int] = []
 _left_to_programs: set[int] = set()
 _running: set[subprocess.Popen] = set()
 # What these started, where a signal was passed on to it.
-_reached: set[int] = set()
+_signalled: set[int] = set()
 _is_interruptible = False
 
 
@@ -57,20 +56,20 @@ def _note(number: int, _frame) -> None:
 def _pass_on(program: subprocess.Popen, number: int) -> None:
     """To a program and all that it started, as the shell of an editor starts the editor."""
     if program.returncode is None:
-        _reached.update(_below(program.pid))
+        _signalled.update(_descendants(program.pid))
     program.send_signal(number)
-    for process in _reached:
+    for process in _signalled:
         with suppress(OSError):
             os.kill(process, number)
 
 
-def _below(process: int) -> list[int]:
+def _descendants(process: int) -> list[int]:
     try:
         with open(f"/proc/{process}/task/{process}/children") as file:
             children = [int(word) for word in file.read().split()]
     except OSError:
         return []
-    return [each for child in children for each in (child, *_below(child))]
+    return [each for child in children for each in (child, *_descendants(child))]
 
 
 def _is_alive(process: int) -> bool:
@@ -81,10 +80,10 @@ def _is_alive(process: int) -> bool:
         return False
 
 
-def _wait_for_reached() -> None:
+def _wait_for_signalled() -> None:
     """What is ended by the signal, too, may still write where something is to be removed."""
-    end = time.monotonic() + PATIENCE
-    while any(map(_is_alive, _reached)) and time.monotonic() < end:
+    end = time.monotonic() + GRACE_PERIOD
+    while any(map(_is_alive, _signalled)) and time.monotonic() < end:
         time.sleep(0.02)
 
 
@@ -106,7 +105,7 @@ def interruptible() -> Iterator[None]:
         _is_interruptible = False
 
 
-def leave_signals() -> None:
+def restore_signals() -> None:
     """Signals are those of the program that takes the place of this one; Python ignores some."""
     for number in (signal.SIGPIPE, signal.SIGXFSZ):
         signal.signal(number, signal.SIG_DFL)
@@ -128,16 +127,16 @@ def run(words: list[str], data: bytes | None = None, **options) -> subprocess.Co
             if _noted:
                 _pass_on(program, _noted[0])
             output, errors = program.communicate(data)
-            _wait_for_reached()
+            _wait_for_signalled()
         finally:
             _running.discard(program)
     check()
     return subprocess.CompletedProcess(words, program.returncode, output, errors)
 
 
-def run_on_terminal(words: list[str], own: Iterable[int] = KEYS) -> int:
+def run_on_terminal(words: list[str]) -> int:
     """Runs a program that has the terminal, and so the signals of its keys, for itself."""
-    _left_to_programs.update(own)
+    _left_to_programs.update(KEYBOARD_SIGNALS)
     try:
         return run(words).returncode
     finally:

@@ -1,4 +1,4 @@
-"""The ansible-vault that does all that is secret. Plaintext and envelopes go through pipes alone."""
+"""Runs ansible-vault, which does all encryption and decryption. Plaintext and envelopes pass only through pipes."""
 
 from __future__ import annotations
 
@@ -14,7 +14,7 @@ from ansible_vault_companions.program import Refused
 from ansible_vault_companions.secret_files import Secret
 
 NAME = "ansible-vault"
-NOT_OPENED = "no secret decrypts this vault"
+NOT_DECRYPTED = "no secret decrypts this vault"
 NOT_A_VAULT = "input is not vault encrypted data"
 # The first bytes of a program that the system runs by itself, and so of no script.
 ELF = b"\x7fELF"
@@ -23,7 +23,7 @@ OF_SECRETS = ("a password", "a vault id label", "asking for a password")
 
 
 class SecretRefused(Refused):
-    """The tool does not take a secret, whatever it is to open."""
+    """The tool refuses a secret, whatever it is to decrypt."""
 
 
 class Tool:
@@ -32,7 +32,7 @@ class Tool:
     def __init__(self, companion: str) -> None:
         path = beside(companion, NAME) or shutil.which(NAME)
         if path is None:
-            raise Refused(f"there is no {NAME} beside this program and on PATH")
+            raise Refused(f"there is no {NAME} beside this program or on PATH")
         if not (_has_messages(path) or _says_its_name(path)):
             raise Refused(f"{path} is another tool of this name")
         self.path = path
@@ -46,13 +46,13 @@ class Tool:
             raise _refusal(done)
         return done.stdout
 
-    def become(self, words: list[str], secrets: list[Secret]) -> NoReturn:
-        """The tool takes the place of this program, and has its streams."""
+    def exec(self, words: list[str], secrets: list[Secret]) -> NoReturn:
+        """Replaces this process by the tool, which inherits its streams."""
         for secret in secrets:
             if secret.descriptor is not None:
                 os.set_inheritable(secret.descriptor, True)
         stopping.check()
-        stopping.leave_signals()
+        stopping.restore_signals()
         os.execv(self.path, [self.path, *words])
 
     def view(self, envelope: bytes, secret: Secret) -> bytes:
@@ -75,18 +75,18 @@ class Tool:
                 if str(fault) != NOT_A_VAULT:
                     raise Refused(f"{secret.given}: {fault}", fault.status) from None
 
-    def open(self, envelope: bytes, secrets: list[Secret]) -> tuple[Secret, bytes]:
-        """The secret that opens it, those of its label first, and the plaintext."""
+    def decrypt(self, envelope: bytes, secrets: list[Secret]) -> tuple[Secret, bytes]:
+        """The secret that decrypts it, and the plaintext; secrets with its label are tried first."""
         label = label_of(envelope)
         for secret in sorted(secrets, key=lambda each: each.label != label):
             try:
                 return secret, self.view(envelope, secret)
             except Refused as fault:
-                if str(fault) != NOT_OPENED:
+                if str(fault) != NOT_DECRYPTED:
                     raise
-        raise Refused(NOT_OPENED)
+        raise Refused(NOT_DECRYPTED)
 
-    def seal(self, plaintext: bytes, secret: Secret, label: str) -> bytes:
+    def encrypt(self, plaintext: bytes, secret: Secret, label: str) -> bytes:
         """The plaintext under a secret and this label."""
         return self.run(["encrypt", secret.option(label=label)], plaintext, [secret])
 
@@ -110,7 +110,7 @@ def _has_messages(path: str) -> bool:
             program = file.read()
     except OSError:
         return False
-    return program.startswith(ELF) and NOT_OPENED.encode() in program
+    return program.startswith(ELF) and NOT_DECRYPTED.encode() in program
 
 
 def _says_its_name(path: str) -> bool:

@@ -11,7 +11,7 @@ STANDARD_INPUT = "-"
 END = "--"
 HELP = ("-h", "--help")
 VERSION = ("-V", "--version")
-# How much Ansible's tool tells, which the tool has not.
+# The options for verbosity of Ansible's tool, which ansible-vault does not have.
 VERBOSE = ("-v", "-vv", "-vvv", "-vvvv", "-vvvvv", "-vvvvvv", "--verbose")
 # Options that have a value, but for those that name secrets.
 ENCRYPT_ID, OUTPUT, SALT = "--encrypt-vault-id", "--output", "--salt"

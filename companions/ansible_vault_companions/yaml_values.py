@@ -24,13 +24,13 @@ LINE_END = re.compile(rb"\r?\n")
 REST_OF_LINE = re.compile(rb"[^\n]*?(?=\r?\n|\Z)")
 # An indicator is followed by a blank or the end of a line.
 INDICATOR = re.compile(rb"[-?:](?=[ \t\r\n]|\Z)")
-DOCUMENT_MARK = re.compile(rb"(?:---|\.\.\.)(?=[ \t\r\n]|\Z)")
-MERGE_MARK = re.compile(rb"(?P<mark><{7}|\|{7}|={7}|>{7})(?:[ \t][^\r\n]*)?(?=\r?\n|\Z)")
+DOCUMENT_MARKER = re.compile(rb"(?:---|\.\.\.)(?=[ \t\r\n]|\Z)")
+CONFLICT_MARKER = re.compile(rb"(?P<mark><{7}|\|{7}|={7}|>{7})(?:[ \t][^\r\n]*)?(?=\r?\n|\Z)")
 TAG = re.compile(rb"![^ \t\r\n]*")
 TAG_IN_FLOW = re.compile(rb"![^ \t\r\n,\[\]{}]*")
 ANCHOR_OR_ALIAS = re.compile(rb"[&*][^ \t\r\n,\[\]{}:]*")
 BLOCK_HEADER = re.compile(
-    rb"[|>](?P<marks>(?P<sign>[+-]?)(?P<digit>[1-9]?)|(?P<digit_first>[1-9])(?P<sign_last>[+-]))"
+    rb"[|>](?P<indicators>(?P<chomping>[+-]?)(?P<indent>[1-9]?)|(?P<indent_first>[1-9])(?P<chomping_last>[+-]))"
     rb"(?P<rest>[ \t]*(?:#[^\r\n]*)?)(?=\r?\n|\Z)"
 )
 QUOTED = {
@@ -77,9 +77,9 @@ class Value:
     is_below: bool
     # Of a block scalar the text, of others how they are written.
     content: bytes
-    # Places: its first byte; the end of the marks of a block scalar, or of another; the end of that line; its end.
+    # Offsets: the first byte; the end of a block scalar's header, or of another scalar; the end of that line; the end.
     start: int
-    marks_end: int
+    header_end: int
     line_end: int
     end: int
     # The end without the empty lines that belong to it.
@@ -105,7 +105,6 @@ class Scan:
     hidden: list[Hidden] = field(default_factory=list)
     # Comments with a line of their own: where each begins, and the next line.
     comments: list[tuple[int, int]] = field(default_factory=list)
-    conflicts: int = 0
 
 
 def scan(data: bytes) -> Scan:
@@ -250,7 +249,7 @@ class _Scanner:
     def _token(self) -> None:
         first = self.data[self.place : self.place + 1]
         is_indicator = INDICATOR.match(self.data, self.place) is not None
-        if self.place == self.line_start and self._mark_of_line():
+        if self.place == self.line_start and self._is_marker_line():
             return
         if first in (b"[", b"{"):
             self._begin_flow()
@@ -279,9 +278,9 @@ class _Scanner:
         else:
             raise self._fault("it cannot be read as YAML")
 
-    def _mark_of_line(self) -> bool:
+    def _is_marker_line(self) -> bool:
         """Whether this line is one of documents, of a directive or of a merge."""
-        found = MERGE_MARK.match(self.data, self.place)
+        found = CONFLICT_MARKER.match(self.data, self.place)
         if found and self._side(found["mark"][:1]):
             self.place = found.end()
             return True
@@ -290,7 +289,7 @@ class _Scanner:
         if self.data.startswith(b"%", self.place):
             self.place = REST_OF_LINE.match(self.data, self.place).end()
             return True
-        found = DOCUMENT_MARK.match(self.data, self.place)
+        found = DOCUMENT_MARKER.match(self.data, self.place)
         if found:
             self._end_node()
             self.levels, self.is_open, self.allows_key = [], True, False
@@ -303,7 +302,6 @@ class _Scanner:
             return False
         self._end_node()
         if mark == b"<":
-            self.found.conflicts += 1
             self.side = _State([*self.levels], [*self.flow], self.is_open)
         elif mark == b">":
             self.side = None
@@ -437,7 +435,7 @@ class _Scanner:
         style = Style.LITERAL if self.data.startswith(b"|", self.place) else Style.FOLDED
         if not self.tag:
             self._note_hidden(header.end(), body.end)
-        self._take(style, header.end("marks"), header.end("rest"), body.end, body.content_end, body.text)
+        self._take(style, header.end("indicators"), header.end("rest"), body.end, body.content_end, body.text)
         self._end_scalar(body.end)
         self.allows_key = True
 
@@ -463,8 +461,9 @@ class _Scanner:
             place = GAP.match(self.data, end).end()
             line_start = self.data.rfind(b"\n", end, place) + 1
             is_outside = line_start and not self.flow and place - line_start <= self._level_column()
-            is_mark = line_start == place and any(mark.match(self.data, place) for mark in (MERGE_MARK, DOCUMENT_MARK))
-            if place == end or self.data.startswith(b"#", place) or is_outside or is_mark:
+            markers = (CONFLICT_MARKER, DOCUMENT_MARKER)
+            is_marker = line_start == place and any(marker.match(self.data, place) for marker in markers)
+            if place == end or self.data.startswith(b"#", place) or is_outside or is_marker:
                 break
         return end
 
@@ -485,11 +484,11 @@ class _Scanner:
         self.place = end
         self.is_open = False
 
-    def _take(self, style: Style, marks_end: int, line_end: int, end: int, content_end: int, content: bytes) -> None:
+    def _take(self, style: Style, header_end: int, line_end: int, end: int, content_end: int, content: bytes) -> None:
         """The value of the tag, where one stands before it."""
         tag, self.tag = self.tag, None
         if tag:
-            places = (self.place, marks_end, line_end, end, content_end)
+            places = (self.place, header_end, line_end, end, content_end)
             self.found.values.append(Value(style, *tag, self.line > tag.line, content, *places))
 
     def _take_nothing(self) -> None:
@@ -503,19 +502,19 @@ class _Body:
     """The lines of a block scalar."""
 
     def __init__(self, data: bytes, header: re.Match[bytes], least: int) -> None:
-        sign = header["sign"] or header["sign_last"]
-        digit = header["digit"] or header["digit_first"]
+        chomping = header["chomping"] or header["chomping_last"]
+        explicit_indent = header["indent"] or header["indent_first"]
         end = LINE_END.match(data, header.end())
         first = end.end() if end else len(data)
-        indent = least + int(digit) - 1 if digit else max(least, _detected(data, first))
+        indent = least + int(explicit_indent) - 1 if explicit_indent else max(least, _detected(data, first))
         lines, ends = _lines(data, first, indent)
         count = len(lines)
         while count and not lines[count - 1]:
             count -= 1
         has_end = bool(count) and ends[count - 1] < len(data)
-        kept = len(lines) - count if sign == b"+" else 0
+        kept = len(lines) - count if chomping == b"+" else 0
         self.text = b"\n".join(lines[:count])
-        if sign != b"-" and has_end:
+        if chomping != b"-" and has_end:
             self.text += b"\n"
         self.text += b"\n" * kept
         self.content_end = ends[count - 1] if count else header.end()
@@ -536,7 +535,7 @@ def _detected(data: bytes, place: int) -> int:
 
 
 def _lines(data: bytes, place: int, indent: int) -> tuple[list[bytes], list[int]]:
-    """The lines that belong to a block scalar, behind their indentation, and where each ends."""
+    """The lines of a block scalar, without their indentation, and where each ends."""
     lines, ends = [], []
     margin = b" " * indent
     while place < len(data):

@@ -57,8 +57,8 @@ class Cases(Outcome):
         return str(path)
 
     def device(self, name: str) -> str:
-        """The path of a device, of the tests' own where one can be made: a wrong program that root runs
-        would change that of the system."""
+        """The path of a device node, a private one if it can be created: run by root, a faulty program would change
+        that of the system."""
         path = self.path()
         try:
             os.mknod(path, stat.S_IFCHR, os.stat(f"/dev/{name}").st_rdev)
@@ -69,8 +69,7 @@ class Cases(Outcome):
         return path
 
     def program_for_all(self) -> str | None:
-        """A copy of the program that everybody may run; None where nobody else comes to the folder of the
-        tests."""
+        """A copy of the program that everybody may run; None if other users cannot reach the folder of the tests."""
         copy = self.file(Path(self.program).read_bytes(), 0o755)
         self.folder.chmod(0o755)
         try:
@@ -96,7 +95,7 @@ class Cases(Outcome):
     def refused(self, name, words, fault: Fault, stdin=b"") -> None:
         self.run(name, words, stdin, fault.status, b"", fault.line)
 
-    def opens(self, name, options, vault, plaintext) -> None:
+    def decrypts(self, name, options, vault, plaintext) -> None:
         for command in READING:
             self.run(f"{command}, {name}", [command, *options], vault, 0, plaintext)
 
@@ -104,13 +103,13 @@ class Cases(Outcome):
         for command in READING:
             self.refused(f"{command}, {name}", [command, *options], fault, stdin)
 
-    def no_command_line(self, name, words, part: bytes) -> None:
+    def usage_error(self, name, words, part: bytes) -> None:
         """The parser refuses the words in a text that holds this part."""
         self.run(name, words, status=2, err=lambda text: part in text)
 
     def run_streams(self, name, words, status, err=None, **streams) -> None:
-        """With streams of the case's own, of which standard output is dropped by default; `err` is looked at only
-        where it is given."""
+        """Runs with these streams. Standard output is discarded by default; standard error is checked only if `err`
+        is given."""
         given = {"stdout": subprocess.DEVNULL, "stderr": subprocess.DEVNULL if err is None else subprocess.PIPE}
         done = subprocess.run([self.program, *words], timeout=SECONDS, **given | streams)
         self.check(f"{name}: status", done.returncode, status)

@@ -1,5 +1,5 @@
-"""Standard streams that are closed at the start: reading or writing one fails, and no file changes but
-the output, which is a prefix where a write fails.
+"""Standard streams that are closed at the start: reading or writing one fails. No file changes except the output,
+which holds a prefix if a write fails.
 """
 
 import concurrent.futures
@@ -14,7 +14,7 @@ from typing import NamedTuple
 
 from cases import SECONDS, TEXT, Cases, answer_of, by_file
 from cases.samples import Sample, samples
-from lib.mounts import PAGE, file_system
+from lib.mounts import PAGE, tmpfs
 from model.compared import contents
 from model.faults import Fault
 
@@ -25,7 +25,7 @@ STREAMS = {None: 1, "/dev/stdin": 0, "/dev/stdout": 1, "/dev/stderr": 2, "/dev/f
 OLD = b"what stood here before\n"
 NEW_FILE, OLD_FILE = "new", "old"
 SIZE_LIMIT = 100
-# The write that fails, counted from 1, while those behind it do not.
+# The write that fails, counted from 1, while those after it do not.
 FAILING_WRITE = 1
 
 
@@ -92,7 +92,7 @@ def failed(fault: Fault, closed: set[int]) -> Left:
 
 
 def wanted(setting: Setting, sample: Sample) -> Left:
-    """What the run leaves by the law."""
+    """What the run has to leave."""
     stream = STREAMS.get(setting.output)
     if 0 in setting.closed and not setting.by_name:
         return failed(Fault.INPUT_NOT_READ, setting.closed)
@@ -160,7 +160,7 @@ def check_refused(cases: Cases, command: str, closed: set[int]) -> None:
 
 
 def check_text(cases: Cases, words: list[str], closed: set[int], whole, status: int) -> None:
-    """The parser's texts, of which a run with open streams tells the rest."""
+    """The parser's texts: a stream that is open gets what it gets in `whole`, a run with all streams open."""
     with tempfile.TemporaryDirectory() as folder:
         (Path(folder) / "stdin").touch()
         done = run_closed([cases.program, *words], closed, folder)
@@ -223,9 +223,9 @@ def test_full_standard_output(cases: Cases) -> None:
 def test_full_file_system(cases: Cases) -> None:
     writing = [sample.command for sample in samples(cases) if sample.command != "view"]
     folder = Path(cases.path())
-    with file_system(folder, PAGE) as is_mounted:
+    with tmpfs(folder, PAGE) as is_mounted:
         if not is_mounted:
-            return cases.left_out("closed streams and a full file system", "none can be mounted here")
+            return cases.skip("closed streams and a full file system", "none can be mounted here")
         for command, closed in itertools.product(writing, COMBINATIONS):
             path = folder / NEW_FILE
             check_write_fault(cases, "a full file system", command, closed, str(path))
@@ -235,7 +235,7 @@ def test_full_file_system(cases: Cases) -> None:
 def test_one_failing_write(cases: Cases) -> None:
     """A write fails, and the next one would not: the message does not come into the output."""
     if shutil.which("strace") is None:
-        return cases.left_out("a write that fails once", "strace is not installed (Debian's package strace)")
+        return cases.skip("a write that fails once", "strace is not installed (Debian's package strace)")
     inject = f"write:error=ENOSPC:when={FAILING_WRITE}"
     strace = ["strace", "-o", cases.path(), "-e", "trace=write", "-e", f"inject={inject}"]
     for sample, closed in itertools.product(samples(cases), COMBINATIONS):

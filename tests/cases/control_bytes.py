@@ -1,28 +1,28 @@
-"""Standard error is text: no byte below 32 but line ends, no 127, and none that is not of a character.
+"""Standard error is text: UTF-8 without control characters, except line feeds.
 
-Each control byte comes in each word of a command line, in a path, and in the files that a run reads.
+Each control character is put in each argument, in a path, and in the files that a run reads.
 """
 
 import itertools
 import os
+import unicodedata
 
 from cases import Cases, by_file
 from cases.modes import with_output
 from cases.samples import samples
 from model.vaults import HEADER
 
-LINE_END = 10
-# All but 0, which no word can hold, and two that are controls in other alphabets.
+# All of ASCII but 0, which no argument can hold, and two of U+0080 to U+009F.
 CONTROLS = [*map(chr, range(1, 32)), "\x7f", "\x1b[31m", "\x1b]0;title\x07", "\r\n", "\x80", "\x9b31m"]
 COMMANDS = ["encrypt", "decrypt", "view", "rekey", "encrypt_string"]
 
 
 def is_text(message: bytes) -> bool:
     try:
-        message.decode()
+        text = message.decode()
     except UnicodeDecodeError:
         return False
-    return all(byte == LINE_END or byte >= 32 and byte != 127 for byte in message)
+    return all(character == "\n" or unicodedata.category(character) != "Cc" for character in text)
 
 
 def check_text(cases: Cases, words: list, stdin: bytes = b"") -> None:

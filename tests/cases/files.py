@@ -84,8 +84,8 @@ def test_output_needed(cases: Cases) -> None:
 def test_outputs(cases: Cases) -> None:
     for sample in with_output(cases):
         new, old, name = cases.path(), cases.file(OLD, 0o640), sample.command
-        written(cases, f"{name} to a new file", sample, new, oct(0o600))
-        written(cases, f"{name} to an old file", sample, old, wanted_mode(sample, 0o640))
+        check_written(cases, f"{name} to a new file", sample, new, oct(0o600))
+        check_written(cases, f"{name} to an old file", sample, old, wanted_mode(sample, 0o640))
         cases.run(f"{name} to -", [*sample.words, "--output", "-"], sample.stdin, 0, sample.output)
         cases.check(f"{name}: no file called -", os.path.exists("-"), False)
         cases.run(f"{name} to a device", [*sample.words, "--output", cases.device("null")], sample.stdin)
@@ -95,7 +95,7 @@ def test_outputs(cases: Cases) -> None:
         )
 
 
-def written(cases: Cases, name: str, sample: Sample, path: str, wanted: str) -> None:
+def check_written(cases: Cases, name: str, sample: Sample, path: str, wanted: str) -> None:
     cases.run(name, [*sample.words, "--output", path], sample.stdin)
     cases.check(f"{name}: content", Path(path).read_bytes(), sample.output)
     cases.check(f"{name}: mode", mode(path), wanted)
@@ -138,7 +138,7 @@ def test_onto_the_input(cases: Cases) -> None:
         for sample in samples(cases, text):
             if sample.command not in ("view", "encrypt_string"):
                 path = cases.file(sample.stdin, 0o644)
-                written(
+                check_written(
                     cases, f"{sample.command} onto its input", Sample([*sample.words, path], NOT_ASKED, sample.output),
                     path, wanted_mode(sample, 0o644),
                 )
@@ -159,22 +159,22 @@ def test_refused_leaves_outputs(cases: Cases) -> None:
         runs = [(sample.words, stdin) for stdin in inputs]
         runs += [([*sample.words, *by_file(path)], sample.stdin) for path in (empty, missing, "prompt")]
         runs.append(([*sample.words, "--loud"], sample.stdin))
-        for place, (words, stdin) in enumerate(runs):
+        for index, (words, stdin) in enumerate(runs):
             new, old = cases.path(), cases.file(OLD, 0o640)
             for path in (new, old):
                 done = cases.done([*words, "--output", path], stdin)
                 cases.check(
-                    f"{sample.command}, refusal {place}: refused", (done.returncode != 0, done.stdout), (True, b"")
+                    f"{sample.command}, refusal {index}: refused", (done.returncode != 0, done.stdout), (True, b"")
                 )
-            cases.check(f"{sample.command}, refusal {place}: no new file", os.path.exists(new), False)
+            cases.check(f"{sample.command}, refusal {index}: no new file", os.path.exists(new), False)
             cases.check(
-                f"{sample.command}, refusal {place}: the old file", (Path(old).read_bytes(), mode(old)),
+                f"{sample.command}, refusal {index}: the old file", (Path(old).read_bytes(), mode(old)),
                 (OLD, oct(0o640)),
             )
 
 
 def test_order(cases: Cases) -> None:
-    """Which of two faults is told."""
+    """Which of two faults is reported."""
     empty, missing = cases.file(b""), cases.path()
     for sample in with_files(cases):
         out = [] if sample.command == "view" else ["--output", missing + "/x"]
@@ -212,7 +212,7 @@ def test_without_rights(cases: Cases) -> None:
     other = {"user": NOBODY, "group": NOBODY} if os.geteuid() == 0 else {}
     program = cases.program_for_all() if other else cases.program
     if program is None:
-        return cases.left_out("files without rights", "nobody else may run the program where it lies")
+        return cases.skip("files without rights", "nobody else may run the program where it lies")
     runs = lambda words, stdin: run_captured([program, *words], stdin, **other)
     locked, folder = cases.file(OLD, 0), cases.path()
     os.mkdir(folder, 0o555)

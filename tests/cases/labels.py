@@ -12,7 +12,7 @@ def test_vault_ids(cases: Cases) -> None:
         for path in (right, missing, "prompt"):
             cases.refuses(f"label {label!r:.20}", by_id(path, label), vault, Fault.BAD_LABEL)
     for label in ("a", "a b", "~!#$%&", "a" * 128):
-        cases.opens(f"label {label!r:.20}", by_id(right, label), vault, TEXT)
+        cases.decrypts(f"label {label!r:.20}", by_id(right, label), vault, TEXT)
     refused = [
         ("a prompt", ["--vault-id", "prompt"], Fault.PROMPT_SOURCE),
         ("a prompt with a label", ["--vault-id", "dev@prompt"], Fault.PROMPT_SOURCE),
@@ -32,13 +32,13 @@ def test_vault_ids(cases: Cases) -> None:
 
 
 def test_several_secrets(cases: Cases) -> None:
-    wrong = [cases.file(b"wrong %d\n" % place) for place in range(15)]
+    wrong = [cases.file(b"wrong %d\n" % index) for index in range(15)]
     right = cases.file(b"right\n")
-    many = [word for place, path in enumerate(wrong) for word in by_id(path, f"w{place}")]
+    many = [word for index, path in enumerate(wrong) for word in by_id(path, f"w{index}")]
     one, two = wrong[:2]
     for label in (b"", b"dev", b"w3"):
         vault = seal(b"right", TEXT, label)
-        opening = [
+        accepted = [
             ("the last of 16 vault ids", many + by_id(right, "dev")),
             ("the first of 16 vault ids", by_id(right, "x") + many),
             ("15 vault ids and a password file", by_file(right) + many),
@@ -48,15 +48,15 @@ def test_several_secrets(cases: Cases) -> None:
             ("a wrong secret with the label", by_id(right, "x") + by_id(one, label.decode() or "default")),
             ("the right secret twice", by_id(right) + by_id(right, "dev")),
         ]
-        for name, options in opening:
-            cases.opens(f"{name}, label {label}", options, vault, TEXT)
+        for name, options in accepted:
+            cases.decrypts(f"{name}, label {label}", options, vault, TEXT)
         cases.refuses("two wrong secrets", by_id(one, "dev") + by_file(two), vault, Fault.NO_SECRET_FITS)
         cases.refuses("15 wrong secrets", many, vault, Fault.NO_SECRET_FITS)
     # Keys are the same with and without a byte 00 at the end.
     short, long = b"abc", b"abc\x00"
     both = by_id(cases.file(short), "a") + by_id(cases.file(long), "b")
     for password in (short, long):
-        cases.opens(f"{password} of two alike", both, seal(password, TEXT, b"a"), TEXT)
+        cases.decrypts(f"{password} of two alike", both, seal(password, TEXT, b"a"), TEXT)
     for name, stdin, fault in (
         ("text", b"key: value\n", Fault.NOT_VAULT), ("odd digits", HEADER + b"\nabc", Fault.BAD_HEX),
         ("no parts", HEADER, Fault.BAD_PAYLOAD),

@@ -8,7 +8,7 @@ from pathlib import Path
 
 from cases import NOBODY, Cases, answer_of, by_file, run_captured
 from cases.samples import Sample, samples
-from lib.file_events import CLOSED, MODE_CHANGED, MODIFIED, FileEvents
+from lib.file_events import IN_ATTRIB, IN_CLOSE_WRITE, IN_MODIFY, FileEvents
 from model.faults import Fault
 from model.vaults import MAGIC
 
@@ -36,7 +36,7 @@ def under(cases: Cases, umask: str, sample: Sample, path: str) -> subprocess.Com
     return run_captured(words, sample.stdin)
 
 
-def written(cases: Cases, name: str, umask: str, sample: Sample, path: str, wanted: str) -> None:
+def check_written(cases: Cases, name: str, umask: str, sample: Sample, path: str, wanted: str) -> None:
     done = under(cases, umask, sample, path)
     name = f"{sample.command} {name} under umask {umask}"
     cases.check(name, answer_of(done), (0, b"", b""))
@@ -47,17 +47,17 @@ def written(cases: Cases, name: str, umask: str, sample: Sample, path: str, want
 def test_new_files(cases: Cases) -> None:
     for sample in with_output(cases):
         for umask in UMASKS:
-            written(cases, "to a new file", umask, sample, cases.path(), oct(0o600))
+            check_written(cases, "to a new file", umask, sample, cases.path(), oct(0o600))
             target, link = cases.path(), cases.path()
             os.symlink(target, link)
-            written(cases, "to a new file through a link", umask, sample, link, oct(0o600))
+            check_written(cases, "to a new file through a link", umask, sample, link, oct(0o600))
 
 
 def test_masked_new_file(cases: Cases) -> None:
-    """The umask takes from the mode, but for plaintext, whose mode is set."""
+    """The umask restricts the mode, except for plaintext, whose mode is set explicitly."""
     for sample in with_output(cases):
         wanted = oct(0o600 if sample.command == "decrypt" else 0o400)
-        written(cases, "to a new file", "277", sample, cases.path(), wanted)
+        check_written(cases, "to a new file", "277", sample, cases.path(), wanted)
 
 
 def test_old_files(cases: Cases) -> None:
@@ -65,7 +65,7 @@ def test_old_files(cases: Cases) -> None:
         for umask in UMASKS:
             for old in OLD_MODES:
                 path, wanted = cases.file(OLD, old), wanted_mode(sample, old)
-                written(cases, f"to a file of mode {old:o}", umask, sample, path, wanted)
+                check_written(cases, f"to a file of mode {old:o}", umask, sample, path, wanted)
 
 
 def test_links(cases: Cases) -> None:
@@ -75,10 +75,10 @@ def test_links(cases: Cases) -> None:
             target, link, twin = cases.file(OLD, 0o644), cases.path(), cases.path()
             wanted = wanted_mode(sample, 0o644)
             os.symlink(target, link)
-            written(cases, "through a link", umask, sample, link, wanted)
+            check_written(cases, "through a link", umask, sample, link, wanted)
             cases.check(f"{sample.command}: the link stays", os.readlink(link), target)
             os.link(cases.file(OLD, 0o644), twin)
-            written(cases, "to a hard link", umask, sample, twin, wanted)
+            check_written(cases, "to a hard link", umask, sample, twin, wanted)
             cases.check(f"{sample.command}: both names stay", os.stat(twin).st_nlink, 2)
 
 
@@ -120,13 +120,15 @@ def test_sockets(cases: Cases) -> None:
 
 
 def test_order(cases: Cases) -> None:
-    """The file is cut to nothing, then it is made its owner's, and only then the plaintext comes."""
+    """The file is truncated, then made private, and only then is the plaintext written."""
     for sample in with_output(cases):
         path = cases.file(OLD, 0o644)
         events = FileEvents(path)
         cases.run(f"{sample.command} to a watched file", [*sample.words, "--output", path], sample.stdin)
-        wanted = [MODIFIED, MODE_CHANGED, MODIFIED, CLOSED] if sample.command == "decrypt" else [MODIFIED, CLOSED]
-        cases.check(f"{sample.command}: what happened to the file", events.told(), wanted)
+        wanted = [IN_MODIFY, IN_CLOSE_WRITE]
+        if sample.command == "decrypt":
+            wanted = [IN_MODIFY, IN_ATTRIB, *wanted]
+        cases.check(f"{sample.command}: what happened to the file", events.read(), wanted)
 
 
 def test_refused(cases: Cases) -> None:
@@ -143,12 +145,12 @@ def test_refused(cases: Cases) -> None:
 
 
 def test_of_another_owner(cases: Cases) -> None:
-    """Whose mode cannot be changed gets no plaintext; the program runs as somebody else for that."""
+    """No plaintext is written to a file whose mode cannot be changed; to test this, another user runs the program."""
     if os.geteuid() != 0:
-        return cases.left_out("a file of another owner", "that takes the rights of root")
+        return cases.skip("a file of another owner", "that takes the rights of root")
     program = cases.program_for_all()
     if program is None:
-        return cases.left_out("a file of another owner", "nobody else may run the program where it lies")
+        return cases.skip("a file of another owner", "nobody else may run the program where it lies")
     for sample in with_output(cases):
         path = cases.file(OLD, 0o666)
         words = [program, *sample.words, "--output", path]

@@ -12,12 +12,12 @@ from cases import TEXT, Cases, by_file
 from cases.files import NOT_ASKED, to_output, with_files
 from cases.modes import OLD, mode, with_output
 from cases.samples import SALT_TEXT, SALT_WORDS, Sample
-from lib.mounts import PAGE, file_system, made_read_only
+from lib.mounts import PAGE, tmpfs, remount_read_only
 from model.faults import Fault
 from model.vaults import SALT, seal
 
 SPARSE_SIZE = 100 << 30
-# The longest path that the system takes, in bytes, and what a name in it may have.
+# The longest path that the system takes, in bytes, and the length of each name in it, which may be up to 255.
 LONGEST_PATH, NAME = 4_095, 200
 NAMES = ["line\nend", "\n", "\x1b]0;title\x07", "größe", "a;b@c"]
 
@@ -75,12 +75,12 @@ def check_opened(cases: Cases, name: str, path: str) -> None:
 
 
 def test_sparse_files(cases: Cases) -> None:
-    """No more is read of a file than its limit, and an output is cut to nothing first."""
+    """A file is read only up to its limit, and an output is truncated first."""
     path = cases.file(b"")
     try:
         os.truncate(path, SPARSE_SIZE)
     except OSError:
-        return cases.left_out("a sparse file", "the file system has none that is so large")
+        return cases.skip("a sparse file", "the file system has none that is so large")
     for sample in with_files(cases):
         name = f"{sample.command}, a sparse file"
         cases.refused(f"{name} as FILE", [*sample.words, path, *to_output(sample)], Fault.TOO_LONG, NOT_ASKED)
@@ -113,7 +113,7 @@ def test_running_program(cases: Cases) -> None:
     with subprocess.Popen([path, "600"]) as running:
         try:
             if opens_to_write(path):
-                return cases.left_out("a program that runs", "this system lets it be written")
+                return cases.skip("a program that runs", "this system lets it be written")
             for sample in with_output(cases):
                 cases.refused(
                     f"{sample.command} to a program that runs", [*sample.words, "--output", path], Fault.NOT_WRITTEN,
@@ -139,12 +139,12 @@ def opens_to_write(path: str) -> bool:
 def test_read_only(cases: Cases) -> None:
     folder = Path(cases.path())
     old, new = folder / "old", folder / "new"
-    with file_system(folder, 16 * PAGE) as is_mounted:
+    with tmpfs(folder, 16 * PAGE) as is_mounted:
         if is_mounted:
             old.write_bytes(OLD)
             old.chmod(0o644)
-        if not is_mounted or not made_read_only(folder):
-            return cases.left_out("a file system that is read only", "none can be mounted here")
+        if not is_mounted or not remount_read_only(folder):
+            return cases.skip("a file system that is read only", "none can be mounted here")
         for sample in with_output(cases):
             for path in (old, new):
                 cases.refused(
@@ -171,7 +171,7 @@ def test_long_paths(cases: Cases) -> None:
 
 
 def test_odd_names(cases: Cases) -> None:
-    """No name comes into a message, which stays one line."""
+    """No message contains a file name, so each is one line."""
     folder = Path(cases.path())
     folder.mkdir()
     for name in NAMES:

@@ -37,7 +37,7 @@ def failed(fault: Fault, output=b"") -> tuple:
 
 
 def test_non_blocking_input(cases: Cases) -> None:
-    """Where nothing is there yet reading fails; what is there before the end is read."""
+    """Reading fails while the writer may still write; once it has closed the pipe, all of the input is read."""
     for sample in samples(cases):
         reader, writer = os.pipe()
         os.set_blocking(reader, False)
@@ -53,7 +53,7 @@ def test_non_blocking_input(cases: Cases) -> None:
 
 
 def test_non_blocking_output(cases: Cases) -> None:
-    """What does not go into the pipe at once is a write fault behind a prefix."""
+    """If the pipe cannot take all of the output at once, it gets a prefix, and the write fails."""
     for size, fault in ((1, None), (LARGE, Fault.NOT_WRITTEN)):
         for sample in samples(cases, bytes(size)):
             reader, writer = os.pipe()
@@ -69,14 +69,14 @@ def test_non_blocking_output(cases: Cases) -> None:
 
 
 def test_appending(cases: Cases) -> None:
-    """The output comes behind what is there; a name of the stream opens its file anew, which cuts it."""
+    """The output is appended to the file; as `--output /dev/stdout` it opens the file again, which truncates it."""
     for sample in samples(cases):
         path = cases.file(OLD)
         with open(path, "ab") as out:
             check_run(
-                cases, f"{sample.command} behind a file", sample.words, (0, None, b""), input=sample.stdin, stdout=out
+                cases, f"{sample.command} appended", sample.words, (0, None, b""), input=sample.stdin, stdout=out
             )
-            cases.check(f"{sample.command} behind a file: content", Path(path).read_bytes(), OLD + sample.output)
+            cases.check(f"{sample.command} appended: content", Path(path).read_bytes(), OLD + sample.output)
             if sample.command != "view":
                 words = [*sample.words, "--output", "/dev/stdout"]
                 check_run(cases, f"{sample.command} to its name", words, (0, None, b""), input=sample.stdin, stdout=out)
@@ -84,10 +84,10 @@ def test_appending(cases: Cases) -> None:
     refused, path = refused_sample(cases), cases.file(OLD)
     with open(path, "ab") as both:
         check_run(
-            cases, "a refusal behind a file", refused.words, (REFUSED.status, None, None), input=refused.stdin,
+            cases, "a refusal appended", refused.words, (REFUSED.status, None, None), input=refused.stdin,
             stdout=both, stderr=both,
         )
-    cases.check("a refusal behind a file: content", Path(path).read_bytes(), OLD + REFUSED.line)
+    cases.check("a refusal appended: content", Path(path).read_bytes(), OLD + REFUSED.line)
 
 
 def test_one_way(cases: Cases) -> None:
@@ -155,29 +155,29 @@ def test_left_sockets(cases: Cases) -> None:
 def test_terminal(cases: Cases) -> None:
     """The text is typed, and so is its end; the terminal shows each line end as two bytes."""
     for sample in [*samples(cases), refused_sample(cases)]:
-        ours, theirs = os.openpty()
-        settings = termios.tcgetattr(theirs)
+        controller, terminal = os.openpty()
+        settings = termios.tcgetattr(terminal)
         settings[3] &= ~termios.ECHO
-        termios.tcsetattr(theirs, termios.TCSANOW, settings)
-        os.write(ours, sample.stdin + END_OF_INPUT)
-        child = subprocess.Popen([cases.program, *sample.words], stdin=theirs, stdout=theirs, stderr=theirs)
-        os.close(theirs)
-        shown = all_shown(ours)
+        termios.tcsetattr(terminal, termios.TCSANOW, settings)
+        os.write(controller, sample.stdin + END_OF_INPUT)
+        child = subprocess.Popen([cases.program, *sample.words], stdin=terminal, stdout=terminal, stderr=terminal)
+        os.close(terminal)
+        shown = all_shown(controller)
         name = f"{sample.command} {sample.words[-1]} on a terminal"
         status, text = (0, sample.output) if sample.output else (REFUSED.status, REFUSED.line)
         cases.check(name, (child.wait(SECONDS), shown), (status, text.replace(b"\n", b"\r\n")))
 
 
 def all_shown(terminal: int) -> bytes:
-    """What comes until nobody holds the other side any more."""
-    pieces = []
+    """All that is read until the other side is closed."""
+    chunks = []
     with open(terminal, "rb", buffering=0) as stream:
         try:
-            while piece := stream.read(LARGE):
-                pieces.append(piece)
+            while chunk := stream.read(LARGE):
+                chunks.append(chunk)
         except OSError:
             pass
-    return b"".join(pieces)
+    return b"".join(chunks)
 
 
 def test_one_pipe(cases: Cases) -> None:

@@ -1,4 +1,4 @@
-"""Command lines: help, the version, and words that are no command line."""
+"""Command lines: help, the version, and invalid ones."""
 
 import subprocess
 
@@ -10,7 +10,7 @@ from model.options import COMMON, OPTIONS
 
 
 def test_helps(cases: Cases) -> None:
-    """Help is told whole, and a mistake behind it changes nothing."""
+    """The whole help is printed, also if a mistake follows --help."""
     for name in MISTAKES:
         command = [] if name == PROGRAM else [name]
         text = help_path(name).read_bytes()
@@ -46,7 +46,7 @@ def test_not_utf8(cases: Cases) -> None:
 
 
 def test_endless_pipe(cases: Cases) -> None:
-    """Words that are no command line ask for no input."""
+    """An invalid command line reads no input."""
     child = subprocess.Popen([cases.program, "view", "--loud"], stdin=subprocess.PIPE, stderr=subprocess.DEVNULL)
     cases.check("no input is asked for", child.wait(SECONDS), 2)
     child.stdin.close()

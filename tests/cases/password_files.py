@@ -16,14 +16,14 @@ def test_passwords(cases: Cases) -> None:
         b"\x00", b"\x00pw", b"pw \x00", b"\x1cpw\x1f", b"\xc2\xa0pw\x85", b"\xff\xfe",
     ]
     around = [(b"", b""), (b"", b"\n"), (b" ", b" \r\n"), (b"\t\n\x0b\x0c\r ", b" \r\x0c\x0b\n\t")]
-    files = [(front + password + end, password) for password in kept for front, end in around]
-    # Refused but for the space in front.
+    files = [(before + password + after, password) for password in kept for before, after in around]
+    # Without the leading space these would be refused.
     files += [(b" " + password + b"\n", password) for password in (b"#!/bin/sh", HEADER)]
     files += [(password.ljust(4096, b"\n"), password) for password in (b"pw", b"k" * 4096)]
     for content, password in files:
         path, vault = cases.file(content), seal(password, TEXT)
         for options in (by_file(path), by_id(path)):
-            cases.opens(f"password file {content!r:.60}", options, vault, TEXT)
+            cases.decrypts(f"password file {content!r:.60}", options, vault, TEXT)
 
 
 def test_refused_passwords(cases: Cases) -> None:
@@ -89,6 +89,6 @@ def test_password_paths(cases: Cases) -> None:
     cases.refuses("a vault id with a file called -", ["--vault-id", "dev@-"], vault, Fault.SECRET_NOT_OPENED)
     at = cases.folder / "x@y"
     at.write_bytes(b"right\n")
-    cases.opens("a path with @", by_id(str(at), "dev"), vault, TEXT)
-    cases.opens("a vault id without @", ["--vault-id", right], vault, TEXT)
-    cases.opens("a vault id with nothing before @", ["--vault-id", f"@{right}"], vault, TEXT)
+    cases.decrypts("a path with @", by_id(str(at), "dev"), vault, TEXT)
+    cases.decrypts("a vault id without @", ["--vault-id", right], vault, TEXT)
+    cases.decrypts("a vault id with nothing before @", ["--vault-id", f"@{right}"], vault, TEXT)

@@ -4,7 +4,7 @@ from cases import TEXT, Cases, by_file, by_id
 from lib.paths import FIXTURES
 from model.faults import Fault
 from model.vaults import (
-    CIPHERTEXT_LIMIT, ENVELOPE, ENVELOPE_LIMIT, HEADER, PLAINTEXT_LIMIT, padded, parts, seal, spelled
+    CIPHERTEXT_LIMIT, ENVELOPE, ENVELOPE_LIMIT, HEADER, PLAINTEXT_LIMIT, padded, parts, seal, serialized
 )
 
 
@@ -22,9 +22,9 @@ def test_format_faults(cases: Cases) -> None:
         ("a body of two LF", HEADER + b"\n0a0a", Fault.BAD_PAYLOAD),
         ("an odd number of digits", HEADER + b"\nabc", Fault.BAD_HEX),
         ("a space inside the body", ENVELOPE.replace(b"0a3030", b"0a 3030"), Fault.BAD_HEX),
-        ("a tag of 31 bytes", spelled(b"", bytes(31), b""), Fault.BAD_PAYLOAD),
-        ("a salt of 257 bytes", spelled(bytes(257), bytes(32), b""), Fault.BAD_PAYLOAD),
-        ("ciphertext over the limit", spelled(b"", bytes(32), bytes(CIPHERTEXT_LIMIT + 1)), Fault.CIPHER_TOO_LONG),
+        ("a tag of 31 bytes", serialized(b"", bytes(31), b""), Fault.BAD_PAYLOAD),
+        ("a salt of 257 bytes", serialized(bytes(257), bytes(32), b""), Fault.BAD_PAYLOAD),
+        ("ciphertext over the limit", serialized(b"", bytes(32), bytes(CIPHERTEXT_LIMIT + 1)), Fault.CIPHER_TOO_LONG),
         ("a bad digit in an input at the limit", (HEADER + b"\nzz").ljust(ENVELOPE_LIMIT, b"\n"), Fault.BAD_HEX),
         ("a bad digit past an old limit", (HEADER + b"\nzz").ljust(6_299_649, b"\n"), Fault.BAD_HEX),
         ("one byte over the limit", (HEADER + b"\nzz").ljust(ENVELOPE_LIMIT + 1, b"\n"), Fault.TOO_LONG),
@@ -51,7 +51,7 @@ def spellings(vault: bytes) -> list[tuple[str, bytes]]:
 def test_well_formed(cases: Cases) -> None:
     for name, stdin in spellings(ENVELOPE):
         cases.refused(f"no secret for {name}", ["view"], Fault.NO_SECRET_FITS, stdin)
-    longest = spelled(bytes(32), bytes(32), bytes(CIPHERTEXT_LIMIT))
+    longest = serialized(bytes(32), bytes(32), bytes(CIPHERTEXT_LIMIT))
     cases.refused("ciphertext at the limit", ["view"], Fault.NO_SECRET_FITS, longest)
     for vault in sorted(FIXTURES.glob("*.vault")):
         cases.refused(f"no secret for {vault.name}", ["view"], Fault.NO_SECRET_FITS, vault.read_bytes())
@@ -68,11 +68,11 @@ def test_fixtures(cases: Cases) -> None:
         vault = (FIXTURES / f"{name}.vault").read_bytes()
         path = str(FIXTURES / f"{password}.password")
         for options in (by_file(path), by_id(path), by_id(path, "dev"), by_id(path, "other")):
-            cases.opens(f"Ansible's {name} with {options[0]}", options, vault, plaintext)
+            cases.decrypts(f"Ansible's {name} with {options[0]}", options, vault, plaintext)
         wrong = by_file(str(FIXTURES / ("two.password" if password == "one" else "one.password")))
         cases.refuses(f"Ansible's {name} under another password", wrong, vault, Fault.NO_SECRET_FITS)
         for spelling, stdin in spellings(vault):
-            cases.opens(f"Ansible's {name} with {spelling}", by_file(path), stdin, plaintext)
+            cases.decrypts(f"Ansible's {name} with {spelling}", by_file(path), stdin, plaintext)
 
 
 def test_plaintexts(cases: Cases) -> None:
@@ -80,7 +80,7 @@ def test_plaintexts(cases: Cases) -> None:
     every_byte = bytes(range(256))
     whole = every_byte * (PLAINTEXT_LIMIT // 256)
     for size in (0, 1, 15, 16, 17, 31, 32, 33, 255, 65_536, 1_048_592, PLAINTEXT_LIMIT - 1, PLAINTEXT_LIMIT):
-        cases.opens(f"plaintext of {size} bytes", right, seal(b"right", whole[:size]), whole[:size])
+        cases.decrypts(f"plaintext of {size} bytes", right, seal(b"right", whole[:size]), whole[:size])
     texts = [
         ("every byte", every_byte),
         ("every byte backwards", every_byte[::-1]),
@@ -90,25 +90,25 @@ def test_plaintexts(cases: Cases) -> None:
         ("more plaintext than is sealed, in the longest ciphertext", whole + every_byte[:15]),
     ]
     for name, text in texts:
-        cases.opens(name, right, seal(b"right", text), text)
+        cases.decrypts(name, right, seal(b"right", text), text)
     for size in (0, 1, 55, 56, 64, 65, 256):
-        cases.opens(f"a salt of {size} bytes", right, seal(b"right", TEXT, salt=every_byte[:size]), TEXT)
-    too_long = spelled(*parts(b"right", padded(whole) + b"\x10"))
+        cases.decrypts(f"a salt of {size} bytes", right, seal(b"right", TEXT, salt=every_byte[:size]), TEXT)
+    too_long = serialized(*parts(b"right", padded(whole) + b"\x10"))
     cases.refuses("a right tag over too long a ciphertext", right, too_long, Fault.CIPHER_TOO_LONG)
 
 
 def test_damaged(cases: Cases) -> None:
     right, wrong = by_file(cases.file(b"right\n")), by_id(cases.file(b"wrong\n"))
-    salt, tag, cipher = parts(b"right", padded(b"a" * 40))
+    salt, tag, ciphertext = parts(b"right", padded(b"a" * 40))
     flipped = lambda part, place: part[:place] + bytes([part[place] ^ 1]) + part[place + 1 :]
-    changed = [(f"tag, byte {place}", (salt, flipped(tag, place), cipher)) for place in (0, 15, 16, 31)]
-    changed += [(f"ciphertext, byte {place}", (salt, tag, flipped(cipher, place))) for place in (0, 20, 47)]
-    changed += [(f"salt, byte {place}", (flipped(salt, place), tag, cipher)) for place in (0, 31)]
-    changed.append(("ciphertext without its last block", (salt, tag, cipher[:-16])))
+    changed = [(f"tag, byte {place}", (salt, flipped(tag, place), ciphertext)) for place in (0, 15, 16, 31)]
+    changed += [(f"ciphertext, byte {place}", (salt, tag, flipped(ciphertext, place))) for place in (0, 20, 47)]
+    changed += [(f"salt, byte {place}", (flipped(salt, place), tag, ciphertext)) for place in (0, 31)]
+    changed.append(("ciphertext without its last block", (salt, tag, ciphertext[:-16])))
     changed.append(("no ciphertext", (salt, tag, b"")))
-    changed.append(("a longer salt", (salt + b"\x00", tag, cipher)))
+    changed.append(("a longer salt", (salt + b"\x00", tag, ciphertext)))
     for name, pieces in changed:
-        cases.refuses(f"changed: {name}", right, spelled(*pieces), Fault.NO_SECRET_FITS)
+        cases.refuses(f"changed: {name}", right, serialized(*pieces), Fault.NO_SECRET_FITS)
     paddings = [
         ("nothing", b""),
         ("15 bytes", b"\x01" * 15),
@@ -117,11 +117,11 @@ def test_damaged(cases: Cases) -> None:
         ("last byte 17", b"\x11" * 32),
         ("last byte 255", b"\xff" * 32),
         ("02 03 03 at the end", b"a" * 13 + b"\x02\x03\x03"),
-        ("one other byte in front", b"\x0f" + b"\x10" * 15),
+        ("first byte other than 16", b"\x0f" + b"\x10" * 15),
         ("text alone", b"a" * 48),
         ("the longest ciphertext", b"a" * CIPHERTEXT_LIMIT),
     ]
     for name, whole in paddings:
-        vault = spelled(*parts(b"right", whole))
+        vault = serialized(*parts(b"right", whole))
         cases.refuses(f"wrong padding: {name}", right, vault, Fault.BAD_PADDING)
         cases.refuses(f"wrong padding after a wrong secret: {name}", wrong + right, vault, Fault.BAD_PADDING)

@@ -3,7 +3,7 @@
 from cases import TEXT, Cases, by_file
 from model.faults import Fault
 from model.vaults import (
-    CIPHERTEXT_LIMIT, ENVELOPE, ENVELOPE_LIMIT, HEADER, MAGIC, PLAINTEXT_LIMIT, parts, seal, spelled
+    CIPHERTEXT_LIMIT, ENVELOPE, ENVELOPE_LIMIT, HEADER, MAGIC, PLAINTEXT_LIMIT, parts, seal, serialized
 )
 
 SALT_WORDS = ["--salt", "abc"]
@@ -37,7 +37,7 @@ def test_worked(cases: Cases) -> None:
     words = ["rekey", *by_file(one), "--new-vault-id", f"prod@{two}", "--salt-file", ones]
     vault = cases.run("rekey nothing", words, seal(b"one", b""), 0, lambda _: True)
     cases.check("rekey nothing: first lines", vault.splitlines()[:2], [MAGIC + b";1.2;AES256;prod", b"3031" * 20])
-    cases.opens("the new secret", by_file(two), vault, b"")
+    cases.decrypts("the new secret", by_file(two), vault, b"")
     cases.refuses("the old secret", by_file(one), vault, Fault.NO_SECRET_FITS)
     cases.refused("the new secret is not tried", ["rekey", "--new-vault-id", f"x@{two}"], Fault.NO_SECRET_FITS, vault)
     runs = [cases.run("rekey, salts differ", words[:5], seal(b"one", b""), 0, lambda _: True) for _ in range(2)]
@@ -97,10 +97,10 @@ def test_refused_inputs(cases: Cases) -> None:
         ("format 1.0", b"$ANSIBLE_VAULT;1.0;AES256\n", Fault.BAD_VERSION),
         ("odd digits", HEADER + b"\nabc", Fault.BAD_HEX),
         ("no parts", HEADER, Fault.BAD_PAYLOAD),
-        ("ciphertext over the limit", spelled(b"", bytes(32), bytes(CIPHERTEXT_LIMIT + 1)), Fault.CIPHER_TOO_LONG),
+        ("ciphertext over the limit", serialized(b"", bytes(32), bytes(CIPHERTEXT_LIMIT + 1)), Fault.CIPHER_TOO_LONG),
         ("another password", seal(b"other", TEXT), Fault.NO_SECRET_FITS),
         ("the new password", seal(b"new", TEXT, b"prod"), Fault.NO_SECRET_FITS),
-        ("wrong padding", spelled(*parts(b"right", b"a" * 16)), Fault.BAD_PADDING),
+        ("wrong padding", serialized(*parts(b"right", b"a" * 16)), Fault.BAD_PADDING),
         ("a vault inside", seal(b"right", ENVELOPE), Fault.ALREADY_VAULT),
         ("the start of a vault inside", seal(b"right", MAGIC), Fault.ALREADY_VAULT),
     ]

@@ -3,7 +3,7 @@
 from cases import READING, TEXT, Cases, by_file, by_id
 from cases.rekeying import SALT, SALT_WORDS
 from model.faults import Fault
-from model.vaults import ENVELOPE, parts, seal, spelled
+from model.vaults import ENVELOPE, parts, seal, serialized
 
 FLAG = "--require-id-match"
 
@@ -11,7 +11,7 @@ FLAG = "--require-id-match"
 def test_required_label(cases: Cases) -> None:
     one, two = cases.file(b"one\n"), cases.file(b"two\n")
     both = by_id(one, "a") + by_id(two, "b")
-    opening = [
+    accepted = [
         ("the envelope's label", both, seal(b"one", TEXT, b"a")),
         ("the second label", both, seal(b"two", TEXT, b"b")),
         ("the second of one label", by_id(one, "b") + by_id(two, "b"), seal(b"two", TEXT, b"b")),
@@ -23,23 +23,23 @@ def test_required_label(cases: Cases) -> None:
         ("no secret of the label", both, seal(b"one", TEXT, b"c"), Fault.NO_SECRET_FITS),
         ("no secret for the default label", by_id(one, "x"), seal(b"one", TEXT), Fault.NO_SECRET_FITS),
         ("a label in capitals", by_id(one, "A"), seal(b"one", TEXT, b"a"), Fault.NO_SECRET_FITS),
-        ("wrong padding", both, spelled(*parts(b"one", b"a" * 16), b"a"), Fault.BAD_PADDING),
+        ("wrong padding", both, serialized(*parts(b"one", b"a" * 16), b"a"), Fault.BAD_PADDING),
         ("text", both, TEXT, Fault.NOT_VAULT),
     ]
-    for name, options, vault in opening:
-        cases.opens(f"required: {name}", [*options, FLAG], vault, TEXT)
-    cases.opens("required: no bytes", [*by_file(one), FLAG], seal(b"one", b""), b"")
+    for name, options, vault in accepted:
+        cases.decrypts(f"required: {name}", [*options, FLAG], vault, TEXT)
+    cases.decrypts("required: no bytes", [*by_file(one), FLAG], seal(b"one", b""), b"")
     for name, options, vault, fault in refused:
         cases.refuses(f"required: {name}", [FLAG, *options], vault, fault)
         if fault is Fault.NO_SECRET_FITS and "capitals" not in name:
-            cases.opens(f"not required: {name}", options, vault, TEXT)
+            cases.decrypts(f"not required: {name}", options, vault, TEXT)
 
 
 def test_required_in_rekey(cases: Cases) -> None:
     one, two = cases.file(b"one\n"), cases.file(b"two\n")
     words = ["rekey", FLAG, *by_file(one), "--new-vault-id", f"prod@{two}", *SALT_WORDS]
     vault = cases.run("required: rekey", words, seal(b"one", TEXT), 0, seal(b"two", TEXT, b"prod", SALT))
-    cases.opens("required: the new label", [*by_id(two, "prod"), FLAG], vault, TEXT)
+    cases.decrypts("required: the new label", [*by_id(two, "prod"), FLAG], vault, TEXT)
     cases.refuses("required: the new secret under another label", [*by_file(two), FLAG], vault, Fault.NO_SECRET_FITS)
     cases.refused("required: rekey of another label", words, Fault.NO_SECRET_FITS, seal(b"one", TEXT, b"dev"))
     for command in READING:

@@ -109,7 +109,7 @@ def test_two_runs(cases: Cases) -> None:
     ]
     cases.check("two runs differ", vaults[0] == vaults[1], False)
     for vault in vaults:
-        cases.opens("a vault with a salt of its own", right, vault, TEXT)
+        cases.decrypts("a vault with a salt of its own", right, vault, TEXT)
 
 
 def test_choices(cases: Cases) -> None:
@@ -157,7 +157,7 @@ def test_plaintexts(cases: Cases) -> None:
 
 
 def test_order(cases: Cases) -> None:
-    """Which of two faults is told."""
+    """Which of two faults is reported."""
     right, empty, missing = cases.file(b"right\n"), cases.file(b""), cases.path()
     short = ["--salt-file", cases.file(bytes(31))]
     long = bytes(PLAINTEXT_LIMIT + 1)

@@ -107,9 +107,9 @@ def run_under(cases: Cases, limit: int, amount: int, words: list[str], stdin: by
 
 
 def test_few_files(cases: Cases) -> None:
-    """Where no more files may be open a run says which one it lacks, and changes none."""
+    """If no more files may be open, a run says which file it could not open, and changes none."""
     faults = [Fault.SECRET_NOT_OPENED, Fault.INPUT_NOT_OPENED, Fault.NOT_WRITTEN]
-    lacks = [(fault.status, b"", fault.line, None) for fault in faults]
+    refusals = [(fault.status, b"", fault.line, None) for fault in faults]
     for sample in with_files(cases):
         given = cases.file(sample.stdin)
         for amount in range(STARTS, ENOUGH + 2):
@@ -119,7 +119,7 @@ def test_few_files(cases: Cases) -> None:
             written = path.read_bytes() if path.exists() else None
             name = f"{sample.command} with {amount} files"
             whole = (0, b"", b"", sample.output) if output else (0, sample.output, b"", None)
-            allowed = [whole, *(lacks if amount < ENOUGH else [])]
+            allowed = [whole, *(refusals if amount < ENOUGH else [])]
             cases.holds(name, (*answer, written) in allowed, f"got {answer!r:.300}, written {written!r:.100}")
             cases.check(f"{name}: FILE stays", Path(given).read_bytes(), sample.stdin)
 

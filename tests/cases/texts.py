@@ -28,7 +28,7 @@ OTHER_OPTIONS_OF = {"rekey": ["--encrypt-vault-id=x"], "encrypt_string": ["--pro
 
 
 class Mistake(NamedTuple):
-    """Words that are no command line, and which of them the text names."""
+    """An invalid command line, and the argument that the message names."""
 
     words: list[str]
     named: str
@@ -61,7 +61,7 @@ def of_program() -> list[Mistake]:
 
 def of_option(command: str, option: str) -> list[Mistake]:
     """An option without its value, with one that it doesn't take, cut short, and given twice."""
-    short = Mistake([command, f"{option[:-1]}"], option[:-1])
+    short = Mistake([command, option[:-1]], option[:-1])
     if option in FLAGS:
         return [short, Mistake([command, f"{option}=x"], option), Mistake([command, option, option], option)]
     alone = Mistake([command, option], option)
@@ -96,8 +96,8 @@ def of_several(command: str) -> list[Mistake]:
 
 def of_command(command: str) -> list[Mistake]:
     own = COMMON | OPTIONS[command]
-    unknown = ["--loud", "--loud=x", "-x", "-", "-V", "--version", *OTHER_OPTIONS, *OTHER_OPTIONS_OF.get(command, [])]
-    found = [Mistake([command, word], word.partition("=")[0]) for word in unknown if word != "-"]
+    unknown = ["--loud", "--loud=x", "-x", "-V", "--version", *OTHER_OPTIONS, *OTHER_OPTIONS_OF.get(command, [])]
+    found = [Mistake([command, word], word.partition("=")[0]) for word in unknown]
     found += [Mistake([command, *words], "'y'") for words in (["x", "y"], ["-", "y"], ["--", "x", "y"])]
     found += [mistake for option in sorted(own) for mistake in of_option(command, option)]
     found += [Mistake([command, option, "x"], option) for option in EVERY if option not in own]

@@ -74,7 +74,7 @@ def test_refused_beside(cases: Cases) -> None:
 
 
 def test_header_lines(cases: Cases) -> None:
-    """The header line comes with the first line of digits behind it."""
+    """The header line and the first line of digits go out in one write."""
     for size in (1, 1_000):
         for sample in samples(cases, (TEXT * size)[:size]):
             if sample.command in ("encrypt", "rekey"):

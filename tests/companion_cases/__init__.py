@@ -1,7 +1,7 @@
 """The cases of the companions by topic, and what runs them.
 
-Vaults are made by `model.vaults` or by Ansible's tool, and what the companions wrote is opened by
-`model.vaults`, so that nothing is judged by the program itself.
+Vaults are made by `model.vaults` or by Ansible's tool, and what the companions wrote is decrypted
+by `model.vaults`, so no result depends on the program itself.
 """
 
 import hmac
@@ -16,7 +16,7 @@ from typing import Iterator
 from lib.limits import SECONDS
 from lib.outcome import Outcome
 from lib.paths import ROOT
-from model.vaults import applied, seal, tag_of, yaml_block
+from model.vaults import apply_keystream, seal, tag_of, yaml_block
 
 COMPANIONS = ROOT / "companions"
 EDIT, ROTATE, CHECK, TEXTCONV, HOOK, WITH, MERGE = (
@@ -45,13 +45,13 @@ def sealed(password: str, text: bytes = TEXT, label: str = "") -> bytes:
     return seal(PASSWORDS[password], text, label.encode())
 
 
-def opened(password: str, envelope: bytes) -> bytes | None:
-    """The plaintext; None where the password is another."""
+def decrypted(password: str, envelope: bytes) -> bytes | None:
+    """The plaintext; None if the password is wrong."""
     inner = bytes.fromhex(b"".join(envelope.split(b"\n")[1:]).decode())
-    salt, tag, cipher = (bytes.fromhex(part.decode()) for part in inner.split(b"\n", 2))
-    if not hmac.compare_digest(tag_of(PASSWORDS[password], salt, cipher), tag):
+    salt, tag, ciphertext = (bytes.fromhex(part.decode()) for part in inner.split(b"\n", 2))
+    if not hmac.compare_digest(tag_of(PASSWORDS[password], salt, ciphertext), tag):
         return None
-    padded = applied(PASSWORDS[password], salt, cipher)
+    padded = apply_keystream(PASSWORDS[password], salt, ciphertext)
     return padded[: -padded[-1]]
 
 
@@ -124,8 +124,8 @@ class Place:
         path.chmod(0o755)
         return str(path)
 
-    def stand_before_tool(self, text: str, name: str = "ansible-vault") -> None:
-        """Lets shell run before each run of the program, or of git; what it does not end itself is then that."""
+    def wrap_tool(self, text: str, name: str = "ansible-vault") -> None:
+        """Wraps the program, or git, in a script that first runs this shell text."""
         path = self.tools / name
         path.unlink(missing_ok=True)
         program = self.program if name == "ansible-vault" else shutil.which(name)
@@ -185,11 +185,11 @@ class Companions(Outcome):
         yield Place(path, self.program, self.companions)
 
     def ended(self, what: str, done: subprocess.CompletedProcess, status: int, *parts: str) -> None:
-        """The status, and parts of what is told, on whichever stream."""
-        told = done.stdout + done.stderr
-        self.check(f"{what}: status ({told!r:.400})", done.returncode, status)
+        """Checks the status, and that each part is printed, on either stream."""
+        output = done.stdout + done.stderr
+        self.check(f"{what}: status ({output!r:.400})", done.returncode, status)
         for part in parts:
-            self.holds(f"{what}: `{part}` is told", part in told, repr(told))
+            self.holds(f"{what}: `{part}` is printed", part in output, repr(output))
 
     def silent(self, what: str, done: subprocess.CompletedProcess) -> None:
         self.check(f"{what}: it ends well and in silence", (done.returncode, done.stdout, done.stderr), (0, "", ""))
@@ -198,5 +198,5 @@ class Companions(Outcome):
         """Whether the tools are there; else what needs them is left out by its name."""
         missing = [tool for tool in tools if not shutil.which(tool)]
         if missing:
-            self.left_out(what, f"without {', '.join(missing)}")
+            self.skip(what, f"without {', '.join(missing)}")
         return not missing

@@ -1,5 +1,5 @@
-"""A repository that Ansible's tool made, rotated: that tool opens all of it, and a playbook says what it
-said before. And how long a rotation takes beside that tool.
+"""A repository that Ansible's tool made, rotated: that tool decrypts all of it, and a playbook prints what
+it printed before. And how long a rotation takes, compared with that tool.
 """
 
 import os
@@ -8,7 +8,7 @@ import subprocess
 import time
 from pathlib import Path
 
-from companion_cases import CHECK, ROTATE, SECONDS, TEXT, Companions, Place, opened, sealed
+from companion_cases import CHECK, ROTATE, SECONDS, TEXT, Companions, Place, decrypted, sealed
 from companion_cases.rotating import summary, to_new
 from lib.ansible import ansible_vault
 
@@ -96,7 +96,7 @@ def a_repository(cases: Companions) -> None:
     ansible = ansible_vault()
     playbook = ansible and Path(ansible).with_name("ansible-playbook")
     if not ansible or not playbook.exists():
-        cases.left_out("a repository of Ansible's tool", "it is not installed")
+        cases.skip("a repository of Ansible's tool", "it is not installed")
         return
     with cases.place() as place:
         files, names = make_repository(place, ansible)
@@ -110,10 +110,10 @@ def a_repository(cases: Companions) -> None:
         done = place.run(ROTATE, *secrets(place, 0), *secrets(place, 1, "new-"), ".")
         cases.ended("the rotation", done, 0, summary(total))
         cases.check("the playbook says the same", played(place, str(playbook), 1), before)
-        cases.ended("the check", place.run(CHECK, *secrets(place, 1), "."), 0, f"{total} opened, 0 not")
-        # What is within a vault is not seen where it does not open.
-        told = f"0 opened, {total - len(LABELS)} not"
-        cases.ended("the old ones open none", place.run(CHECK, *secrets(place, 0), "."), 1, told)
+        cases.ended("the check", place.run(CHECK, *secrets(place, 1), "."), 0, f"{total} decrypted, 0 not")
+        # Blocks within a vault are not found if the vault cannot be decrypted.
+        counts = f"0 decrypted, {total - len(LABELS)} not"
+        cases.ended("the old secrets decrypt none", place.run(CHECK, *secrets(place, 0), "."), 1, counts)
         for label, (_, new) in LABELS.items():
             vaults = [name for name in files if re.match(rf"vars/{label}\d", name)]
             header = "1.1;AES256" if label == "default" else f"1.2;AES256;{label}"
@@ -121,11 +121,11 @@ def a_repository(cases: Companions) -> None:
             cases.check(f"{label}: the label", first_lines, {f"$ANSIBLE_VAULT;{header}".encode()})
             shown = theirs(place, ansible, "view", *place.by_id(label, new), *vaults).stdout.decode()
             wanted = [f"{label}{number}: text {number} of {label}" for number in range(FILES_OF_A_LABEL)]
-            cases.check(f"{label}: Ansible's tool opens each", shown.split("\n")[:-1], wanted)
+            cases.check(f"{label}: Ansible's tool decrypts each", shown.split("\n")[:-1], wanted)
 
 
 def many_vaults(cases: Companions) -> None:
-    """Tells how long it takes; that every vault is under the new secret is a case."""
+    """Prints how long it takes, and checks that a sample of the vaults is under the new secret."""
     with cases.place() as place:
         names = [f"{number}.yml" for number in range(cases.vaults)]
         for name in names:
@@ -135,7 +135,7 @@ def many_vaults(cases: Companions) -> None:
         took = time.monotonic() - begun
         cases.ended("many vaults", done, 0, summary(len(names)))
         sampled = names[:: max(1, len(names) // 10)]
-        cases.check("are rotated", {opened("new", place.get(name)) for name in sampled}, {TEXT * 38})
+        cases.check("are rotated", {decrypted("new", place.get(name)) for name in sampled}, {TEXT * 38})
         print(f"{len(names)} vaults of 1 KiB were rotated in {took:.1f} s")
         if ansible := ansible_vault():
             begun = time.monotonic()
@@ -143,4 +143,4 @@ def many_vaults(cases: Companions) -> None:
             print(f"Ansible's tool rekeyed them in {time.monotonic() - begun:.1f} s, in one run")
 
 
-GROUPS = [a_repository, many_vaults]
+TESTS = [a_repository, many_vaults]

@@ -2,12 +2,12 @@
 
 import re
 
-from companion_cases import CHECK, ROTATE, TEXT, Companions, block, opened, sealed
+from companion_cases import CHECK, ROTATE, TEXT, Companions, block, decrypted, sealed
 from companion_cases.rotating import summary, to_new
 
 
 def lines_of(envelope: bytes, spaces: int, end: bytes = b"\n") -> bytes:
-    """An envelope behind spaces, with no end at its last line."""
+    """An indented envelope, without a final newline."""
     return end.join(b" " * spaces + line for line in envelope.splitlines())
 
 
@@ -55,7 +55,7 @@ def without_digits(data: bytes) -> bytes:
 def texts(data: bytes, password: str) -> list[bytes | None]:
     """The plaintext of each block."""
     found = [re.sub(rb"[ \r]", b"", each) for each in FOUND.findall(data)]
-    return [opened(password, each + b"\n") for each in found]
+    return [decrypted(password, each + b"\n") for each in found]
 
 
 def around(cases: Companions) -> None:
@@ -72,7 +72,7 @@ def around(cases: Companions) -> None:
 
 
 def mixed(cases: Companions) -> None:
-    """One block that is not opened keeps no other from being rotated, and stays."""
+    """A block that cannot be decrypted stays, and the others are still rotated."""
     stray = block("dev", name="stray")
     content = block("old", name="a") + stray + block("prod", label="prod", name="b") + block("old", name="c") + b"d: 1"
     with cases.place() as place:
@@ -84,11 +84,11 @@ def mixed(cases: Companions) -> None:
         after = place.get("vars.yml")
         cases.check("all around stays", without_digits(after), without_digits(content))
         cases.holds("the strays stay", stray in after and block("prod", label="prod", name="b") in after)
-        cases.check("the others are rotated", [texts(after, "new")[place] for place in (0, 3)], [TEXT, TEXT])
+        cases.check("the others are rotated", [texts(after, "new")[index] for index in (0, 3)], [TEXT, TEXT])
 
 
 def no_blocks_of_lines(cases: Companions) -> None:
-    """Envelopes that cannot be put back as they stand are told and left."""
+    """Envelopes that cannot be put back as they stand are reported, and left as they are."""
     quoted = sealed("old", label="prod").replace(b"\n", b"\\n")
     wrapped = sealed("old").replace(b"\n", b"\n\n  ")
     forms = {
@@ -111,7 +111,7 @@ def no_blocks_of_lines(cases: Companions) -> None:
                 done = place.run(ROTATE, *to_new(place), ".")
                 cases.ended(f"{name}: another label", done, 0, summary(1, 0, 1, " (prod 1)"))
             done = place.run(CHECK, *place.by_file("old"), "vars.yml")
-            cases.ended(f"{name}: it is not passed over", done, 1, "0 opened, 1 not")
+            cases.ended(f"{name}: it is not passed over", done, 1, "0 decrypted, 1 not")
 
 
-GROUPS = [around, mixed, no_blocks_of_lines]
+TESTS = [around, mixed, no_blocks_of_lines]

@@ -16,35 +16,35 @@ def labels_and_secrets(cases: Companions) -> None:
         dev, prod, old = secrets[1::2]
         line = 3 + block("dev", label="dev").count(b"\n")
         wanted = [
-            f"./a.yml: default: opened by {old}",
-            f"./b.yml: prod: opened by {prod}",
-            f"./c.yml:3: secret: dev: opened by {dev}",
-            f"./c.yml:{line}: secret: strange: opened by {prod}",
-            f"./d.yml: prod: opened by {old}",
-            "5 opened, 0 not",
+            f"./a.yml: default: decrypted by {old}",
+            f"./b.yml: prod: decrypted by {prod}",
+            f"./c.yml:3: secret: dev: decrypted by {dev}",
+            f"./c.yml:{line}: secret: strange: decrypted by {prod}",
+            f"./d.yml: prod: decrypted by {old}",
+            "5 decrypted, 0 not",
         ]
         cases.check("labels and secrets", (done.returncode, done.stdout.splitlines(), done.stderr), (0, wanted, ""))
         cases.check("nothing is written", place.files(), before)
 
 
 def the_label_comes_first(cases: Companions) -> None:
-    """Where two secrets open a vault, the one of its label is told, as the tool has it."""
+    """If two secrets decrypt a vault, the one with its label is reported, since the tool tries that first."""
     with cases.place() as place:
         place.put("a.yml", sealed("prod", label="prod"))
         done = place.run(CHECK, *place.by_file("prod"), *place.by_id("prod", "prod"), "a.yml")
-        cases.ended("the label first", done, 0, f"a.yml: prod: opened by prod@{place.secret('prod')}\n")
+        cases.ended("the label first", done, 0, f"a.yml: prod: decrypted by prod@{place.secret('prod')}\n")
 
 
-def what_does_not_open(cases: Companions) -> None:
+def what_cannot_be_decrypted(cases: Companions) -> None:
     with cases.place() as place:
         place.put("a.yml", sealed("old"))
         place.put("b.yml", block("dev", label="dev"))
         done = place.run(CHECK, *place.by_file("old"), ".")
         why = "./b.yml:2: secret: dev: no secret decrypts this vault\n"
-        cases.ended("a wrong password", done, 1, why, "1 opened, 1 not\n")
-        cases.check("is told on standard error", done.stderr, why)
+        cases.ended("a wrong password", done, 1, why, "1 decrypted, 1 not\n")
+        cases.check("is reported on standard error", done.stderr, why)
         done = place.run(CHECK, *place.by_file("old"), "a.yml", "missing")
-        cases.ended("what is not there", done, 1, "missing: No such file or directory", "1 opened, 1 not")
+        cases.ended("what is not there", done, 1, "missing: No such file or directory", "1 decrypted, 1 not")
         done = place.run(CHECK, *place.by_file("missing"), ".")
         cases.ended("a password file that is not there", done, 1, "missing: a password file cannot be opened")
         place.put("closed.yml", sealed("old"), 0o000)
@@ -58,7 +58,7 @@ def nothing(cases: Companions) -> None:
     with cases.place() as place:
         place.put("plain.yml", TEXT)
         done = place.run(CHECK, *place.by_file("old"), ".")
-        cases.check("nothing", (done.returncode, done.stdout, done.stderr), (0, "0 opened, 0 not\n", ""))
+        cases.check("nothing", (done.returncode, done.stdout, done.stderr), (0, "0 decrypted, 0 not\n", ""))
         for words in ([], ["."], place.by_file("old"), [*place.by_file("old"), "--loud", "."]):
             cases.ended(f"{words}", place.run(CHECK, *words), 2, "usage: ansible-vault-check")
 
@@ -68,7 +68,7 @@ def no_plaintext(cases: Companions) -> None:
         place.put("a.yml", sealed("old"))
         place.put("b.yml", sealed("old", label="\x1b[2J"))
         done = place.run(CHECK, *place.by_file("old"), ".")
-        cases.check("no plaintext is told", "horse" in done.stdout + done.stderr, False)
+        cases.check("no plaintext is printed", "horse" in done.stdout + done.stderr, False)
         cases.check("and nothing that a terminal would obey", "\x1b" in done.stdout + done.stderr, False)
 
 
@@ -86,8 +86,8 @@ def help_of_each(cases: Companions) -> None:
                 cases.check(f"{name}: the help is no wider than a terminal", (wide, done.stderr), ([], ""))
             for word in ("--version", "-V"):
                 done = place.run(name, word)
-                told = (done.returncode, done.stdout, done.stderr)
-                cases.check(f"{name} {word}", told, (0, f"{name} {version()}\n", ""))
+                found = (done.returncode, done.stdout, done.stderr)
+                cases.check(f"{name} {word}", found, (0, f"{name} {version()}\n", ""))
 
 
-GROUPS = [labels_and_secrets, the_label_comes_first, what_does_not_open, nothing, no_plaintext, help_of_each]
+TESTS = [labels_and_secrets, the_label_comes_first, what_cannot_be_decrypted, nothing, no_plaintext, help_of_each]

@@ -3,7 +3,7 @@
 import os
 from pathlib import Path
 
-from companion_cases import AWKWARD, EDIT, NOBODY, TEXT, Companions, Place, opened, sealed
+from companion_cases import AWKWARD, EDIT, NOBODY, TEXT, Companions, Place, decrypted, sealed
 
 CHANGED = TEXT.replace(b"correct", b"wrong")
 CHANGE = 'sed -i s/correct/wrong/ "$1"'
@@ -25,7 +25,7 @@ def what_changes(cases: Companions) -> None:
             words = place.by_id(label, secrets) if label else place.by_file(secrets)
             cases.silent(f"label {label!r}", edit(place, CHANGE, *words, "all.yml"))
             envelope = place.get("all.yml")
-            cases.check("the text is changed", opened(secrets, envelope), CHANGED)
+            cases.check("the text is changed", decrypted(secrets, envelope), CHANGED)
             header = b"$ANSIBLE_VAULT;1.2;AES256;prod\n" if label else b"$ANSIBLE_VAULT;1.1;AES256\n"
             cases.holds("the label stays", envelope.startswith(header), repr(envelope[:40]))
             cases.check("the mode stays", place.mode("all.yml"), "0o640")
@@ -37,8 +37,7 @@ def where_the_plaintext_lies(cases: Companions) -> None:
     look = 'stat -c "%a %n" "$(dirname "$1")" "$1" > ../seen'
     with cases.place() as place:
         place.put("all.yml", sealed("old"))
-        variables = {"XDG_RUNTIME_DIR": [str(place.runtime), "/nowhere", ""]}
-        for folder in variables["XDG_RUNTIME_DIR"]:
+        for folder in (str(place.runtime), "/nowhere", ""):
             wanted = folder if folder == str(place.runtime) else "/dev/shm"
             edit(place, look, *place.by_file("old"), "all.yml", XDG_RUNTIME_DIR=folder)
             lines = (place.path / "seen").read_text().splitlines()
@@ -89,7 +88,7 @@ def refusals(cases: Companions) -> None:
         refused = [
             (place.by_file("new"), "all.yml", "no secret decrypts this vault"),
             (place.by_file("old"), "all.yml", "hard links"),
-            (place.by_file("old"), "plain.yml", "no vault"),
+            (place.by_file("old"), "plain.yml", "not a vault"),
             (place.by_file("old"), "damaged.yml", "vault"),
             (place.by_file("old"), "folder", "Is a directory"),
             (place.by_file("old"), "missing/new.yml", "No such file"),
@@ -108,7 +107,7 @@ def refusals(cases: Companions) -> None:
 def read_only_folder(cases: Companions) -> None:
     with cases.place() as place:
         place.put("all.yml", sealed("old"))
-        (place.tree).chmod(0o555)
+        place.tree.chmod(0o555)
         place.runtime.chmod(0o777)
         place.environment["EDITOR"] = place.script("touch ../runtime/started", "editor")
         done = place.as_nobody(EDIT, *place.by_file("old"), "all.yml")
@@ -126,11 +125,11 @@ def what_cannot_be_removed(cases: Companions) -> None:
         place.environment["EDITOR"] = place.script(f'echo a > "$1"; {lock}', "editor")
         done = place.as_nobody(EDIT, *place.by_file("old"), "new.yml")
         cases.ended("a folder that cannot be removed", done, 1, f"plaintext is left in {place.runtime}/ansible-vault-")
-        cases.check("but the vault is made", opened("old", place.get("new.yml")), b"a\n")
+        cases.check("but the vault is made", decrypted("old", place.get("new.yml")), b"a\n")
 
 
 def labels(cases: Companions) -> None:
-    """What is sealed has the label of the vault, and the secret that opened it."""
+    """The result is encrypted with the secret that decrypted the vault, under the vault's label."""
     with cases.place() as place:
         place.put("all.yml", sealed("prod", label="prod"))
         runs = [
@@ -142,12 +141,12 @@ def labels(cases: Companions) -> None:
         for number, words in enumerate(runs):
             cases.silent(f"{words}", edit(place, f'echo {number} > "$1"', *words, "all.yml"))
             envelope = place.get("all.yml")
-            cases.check("the password stays", opened("prod", envelope), f"{number}\n".encode())
+            cases.check("the password stays", decrypted("prod", envelope), f"{number}\n".encode())
             cases.check("the label stays", envelope.partition(b"\n")[0], b"$ANSIBLE_VAULT;1.2;AES256;prod")
         place.put("odd.yml", sealed("prod", label="a@b"))
         done = edit(place, CHANGE, *place.by_file("prod"), "odd.yml")
         cases.ended("a label that no option can name", done, 1, "the label a@b")
-        cases.check("its vault stays", opened("prod", place.get("odd.yml")), TEXT)
+        cases.check("its vault stays", decrypted("prod", place.get("odd.yml")), TEXT)
 
 
 def editors(cases: Companions) -> None:
@@ -164,7 +163,7 @@ def editors(cases: Companions) -> None:
             cases.silent(name, place.run(EDIT, *place.by_file("old"), "all.yml", **variables))
             words = (place.path / "words").read_text().split("|")
             cases.check(f"{name}: the words", words[:2], ["--wait", "two words"])
-            cases.check(f"{name}: the text", opened("old", place.get("all.yml")), CHANGED)
+            cases.check(f"{name}: the text", decrypted("old", place.get("all.yml")), CHANGED)
 
 
 def links(cases: Companions) -> None:
@@ -175,11 +174,11 @@ def links(cases: Companions) -> None:
         cases.silent("a link", edit(place, CHANGE, *place.by_file("old"), "chain.yml"))
         found = [os.readlink(place.tree / name) for name in ("link.yml", "chain.yml")]
         cases.check("links stay links", found, ["shared/all.yml", str(place.tree / "link.yml")])
-        cases.check("their file is changed", opened("old", place.get("shared/all.yml")), CHANGED)
+        cases.check("their file is changed", decrypted("old", place.get("shared/all.yml")), CHANGED)
         cases.check("and keeps its mode", place.mode("shared/all.yml"), "0o600")
         (place.tree / "dangling.yml").symlink_to("shared/new.yml")
         cases.silent("a link to nothing", edit(place, 'echo a > "$1"', *place.by_file("old"), "dangling.yml"))
-        cases.check("makes its file", opened("old", place.get("shared/new.yml")), b"a\n")
+        cases.check("makes its file", decrypted("old", place.get("shared/new.yml")), b"a\n")
 
 
 def names(cases: Companions) -> None:
@@ -188,7 +187,7 @@ def names(cases: Companions) -> None:
             place.put(name, sealed("old"))
             done = edit(place, 'sed -i s/correct/wrong/ "$1"', *place.by_file("old"), "--", name)
             cases.silent(repr(name), done)
-            cases.check(f"{name!r}: the text", opened("old", place.get(name)), CHANGED)
+            cases.check(f"{name!r}: the text", decrypted("old", place.get(name)), CHANGED)
         cases.check("no other file is made", place.names(), sorted(AWKWARD))
 
 
@@ -197,10 +196,10 @@ def new_vaults(cases: Companions) -> None:
         write = 'printf new > "$1"'
         both = [*place.by_id("dev", "dev"), *place.by_id("prod", "prod")]
         cases.silent("one secret", edit(place, write, *place.by_file("old"), "one.yml"))
-        cases.check("makes a vault", opened("old", place.get("one.yml")), b"new")
+        cases.check("makes a vault", decrypted("old", place.get("one.yml")), b"new")
         cases.check("for its owner alone", place.mode("one.yml"), "0o600")
         cases.silent("a label", edit(place, write, *both, "--encrypt-vault-id", "prod", "two.yml"))
-        cases.check("chooses its secret", opened("prod", place.get("two.yml")), b"new")
+        cases.check("chooses its secret", decrypted("prod", place.get("two.yml")), b"new")
         cases.holds("and is the label", place.get("two.yml").startswith(b"$ANSIBLE_VAULT;1.2;AES256;prod\n"))
         cases.ended("two secrets", edit(place, write, *both, "new.yml"), 1, "--encrypt-vault-id")
         wrong = [*both, "--encrypt-vault-id", "other"]
@@ -219,8 +218,8 @@ def changed_meanwhile(cases: Companions) -> None:
         cases.ended("changed meanwhile", done, 1, "all.yml: it was changed meanwhile")
         cases.check("their change stays", place.get("all.yml"), theirs)
         [kept] = [name for name in place.names() if name != "all.yml"]
-        cases.holds("the other file is told", kept in done.stderr, done.stderr)
-        cases.check("it holds what was written, encrypted", opened("old", place.get(kept)), CHANGED)
+        cases.holds("the message names the other file", kept in done.stderr, done.stderr)
+        cases.check("it holds what was written, encrypted", decrypted("old", place.get(kept)), CHANGED)
 
 
 def command_line(cases: Companions) -> None:
@@ -241,8 +240,8 @@ def typed_password(cases: Companions) -> None:
         place.environment["EDITOR"] = place.script(CHANGE, "editor")
         line = f"{EDIT} --vault-password-file <(cat {place.secret('old')}) all.yml"
         cases.silent("a pipe", place.shell(line, "bash"))
-        cases.check("opens and seals", opened("old", place.get("all.yml")), CHANGED)
+        cases.check("decrypts and encrypts", decrypted("old", place.get("all.yml")), CHANGED)
 
 
-GROUPS = [what_changes, where_the_plaintext_lies, what_stays, refusals, read_only_folder, what_cannot_be_removed]
-GROUPS += [labels, editors, links, names, new_vaults, changed_meanwhile, command_line, typed_password]
+TESTS = [what_changes, where_the_plaintext_lies, what_stays, refusals, read_only_folder, what_cannot_be_removed]
+TESTS += [labels, editors, links, names, new_vaults, changed_meanwhile, command_line, typed_password]

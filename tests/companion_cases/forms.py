@@ -3,7 +3,7 @@
 import sys
 import time
 
-from companion_cases import CHECK, COMPANIONS, ROTATE, TEXT, Companions, block, opened, sealed
+from companion_cases import CHECK, COMPANIONS, ROTATE, TEXT, Companions, block, decrypted, sealed
 from companion_cases.blocks import BODY, lines_of, texts
 from companion_cases.rotating import summary, to_new
 
@@ -15,7 +15,7 @@ REPORTED = {
     "JSON": (f'{{"a": {{"__ansible_vault": "{LINE}"}}}}\n'.encode(), "encrypt the whole file"),
     "one line": (b"a: !vault " + sealed("old").replace(b"\n", b" ") + b"\n", "write it as a block"),
     "a comment": (COMMENT, "an envelope in a comment"),
-    "a comment behind a value": (b"a: 1 # " + sealed("old").replace(b"\n", b" "), "within a line"),
+    "a comment after a value": (b"a: 1 # " + sealed("old").replace(b"\n", b" "), "within a line"),
     "tabs": (b"a: !vault |\n" + BODY.replace(b"          ", b"\t"), "after tabs; indent with spaces"),
     "a folded scalar": (b"a: !vault >\n" + BODY + b"\n", "in a folded scalar"),
     "a byte order mark": (b"\xef\xbb\xbf" + sealed("old"), "after a byte order mark"),
@@ -32,7 +32,7 @@ def reported(cases: Companions) -> None:
             cases.ended(f"{name}: rotated", done, 1, "./vars.yml", why, summary(0, failed=1))
             cases.check(f"{name}: it stays", place.get("vars.yml"), content)
             done = place.run(CHECK, *place.by_file("old"), ".")
-            cases.ended(f"{name}: checked", done, 1, "./vars.yml", why, "0 opened, 1 not")
+            cases.ended(f"{name}: checked", done, 1, "./vars.yml", why, "0 decrypted, 1 not")
 
 
 def several_in_a_line(cases: Companions) -> None:
@@ -63,7 +63,7 @@ def line_ends(cases: Companions) -> None:
         cases.ended("CR LF", place.run(ROTATE, *to_new(place), "."), 0, summary(1))
         after = place.get("a.yml")
         cases.check("each line ends so", after.count(b"\r\n"), after.count(b"\n"))
-        cases.check("it is rotated", opened("new", after.replace(b"\r\n", b"\n")), TEXT)
+        cases.check("it is rotated", decrypted("new", after.replace(b"\r\n", b"\n")), TEXT)
 
 
 # Pieces of hostile files, of which each is repeated.
@@ -113,7 +113,7 @@ def linear_time(cases: Companions) -> None:
     start = b"x: !vault |\n  $ANSIBLE_VAULT;1.1;AES256\n  61\n"
     works = {
         "the envelopes": envelopes.envelopes,
-        "behind a first line": lambda data: envelopes.envelopes(b"x: 1\n" + data),
+        "after a first line": lambda data: envelopes.envelopes(b"x: 1\n" + data),
         "a marked file": lambda data: leaks.fault_of_marked(b"x: 1\n" + data, {"diff"}),
         "what is decrypted": lambda data: leaks.decrypted(start + data, b"x: 1\n" + data),
         "a whole vault": lambda data: leaks.is_whole(b"$ANSIBLE_VAULT;1.1;AES256\n" + data),
@@ -127,4 +127,4 @@ def linear_time(cases: Companions) -> None:
             cases.holds(f"{name}: {piece[:30]!r}", times[1] < 0.02 or times[1] < MOST * times[0], repr(times))
 
 
-GROUPS = [reported, several_in_a_line, taken_as_blocks, line_ends, linear_time]
+TESTS = [reported, several_in_a_line, taken_as_blocks, line_ends, linear_time]

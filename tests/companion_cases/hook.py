@@ -135,4 +135,4 @@ def all_of_git(group):
     return with_git
 
 
-GROUPS = [*map(all_of_git, [what_is_refused, what_is_staged, links, blocks, awkward_names, where_it_runs])]
+TESTS = [*map(all_of_git, [what_is_refused, what_is_staged, links, blocks, awkward_names, where_it_runs])]

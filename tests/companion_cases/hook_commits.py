@@ -144,4 +144,4 @@ def other_hooks(cases: Companions) -> None:
         cases.silent("nothing else is refused", commit(place, "--allow-empty"))
 
 
-GROUPS = [*map(all_of_git, [every_file, each_commit, cherry_picks, shallow_clones, installed, other_hooks])]
+TESTS = [*map(all_of_git, [every_file, each_commit, cherry_picks, shallow_clones, installed, other_hooks])]

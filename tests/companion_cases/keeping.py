@@ -1,4 +1,4 @@
-"""ansible-vault-edit where a step behind the editor fails: what was typed is not lost."""
+"""ansible-vault-edit where a step after the editor fails: what was typed is not lost."""
 
 import os
 import re
@@ -6,7 +6,7 @@ import shutil
 import subprocess
 from pathlib import Path
 
-from companion_cases import EDIT, Companions, Place, opened, sealed
+from companion_cases import EDIT, Companions, Place, decrypted, sealed
 from companion_cases.editing import CHANGE, CHANGED, edit
 
 ENCRYPTED = re.compile(r"; what you saved is encrypted in (.+)\n\Z")
@@ -22,13 +22,13 @@ def check_encrypted(cases: Companions, what: str, place: Place, done, why: str, 
         return
     path = place.tree / found[1]
     cases.check(f"{what}: it stands in its place", path.parent, folder)
-    cases.check(f"{what}: it is the text, encrypted", opened("old", path.read_bytes()), CHANGED)
+    cases.check(f"{what}: it is the text, encrypted", decrypted("old", path.read_bytes()), CHANGED)
     cases.check(f"{what}: for its owner alone", oct(path.stat().st_mode & 0o777), "0o600")
     cases.check(f"{what}: no plaintext is left", place.left(), [])
     path.unlink()
 
 
-def check_plain(cases: Companions, what: str, place: Place, done, why: str, text: bytes) -> None:
+def check_plain(cases: Companions, what: str, done, why: str, text: bytes) -> None:
     cases.ended(what, done, 1, why)
     found = PLAIN.search(done.stderr)
     cases.holds(f"{what}: the message says where", found is not None, done.stderr)
@@ -77,7 +77,7 @@ def late(path):
 files.read = late
 """
         done = run_changed(place, EDIT, late, [*place.by_file("old"), "new.yml"], EDITOR=editor)
-        cases.ended("made at the last moment", done, 1, "new.yml: it was made meanwhile", "is encrypted in")
+        cases.ended("made at the last moment", done, 1, "new.yml: it was created meanwhile", "is encrypted in")
         cases.check("it stays", place.get("new.yml"), b"theirs")
 
 
@@ -117,7 +117,7 @@ def full_and_read_only_folders(cases: Companions) -> None:
     full = """
 def full(*words):
     raise OSError(28, "No space left on device")
-replacing._write_beside, replacing.rehearse = full, lambda target: None
+replacing._write_beside, replacing.check_replaceable = full, lambda target: None
 """
     with cases.place() as place:
         place.put("all.yml", sealed("old"))
@@ -126,14 +126,14 @@ replacing._write_beside, replacing.rehearse = full, lambda target: None
         check_encrypted(cases, "no space", place, done, "No space left on device", place.tree)
         full += "replacing._write_new = full\n"
         done = run_changed(place, EDIT, full, [*place.by_file("old"), "all.yml"], EDITOR=editor)
-        check_plain(cases, "no space anywhere", place, done, "No space left on device", CHANGED)
+        check_plain(cases, "no space anywhere", done, "No space left on device", CHANGED)
         cases.check("the vault stays", place.get("all.yml"), sealed("old"))
 
 
 def mounted_vaults(cases: Companions) -> None:
     """No file can take the place of one that is mounted by itself, as containers have it."""
     if os.geteuid() != 0 or subprocess.run(["unshare", "-m", "true"], capture_output=True).returncode != 0:
-        cases.left_out("mounted vaults", "the user may mount nothing")
+        cases.skip("mounted vaults", "the user may mount nothing")
         return
     with cases.place() as place:
         place.put("all.yml", sealed("old"))
@@ -154,12 +154,12 @@ def sealing_fails(cases: Companions) -> None:
     with cases.place() as place:
         place.put("all.yml", sealed("old"))
         done = edit(place, 'printf "\\$ANSIBLE_VAULT\\n" > "$1"', *place.by_file("old"), "all.yml")
-        check_plain(cases, "a text like a vault", place, done, "already vault encrypted", vault)
-        place.stand_before_tool('[ "$1" != encrypt ] || { echo "ERROR! out of memory" >&2; exit 4; }')
+        check_plain(cases, "a text like a vault", done, "already vault encrypted", vault)
+        place.wrap_tool('[ "$1" != encrypt ] || { echo "ERROR! out of memory" >&2; exit 4; }')
         done = edit(place, CHANGE, *place.by_file("old"), "all.yml")
-        check_plain(cases, "the tool fails", place, done, "out of memory", CHANGED)
+        check_plain(cases, "the tool fails", done, "out of memory", CHANGED)
         done = edit(place, f"{CHANGE}; exit 3", *place.by_file("old"), "all.yml")
-        check_plain(cases, "the tool and the editor fail", place, done, "out of memory", CHANGED)
+        check_plain(cases, "the tool and the editor fail", done, "out of memory", CHANGED)
         cases.check("the vault stays", place.get("all.yml"), sealed("old"))
 
 
@@ -169,7 +169,7 @@ def lost_passwords(cases: Companions) -> None:
         place.put("all.yml", sealed("old"))
         editor = f"{CHANGE}; rm {place.secret('old')}"
         cases.silent("a password file that goes", edit(place, editor, *place.by_file("old"), "all.yml"))
-        cases.check("the text is changed", opened("old", place.get("all.yml")), CHANGED)
+        cases.check("the text is changed", decrypted("old", place.get("all.yml")), CHANGED)
 
 
 def busy_helpers(cases: Companions) -> None:
@@ -179,7 +179,7 @@ def busy_helpers(cases: Companions) -> None:
         with cases.place() as place:
             place.put("all.yml", sealed("old"))
             cases.silent("a busy helper", edit(place, f"{CHANGE}; {helper}", *place.by_file("old"), "all.yml"))
-            cases.check("the text is changed", opened("old", place.get("all.yml")), CHANGED)
+            cases.check("the text is changed", decrypted("old", place.get("all.yml")), CHANGED)
             cases.check("the folder is gone", place.left(), [])
 
 
@@ -195,5 +195,5 @@ def warnings(cases: Companions) -> None:
             cases.holds(f"the help says `{part}`", part in text, text)
 
 
-GROUPS = [replacing_fails, made_meanwhile, full_and_read_only_folders, mounted_vaults, sealing_fails]
-GROUPS += [lost_passwords, busy_helpers, warnings]
+TESTS = [replacing_fails, made_meanwhile, full_and_read_only_folders, mounted_vaults, sealing_fails]
+TESTS += [lost_passwords, busy_helpers, warnings]

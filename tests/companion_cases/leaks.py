@@ -6,7 +6,7 @@ from companion_cases import AWKWARD, HOOK, TEXT, Companions, Place, block, seale
 from companion_cases.hook import all_of_git, refused, unmarking
 from companion_cases.repository import add_and_commit, commit, under_git
 
-WHOLE = "was a vault in the parent commit, and is none now"
+WHOLE = "was a vault in the parent commit, and is not one now"
 IN_PART = "has {} in plaintext, encrypted in the parent commit"
 MEANT = "  if that is meant, commit with --no-verify"
 
@@ -43,7 +43,7 @@ def unmarked_vaults(cases: Companions) -> None:
         cases.silent("plaintext elsewhere", again(place, "plain.yml", TEXT * 2))
         place.shell("git rm -q group_vars/all.yml")
         cases.silent("a removal", commit(place))
-        cases.silent("and plaintext behind it", again(place, "group_vars/all.yml", TEXT))
+        cases.silent("and plaintext after it", again(place, "group_vars/all.yml", TEXT))
         place.put("old.yml", b"$ANSIBLE_VAULT;1.0;AES\n" + b"61" * 40 + b"\n")
         place.put("cut.yml", sealed("old")[:-100])
         cases.silent("vaults that the tool does not read", add_and_commit(place))
@@ -124,8 +124,8 @@ def marked_content(cases: Companions) -> None:
     digits = sealed("old").partition(b"\n")[2]
     damaged = {
         "a bare header": b"$ANSIBLE_VAULT;1.1;AES256\n",
-        "a word behind the header": b"$ANSIBLE_VAULT;1.1;AES256;pw=plain\n",
-        "a word behind the label": b"$ANSIBLE_VAULT;1.2;AES256;prod;pw=plain\n" + digits,
+        "a word after the header": b"$ANSIBLE_VAULT;1.1;AES256;pw=plain\n",
+        "a word after the label": b"$ANSIBLE_VAULT;1.2;AES256;prod;pw=plain\n" + digits,
         "digits of a text": b"$ANSIBLE_VAULT;1.1;AES256\n" + TEXT.hex().encode() + b"\n",
         "another version": b"$ANSIBLE_VAULT;2.0;AES256\n" + digits,
         "a part of the digits": sealed("old")[:200],
@@ -133,7 +133,7 @@ def marked_content(cases: Companions) -> None:
     lines = block("old").splitlines(keepends=True)
     between = {
         "plaintext between": b"".join([*lines[:3], b"          password: plain\n", *lines[3:]]),
-        "plaintext behind": block("old") + b"          password: plain\n",
+        "plaintext after": block("old") + b"          password: plain\n",
         "digits that end early": b"".join(lines[:3]) + b"b: 1\n",
         "a header alone": b"".join(lines[:2]),
     }
@@ -195,5 +195,5 @@ def awkward_names(cases: Companions) -> None:
         cases.check("each is refused", (done.returncode, done.stderr.count(WHOLE)), (1, len(AWKWARD)))
 
 
-GROUPS = [unmarked_vaults, decrypted_blocks, merges, marked_content, plain_beside_vaults, modes_and_renames]
-GROUPS = [*map(all_of_git, [*GROUPS, outside_of_git, awkward_names])]
+TESTS = [unmarked_vaults, decrypted_blocks, merges, marked_content, plain_beside_vaults, modes_and_renames]
+TESTS = [*map(all_of_git, [*TESTS, outside_of_git, awkward_names])]

@@ -26,14 +26,14 @@ def marked_files(cases: Companions) -> None:
         place.put("ok.vault.md", block("old"))
         place.put("secrets/ok", sealed("old"))
         place.put("plain.yml", TEXT)
-        cases.ended("all is well", place.run(CHECK, *place.by_file("old"), "."), 0, "3 opened, 0 not")
+        cases.ended("all is well", place.run(CHECK, *place.by_file("old"), "."), 0, "3 decrypted, 0 not")
         for name, (content, why) in plain.items():
             place.put(name, content)
             for path in (".", name, str(place.tree / name)):
                 done = place.run(CHECK, *place.by_file("old"), path)
                 cases.ended(f"{name} by {path}", done, 1, f"{name}: {why}\n", "1 not\n")
             (place.tree / name).unlink()
-        cases.ended("all is well again", place.run(CHECK, *place.by_file("old"), "."), 0, "3 opened, 0 not")
+        cases.ended("all is well again", place.run(CHECK, *place.by_file("old"), "."), 0, "3 decrypted, 0 not")
 
 
 def several_repositories(cases: Companions) -> None:
@@ -58,13 +58,15 @@ def some_labels(cases: Companions) -> None:
         place.put("b.yml", sealed("prod", label="prod"))
         place.put("c.yml", block("dev", label="dev") + block("old") + block("old", label="prod", name="x"))
         dev = place.by_id("dev", "dev")
-        reported = "2 opened, 0 not, 3 of other labels (default 1, prod 2)\n"
+        reported = "2 decrypted, 0 not, 3 of other labels (default 1, prod 2)\n"
         cases.ended("one label", place.run(CHECK, *dev, "--label", "dev", "."), 0, reported)
         done = place.run(CHECK, *dev, "--label", "dev", "--label", "prod", ".")
-        cases.ended("two labels", done, 1, "./b.yml: prod: no secret", "2 opened, 2 not, 1 of other labels (default 1)")
+        counts = "2 decrypted, 2 not, 1 of other labels (default 1)"
+        cases.ended("two labels", done, 1, "./b.yml: prod: no secret", counts)
         place.put("d.yml", sealed("old", label="dev"))
         done = place.run(CHECK, *dev, "--label", "dev", ".")
-        cases.ended("one that does not open", done, 1, "./d.yml: dev: no secret", "2 opened, 1 not, 3 of other labels")
+        counts = "2 decrypted, 1 not, 3 of other labels"
+        cases.ended("one that cannot be decrypted", done, 1, "./d.yml: dev: no secret", counts)
         place.put("d.yml", b"$ANSIBLE_VAULT;1.1\n")
         done = place.run(CHECK, *dev, "--label", "dev", ".")
         cases.ended("one without a header", done, 1, "./d.yml: no label: vault header line is malformed")
@@ -84,11 +86,11 @@ def names_of_variables(cases: Companions) -> None:
             place.put("vars.yml", line + rows)
             done = place.run(CHECK, *place.by_file("old"), "vars.yml")
             number = line.count(b"\n") + 1
-            wanted = f"vars.yml:{number}: {name}: default: opened by {place.secret('old')}\n1 opened, 0 not\n"
+            wanted = f"vars.yml:{number}: {name}: default: decrypted by {place.secret('old')}\n1 decrypted, 0 not\n"
             cases.check(f"{name}: the line", done.stdout, wanted)
         place.put("vars.yml", b"- !vault |\n" + rows + b'"\x1b[2J": !vault |\n' + rows)
         done = place.run(CHECK, *place.by_file("old"), "vars.yml")
-        cases.ended("an item of a list", done, 0, f"vars.yml:2: default: opened by {place.secret('old')}\n")
+        cases.ended("an item of a list", done, 0, f"vars.yml:2: default: decrypted by {place.secret('old')}\n")
         cases.check("nothing that a terminal would obey", "\x1b" in done.stdout, False)
 
 
@@ -127,5 +129,5 @@ def files_behind_dashes(cases: Companions) -> None:
                 cases.check(f"{words}", (done.returncode, done.stdout, done.stderr), (0, TEXT, b""))
 
 
-GROUPS = [*map(all_of_git, [marked_files, several_repositories]), some_labels, names_of_variables]
-GROUPS += [starts_of_the_tool, files_behind_dashes]
+TESTS = [*map(all_of_git, [marked_files, several_repositories]), some_labels, names_of_variables]
+TESTS += [starts_of_the_tool, files_behind_dashes]

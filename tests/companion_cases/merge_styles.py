@@ -6,7 +6,7 @@ import re
 import subprocess
 from typing import Iterator
 
-from companion_cases import CHECK, MERGE, PASSWORDS, Companions, Place, opened
+from companion_cases import CHECK, MERGE, PASSWORDS, Companions, Place, decrypted
 from companion_cases.blocks import texts
 from companion_cases.merging import versions
 from companion_cases.repository import under_git
@@ -68,9 +68,9 @@ def merges(place: Place, texts: dict[str, tuple]) -> Iterator[tuple[str, bytes, 
 def check_merge(cases: Companions, place: Place, what: str, merge: list[str], conflicts: int) -> None:
     done = place.run(MERGE, *place.by_file("old"), *merge)
     count = f"{conflicts} conflict{'s' if conflicts > 1 else ''}"
-    told = f"{MERGE}: a.yml: {count}, to be resolved with ansible-vault-edit\n"
+    message = f"{MERGE}: a.yml: {count}, to be resolved with ansible-vault-edit\n"
     found = (done.returncode, done.stdout, done.stderr)
-    cases.check(f"{what}: the status", found, (1, "", told) if conflicts else (0, "", ""))
+    cases.check(f"{what}: the status", found, (1, "", message) if conflicts else (0, "", ""))
     if conflicts:
         checked = place.run(CHECK, *place.by_file("old"), "a.yml")
         cases.holds(f"{what}: the check sees the markers", "conflict markers" in checked.stderr, checked.stderr)
@@ -83,7 +83,7 @@ def of_vaults(cases: Companions) -> None:
         for what, _, plain, wanted, conflicts in merges(place, TEXTS | COMMON):
             merge = versions(place, "a.yml", *(seal(PASSWORDS["old"], each) for each in plain))
             check_merge(cases, place, what, merge, conflicts)
-            cases.check(f"{what}: the plaintext", opened("old", place.get("a.yml")), wanted)
+            cases.check(f"{what}: the plaintext", decrypted("old", place.get("a.yml")), wanted)
 
 
 def encrypted(content: bytes, end: bytes, salt: bytes) -> bytes:
@@ -96,13 +96,13 @@ def encrypted(content: bytes, end: bytes, salt: bytes) -> bytes:
     return VALUE.sub(block, content.replace(end, b"\n")).replace(b"\n", end)
 
 
-def decrypted(content: bytes) -> bytes:
-    """The opposite; a block has the end of its last line, if that has one."""
+def with_plaintexts(content: bytes) -> bytes:
+    """The inverse: each block by its plaintext, with the line ending that the block's last line has, if any."""
 
     def value(found: re.Match[bytes]) -> bytes:
         envelope = b"".join(line.strip() + b"\n" for line in found[2].splitlines())
         end = found[2][len(found[2].rstrip(b"\r\n")) :]
-        return found[1] + b": " + (opened("old", envelope) or b"") + end
+        return found[1] + b": " + (decrypted("old", envelope) or b"") + end
 
     return BLOCK.sub(value, content)
 
@@ -117,7 +117,7 @@ def of_values(cases: Companions) -> None:
             sides = [encrypted(each, end, salt) for each, salt in zip(plain, salts)]
             check_merge(cases, place, what, versions(place, "a.yml", *sides), conflicts)
             found = place.get("a.yml")
-            cases.check(f"{what}: the text", decrypted(found), wanted)
+            cases.check(f"{what}: the text", with_plaintexts(found), wanted)
             cases.check(f"{what}: no value is torn", found.count(b"ANSIBLE_VAULT"), len(BLOCK.findall(found)))
 
 
@@ -139,4 +139,4 @@ def labels_of_values(cases: Companions) -> None:
         cases.check("with their labels", headers, [1, 1])
 
 
-GROUPS = [of_vaults, of_values, labels_of_values]
+TESTS = [of_vaults, of_values, labels_of_values]

@@ -1,6 +1,6 @@
 """ansible-vault-merge below git: two branches of a vault, and of YAML with values that are vaults."""
 
-from companion_cases import CHECK, EDIT, HOOK, MERGE, Companions, Place, block, opened, sealed
+from companion_cases import CHECK, EDIT, HOOK, MERGE, Companions, Place, block, decrypted, sealed
 from companion_cases.beside_ansible import theirs
 from companion_cases.blocks import texts
 from companion_cases.editing import edit
@@ -41,7 +41,7 @@ def without_conflict(cases: Companions) -> None:
         done = branches(place, {"whole.yml": sealed("old", BASE), "vars.yml": a + b + b"z: 1\n"}, ours, other)
         cases.ended("no conflict", done, 0)
         both = b"one: I\n2: 2\n3: 3\nfour: IV\n"
-        cases.check("both changes are in the vault", opened("old", place.get("whole.yml")), both)
+        cases.check("both changes are in the vault", decrypted("old", place.get("whole.yml")), both)
         wanted = block("old", b"A", name="a") + block("old", b"B", name="b") + b"z: 1\n"
         cases.check("values keep the envelopes of their sides", place.get("vars.yml"), wanted)
         if ansible := ansible_vault():
@@ -56,7 +56,7 @@ def with_conflict(cases: Companions) -> None:
         base = {"whole.yml": sealed("old", b"x: 1\n"), "vars.yml": block("old", b"base", name="a") + b"z: 1\n"}
         done = branches(place, base, ours, other)
         cases.ended("a conflict", done, 1, "whole.yml: 1 conflict", "vars.yml: 1 conflict")
-        marked = opened("old", place.get("whole.yml"))
+        marked = decrypted("old", place.get("whole.yml"))
         cases.check("the markers are within", marked, b"<<<<<<< ours\nx: ours\n=======\nx: theirs\n>>>>>>> theirs\n")
         cases.check("both values stay encrypted", texts(place.get("vars.yml"), "old"), [b"ours", b"theirs"])
         cases.holds("around them are markers", place.get("vars.yml").startswith(b"<<<<<<< ours\na: !vault |\n"))
@@ -68,7 +68,7 @@ def with_conflict(cases: Companions) -> None:
         for name in ("whole.yml", "vars.yml"):
             done = edit(place, TAKE_THEIRS, *place.by_file("old"), name)
             cases.ended(f"{EDIT} {name}", done, 0, "it has git's conflict markers")
-        cases.check("the vault", opened("old", place.get("whole.yml")), b"x: theirs\n")
+        cases.check("the vault", decrypted("old", place.get("whole.yml")), b"x: theirs\n")
         cases.check("the value keeps its envelope", place.get("vars.yml"), other["vars.yml"])
         cases.silent("the commit", add_and_commit(place))
 
@@ -91,16 +91,16 @@ def rotated(cases: Companions) -> None:
         other = {"a.yml": sealed("new", BASE), "b.yml": block("new", b"1", name="b") + block("new", b"2", name="c")}
         ours = {"a.yml": sealed("old", OURS), "b.yml": block("old", b"I", name="b") + block("old", b"2", name="c")}
         cases.ended("a rotation", branches(place, base, ours, other, *words), 0)
-        cases.check("the vault", opened("new", place.get("a.yml")), OURS)
+        cases.check("the vault", decrypted("new", place.get("a.yml")), OURS)
         cases.check("the values", texts(place.get("b.yml"), "new"), [b"I", b"2"])
 
 
 # Versions that are not merged, and why.
 REFUSED = {
     "no secret decrypts this vault": (sealed("old"), sealed("old", OURS), sealed("dev", THEIRS)),
-    "one side is a vault and the other is none": (sealed("old"), sealed("old", OURS), THEIRS),
+    "one side is a vault and the other is not": (sealed("old"), sealed("old", OURS), THEIRS),
     "both sides have put it under new secrets, and these differ": (sealed("old"), sealed("new"), sealed("prod")),
-    "git merge-file cannot merge it; it may be no text": (
+    "git merge-file cannot merge it; it may be binary": (
         sealed("old"),
         sealed("old", b"a\0\n"),
         sealed("old", b"b\0\n"),
@@ -125,16 +125,16 @@ def those_that_fail(cases: Companions) -> None:
             cases.ended(f"version {number} is missing", place.run(MERGE, *secrets, *names), 1, "is missing")
         done = place.run(MERGE, "--vault-password-file", "../missing", *words)
         cases.ended("no password file", done, 1, f"{where}../missing: a password file cannot be opened")
-        place.stand_before_tool('[ "$1" != encrypt ] || echo other > a.yml')
+        place.wrap_tool('[ "$1" != encrypt ] || echo other > a.yml')
         done = place.run(MERGE, *secrets, *words)
         cases.ended("changed meanwhile", done, 1, f"{where}it was changed meanwhile")
         cases.check("what somebody wrote stays", place.files(), {"a.yml": b"other\n"})
-        place.stand_before_tool('[ "$1" != encrypt ] || exit 4')
+        place.wrap_tool('[ "$1" != encrypt ] || exit 4')
         words = versions(place, "a.yml", *changes)
         cases.ended("the tool fails", place.run(MERGE, *secrets, *words), 1, "ansible-vault ended with status 4")
-        place.stand_before_tool("exit 255", "git")
+        place.wrap_tool("exit 255", "git")
         cases.ended("git fails", place.run(MERGE, *secrets, *words), 1, "git merge-file cannot merge it")
         cases.check("ours stays", place.files(), {"a.yml": changes[1]})
 
 
-GROUPS = [without_conflict, with_conflict, labels, rotated, those_that_fail]
+TESTS = [without_conflict, with_conflict, labels, rotated, those_that_fail]

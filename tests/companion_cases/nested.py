@@ -1,6 +1,6 @@
 """Blocks within the plaintext of a vault: ansible-vault-rotate and ansible-vault-check look at them, too."""
 
-from companion_cases import CHECK, ROTATE, TEXT, Companions, Place, block, opened, sealed
+from companion_cases import CHECK, ROTATE, TEXT, Companions, Place, block, decrypted, sealed
 from companion_cases.blocks import texts, without_digits
 from companion_cases.rotating import summary, to_new
 
@@ -9,7 +9,7 @@ LINE_OF_B = INNER.splitlines().index(b"b: !vault |") + 2
 
 
 def within(place: Place, name: str, password: str) -> bytes:
-    return opened(password, place.get(name)) or b""
+    return decrypted(password, place.get(name)) or b""
 
 
 def inside_and_outside(cases: Companions) -> None:
@@ -39,7 +39,7 @@ def inside_alone(cases: Companions) -> None:
         for name, password in (("done.yml", "new"), ("prod.yml", "prod")):
             cases.check(f"{name}: it is rotated", texts(within(place, name, password), "new"), [TEXT, None])
         cases.holds("its label stays", place.get("prod.yml").startswith(b"$ANSIBLE_VAULT;1.2;AES256;prod\n"))
-        cases.check("what no secret opens stays", place.get("unknown.yml"), sealed("dev", INNER, "strange"))
+        cases.check("what no secret decrypts stays", place.get("unknown.yml"), sealed("dev", INNER, "strange"))
 
 
 def faults_within(cases: Companions) -> None:
@@ -52,7 +52,7 @@ def faults_within(cases: Companions) -> None:
         cases.check("the others are rotated", texts(within(place, "all.yml", "new"), "new"), [None, TEXT])
     with cases.place() as place:
         place.put("all.yml", sealed("old", block("old")))
-        place.stand_before_tool('[ "$1" != encrypt ] || { echo "ERROR! out of memory" >&2; exit 4; }')
+        place.wrap_tool('[ "$1" != encrypt ] || { echo "ERROR! out of memory" >&2; exit 4; }')
         done = place.run(ROTATE, *to_new(place), ".")
         cases.ended("it is not sealed", done, 1, "./all.yml: out of memory", summary(0, failed=1))
         cases.check("the vault stays", place.get("all.yml"), sealed("old", block("old")))
@@ -80,19 +80,19 @@ def checked(cases: Companions) -> None:
         old = place.by_file("old")
         done = place.run(CHECK, *old, *place.by_id("dev", "dev"), ".")
         lines = [
-            f"./all.yml: default: opened by {old[1]}",
-            f"./all.yml: in its plaintext, line 3: a: default: opened by {old[1]}",
-            f"./all.yml: in its plaintext, line {LINE_OF_B}: b: dev: opened by dev@{place.secret('dev')}",
-            "3 opened, 0 not",
+            f"./all.yml: default: decrypted by {old[1]}",
+            f"./all.yml: in its plaintext, line 3: a: default: decrypted by {old[1]}",
+            f"./all.yml: in its plaintext, line {LINE_OF_B}: b: dev: decrypted by dev@{place.secret('dev')}",
+            "3 decrypted, 0 not",
         ]
-        cases.check("all open", (done.returncode, done.stdout.splitlines(), done.stderr), (0, lines, ""))
+        cases.check("all are decrypted", (done.returncode, done.stdout.splitlines(), done.stderr), (0, lines, ""))
         done = place.run(CHECK, *old, ".")
         why = f"./all.yml: in its plaintext, line {LINE_OF_B}: b: dev: no secret decrypts this vault\n"
-        cases.ended("one does not", done, 1, why, "2 opened, 1 not")
+        cases.ended("one is not", done, 1, why, "2 decrypted, 1 not")
         place.put("all.yml", sealed("old", b"<<<<<<< HEAD\na: 1\n=======\na: 2\n>>>>>>> branch\n"))
         done = place.run(CHECK, *old, ".")
         why = "./all.yml: default: its plaintext has git's conflict markers"
-        cases.ended("conflict markers", done, 1, why, "1 opened, 1 not")
+        cases.ended("conflict markers", done, 1, why, "1 decrypted, 1 not")
 
 
-GROUPS = [inside_and_outside, inside_alone, faults_within, dry_run, checked]
+TESTS = [inside_and_outside, inside_alone, faults_within, dry_run, checked]

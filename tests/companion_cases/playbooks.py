@@ -122,7 +122,7 @@ def every_result(cases: Companions) -> None:
     ansible = ansible_vault()
     playbook = ansible and Path(ansible).with_name("ansible-playbook")
     if not playbook or not playbook.exists():
-        cases.left_out("what ansible-playbook reads", "it is not installed")
+        cases.skip("what ansible-playbook reads", "it is not installed")
         return
     with cases.place() as place:
         place.script(CLIENT, "keys-client")
@@ -140,4 +140,4 @@ def every_result(cases: Companions) -> None:
             cases.check(name, text, wanted)
 
 
-GROUPS = [every_result]
+TESTS = [every_result]

@@ -2,7 +2,7 @@
 
 import shutil
 
-from companion_cases import CHECK, EDIT, PASSWORDS, ROTATE, TEXT, TEXTCONV, WITH, Companions, Place, opened, sealed
+from companion_cases import CHECK, EDIT, PASSWORDS, ROTATE, TEXT, TEXTCONV, WITH, Companions, Place, decrypted, sealed
 from companion_cases.both import ours, theirs_at_terminal
 from companion_cases.secrecy import NOTE
 from companion_cases.terminal import Session, at_terminal
@@ -12,7 +12,7 @@ ASKED = "Vault password: "
 NEW, AGAIN = "New Vault password: ", "Confirm New Vault password: "
 OF_DEV = "Vault password (dev): "
 NEW_OF_DEV, AGAIN_OF_DEV = "New vault password (dev): ", "Confirm new vault password (dev): "
-# Words behind a command, and what is asked to open and to encrypt.
+# Options after a command, and the prompts for decrypting and for encrypting.
 FORMS = {
     "--ask-vault-password": ([ASKED], [NEW, AGAIN]),
     "--ask-vault-pass": ([ASKED], [NEW, AGAIN]),
@@ -42,15 +42,15 @@ def forms(cases: Companions) -> None:
     """The words of Ansible's tool ask what it asks."""
     ansible = ansible_vault()
     if not ansible:
-        cases.left_out("what Ansible's tool asks", "it is not installed")
-    for word, (to_open, to_encrypt) in FORMS.items():
+        cases.skip("what Ansible's tool asks", "it is not installed")
+    for word, (to_decrypt, to_encrypt) in FORMS.items():
         with cases.place() as place:
             place.put("a.yml", sealed("dev"))
             words = ["view", *filter(None, [word]), "a.yml"]
-            answers = typed("dev", *to_open)
+            answers = typed("dev", *to_decrypt)
             session = ask(place, WITH, *words, answers=answers)
             cases.check(f"{words}", (session.returncode, session.stdout, session.stderr), (0, TEXT.decode(), ""))
-            check_session(cases, f"{words}", session, *to_open)
+            check_session(cases, f"{words}", session, *to_decrypt)
             if ansible:
                 other = theirs_at_terminal(place, ansible, known(words), *answers)
                 cases.check(f"{words}: Ansible's tool shows", other.shown, session.shown)
@@ -71,12 +71,12 @@ def encrypted(cases: Companions, place: Place, word: str, questions: list[str], 
     session = ask(place, WITH, *words, answers=answers)
     cases.check(f"{words}", (session.returncode, session.stdout, session.stderr), (0, "", ""))
     check_session(cases, f"{words}", session, *questions)
-    cases.check(f"{words}: it is encrypted", opened("dev", place.get("plain.yml")), TEXT)
+    cases.check(f"{words}: it is encrypted", decrypted("dev", place.get("plain.yml")), TEXT)
     if ansible:
         place.put("plain.yml", TEXT)
         other = theirs_at_terminal(place, ansible, known(words), *answers)
         cases.check(f"{words}: Ansible's tool shows", other.shown, session.shown)
-        cases.check(f"{words}: and encrypts", opened("dev", place.get("plain.yml")), TEXT)
+        cases.check(f"{words}: and encrypts", decrypted("dev", place.get("plain.yml")), TEXT)
 
 
 def rekeyed(cases: Companions) -> None:
@@ -85,43 +85,43 @@ def rekeyed(cases: Companions) -> None:
         sessions = {}
         place.put("a.yml", sealed("old"))
         sessions[WITH] = ask(place, WITH, "rekey", "a.yml", answers=answers)
-        cases.check("it is rekeyed", opened("new", place.get("a.yml")), TEXT)
+        cases.check("it is rekeyed", decrypted("new", place.get("a.yml")), TEXT)
         cases.check("in silence", (sessions[WITH].returncode, sessions[WITH].stderr), (0, ""))
         if ansible := ansible_vault():
             place.put("a.yml", sealed("old"))
             sessions[ansible] = theirs_at_terminal(place, ansible, ["rekey", "a.yml"], *answers)
         else:
-            cases.left_out("what Ansible's tool asks for rekey", "it is not installed")
+            cases.skip("what Ansible's tool asks for rekey", "it is not installed")
         for tool, session in sessions.items():
             check_session(cases, f"{tool} rekey", session, ASKED, NEW, AGAIN)
 
 
 def every_companion(cases: Companions) -> None:
-    """Once to open, twice to encrypt."""
+    """Once to decrypt, twice to encrypt."""
     with cases.place() as place:
         place.put("a.yml", sealed("dev", label="dev"))
         word = ["--vault-id", "dev@prompt"]
         session = ask(place, CHECK, *word, ".", answers=typed("dev", OF_DEV))
-        told = "./a.yml: dev: opened by dev@prompt\n1 opened, 0 not\n"
-        cases.check("check", (session.returncode, session.stdout), (0, told))
+        output = "./a.yml: dev: decrypted by dev@prompt\n1 decrypted, 0 not\n"
+        cases.check("check", (session.returncode, session.stdout), (0, output))
         check_session(cases, "check", session, OF_DEV)
         session = ask(place, CHECK, "-J", ".", answers=typed("dev", ASKED))
-        told = "./a.yml: dev: opened by --ask-vault-password\n1 opened, 0 not\n"
-        cases.check("check -J", (session.returncode, session.stdout), (0, told))
+        output = "./a.yml: dev: decrypted by --ask-vault-password\n1 decrypted, 0 not\n"
+        cases.check("check -J", (session.returncode, session.stdout), (0, output))
         session = ask(place, TEXTCONV, *word, "a.yml", answers=typed("dev", OF_DEV))
         cases.check("textconv", (session.returncode, session.stdout), (0, TEXT.decode()))
         check_session(cases, "textconv", session, OF_DEV)
         editor = place.script('echo more >> "$1"', "editor")
         session = ask(place, EDIT, *word, "a.yml", answers=typed("dev", OF_DEV), EDITOR=editor)
         check_session(cases, "edit", session, OF_DEV)
-        cases.check("what was edited", opened("dev", place.get("a.yml")), TEXT + b"more\n")
+        cases.check("what was edited", decrypted("dev", place.get("a.yml")), TEXT + b"more\n")
         session = ask(place, EDIT, *word, "b.yml", answers=typed("dev", NEW_OF_DEV, AGAIN_OF_DEV), EDITOR=editor)
         check_session(cases, "edit of a new one", session, NEW_OF_DEV, AGAIN_OF_DEV)
-        cases.check("what was made", opened("dev", place.get("b.yml")), b"more\n")
+        cases.check("what was made", decrypted("dev", place.get("b.yml")), b"more\n")
         answers = [*typed("dev", OF_DEV), *typed("dev2", NEW_OF_DEV, AGAIN_OF_DEV)]
         session = ask(place, ROTATE, *word, "--new-vault-id", "dev@prompt", ".", answers=answers)
         check_session(cases, "rotate", session, OF_DEV, NEW_OF_DEV, AGAIN_OF_DEV)
-        cases.check("what was rotated", opened("dev2", place.get("b.yml")), b"more\n")
+        cases.check("what was rotated", decrypted("dev2", place.get("b.yml")), b"more\n")
 
 
 def by_settings(cases: Companions) -> None:
@@ -134,7 +134,8 @@ def by_settings(cases: Companions) -> None:
         # A file of this name is none of it.
         place.put("prompt", PASSWORDS["dev"])
         done = place.run("setsid", "--wait", CHECK, "a.yml", ANSIBLE_VAULT_PASSWORD_FILE="prompt")
-        cases.check("a file called prompt", (done.returncode, done.stdout[-16:]), (0, "1 opened, 0 not\n"))
+        found = done.returncode, done.stdout.splitlines()[-1:]
+        cases.check("a file called prompt", found, (0, ["1 decrypted, 0 not"]))
         done = ours(place, "view", "--vault-password-file", "prompt", "a.yml")
         cases.check("by an option", (done.returncode, done.stdout), (0, TEXT.decode()))
 
@@ -147,20 +148,20 @@ def what_is_typed(cases: Companions) -> None:
         "nothing": ([(NEW_OF_DEV, b"\n")], "an empty password was typed"),
         "white space": ([(NEW_OF_DEV, b" \t\n")], "an empty password was typed"),
         "an end": ([(NEW_OF_DEV, b"\x04")], "nothing was typed"),
-        "no text": ([(NEW_OF_DEV, b"\xff\n")], "what was typed is no text"),
+        "no text": ([(NEW_OF_DEV, b"\xff\n")], "what was typed is not valid text"),
     }
     with cases.place() as place:
         for what, (answers, part) in refused.items():
             place.put("a.yml", TEXT)
             words = [WITH, "encrypt", "--vault-id", "dev@prompt", "a.yml"]
             session = ask(place, *words, answers=answers)
-            told = (1, "", f"{WITH}: dev@prompt: {part}\n")
-            cases.check(what, (session.returncode, session.stdout, session.stderr), told)
+            expected = (1, "", f"{WITH}: dev@prompt: {part}\n")
+            cases.check(what, (session.returncode, session.stdout, session.stderr), expected)
             cases.check(f"{what}: the terminal echoes again", session.echoes, True)
             cases.check(f"{what}: nothing is changed", (place.get("a.yml"), place.names()), (TEXT, ["a.yml"]))
         around = b"  " + PASSWORDS["dev"] + b" \n"
         session = ask(place, *words, answers=[(NEW_OF_DEV, around), (AGAIN_OF_DEV, PASSWORDS["dev"] + b"\n")])
-        cases.check("white space around it", (session.returncode, opened("dev", place.get("a.yml"))), (0, TEXT))
+        cases.check("white space around it", (session.returncode, decrypted("dev", place.get("a.yml"))), (0, TEXT))
 
 
 def no_terminal(cases: Companions) -> None:
@@ -171,11 +172,11 @@ def no_terminal(cases: Companions) -> None:
         for words in ([WITH, "view"], [CHECK], [EDIT]):
             for option, given in (("--vault-id=dev@prompt", "dev@prompt"), ("-J", "--ask-vault-password")):
                 done = place.run(*away, *words, option, "a.yml")
-                told = (1, "", f"{words[0]}: {given}: {why}\n")
-                cases.check(f"{words[0]} {option}", (done.returncode, done.stdout, done.stderr), told)
+                expected = (1, "", f"{words[0]}: {given}: {why}\n")
+                cases.check(f"{words[0]} {option}", (done.returncode, done.stdout, done.stderr), expected)
         done = place.run(*away, TEXTCONV, "-J", *place.by_file("dev"), "a.yml")
-        told = (0, TEXT.decode(), f"{TEXTCONV}: --ask-vault-password: {why}\n")
-        cases.check("textconv takes another", (done.returncode, done.stdout, done.stderr), told)
+        expected = (0, TEXT.decode(), f"{TEXTCONV}: --ask-vault-password: {why}\n")
+        cases.check("textconv uses the other secret", (done.returncode, done.stdout, done.stderr), expected)
         done = ours(place, "view", "a.yml")
         cases.ended("no secret", done, 1, f"{WITH}: no secret is given: name one by --vault-id", "ansible.cfg")
 
@@ -183,16 +184,16 @@ def no_terminal(cases: Companions) -> None:
 def keys(cases: Companions) -> None:
     """The key for an interrupt ends the question, and the terminal is as it was."""
     if not shutil.which("stty"):
-        cases.left_out("keys", "without stty")
+        cases.skip("keys", "without stty")
         return
     with cases.place() as place:
         place.put("a.yml", sealed("dev"))
         for key, status in ((b"\x03", 130), (b"\x1c", 131)):
             for words in ([WITH, "view", "-J", "a.yml"], [CHECK, "-J", "."], [EDIT, "-J", "a.yml"]):
                 session = ask(place, *words, answers=[(ASKED, key)])
-                # The shell of the terminal tells of the second signal.
-                told = session.stdout + session.stderr.removesuffix("Quit\n")
-                cases.check(f"{words} {key}", (session.returncode, told), (status, ""))
+                # The shell at the terminal prints `Quit` for SIGQUIT.
+                output = session.stdout + session.stderr.removesuffix("Quit\n")
+                cases.check(f"{words} {key}", (session.returncode, output), (status, ""))
                 cases.check(f"{words} {key}: the terminal echoes", session.echoes, True)
 
 
@@ -200,7 +201,7 @@ def secrecy(cases: Companions) -> None:
     """What is typed is in no word and no environment of a program."""
     with cases.place() as place:
         place.put("a.yml", sealed("dev"))
-        place.stand_before_tool(NOTE)
+        place.wrap_tool(NOTE)
         answers = typed("dev", ASKED)
         for words in ([WITH, "view"], [CHECK]):
             session = ask(place, *words, "-J", "a.yml", answers=answers)
@@ -210,7 +211,7 @@ def secrecy(cases: Companions) -> None:
         cases.check("no password is seen", PASSWORDS["dev"] in seen, False)
 
 
-GROUPS = [
+TESTS = [
     forms,
     rekeyed,
     every_companion,

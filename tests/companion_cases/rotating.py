@@ -1,8 +1,8 @@
-"""ansible-vault-rotate: which vaults get which secret, what is told, and what stays."""
+"""ansible-vault-rotate: which vaults get which secret, what is reported, and what stays."""
 
 import os
 
-from companion_cases import NOBODY, ROTATE, TEXT, Companions, Place, block, opened, sealed
+from companion_cases import NOBODY, ROTATE, TEXT, Companions, Place, block, decrypted, sealed
 
 SUMMARY = "{} rotated, {} under the new secret already, {} of other labels{}, {} failed"
 
@@ -32,20 +32,20 @@ def by_label(cases: Companions) -> None:
         before = place.files()
         old = [*place.by_file("old"), *place.by_id("dev", "dev"), *place.by_id("prod", "prod")]
         done = place.run(ROTATE, *old, *place.by_id("prod", "prod2", "new-"), ".")
-        told = summary(3, 0, 3, " (default 1, dev 2)")
-        cases.ended("prod alone", done, 0, "./prod/vars.yml: rotated\n", "./blocks.yml: 1 block rotated\n", told)
+        counts = summary(3, 0, 3, " (default 1, dev 2)")
+        cases.ended("prod alone", done, 0, "./prod/vars.yml: rotated\n", "./blocks.yml: 1 block rotated\n", counts)
         after = place.files()
         stays = [name for name in before if before[name] == after[name]]
         cases.check("the others stay", sorted(stays), ["all.yml", "dev/vars.yml", "plain.yml"])
         for name in ("prod/vars.yml", "prod/more.yml"):
-            cases.check(f"{name} is under the new secret", opened("prod2", after[name]), TEXT)
+            cases.check(f"{name} is under the new secret", decrypted("prod2", after[name]), TEXT)
             cases.holds(f"{name} keeps its label", after[name].startswith(b"$ANSIBLE_VAULT;1.2;AES256;prod\n"))
         cases.holds("the block of dev stays", after["blocks.yml"].startswith(block("dev", label="dev", name="a")))
         new = [*place.by_file("new", "new-"), *place.by_id("dev", "dev2", "new-")]
         done = place.run(ROTATE, *old, *new, ".")
         cases.ended("two labels at once", done, 0, summary(3, 0, 3, " (prod 3)"))
-        cases.check("default has its own", opened("new", place.get("all.yml")), TEXT)
-        cases.check("dev has its own", opened("dev2", place.get("dev/vars.yml")), TEXT)
+        cases.check("default has its own", decrypted("new", place.get("all.yml")), TEXT)
+        cases.check("dev has its own", decrypted("dev2", place.get("dev/vars.yml")), TEXT)
 
 
 def default_is_a_label(cases: Companions) -> None:
@@ -55,11 +55,11 @@ def default_is_a_label(cases: Companions) -> None:
         old = [*place.by_file("old"), *place.by_file("dev"), *place.by_file("prod")]
         done = place.run(ROTATE, *old, *place.by_file("new", "new-"), ".")
         cases.ended("the label default", done, 0, summary(1, 0, 5, " (dev 2, prod 3)"))
-        cases.check("dev stays", opened("dev", place.get("dev/vars.yml")), TEXT)
+        cases.check("dev stays", decrypted("dev", place.get("dev/vars.yml")), TEXT)
 
 
 def again(cases: Companions) -> None:
-    """What has the new secret already stays as it is, whether the old ones open it or not."""
+    """What is under the new secret already is left as it is, whether the old secrets decrypt it or not."""
     with cases.place() as place:
         place.put("one.yml", sealed("new"))
         place.put("two.yml", sealed("old"))
@@ -85,11 +85,11 @@ def nothing(cases: Companions) -> None:
         slip = [*to_new(place), *place.by_id("prd", "prod2", "new-")]
         done = place.run(ROTATE, *slip, ".")
         cases.ended("a label that nothing has", done, 1, summary(1), f"{why}prd\n")
-        cases.check("the others are rotated", opened("new", place.get("a.yml")), TEXT)
+        cases.check("the others are rotated", decrypted("new", place.get("a.yml")), TEXT)
 
 
 def failures(cases: Companions) -> None:
-    """Each is told, the others go on, and the status says so."""
+    """Each failure is reported, the other files are still rotated, and the status is 1."""
     strays = {
         "stray.yml": (sealed("dev"), "no secret decrypts this vault"),
         "version.yml": (b"$ANSIBLE_VAULT;1.0;AES\n" + b"61" * 40 + b"\n", "vault format version"),
@@ -105,7 +105,7 @@ def failures(cases: Companions) -> None:
             done = place.run(ROTATE, *to_new(place), ".")
             cases.ended(name, done, 1, f"./{name}", part, summary(2, failed=1))
             cases.check(f"{name} stays", place.get(name), content)
-            others = [opened("new", place.get(each)) for each in ("a.yml", "z.yml")]
+            others = [decrypted("new", place.get(each)) for each in ("a.yml", "z.yml")]
             cases.check("the others are done", others, [TEXT] * 2)
             cases.check("no other file is left", place.names(), sorted(["a.yml", name, "z.yml"]))
 
@@ -163,7 +163,7 @@ def owners_and_modes(cases: Companions) -> None:
             os.setxattr(place.tree / "a.yml", "user.note", b"kept")
             attributes = {"user.note": b"kept"}
         except OSError:
-            cases.left_out("extended attributes", "the file system has none")
+            cases.skip("extended attributes", "the file system has none")
             attributes = {}
         cases.ended("modes", place.run(ROTATE, *to_new(place), "."), 0, summary(4))
         cases.check("modes stay", [place.mode(name) for name in modes], [oct(mode) for mode in modes.values()])
@@ -177,7 +177,7 @@ def owners_and_modes(cases: Companions) -> None:
             words = [*place.by_file("new"), *place.by_file("old", "new-")]
             done = place.as_nobody(ROTATE, *words, "a.yml")
             cases.ended("an owner that cannot be kept", done, 1, "a.yml: Operation not permitted", summary(0, failed=1))
-            cases.check("its file stays", opened("new", place.get("a.yml")), TEXT)
+            cases.check("its file stays", decrypted("new", place.get("a.yml")), TEXT)
             cases.check("nothing is left", place.names(), sorted(modes))
 
 
@@ -191,7 +191,7 @@ def dry_run(cases: Companions) -> None:
         cases.check("nothing is written", place.files(), before)
         place.put("c.yml", sealed("dev"))
         done = place.run(ROTATE, "--dry-run", *to_new(place), ".")
-        cases.ended("one is not opened", done, 1, "./c.yml: no secret decrypts this vault", "1 failed")
+        cases.ended("one cannot be decrypted", done, 1, "./c.yml: no secret decrypts this vault", "1 failed")
         place.run(ROTATE, *to_new(place), "a.yml", "b.yml")
         done = place.run(ROTATE, "--dry-run", *to_new(place), "a.yml", "b.yml")
         cases.ended("nothing is left", done, 0, "0 to be rotated, 3 under the new secret already")
@@ -200,7 +200,7 @@ def dry_run(cases: Companions) -> None:
 def changed_meanwhile(cases: Companions) -> None:
     with cases.place() as place:
         place.put("a.yml", block("old"))
-        place.stand_before_tool('[ "$1" = rekey ] && echo "b: theirs" >> a.yml')
+        place.wrap_tool('[ "$1" = rekey ] && echo "b: theirs" >> a.yml')
         done = place.run(ROTATE, *to_new(place), ".")
         cases.ended("changed meanwhile", done, 1, "./a.yml: it was changed meanwhile", summary(0, failed=1))
         cases.check("their change stays", place.files(), {"a.yml": block("old") + b"b: theirs\n"})
@@ -214,9 +214,9 @@ def closed_output(cases: Companions) -> None:
         done = place.shell(f"{ROTATE} --jobs 1 {' '.join(to_new(place))} . | :; echo ${{PIPESTATUS[0]}}", "bash")
         why = "ansible-vault-rotate: standard output cannot be written: Broken pipe\n"
         cases.check("it fails, and says why", (done.stdout, done.stderr), ("1\n", why))
-        whole = [TEXT in (opened("old", content), opened("new", content)) for content in place.files().values()]
+        whole = [TEXT in (decrypted("old", content), decrypted("new", content)) for content in place.files().values()]
         cases.check("each vault is whole", whole, [True] * 12)
-        is_old = [opened("old", content) == TEXT for content in place.files().values()]
+        is_old = [decrypted("old", content) == TEXT for content in place.files().values()]
         cases.holds("and those that were not begun are not", True in is_old, repr(is_old))
 
 
@@ -240,5 +240,5 @@ def command_line(cases: Companions) -> None:
             cases.ended(f"{jobs} at once", place.run(ROTATE, *old, *new, "--jobs", jobs, "."), 0)
 
 
-GROUPS = [by_label, default_is_a_label, again, nothing, failures, wrong_passwords, unreadable, owners_and_modes]
-GROUPS += [dry_run, changed_meanwhile, closed_output, command_line]
+TESTS = [by_label, default_is_a_label, again, nothing, failures, wrong_passwords, unreadable, owners_and_modes]
+TESTS += [dry_run, changed_meanwhile, closed_output, command_line]

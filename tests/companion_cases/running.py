@@ -3,7 +3,7 @@
 import os
 import subprocess
 
-from companion_cases import AWKWARD, EDIT, NOBODY, PASSWORDS, SECONDS, TEXT, WITH, Companions, Place, opened, sealed
+from companion_cases import AWKWARD, EDIT, NOBODY, PASSWORDS, SECONDS, TEXT, WITH, Companions, Place, decrypted, sealed
 from companion_cases.both import for_ansible, ours, theirs
 from lib.ansible import ansible_vault
 
@@ -94,8 +94,8 @@ def command_lines(cases: Companions) -> None:
         }
         for option, (status, part) in refused.items():
             done = place.run(WITH, "decrypt", *place.by_file("old"), option, "a.yml")
-            told = (status, "", f"{WITH}: {part}\n")
-            cases.check(option, (done.returncode, done.stdout, done.stderr), told)
+            expected = (status, "", f"{WITH}: {part}\n")
+            cases.check(option, (done.returncode, done.stdout, done.stderr), expected)
         salted = [*place.by_file("old"), "--salt", "salt"]
         done = place.run(WITH, "encrypt", *salted, "plain.yml", "plain.yml")
         cases.ended("one salt for two", done, 2, "--salt is for one FILE")
@@ -119,7 +119,7 @@ def in_place(cases: Companions) -> None:
         ]
         for command, words, password, label in steps:
             cases.silent(command, place.run(WITH, command, *words, "--", *names))
-            texts = [opened(password, place.get(name)) for name in names]
+            texts = [decrypted(password, place.get(name)) for name in names]
             cases.check(f"{command}: all are under it", texts, [TEXT * number for number in range(len(names))])
             header = f"$ANSIBLE_VAULT;1.2;AES256;{label}\n" if label else "$ANSIBLE_VAULT;1.1;AES256\n"
             headers = {place.get(name).partition(b"\n")[0].decode() + "\n" for name in names}
@@ -131,26 +131,26 @@ def in_place(cases: Companions) -> None:
         cases.check("no other file is left", sorted(place.files()), sorted(names))
 
 
-def links_and_lists(cases: Companions) -> None:
+def links_and_acls(cases: Companions) -> None:
     with cases.place() as place:
         place.put("vaults/a.yml", TEXT, 0o644)
         (place.tree / "link.yml").symlink_to("vaults/a.yml")
         cases.silent("by a link", place.run(WITH, "encrypt", *place.by_file("old"), "link.yml"))
         cases.check("the link stays", os.readlink(place.tree / "link.yml"), "vaults/a.yml")
-        cases.check("its file is encrypted", opened("old", place.get("vaults/a.yml")), TEXT)
+        cases.check("its file is encrypted", decrypted("old", place.get("vaults/a.yml")), TEXT)
         os.link(place.tree / "vaults/a.yml", place.tree / "second.yml")
         before = place.files()
         done = place.run(WITH, "decrypt", *place.by_file("old"), "second.yml")
         cases.ended("two names", done, 1, "second.yml: it has 2 names (hard links), and one alone would change")
         cases.check("both stay", place.files(), before)
         (place.tree / "second.yml").unlink()
-        if not cases.needs("lists of access", "setfacl", "getfacl"):
+        if not cases.needs("access control lists", "setfacl", "getfacl"):
             return
         place.run("setfacl", "-m", f"u:{NOBODY}:r", "vaults/a.yml")
         words = [*place.by_file("old"), *place.by_file("new", "new-")]
-        cases.silent("with a list", place.run(WITH, "rekey", *words, "link.yml"))
+        cases.silent("with an ACL", place.run(WITH, "rekey", *words, "link.yml"))
         listed = place.run("getfacl", "-cn", "vaults/a.yml").stdout
-        cases.holds("an encrypted one keeps it", f"user:{NOBODY}:r--" in listed, listed)
+        cases.holds("an encrypted file keeps it", f"user:{NOBODY}:r--" in listed, listed)
         cases.silent("decrypted", place.run(WITH, "decrypt", *place.by_file("new"), "link.yml"))
         listed = place.run("getfacl", "-cn", "vaults/a.yml").stdout
         cases.check("plaintext has none", listed.split(), ["user::rw-", "group::---", "other::---"])
@@ -164,20 +164,20 @@ def those_that_fail(cases: Companions) -> None:
         before = place.files()
         words = [*place.by_file("old"), *place.by_file("dev", "new-")]
         done = place.run(WITH, "rekey", *words, "new.yml", "missing.yml", "plain.yml", "folder", "a.yml")
-        told = [
+        messages = [
             f"{WITH}: new.yml: no secret decrypts this vault",
             f"{WITH}: missing.yml: No such file or directory",
             f"{WITH}: plain.yml: input is not vault encrypted data",
             f"{WITH}: folder: Is a directory",
         ]
-        cases.check("what is told", (done.returncode, done.stdout, done.stderr.splitlines()), (1, "", told))
+        cases.check("the messages", (done.returncode, done.stdout, done.stderr.splitlines()), (1, "", messages))
         after = place.files()
-        cases.check("the others go on", opened("dev", after.pop("a.yml")), TEXT)
+        cases.check("the others go on", decrypted("dev", after.pop("a.yml")), TEXT)
         del before["a.yml"]
         cases.check("and these stay", after, before)
         done = place.run(WITH, "encrypt", *place.by_file("old"), "--loud", "plain.yml", "a.yml")
         cases.ended("a fault of the command line", done, 2, "error: unexpected argument '--loud' found")
-        cases.check("is told once", (done.stderr.count("--help"), place.get("plain.yml")), (1, TEXT))
+        cases.check("is reported once", (done.stderr.count("--help"), place.get("plain.yml")), (1, TEXT))
         place.put("big.yml", bytes(16_777_217))
         done = place.run(WITH, "encrypt", *place.by_file("old"), "big.yml")
         cases.ended("too long", done, 1, f"{WITH}: big.yml: input is longer than the limit")
@@ -189,7 +189,7 @@ def changed_meanwhile(cases: Companions) -> None:
     with cases.place() as place:
         prepare(place)
         # Not before the run that looks at the command line alone.
-        place.stand_before_tool('case "$*" in *=prompt*) ;; decrypt*) echo other > a.yml ;; esac')
+        place.wrap_tool('case "$*" in *=prompt*) ;; decrypt*) echo other > a.yml ;; esac')
         done = place.run(WITH, "decrypt", *place.by_file("old"), "a.yml")
         cases.ended("a change", done, 1, f"{WITH}: a.yml: it was changed meanwhile")
         cases.check("stays", place.get("a.yml"), b"other\n")
@@ -210,15 +210,15 @@ def editing(cases: Companions) -> None:
     with cases.place() as place:
         editor = place.script('echo more >> "$1"', "editor")
         cases.silent("create", place.run(WITH, "create", *place.by_id("dev", "dev"), "a.yml", EDITOR=editor))
-        cases.check("it is made", opened("dev", place.get("a.yml")), b"more\n")
+        cases.check("it is made", decrypted("dev", place.get("a.yml")), b"more\n")
         cases.silent("edit", place.run(WITH, *place.by_id("dev", "dev"), "edit", "a.yml", EDITOR=editor))
-        cases.check("it is edited", opened("dev", place.get("a.yml")), b"more\n" * 2)
+        cases.check("it is edited", decrypted("dev", place.get("a.yml")), b"more\n" * 2)
         before = place.files()
         done = place.run(WITH, "create", *place.by_id("dev", "dev"), "a.yml", EDITOR=editor)
-        cases.ended("create where one is", done, 1, "a.yml is there already; `edit` opens it")
+        cases.ended("create where one is", done, 1, "a.yml exists already; use `edit`")
         choice = [*place.by_id("dev", "dev"), *place.by_id("prod", "prod"), "--encrypt-vault-id", "prod"]
         cases.silent("a choice", place.run(WITH, "create", *choice, "b.yml", EDITOR=editor))
-        cases.check("is made", opened("prod", place.get("b.yml")), b"more\n")
+        cases.check("is made", decrypted("prod", place.get("b.yml")), b"more\n")
         done = place.run("setsid", "--wait", WITH, "edit", "a.yml", EDITOR=editor)
         cases.ended("without a secret", done, 1, f"{EDIT}: --ask-vault-password: there is no terminal")
         cases.check("nothing else is changed", place.get("a.yml"), before["a.yml"])
@@ -242,8 +242,9 @@ HABITS = [
 def habits(cases: Companions) -> None:
     """What Ansible's users type does what Ansible's tool does, by an alias."""
     ansible = ansible_vault()
-    if not (cases.needs("an alias", "bash") and ansible):
-        cases.left_out("the habits of Ansible's tool", "it is not installed")
+    if not ansible:
+        cases.skip("the habits of Ansible's tool", "it is not installed")
+    if not cases.needs("an alias", "bash") or not ansible:
         return
     results = {}
     for tool in (WITH, ansible):
@@ -260,14 +261,14 @@ def habits(cases: Companions) -> None:
                 else:
                     done = place.shell(text, "bash")
                 cases.check(f"{tool} {line} ({done.stderr})", done.returncode, 0)
-                # Ansible's tool tells more by -v.
+                # Ansible's tool prints more with -v.
                 results[tool].append((line, line.endswith("-v") or done.stdout.strip(), contents(place)))
     for mine, other in zip(results[WITH], results[ansible]):
         cases.check(mine[0], mine, other)
 
 
 def contents(place: Place) -> dict[str, tuple]:
-    """Of each file the header, the password that opens it and the plaintext."""
+    """For each file the header, the password that decrypts it and the plaintext."""
     return {name: described(content) for name, content in place.files().items()}
 
 
@@ -275,23 +276,23 @@ def described(content: bytes) -> tuple:
     envelope = b"".join(line.strip() + b"\n" for line in content.splitlines() if b"!vault" not in line)
     if not envelope.startswith(b"$ANSIBLE_VAULT"):
         return (content,)
-    texts = {name: opened(name, envelope) for name in PASSWORDS}
+    texts = {name: decrypted(name, envelope) for name in PASSWORDS}
     return (envelope.partition(b"\n")[0], [(name, text) for name, text in texts.items() if text is not None])
 
 
 def ansible_reads_it(cases: Companions) -> None:
     ansible = ansible_vault()
     if not ansible:
-        cases.left_out("what is encrypted in place", "Ansible's tool is not installed")
+        cases.skip("what is encrypted in place", "Ansible's tool is not installed")
         return
     with cases.place() as place:
         place.put("a.yml", TEXT)
         cases.silent("encrypt", ours(place, "encrypt", *place.by_id("dev", "dev"), "a.yml"))
         done = theirs(place, ansible, "view", *place.by_id("dev", "dev"), "a.yml")
-        cases.check("Ansible's tool opens it", (done.returncode, done.stdout.strip()), (0, TEXT.decode().strip()))
+        cases.check("Ansible's tool decrypts it", (done.returncode, done.stdout.strip()), (0, TEXT.decode().strip()))
         theirs(place, ansible, "rekey", *place.by_id("dev", "dev"), *place.by_id("prod", "prod", "new-"), "a.yml")
         cases.silent("decrypt", ours(place, "decrypt", *place.by_id("prod", "prod"), "a.yml"))
-        cases.check("and is opened here", place.get("a.yml"), TEXT)
+        cases.check("and it is decrypted here", place.get("a.yml"), TEXT)
 
 
 def streams(cases: Companions) -> None:
@@ -317,11 +318,11 @@ def streams(cases: Companions) -> None:
             cases.check(line, found[0], found[1])
 
 
-GROUPS = [
+TESTS = [
     the_answers_of_the_tool,
     command_lines,
     in_place,
-    links_and_lists,
+    links_and_acls,
     those_that_fail,
     changed_meanwhile,
     without_rights,

@@ -3,13 +3,13 @@
 import os
 from pathlib import Path
 
-from companion_cases import CHECK, EDIT, PASSWORDS, ROTATE, TEXT, TEXTCONV, WITH, Companions, opened, sealed
+from companion_cases import CHECK, EDIT, PASSWORDS, ROTATE, TEXT, TEXTCONV, WITH, Companions, decrypted, sealed
 from companion_cases.both import ours, theirs
 from companion_cases.secrecy import NOTE
 from lib.ansible import ansible_vault
 
-# Tells how it was started, and the password.
-TELLING = 'echo "$0" "$@" > ../started; cat ../secrets/dev'
+# Records its arguments, and writes the password.
+RECORDING = 'echo "$0" "$@" > ../started; cat ../secrets/dev'
 # Options that name scripts, and the arguments that each is given.
 STARTS = {
     "--vault-password-file=../script": "",
@@ -41,38 +41,39 @@ FAILING = {
 def how_they_start(cases: Companions) -> None:
     ansible = ansible_vault()
     if not ansible:
-        cases.left_out("how Ansible's tool starts them", "it is not installed")
+        cases.skip("how Ansible's tool starts them", "it is not installed")
     for option, arguments in STARTS.items():
         with cases.place() as place:
             name = option.rpartition("/")[2]
-            place.script(TELLING, name)
+            place.script(RECORDING, name)
             place.put("a.yml", sealed("dev"))
             started = place.path / "started"
             done = ours(place, "view", option, "a.yml")
             cases.check(f"{option}: ({done.stderr})", (done.returncode, done.stdout), (0, TEXT.decode()))
             cases.check(f"{option}: its arguments", started.read_text(), f"{place.path}/{name}{arguments}\n")
             if ansible:
-                told = started.read_text()
+                recorded = started.read_text()
                 started.unlink()
                 done = theirs(place, ansible, "view", option, "a.yml")
-                cases.holds(f"{option}: Ansible's tool opens it", TEXT.decode() in done.stdout, done.stderr)
-                cases.check(f"{option}: it starts it so", started.read_text(), told)
+                cases.holds(f"{option}: Ansible's tool decrypts it", TEXT.decode() in done.stdout, done.stderr)
+                cases.check(f"{option}: it starts it so", started.read_text(), recorded)
 
 
 def every_companion(cases: Companions) -> None:
     with cases.place() as place:
         place.put("a.yml", sealed("dev", label="dev"))
-        place.script(TELLING, "keys-client")
+        place.script(RECORDING, "keys-client")
         place.script("cat ../secrets/dev2", "new-client.sh")
         word = ["--vault-id", "dev@../keys-client"]
-        cases.ended("check", place.run(CHECK, *word, "."), 0, "a.yml: dev: opened by dev@../keys-client", "1 opened")
+        done = place.run(CHECK, *word, ".")
+        cases.ended("check", done, 0, "a.yml: dev: decrypted by dev@../keys-client", "1 decrypted")
         done = place.run(TEXTCONV, *word, "a.yml")
         cases.check("textconv", (done.returncode, done.stdout, done.stderr), (0, TEXT.decode(), ""))
         cases.silent("edit", place.run(EDIT, *word, "a.yml", EDITOR=place.script('echo more >> "$1"', "editor")))
-        cases.check("what was edited", opened("dev", place.get("a.yml")), TEXT + b"more\n")
+        cases.check("what was edited", decrypted("dev", place.get("a.yml")), TEXT + b"more\n")
         done = place.run(ROTATE, *word, "--new-vault-id", "dev@../new-client.sh", ".")
         cases.ended("rotate", done, 0, "1 rotated")
-        cases.check("what was rotated", opened("dev2", place.get("a.yml")), TEXT + b"more\n")
+        cases.check("what was rotated", decrypted("dev2", place.get("a.yml")), TEXT + b"more\n")
 
 
 def those_that_fail(cases: Companions) -> None:
@@ -86,22 +87,22 @@ def those_that_fail(cases: Companions) -> None:
                 cases.ended(f"{text}: {words[0]}", done, 1, f"{words[0]}: dev@../script: {part}")
             done = place.run(TEXTCONV, "--vault-id", "../script", *place.by_file("dev"), "a.yml")
             cases.check(f"{text}: {TEXTCONV}", (done.returncode, done.stdout), (0, TEXT.decode()))
-            cases.holds("is told by it", f"{TEXTCONV}: ../script: {part}" in done.stderr, done.stderr)
+            cases.holds("it says why", f"{TEXTCONV}: ../script: {part}" in done.stderr, done.stderr)
             cases.check("nothing is changed", (place.files(), (place.path / "edited").exists()), (before, False))
 
 
 def clients_that_fail(cases: Companions) -> None:
-    """What they say is told then, and not otherwise; what another script says is always seen."""
+    """What a client writes to standard error is shown only if it fails; that of another script is always shown."""
     with cases.place() as place:
         place.put("a.yml", sealed("dev"))
         words = [CHECK, "--vault-id", "dev@../keys-client", "a.yml"]
-        told = {
+        messages = {
             "echo 'no key' >&2; echo of it >&2; exit 2": "this script has no secret of this label: no key of it",
             "echo 'no net' >&2; exit 9": "this script ended with status 9: no net",
             "exit 2": "this script has no secret of this label",
             "printf '\\033[2J' >&2; exit 9": "this script ended with status 9: '\\x1b[2J'",
         }
-        for text, wanted in told.items():
+        for text, wanted in messages.items():
             place.script(text, "keys-client")
             done = place.run(*words)
             wanted = f"{CHECK}: dev@../keys-client: {wanted}\n"
@@ -118,7 +119,7 @@ def what_cannot_be_run(cases: Companions) -> None:
         place.put("a.yml", sealed("dev"))
         words = [CHECK, "--vault-password-file", place.secret("dev"), "a.yml"]
         os.chmod(place.secret("dev"), 0o700)
-        hint = "if it is none, `chmod -x` it"
+        hint = "if it is not a script, `chmod -x` it"
         cases.ended("a file", place.run(*words), 1, f"dev: this script cannot be run: Exec format error; {hint}")
         place.script("cat ../secrets/old", "secrets/dev", "/nowhere/sh")
         why = f"this script cannot be run: No such file or directory; {hint}"
@@ -141,7 +142,7 @@ def secrecy(cases: Companions) -> None:
     """What a script writes is in no word and no environment of a program, and in no file."""
     with cases.place() as place:
         place.put("a.yml", sealed("dev"))
-        place.stand_before_tool(NOTE)
+        place.wrap_tool(NOTE)
         place.script("cat ../secrets/dev", "script")
         place.script("cat ../secrets/new", "new")
         words = ["--vault-password-file", "../script"]
@@ -177,7 +178,7 @@ def signals(cases: Companions) -> None:
         cases.check("and nothing goes on", state, "Z")
 
 
-GROUPS = [
+TESTS = [
     how_they_start,
     every_companion,
     those_that_fail,

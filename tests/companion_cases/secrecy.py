@@ -7,7 +7,7 @@ import shutil
 import sys
 
 from companion_cases import CHECK, EDIT, MERGE, PASSWORDS, ROTATE, TEXT, TEXTCONV, WITH
-from companion_cases import Companions, Place, block, opened, sealed
+from companion_cases import Companions, Place, block, decrypted, sealed
 from companion_cases.merging import versions
 from companion_cases.rotating import to_new
 
@@ -16,15 +16,15 @@ NOTE = "{ tr '\\0' '\\n' < /proc/$$/cmdline; tr '\\0' '\\n' < /proc/$$/environ; 
 
 
 def words_and_environment(cases: Companions) -> None:
-    """Each run gets paths alone; neither it nor the editor may leave a core."""
+    """Each run gets only paths; neither it nor the editor may leave a core dump."""
     with cases.place() as place:
         place.put("a.yml", sealed("old"))
         place.put("b.yml", block("old"))
         place.environment["EDITOR"] = place.script(f'{NOTE}; echo "db: changed" > "$1"', "editor")
-        place.stand_before_tool(NOTE)
+        place.wrap_tool(NOTE)
         old = place.by_file("old")
         if resource.getrlimit(resource.RLIMIT_CORE)[1] == 0:
-            cases.left_out("cores", "there are none here")
+            cases.skip("core dumps", "their hard limit is 0 here")
         runs = [[EDIT, *old, "a.yml"], [CHECK, *old, "."], [TEXTCONV, *old, "b.yml"], [MERGE, *old, *["a.yml"] * 4]]
         runs += [[ROTATE, *to_new(place), "."], [WITH, "view", *place.by_file("new"), "a.yml"]]
         runs += [[WITH, "rekey", *place.by_file("new"), *place.by_file("new", "new-"), "a.yml"]]
@@ -37,7 +37,7 @@ def words_and_environment(cases: Companions) -> None:
         cases.holds("the runs were seen", seen.count(b"view") > 5 and b"--vault-id=default@" in seen)
         secrets = [*PASSWORDS.values(), TEXT.strip(), b"correct horse", b"changed"]
         cases.check("no secret is seen", [each for each in secrets if each in seen.replace(b"db: changed\"", b"")], [])
-        cases.check("there are no cores", set((place.path / "cores").read_text().split()), {"0"})
+        cases.check("core dumps are disabled", set((place.path / "cores").read_text().split()), {"0"})
 
 
 def written_files(cases: Companions) -> None:
@@ -132,7 +132,7 @@ def merges_and_files_in_place(cases: Companions) -> None:
             modes = [line for line in created if f'"{beside}' in line and "O_EXCL" in line and ", 0600)" in line]
             cases.check(f"{what}: one file, for its owner alone", len(modes), 1)
         cases.check("plaintext was seen in each of these places", seen, IN_MEMORY | {beside})
-        texts = {name: opened("old", place.get(name)) for name in ("merged.yml", "encrypted.yml")}
+        texts = {name: decrypted("old", place.get(name)) for name in ("merged.yml", "encrypted.yml")}
         wanted = {"merged.yml": b"one: staple\nx: 1\ny: 2\ntwo: battery\n", "encrypted.yml": MERGED[0]}
         cases.check("the runs did their work", texts, wanted)
         cases.check("nothing is left", [name for name in place.names() if name.startswith(".")], [])
@@ -157,14 +157,14 @@ def other_tools(cases: Companions) -> None:
         done = place.run(CHECK, *place.by_file("old"), ".")
         cases.ended("no tool", done, 1, "there is no ansible-vault")
         (place.path / "interpreter" / "ansible-vault").symlink_to(place.program)
-        cases.ended("the one on PATH", place.run(CHECK, *place.by_file("old"), "."), 0, "opened by")
+        cases.ended("the one on PATH", place.run(CHECK, *place.by_file("old"), "."), 0, "decrypted by")
         linked = place.path / "linked"
         linked.symlink_to(place.tools / CHECK)
         (place.path / "interpreter" / "ansible-vault").unlink()
         (place.tools / "ansible-vault").symlink_to(place.program)
         place.environment["PATH"] = str(place.path / "interpreter")
         done = place.run(str(linked), *place.by_file("old"), ".")
-        cases.ended("the one beside, through a link", done, 0, "opened by")
+        cases.ended("the one beside, through a link", done, 0, "decrypted by")
 
 
-GROUPS = [words_and_environment, written_files, merges_and_files_in_place, other_tools]
+TESTS = [words_and_environment, written_files, merges_and_files_in_place, other_tools]

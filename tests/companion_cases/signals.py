@@ -8,7 +8,7 @@ import time
 from pathlib import Path
 
 from companion_cases import CHECK, EDIT, MERGE, ROTATE, SECONDS, TEXT, TEXTCONV, WITH
-from companion_cases import Companions, Place, block, opened, sealed
+from companion_cases import Companions, Place, block, decrypted, sealed
 from companion_cases.merging import versions
 from companion_cases.rotating import summary, to_new
 
@@ -21,7 +21,7 @@ count=1; mkdir -p ../counted; until mkdir ../counted/$count 2>/dev/null; do coun
 """
 # Calls of the library by which files come and go.
 CALLS = ["os.replace", "os.unlink", "os.fsync", "os.fchmod", "tempfile.mkstemp", "tempfile.mkdtemp", "shutil.rmtree"]
-# Runs a companion that signals itself before and behind a call.
+# Runs a companion that signals itself before and after a call.
 AT_CALL = """
 import importlib, os, runpy, signal, sys
 module, name = sys.argv[1].split(".")
@@ -31,7 +31,7 @@ def signalling(*words, **options):
     if when == "before":
         os.kill(os.getpid(), number)
     done = call(*words, **options)
-    if when == "behind":
+    if when == "after":
         os.kill(os.getpid(), number)
     return done
 setattr(module, name, signalling)
@@ -75,11 +75,11 @@ def check_whole(cases: Companions, what: str, place: Place) -> None:
     """Each vault is the old one or the new one, or its plaintext for the owner alone; and no other file is there."""
     vault = place.get("a.yml")
     is_vault = vault.startswith(b"$ANSIBLE_VAULT")
-    texts = {opened("old", vault), opened("new", vault)} if is_vault else {vault}
+    texts = {decrypted("old", vault), decrypted("new", vault)} if is_vault else {vault}
     cases.holds(f"{what}: the vault is whole", texts & {TEXT, CHANGED} != set(), vault)
     blocks = place.get("b.yml").split(b": !vault |\n")[1:]
     envelopes = [b"".join(line.strip() + b"\n" for line in each.splitlines()[:6]) for each in blocks]
-    whole = [TEXT in (opened("old", each), opened("new", each)) for each in envelopes]
+    whole = [TEXT in (decrypted("old", each), decrypted("new", each)) for each in envelopes]
     cases.check(f"{what}: the blocks are whole", whole, [True, True])
     cases.check(f"{what}: nothing is left", (place.names(), place.left()), (["a.yml", "b.yml"], []))
     modes = [place.mode(name) for name in ("a.yml", "b.yml")]
@@ -95,7 +95,7 @@ def at_each_run(cases: Companions) -> None:
                 trap, name = ("", "TERM") if number % 2 else ("trap '' INT; ", "INT")
                 for program in ("ansible-vault", "git"):
                     text = AT_RUN.format(number=number, trap=trap, signal=name)
-                    place.stand_before_tool(text if program == "ansible-vault" or words[0] == MERGE else "", program)
+                    place.wrap_tool(text if program == "ansible-vault" or words[0] == MERGE else "", program)
                 shutil.rmtree(place.path / "counted", ignore_errors=True)
                 done = place.run(*words)
                 if done.returncode == 0:
@@ -109,14 +109,14 @@ def at_each_run(cases: Companions) -> None:
 
 
 def at_each_call(cases: Companions) -> None:
-    """Before and behind each call by which files come and go."""
+    """Before and after each call by which files come and go."""
     with cases.place() as place:
         script = place.script(AT_CALL, "signalling", "/usr/bin/env -S python3 -ISB")
         words = runs_of(place)
         runs = [(EDIT, call) for call in CALLS]
         runs += [(name, call) for name in (ROTATE, "merge", "rekey", "decrypt") for call in CALLS[:5]]
         for number, (companion, call) in enumerate(runs):
-            when, name = [("before", "SIGHUP"), ("behind", "SIGTERM")][number % 2]
+            when, name = [("before", "SIGHUP"), ("after", "SIGTERM")][number % 2]
             tree(place)
             path = str(place.tools / words[companion][0])
             done = place.run(script, call, when, str(signal.Signals[name].value), path, *words[companion][1:])
@@ -130,15 +130,15 @@ def interrupted_then_finished(cases: Companions) -> None:
     with cases.place() as place:
         for number in range(12):
             place.put(f"{number}.yml", sealed("old"))
-        place.stand_before_tool(AT_RUN.format(number=14, trap="", signal="INT"))
+        place.wrap_tool(AT_RUN.format(number=14, trap="", signal="INT"))
         done = place.run(ROTATE, *to_new(place), "--jobs", "1", ".")
         cases.check("interrupted", done.returncode, -signal.SIGINT)
-        half = [opened("new", content) == TEXT for content in place.files().values()]
+        half = [decrypted("new", content) == TEXT for content in place.files().values()]
         cases.holds("some are done and some are not", True in half and False in half, repr(half))
-        place.stand_before_tool(":")
+        place.wrap_tool(":")
         done = place.run(ROTATE, *to_new(place), ".")
         cases.ended("run again", done, 0, summary(half.count(False), half.count(True)))
-        cases.check("all are done", {opened("new", each) for each in place.files().values()}, {TEXT})
+        cases.check("all are done", {decrypted("new", each) for each in place.files().values()}, {TEXT})
 
 
 def while_the_editor_runs(cases: Companions) -> None:
@@ -158,7 +158,7 @@ def while_the_editor_runs(cases: Companions) -> None:
             cases.check(f"{name}: the status", done.returncode, -number if status is None else status)
             cases.check(f"{name}: the editor ends", (place.path / "survived").exists(), status == 0)
             wanted = CHANGED if status == 0 else TEXT
-            cases.check(f"{name}: the vault", opened("old", place.get("a.yml")), wanted)
+            cases.check(f"{name}: the vault", decrypted("old", place.get("a.yml")), wanted)
             cases.check(f"{name}: nothing is left", (place.names(), place.left()), (["a.yml", "b.yml"], []))
 
 
@@ -212,10 +212,10 @@ def ignored_signals(cases: Companions) -> None:
     """What is ignored from the beginning, as by nohup, stays ignored."""
     with cases.place() as place:
         tree(place)
-        place.stand_before_tool(AT_RUN.format(number=4, trap="", signal="HUP"))
+        place.wrap_tool(AT_RUN.format(number=4, trap="", signal="HUP"))
         done = place.shell(f"trap '' HUP; {ROTATE} {' '.join(to_new(place))} --jobs 1 .")
         cases.ended("an ignored signal", done, 0, summary(3))
 
 
-GROUPS = [at_each_run, at_each_call, interrupted_then_finished, while_the_editor_runs, stubborn_programs]
-GROUPS += [signals_at_the_start, ignored_signals]
+TESTS = [at_each_run, at_each_call, interrupted_then_finished, while_the_editor_runs, stubborn_programs]
+TESTS += [signals_at_the_start, ignored_signals]

@@ -4,7 +4,7 @@ import os
 import signal
 import subprocess
 
-from companion_cases import CHECK, EDIT, HOOK, MERGE, ROTATE, TEXT, TEXTCONV, WITH, Companions, Place, opened, sealed
+from companion_cases import CHECK, EDIT, HOOK, MERGE, ROTATE, TEXT, TEXTCONV, WITH, Companions, Place, decrypted, sealed
 from companion_cases.editing import CHANGE, CHANGED
 from companion_cases.merging import versions
 from companion_cases.repository import under_git
@@ -70,17 +70,17 @@ def closed_inputs(cases: Companions) -> None:
             place.put("a.yml", sealed("old"))
             done = place.shell(f"{EDIT} {typed} a.yml {streams}", "bash")
             cases.silent(f"{EDIT} {streams}", done)
-            cases.check(f"{streams}: the text is changed", opened("old", place.get("a.yml")), CHANGED)
+            cases.check(f"{streams}: the text is changed", decrypted("old", place.get("a.yml")), CHANGED)
             place.put("a.yml", sealed("old"))
             done = place.shell(f"{WITH} decrypt {typed} a.yml {streams}", "bash")
             cases.silent(f"{WITH} {streams}", done)
             cases.check(f"{streams}: it is decrypted", place.get("a.yml"), TEXT)
             words = " ".join(versions(place, "b.yml", sealed("old"), sealed("old"), sealed("old", CHANGED)))
             cases.silent(f"{MERGE} {streams}", place.shell(f"{MERGE} {typed} {words} {streams}", "bash"))
-            cases.check(f"{streams}: it is merged", opened("old", place.get("b.yml")), CHANGED)
+            cases.check(f"{streams}: it is merged", decrypted("old", place.get("b.yml")), CHANGED)
         place.put("a.yml", sealed("old"))
         done = place.shell(f"{CHECK} {typed} a.yml <&-", "bash")
-        cases.ended("a closed input", done, 0, "1 opened, 0 not")
+        cases.ended("a closed input", done, 0, "1 decrypted, 0 not")
 
 
 def ignored_children(cases: Companions) -> None:
@@ -90,10 +90,10 @@ def ignored_children(cases: Companions) -> None:
         ignoring = lambda *words: place.run("env", "--ignore-signal=CHLD", *words)
         wrong = place.by_file("dev")
         done = ignoring(CHECK, *wrong, "a.yml")
-        cases.ended("a wrong password", done, 1, "no secret decrypts this vault", "0 opened, 1 not")
+        cases.ended("a wrong password", done, 1, "no secret decrypts this vault", "0 decrypted, 1 not")
         done = ignoring(ROTATE, *to_new(place), ".")
         cases.ended("a rotation", done, 0, summary(1))
-        cases.check("has done its work", opened("new", place.get("a.yml")), TEXT)
+        cases.check("has done its work", decrypted("new", place.get("a.yml")), TEXT)
         place.put("a.yml", sealed("old"))
         done = ignoring(EDIT, *wrong, "a.yml")
         cases.ended("an edit", done, 1, "no secret decrypts this vault")
@@ -116,14 +116,14 @@ def ignored_interrupts(cases: Companions) -> None:
     """SIGINT that is ignored from the beginning, as in the background of a script, stays ignored."""
     with cases.place() as place:
         tree(place)
-        place.stand_before_tool("kill -INT $PPID; sleep 0.05")
+        place.wrap_tool("kill -INT $PPID; sleep 0.05")
         done = place.shell(f"trap '' INT; {ROTATE} {' '.join(to_new(place))} .")
         cases.ended("SIGINT", done, 0, summary(1))
         new = " ".join(place.by_file("new"))
         cases.silent("in place", place.shell(f"trap '' INT; {WITH} decrypt {new} a.yml"))
         words = versions(place, "b.yml", sealed("new"), sealed("new"), sealed("new", CHANGED))
         cases.silent("a merge", place.shell(f"trap '' INT; {MERGE} {new} {' '.join(words)}"))
-        cases.check("both are done", (place.get("a.yml"), opened("new", place.get("b.yml"))), (TEXT, CHANGED))
+        cases.check("both are done", (place.get("a.yml"), decrypted("new", place.get("b.yml"))), (TEXT, CHANGED))
 
 
 def all_ending_signals(cases: Companions) -> None:
@@ -166,8 +166,8 @@ def waiting_pipes(cases: Companions) -> None:
             except subprocess.TimeoutExpired:
                 cases.holds(f"{words[0]} does not wait", False)
                 continue
-            cases.ended(words[0], done, 1, "it is no file")
+            cases.ended(words[0], done, 1, "it is not a regular file")
 
 
-GROUPS = [outputs_that_fail, readers_that_go, closed_inputs, ignored_children, ignored_interrupts]
-GROUPS += [all_ending_signals, waiting_pipes]
+TESTS = [outputs_that_fail, readers_that_go, closed_inputs, ignored_children, ignored_interrupts]
+TESTS += [all_ending_signals, waiting_pipes]

@@ -10,8 +10,8 @@ from dataclasses import dataclass
 
 from companion_cases import SECONDS, Place
 
-PIECE = 4096
-# The first program at a terminal, which is hung up when it ends, tells how the program has left it.
+CHUNK_SIZE = 4096
+# The session leader: when it exits the terminal is hung up, so it writes the terminal's modes to $MODES before.
 LEADER = 'trap : INT QUIT; "$@"; status=$?; stty -a < /dev/tty > "$MODES"; exit $status'
 
 
@@ -30,7 +30,7 @@ class Session:
 
 def at_terminal(place: Place, words: list[str], *answers: tuple[str, bytes], **variables: str) -> Session:
     """Runs a program, waits for each question and types what answers it. The standard streams are no terminal."""
-    keyboard, terminal = os.openpty()
+    controller, terminal = os.openpty()
     pipes = {"stdin": subprocess.DEVNULL, "stdout": subprocess.PIPE, "stderr": subprocess.PIPE}
     begin = lambda: fcntl.ioctl(terminal, termios.TIOCSCTTY, 0)
     modes = place.path / "modes"
@@ -40,37 +40,37 @@ def at_terminal(place: Place, words: list[str], *answers: tuple[str, bytes], **v
         os.close(terminal)
         shown = b""
         for question, answer in answers:
-            shown = _shown_until(keyboard, shown, question.encode())
-            os.write(keyboard, answer)
+            shown = _shown_until(controller, shown, question.encode())
+            os.write(controller, answer)
         output, errors = program.communicate(timeout=SECONDS)
-    shown += _rest(keyboard)
-    os.close(keyboard)
+    shown += _rest(controller)
+    os.close(controller)
     echoes = " -echo " not in modes.read_text()
     return Session(program.returncode, output.decode(), errors.decode(), shown.decode().replace("\r", ""), echoes)
 
 
-def _shown_until(keyboard: int, shown: bytes, question: bytes) -> bytes:
-    """What was shown once it ends with the question, behind what was shown before."""
+def _shown_until(controller: int, shown: bytes, question: bytes) -> bytes:
+    """All that was shown, once what came after `shown` ends with the question."""
     end, place = time.monotonic() + SECONDS, len(shown)
     while not shown[place:].endswith(question):
-        ready = select.select([keyboard], [], [], max(0, end - time.monotonic()))[0]
-        piece = _piece(keyboard) if ready else b""
-        if not piece:
+        ready = select.select([controller], [], [], max(0, end - time.monotonic()))[0]
+        chunk = _chunk(controller) if ready else b""
+        if not chunk:
             raise AssertionError(f"{question!r} is not asked: {shown!r}")
-        shown += piece
+        shown += chunk
     return shown
 
 
-def _piece(keyboard: int) -> bytes:
+def _chunk(controller: int) -> bytes:
     """What is shown next; nothing once the last program at the terminal has ended."""
     try:
-        return os.read(keyboard, PIECE)
+        return os.read(controller, CHUNK_SIZE)
     except OSError:
         return b""
 
 
-def _rest(keyboard: int) -> bytes:
+def _rest(controller: int) -> bytes:
     shown = b""
-    while piece := _piece(keyboard):
-        shown += piece
+    while chunk := _chunk(controller):
+        shown += chunk
     return shown

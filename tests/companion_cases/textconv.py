@@ -36,11 +36,11 @@ def alone(cases: Companions) -> None:
 
 
 def as_it_is(cases: Companions) -> None:
-    """What is not opened is shown as it is, with the reason, and git goes on."""
+    """What cannot be decrypted is shown as it is, with the reason, and git continues."""
     files = {
         "unknown.yml": (sealed("dev"), "no secret decrypts this vault"),
-        "plain.yml": (TEXT, "it is no vault and holds no block"),
-        "empty.yml": (b"", "it is no vault"),
+        "plain.yml": (TEXT, "it is not a vault and has no block"),
+        "empty.yml": (b"", "it is not a vault"),
         "header.yml": (b"$ANSIBLE_VAULT;1.1\n", "vault header line is malformed"),
         "block.yml": (block("dev"), "block.yml:2: shown as it is: no secret decrypts this vault"),
     }
@@ -49,7 +49,7 @@ def as_it_is(cases: Companions) -> None:
             place.put(name, content)
             done = place.run(TEXTCONV, *place.by_file("old"), name)
             cases.check(f"{name}: as it is", (done.returncode, done.stdout.encode()), (0, content))
-            cases.holds(f"{name}: why is told", part in done.stderr and name in done.stderr, done.stderr)
+            cases.holds(f"{name}: the reason is printed", part in done.stderr and name in done.stderr, done.stderr)
         place.put("mixed.yml", block("dev") + block("old", b"shown"))
         done = place.run(TEXTCONV, *place.by_file("old"), "mixed.yml")
         wanted = block("dev").decode() + "secret: !vault |-\n  shown\n"
@@ -57,7 +57,7 @@ def as_it_is(cases: Companions) -> None:
         place.put("a.yml", sealed("old"))
         done = place.run(TEXTCONV, *place.by_file("missing"), *place.by_file("old"), "a.yml")
         cases.check("a missing password file is no end", (done.returncode, done.stdout), (0, TEXT.decode()))
-        cases.holds("but told", "missing: a password file cannot be opened" in done.stderr, done.stderr)
+        cases.holds("but it is reported", "missing: a password file cannot be opened" in done.stderr, done.stderr)
         cases.ended("no file", place.run(TEXTCONV, *place.by_file("old"), "missing.yml"), 1, "missing.yml")
         for words in ([], ["a.yml"], ["--loud", "a.yml"], place.by_file("old")[:1] + ["a.yml"]):
             cases.ended(f"{words}", place.run(TEXTCONV, *words), 2, "usage: ansible-vault-textconv")
@@ -98,7 +98,7 @@ def awkward_names(cases: Companions) -> None:
 
 
 def untouched_differences(cases: Companions) -> None:
-    """One that is not opened ends nothing, and says why."""
+    """A vault that cannot be decrypted does not stop git, and the reason is reported."""
     if not cases.needs("an unknown vault in git", "git"):
         return
     with cases.place() as place:
@@ -157,4 +157,4 @@ def clones_of_others(cases: Companions) -> None:
                 run.unlink(missing_ok=True)
 
 
-GROUPS = [alone, as_it_is, differences, awkward_names, untouched_differences, clones_of_others]
+TESTS = [alone, as_it_is, differences, awkward_names, untouched_differences, clones_of_others]

@@ -2,7 +2,7 @@
 
 import os
 
-from companion_cases import AWKWARD, CHECK, ROTATE, TEXT, Companions, Place, block, opened, sealed
+from companion_cases import AWKWARD, CHECK, ROTATE, TEXT, Companions, Place, block, decrypted, sealed
 from companion_cases.rotating import summary, to_new
 
 
@@ -22,7 +22,7 @@ def awkward_names(cases: Companions) -> None:
         done = place.run(ROTATE, *to_new(place), ".")
         cases.ended("awkward names", done, 0, summary(count), "'./a\\nline.yml': rotated\n", "./-rf.yml: rotated\n")
         vaults = {name: content for name, content in place.files().items() if content[:1] == b"$"}
-        wrong = [name for name, content in vaults.items() if opened("new", content) != TEXT]
+        wrong = [name for name, content in vaults.items() if decrypted("new", content) != TEXT]
         cases.check("all are under the new secret", wrong, [])
         cases.check("and nothing else is there", len(place.files()), count)
         back = [*place.by_file("new"), *place.by_file("old", "new-")]
@@ -48,7 +48,7 @@ def links(cases: Companions) -> None:
         cases.ended("links", place.run(ROTATE, *to_new(place), "tree"), 0, summary(2))
         kept = {name: os.readlink(place.tree / "tree" / name) for name in targets}
         cases.check("links stay links", kept, targets)
-        cases.check("their files are rotated", opened("new", place.get("shared/vault.yml")), TEXT)
+        cases.check("their files are rotated", decrypted("new", place.get("shared/vault.yml")), TEXT)
         cases.check("and keep their modes", place.mode("shared/vault.yml"), "0o640")
         cases.check("links to folders are not followed", place.get("elsewhere/deep.yml"), sealed("old"))
         cases.ended("but where they are the path", place.run(ROTATE, *to_new(place), "tree/folder"), 0, summary(1))
@@ -103,4 +103,4 @@ def long_files(cases: Companions) -> None:
         cases.check("long files", found(place, "."), sorted(wanted))
 
 
-GROUPS = [awkward_names, links, hard_links, once, what_is_looked_at, long_files]
+TESTS = [awkward_names, links, hard_links, once, what_is_looked_at, long_files]

@@ -1,10 +1,10 @@
-"""How files are written: the order of what is synced, lists of access, and what a dry run foresees."""
+"""How files are written: the order of fsync and rename, access control lists, and what a dry run reports."""
 
 import os
 import re
 import subprocess
 
-from companion_cases import CHECK, EDIT, MERGE, NOBODY, ROTATE, TEXT, WITH, Companions, Place, block, opened, sealed
+from companion_cases import CHECK, EDIT, MERGE, NOBODY, ROTATE, TEXT, WITH, Companions, Place, block, decrypted, sealed
 from companion_cases.editing import CHANGE, edit
 from companion_cases.keeping import run_changed
 from companion_cases.merging import versions
@@ -37,7 +37,7 @@ def syncs(cases: Companions) -> None:
         cases.check("a rotation", traced(cases, place, ROTATE, [*to_new(place), "a.yml"]), wanted)
         place.put("a.yml", sealed("old"))
         place.environment["EDITOR"] = place.script(CHANGE, "editor")
-        # The first is the rehearsal's.
+        # The first is that of `check_replaceable`.
         found = traced(cases, place, EDIT, [*place.by_file("old"), "a.yml"])
         cases.check("an edit", found, ["synced", *wanted])
         place.environment["EDITOR"] = place.script('echo a > "$1"', "editor")
@@ -80,9 +80,9 @@ def unreadable_folders(cases: Companions) -> None:
         (place.tree / "folder").chmod(0o755)
 
 
-def lists_of_access(cases: Companions) -> None:
-    """A new file gets no entry of the folder's default list that the old one had not, and keeps its own."""
-    if not cases.needs("lists of access", "setfacl"):
+def access_control_lists(cases: Companions) -> None:
+    """A file that is replaced keeps its ACL, and inherits no entry of the folder's default ACL."""
+    if not cases.needs("access control lists", "setfacl"):
         return
     acl = lambda name: subprocess.run(
         ["getfacl", "-c", name], cwd=place.tree, capture_output=True, text=True
@@ -92,13 +92,13 @@ def lists_of_access(cases: Companions) -> None:
         place.put("own.yml", sealed("old"), 0o640)
         made = place.shell(f"setfacl -m u:{NOBODY}:r own.yml && setfacl -d -m u:{NOBODY}:rwx .")
         if made.returncode != 0:
-            cases.left_out("lists of access", "the file system has none")
+            cases.skip("access control lists", "the file system has none")
             return
         before = {name: acl(name) for name in ("none.yml", "own.yml")}
         cases.ended("a rotation", place.run(ROTATE, *to_new(place), "."), 0, summary(2))
-        cases.check("lists stay", {name: acl(name) for name in before}, before)
+        cases.check("the ACLs stay", {name: acl(name) for name in before}, before)
         cases.silent("an edit", edit(place, CHANGE, *place.by_file("new"), "none.yml"))
-        cases.check("the list stays", acl("none.yml"), before["none.yml"])
+        cases.check("the ACL stays", acl("none.yml"), before["none.yml"])
 
 
 def full_disks(cases: Companions) -> None:
@@ -119,7 +119,7 @@ def full_disks(cases: Companions) -> None:
 
 
 def dry_runs(cases: Companions) -> None:
-    """A dry run tells what the run would refuse, and leaves nothing."""
+    """A dry run reports what the run would refuse, and leaves no file."""
     with cases.place() as place:
         place.put("a.yml", sealed("old"))
         os.link(place.tree / "a.yml", place.path / "second name")
@@ -144,7 +144,7 @@ def no_hard_links(cases: Companions) -> None:
         editor = place.script('echo a > "$1"', "editor")
         done = run_changed(place, EDIT, none, [*place.by_file("old"), "new.yml"], EDITOR=editor)
         cases.silent("a new vault", done)
-        cases.check("it is there", opened("old", place.get("new.yml")), b"a\n")
+        cases.check("it is there", decrypted("old", place.get("new.yml")), b"a\n")
         found = (place.mode("new.yml"), place.names())
         cases.check("for its owner alone, and nothing else", found, ("0o600", ["new.yml"]))
 
@@ -160,7 +160,7 @@ def named_paths(cases: Companions) -> None:
                 done = place.run(*words, path, "a.yml")
                 cases.ended(f"{words[0]} {path}", done, 1, f"{path}: it is neither a file nor a folder")
         done = place.shell(f"{CHECK} {' '.join(place.by_file('new'))} <(cat a.yml)", "bash")
-        cases.ended("a pipe of the shell", done, 1, "it is neither a file nor a folder", "0 opened, 1 not")
+        cases.ended("a pipe of the shell", done, 1, "it is neither a file nor a folder", "0 decrypted, 1 not")
     with cases.place() as place:
         place.put("tree/a.yml", sealed("old"))
         place.put("closed/b.yml", sealed("old"))
@@ -177,7 +177,7 @@ def named_paths(cases: Companions) -> None:
 
 
 def long_passwords(cases: Companions) -> None:
-    """No vault is opened by the first part of a password."""
+    """A truncated password decrypts no vault."""
     long = b"p" * 4097
     with cases.place() as place:
         (place.path / "long").write_bytes(long)
@@ -202,5 +202,5 @@ def prose(cases: Companions) -> None:
         cases.ended("prose", place.run(ROTATE, *to_new(place), "."), 0, summary(1))
 
 
-GROUPS = [syncs, unreadable_folders, lists_of_access, full_disks, dry_runs, no_hard_links, named_paths]
-GROUPS += [long_passwords, prose]
+TESTS = [syncs, unreadable_folders, access_control_lists, full_disks, dry_runs, no_hard_links, named_paths]
+TESTS += [long_passwords, prose]

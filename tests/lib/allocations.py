@@ -5,21 +5,21 @@ import subprocess
 
 from lib.limits import SECONDS
 
-# The library that stands before the system's allocator, and where it tells that it refused an allocation.
+# The library that wraps the allocator, and the descriptor to which it reports that it refused an allocation.
 LIBRARY = "refuse_allocation"
-TOLD = 3
+REPORT_DESCRIPTOR = 3
 
 
 def run_refusing(library: str, words: list[str], stdin: bytes, number: int):
     """A run of these words whose allocation of this number, from 1, is refused, and whether it had one."""
     reading, writing = os.pipe()
-    with open(reading, "rb") as told:
+    with open(reading, "rb") as report:
         environment = {"LD_PRELOAD": library, "REFUSED_ALLOCATION": str(number)}
         try:
             done = subprocess.run(
                 words, input=stdin, capture_output=True, env=environment, timeout=SECONDS,
-                pass_fds=[TOLD], preexec_fn=lambda: os.dup2(writing, TOLD),
+                pass_fds=[REPORT_DESCRIPTOR], preexec_fn=lambda: os.dup2(writing, REPORT_DESCRIPTOR),
             )
         finally:
             os.close(writing)
-        return done, told.read() != b""
+        return done, report.read() != b""

@@ -1,30 +1,30 @@
-"""What happens to a file, in order, as the system's inotify tells it."""
+"""The events of a file, in order, as inotify reports them."""
 
 import ctypes
 import os
 import struct
 
-MODIFIED, MODE_CHANGED, CLOSED = 0x2, 0x4, 0x8
-HEAD = struct.Struct("iIII")
-LIBRARY = ctypes.CDLL(None, use_errno=True)
+IN_MODIFY, IN_ATTRIB, IN_CLOSE_WRITE = 0x2, 0x4, 0x8
+EVENT_HEADER = struct.Struct("iIII")
+LIBC = ctypes.CDLL(None, use_errno=True)
 
 
 class FileEvents:
     """Watches a file from now on."""
 
     def __init__(self, path: str) -> None:
-        self.descriptor = LIBRARY.inotify_init1(os.O_NONBLOCK)
-        mask = MODIFIED | MODE_CHANGED | CLOSED
-        if self.descriptor < 0 or LIBRARY.inotify_add_watch(self.descriptor, os.fsencode(path), mask) < 0:
+        self.descriptor = LIBC.inotify_init1(os.O_NONBLOCK)
+        mask = IN_MODIFY | IN_ATTRIB | IN_CLOSE_WRITE
+        if self.descriptor < 0 or LIBC.inotify_add_watch(self.descriptor, os.fsencode(path), mask) < 0:
             raise OSError(ctypes.get_errno(), "inotify")
 
-    def told(self) -> list[int]:
-        """What has happened so far; the same twice in a row is told once."""
+    def read(self) -> list[int]:
+        """The events so far, of which inotify merges equal ones in a row; it ends the watch."""
         data = os.read(self.descriptor, 1 << 16)
         os.close(self.descriptor)
-        events, place = [], 0
-        while place < len(data):
-            _, event, _, length = HEAD.unpack_from(data, place)
+        events, offset = [], 0
+        while offset < len(data):
+            _, event, _, length = EVENT_HEADER.unpack_from(data, offset)
             events.append(event)
-            place += HEAD.size + length
+            offset += EVENT_HEADER.size + length
         return events

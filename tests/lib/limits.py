@@ -1,4 +1,4 @@
-"""How long tests wait. No answer depends on it: a machine with few and slow processors runs them too."""
+"""Timeouts. No result depends on them, so the tests also run on a slow machine."""
 
-# Seconds after which a run is taken to have no end.
+# Seconds after which a run is considered to hang.
 SECONDS = 300

@@ -13,24 +13,25 @@ PAGE = os.sysconf("SC_PAGE_SIZE")
 CLONE_NEWNS = 0x20000
 
 
-def mounted(*words: str) -> bool:
-    return has_own_mounts() and subprocess.run(["mount", *words], capture_output=True).returncode == 0
+def mount(*words: str) -> bool:
+    """Whether the mount succeeded."""
+    return unshare_mounts() and subprocess.run(["mount", *words], capture_output=True).returncode == 0
 
 
 @functools.cache
-def has_own_mounts() -> bool:
-    """Whether this process has left the mounts of the system: what it mounts is seen by nobody else, and gone with
-    it. Only root may."""
+def unshare_mounts() -> bool:
+    """Gives this process a mount namespace of its own, so that its mounts are invisible to others and end with it;
+    whether that succeeded. Only root may do it."""
     if os.geteuid() != 0 or ctypes.CDLL(None).unshare(CLONE_NEWNS) != 0:
         return False
     return subprocess.run(["mount", "--make-rprivate", "/"], capture_output=True).returncode == 0
 
 
 @contextlib.contextmanager
-def file_system(folder: Path, size: int) -> Iterator[bool]:
-    """In this new folder, with room for that many bytes; False where none can be mounted."""
+def tmpfs(folder: Path, size: int) -> Iterator[bool]:
+    """Mounts a tmpfs of this size at a new folder; yields False if none can be mounted."""
     folder.mkdir()
-    if not mounted("-t", "tmpfs", "-o", f"size={size}", "tmpfs", str(folder)):
+    if not mount("-t", "tmpfs", "-o", f"size={size}", "tmpfs", str(folder)):
         yield False
         return
     try:
@@ -39,5 +40,5 @@ def file_system(folder: Path, size: int) -> Iterator[bool]:
         subprocess.run(["umount", str(folder)], check=True)
 
 
-def made_read_only(folder: Path) -> bool:
-    return mounted("-o", "remount,ro", str(folder))
+def remount_read_only(folder: Path) -> bool:
+    return mount("-o", "remount,ro", str(folder))

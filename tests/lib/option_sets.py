@@ -1,4 +1,4 @@
-"""The options of each command and of each companion, as the manual pages and their help tell them.
+"""The options of each command and of each companion, as the manual pages and the help list them.
 
 The key None stands for the program without a command.
 """
@@ -54,7 +54,7 @@ def help_options(text: str) -> set[str]:
 
 
 def help_of(text: str, option: str) -> str:
-    """What the help says behind an option."""
+    """What the help says after an option."""
     found = re.search(rf"^ +(?:-\w, )?{option} (.*(?:\n {{12,}}\S.*)*)", text, re.MULTILINE)
     return " ".join(found[1].split()) if found else ""
 
@@ -77,8 +77,8 @@ def companion_options(name: str) -> list[set[str]]:
 
 def companion_statuses(name: str) -> set[int]:
     """The exit statuses that a companion's help names."""
-    _, _, told = companion_help(name).partition("Exit status: ")
-    return {int(status) for status in re.findall(r"(?:^|; )(\d)\b", " ".join(told.partition("\n\n")[0].split()))}
+    _, _, text = companion_help(name).partition("Exit status: ")
+    return {int(status) for status in re.findall(r"(?:^|; )(\d)\b", " ".join(text.partition("\n\n")[0].split()))}
 
 
 def companion_page(name: str) -> dict[str, str]:

@@ -1,7 +1,8 @@
-"""Counts what a test compares, and goes on behind what is not as it should be, so that a table names every row
-that fails. What a test leaves out, since the machine lacks something, is kept too.
+"""Counts the checks of a test, and continues after one that fails, so that a table reports every row that
+fails. What a test skips, because the machine does not have a tool or a right, is kept too.
 
-Under pytest `conftest.py` makes of it how the test ends. A command prints each line at once and ends by `finish`.
+Under pytest, `conftest.py` derives the result of the test from it. A command prints each failure at once, and calls
+`finish` at its end.
 """
 
 import os
@@ -9,7 +10,7 @@ import sys
 from pathlib import Path
 from reprlib import Repr
 
-# Characters of a value that are shown.
+# Characters of a string, items of a collection, and half of the characters of a whole value that are shown.
 LONGEST = 600
 
 
@@ -35,18 +36,18 @@ class Outcome:
         self.prints = prints
         self.passed = 0
         self.failures: list[str] = []
-        self.omitted: list[str] = []
+        self.skipped: list[str] = []
 
     def report(self, line: str) -> None:
         if self.prints:
             print(line, flush=True)
 
-    def holds(self, what: str, holds: bool, otherwise: object = "") -> None:
-        """Counts a fact; where it is none, its name is kept, and what was found instead."""
-        if holds:
+    def holds(self, what: str, condition: bool, details: object = "") -> None:
+        """Counts a check; if it fails, keeps its name and the details."""
+        if condition:
             self.passed += 1
             return
-        found = otherwise if isinstance(otherwise, str) else shown(otherwise)
+        found = details if isinstance(details, str) else shown(details)
         self.failures.append(f"{what}{': ' if found else ''}{found}")
         self.report(f"FAILED {self.failures[-1]}")
 
@@ -54,19 +55,19 @@ class Outcome:
         is_equal = found == wanted
         self.holds(what, is_equal, "" if is_equal else f"got {shown(found)}, want {shown(wanted)}")
 
-    def left_out(self, what: str, why: str) -> None:
-        self.omitted.append(f"{what}: {why}")
-        self.report(f"left out: {self.omitted[-1]}")
+    def skip(self, what: str, why: str) -> None:
+        self.skipped.append(f"{what}: {why}")
+        self.report(f"skipped: {self.skipped[-1]}")
 
     def finish(self) -> None:
-        """Ends the program with the counts; its status is 1 where something failed, or nothing was run. With
-        REQUIRE_ALL=1 in the environment what is left out has failed."""
+        """Prints the counts and exits: with status 1 if a check failed, or none was made. With REQUIRE_ALL=1 in the
+        environment, a skipped check is a failure."""
         if os.environ.get("REQUIRE_ALL") == "1":
-            for each in self.omitted:
-                self.holds(each, False, "it is left out, and all is required")
-            self.omitted = []
-        if not (self.passed or self.failures or self.omitted):
+            for each in self.skipped:
+                self.holds(each, False, "it is skipped, and --require-all is set")
+            self.skipped = []
+        if not (self.passed or self.failures or self.skipped):
             self.holds("something is run", False)
         name = Path(sys.argv[0]).name
-        print(f"{name}: {self.passed} passed, {len(self.failures)} failed, {len(self.omitted)} skipped")
+        print(f"{name}: {self.passed} passed, {len(self.failures)} failed, {len(self.skipped)} skipped")
         sys.exit(1 if self.failures else 0)

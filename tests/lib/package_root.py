@@ -28,7 +28,7 @@ def stand_in(folder: Path, name: str, version: str, files: dict[str, str]) -> Pa
             (top / file).parent.mkdir(parents=True, exist_ok=True)
             (top / file).write_text(content)
             (top / file).chmod(0o755)
-        return built(top, folder, CONTROL.format(name=name, version=version))
+        return build_package(top, folder, CONTROL.format(name=name, version=version))
 
 
 def later(package: Path, folder: Path, version: str) -> Path:
@@ -37,15 +37,15 @@ def later(package: Path, folder: Path, version: str) -> Path:
         top = Path(path) / "package"
         subprocess.run(["dpkg-deb", "-R", str(package), str(top)], check=True)
         control = (top / "DEBIAN/control").read_text()
-        return built(top, folder, re.sub(r"^Version: .*$", f"Version: {version}", control, flags=re.MULTILINE))
+        return build_package(top, folder, re.sub(r"^Version: .*$", f"Version: {version}", control, flags=re.MULTILINE))
 
 
-def built(top: Path, folder: Path, control: str) -> Path:
+def build_package(top: Path, folder: Path, control: str) -> Path:
     (top / "DEBIAN").mkdir(exist_ok=True)
     (top / "DEBIAN/control").write_text(control)
     command = ["dpkg-deb", "--root-owner-group", "-b", str(top), str(folder)]
-    told = subprocess.run(command, check=True, capture_output=True, text=True).stdout
-    return Path(re.search(r"'([^']+\.deb)'", told)[1])
+    output = subprocess.run(command, check=True, capture_output=True, text=True).stdout
+    return Path(re.search(r"'([^']+\.deb)'", output)[1])
 
 
 class Root:
@@ -93,5 +93,5 @@ class Root:
 
 
 def libraries(program: str) -> list[str]:
-    told = subprocess.run(["ldd", program], capture_output=True, text=True, check=True).stdout
-    return re.findall(r"(/\S+) \(0x", told)
+    output = subprocess.run(["ldd", program], capture_output=True, text=True, check=True).stdout
+    return re.findall(r"(/\S+) \(0x", output)

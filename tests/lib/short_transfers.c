@@ -1,5 +1,5 @@
-/* Each read and write carries between one byte and as many as MOST_BYTES says; how many, follows from
-   the calls before. The first that is cut short creates the file at the path TOLD_AT. */
+/* Each read and write transfers between one byte and MOST_BYTES; the number is pseudorandom, the same in every
+   run. The first that is cut short creates the file at the path CUT_SHORT_MARKER. */
 #define _GNU_SOURCE
 #include <fcntl.h>
 #include <stdint.h>
@@ -9,15 +9,15 @@
 
 static size_t shortened(size_t size)
 {
-    static uint32_t most, state = 1, told;
+    static uint32_t most, state = 1, is_marked;
     if (most == 0)
         most = strtoul(getenv("MOST_BYTES"), NULL, 10);
     state = state * 1664525 + 1013904223;
     size_t length = 1 + (state >> 8) % most;
     if (length >= size)
         return size;
-    if (!told)
-        told = close(open(getenv("TOLD_AT"), O_CREAT | O_WRONLY, 0600)) == 0;
+    if (!is_marked)
+        is_marked = close(open(getenv("CUT_SHORT_MARKER"), O_CREAT | O_WRONLY, 0600)) == 0;
     return length;
 }
 

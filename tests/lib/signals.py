@@ -6,7 +6,7 @@ ENDING = signal.SIGHUP, signal.SIGINT, signal.SIGQUIT, signal.SIGTERM
 
 
 def heed_signals() -> None:
-    """Tests in the background may ignore these, and what they start would ignore them, too."""
+    """Restores the default actions: a background job may ignore these signals, and its children would inherit that."""
     for number in ENDING:
         if signal.getsignal(number) == signal.SIG_IGN:
             signal.signal(number, signal.SIG_DFL)

@@ -1,4 +1,4 @@
-/* Stops the process once, before it reads of a file behind the first STOPPED_AT bytes. */
+/* Stops the process once, before it reads a file past its first STOPPED_AT bytes. */
 #define _GNU_SOURCE
 #include <signal.h>
 #include <stdlib.h>

@@ -13,27 +13,27 @@ ENDED = re.compile(r"\d+ +\[[?]+\] \+\+\+ ")
 PATH = re.compile(r'"([^"]*)"')
 # The loader's code is no longer than this.
 LOADER_LENGTH = 1 << 18
-# What the loader lets the C library call, which is no call of the program yet.
+# Called by the C library while it is loaded, not by the program.
 OF_THE_LOADER = ("prlimit64",)
 
 
 class Call(NamedTuple):
-    """A call with its arguments as strace writes them; `place` is where in memory it was made from."""
+    """A call with its arguments as strace prints them, and the instruction pointer at the call."""
 
     name: str
-    words: str
+    args: str
     result: int
     error: str
-    place: int
+    address: int
 
     @property
     def path(self) -> str:
-        return PATH.search(self.words)[1]
+        return PATH.search(self.args)[1]
 
     @property
-    def number(self) -> int:
-        """That of the open file, which is the first argument."""
-        return int(self.words.split(",")[0])
+    def fd(self) -> int:
+        """The file descriptor, which is the first argument."""
+        return int(self.args.split(",")[0])
 
 
 class Traced(NamedTuple):
@@ -47,14 +47,14 @@ class Traced(NamedTuple):
 
 
 def call_in(line: str) -> Call:
-    """A line that is none (one that is left unfinished, a signal) stands as a call of its own name, so that no
-    test passes over it."""
+    """A line that is not a complete call (an unfinished one, a signal) becomes a call whose name is the line, so that
+    no test overlooks it."""
     found = LINE.match(line)
     if found is None:
         return Call(line, "", 0, "", 0)
-    place, name, words, result, error = found.groups(default="")
-    number = 0 if result == "?" else int(result, 0)
-    return Call(name, words, number, error, 0 if "?" in place else int(place, 16))
+    address, name, args, result, error = found.groups(default="")
+    value = 0 if result == "?" else int(result, 0)
+    return Call(name, args, value, error, 0 if "?" in address else int(address, 16))
 
 
 def calls_in(log: str) -> list[Call]:
@@ -62,18 +62,18 @@ def calls_in(log: str) -> list[Call]:
 
 
 def loaded(calls: list[Call]) -> int:
-    """How many calls, the first of them `execve`, are made until the program makes its own."""
-    loader = calls[1].place
+    """The number of calls, `execve` included, before the first one of the program itself."""
+    loader = calls[1].address
     for number, call in enumerate(calls[1:], 1):
-        is_loader = abs(call.place - loader) < LOADER_LENGTH or call.name in OF_THE_LOADER
+        is_loader = abs(call.address - loader) < LOADER_LENGTH or call.name in OF_THE_LOADER
         if not is_loader:
             return number
     return len(calls)
 
 
 def own_calls(log: Path, programs: int = 1) -> tuple[list[Call], list[Call]]:
-    """The loader's calls and those of the program itself: of the last one, where the words of a run ask for so
-    many programs, one after the other."""
+    """The loader's calls and those of the program itself. If a run executes several programs, one after the other,
+    these are the calls of the last."""
     calls = calls_in(log.read_text())
     started = [number for number, call in enumerate(calls) if call.name == "execve" and not call.error]
     calls = calls[started[programs - 1] :]
@@ -82,7 +82,7 @@ def own_calls(log: Path, programs: int = 1) -> tuple[list[Call], list[Call]]:
 
 
 def tracing(log: Path) -> list[str]:
-    """What stands before the words of a run whose calls go to the log."""
+    """The start of a command line that logs the calls of a run."""
     return ["strace", "-f", "-i", "-s", "0", "-o", str(log)]
 
 

@@ -1,6 +1,6 @@
 """What the tool answers, computed from its rules alone and without any code of the program.
 
-Each step of the law is a function; `answer` joins them. A step that refuses raises `Refused`.
+Each step of the specification is a function, and `answer` runs them in order. A step that refuses raises `Refused`.
 """
 
 import os
@@ -12,7 +12,7 @@ from typing import BinaryIO, NamedTuple, Protocol
 from model.faults import Fault, Refused
 from model.options import DEFAULT_LABEL, NotParsed, Request, is_label, parse, settle
 from model.vaults import CIPHERTEXT_LIMIT, ENVELOPE_LIMIT, MAGIC, PLAINTEXT_LIMIT
-from model.vaults import applied, padded, parts, spelled, tag_of, yaml_block
+from model.vaults import apply_keystream, padded, parts, serialized, tag_of, yaml_block
 
 HEADER_LIMIT = 256
 SALT_READ_LIMIT = 256
@@ -31,13 +31,13 @@ class Payload(NamedTuple):
     label: str
     salt: bytes
     tag: bytes
-    cipher: bytes
+    ciphertext: bytes
 
 
 @dataclass(frozen=True)
 class Answer:
-    """The output, None where it is not begun, with its path (None: standard output); the text on
-    standard error, None where it is the parser's; the status."""
+    """The output, None if it is not begun; its path, None for standard output; the text on standard error, None if it
+    is the parser's; the status."""
 
     output: bytes | None
     path: str | None
@@ -45,7 +45,7 @@ class Answer:
     status: int
 
 
-NO_COMMAND_LINE = Answer(None, None, None, 2)
+USAGE_ERROR = Answer(None, None, None, 2)
 
 
 class Store(Protocol):
@@ -173,12 +173,12 @@ def read(envelope: bytes) -> Payload:
     pieces = [unhex(part) for part in inner.split(b"\n", 2)]
     if len(pieces) < 3 or None in pieces:
         raise Refused(Fault.BAD_PAYLOAD)
-    salt, tag, cipher = pieces
+    salt, tag, ciphertext = pieces
     if len(salt) > SALT_READ_LIMIT or len(tag) != TAG_LENGTH:
         raise Refused(Fault.BAD_PAYLOAD)
-    if len(cipher) > CIPHERTEXT_LIMIT:
+    if len(ciphertext) > CIPHERTEXT_LIMIT:
         raise Refused(Fault.CIPHER_TOO_LONG)
-    return Payload(label, salt, tag, cipher)
+    return Payload(label, salt, tag, ciphertext)
 
 
 def tried(secrets: list[Secret], label: str, required: bool) -> list[Secret]:
@@ -194,20 +194,20 @@ def unpadded(whole: bytes) -> bytes:
     return plaintext
 
 
-def open_payload(secrets: list[Secret], required: bool, payload: Payload) -> bytes:
+def decrypt_payload(secrets: list[Secret], required: bool, payload: Payload) -> bytes:
     for secret in tried(secrets, payload.label, required):
-        if tag_of(secret.password, payload.salt, payload.cipher) == payload.tag:
-            return unpadded(applied(secret.password, payload.salt, payload.cipher))
+        if tag_of(secret.password, payload.salt, payload.ciphertext) == payload.tag:
+            return unpadded(apply_keystream(secret.password, payload.salt, payload.ciphertext))
     raise Refused(Fault.NO_SECRET_FITS)
 
 
-def seal_payload(secret: Secret, salt: bytes, plaintext: bytes) -> Payload:
+def encrypt_payload(secret: Secret, salt: bytes, plaintext: bytes) -> Payload:
     return Payload(secret.label, *parts(secret.password, padded(plaintext), salt))
 
 
 def written(payload: Payload) -> bytes:
     label = "" if payload.label == DEFAULT_LABEL else payload.label
-    return spelled(payload.salt, payload.tag, payload.cipher, label.encode())
+    return serialized(payload.salt, payload.tag, payload.ciphertext, label.encode())
 
 
 def refuse_vault(plaintext: bytes) -> None:
@@ -225,7 +225,7 @@ def encrypted(request: Request, secret: Secret, salt: bytes, plaintext: bytes) -
     if request.command == "encrypt_string" and not plaintext:
         raise Refused(Fault.EMPTY_STRING)
     refuse_vault(plaintext)
-    envelope = written(seal_payload(secret, salt, plaintext))
+    envelope = written(encrypt_payload(secret, salt, plaintext))
     if request.command == "encrypt":
         return envelope
     return yaml_block(envelope, (request.name or "").encode())
@@ -233,12 +233,12 @@ def encrypted(request: Request, secret: Secret, salt: bytes, plaintext: bytes) -
 
 def rekeyed(new: Secret, salt: bytes, plaintext: bytes) -> bytes:
     refuse_vault(plaintext)
-    return written(seal_payload(new, salt, plaintext))
+    return written(encrypt_payload(new, salt, plaintext))
 
 
 def result(request: Request, contents: list[bytes], salt: bytes, source: BinaryIO | None) -> bytes:
-    """The output. The source is asked only where the passwords, the choice and the salt are good,
-    and is None where there is a STRING."""
+    """The output. The source is read only if the passwords, the choice and the salt are valid; it is None if there is
+    a STRING."""
     passwords = [password(content) for content in contents]
     held = [Secret(file.label, word) for file, word in zip(request.files, passwords)]
     secrets = held[: len(request.secrets)]
@@ -250,7 +250,7 @@ def result(request: Request, contents: list[bytes], salt: bytes, source: BinaryI
         given = prefix_of(source, input_limit(request) + 1, Fault.INPUT_NOT_READ)
     if secret is not None:
         return encrypted(request, secret, sealing_salt, given)
-    plaintext = open_payload(secrets, request.label_required, read(given))
+    plaintext = decrypt_payload(secrets, request.label_required, read(given))
     return rekeyed(held[-1], sealing_salt, plaintext) if request.new_secret else plaintext
 
 
@@ -274,11 +274,11 @@ def refusal(fault: Fault) -> Answer:
 
 
 def answer(words: list[str], store: Store, stdin: BinaryIO) -> Answer:
-    """The answer to the words behind the program's name, where the output can be written."""
+    """The answer to the words after the program's name, where the output can be written."""
     try:
         request = settle(parse(words))
         return Answer(performed(request, store, stdin), request.output, b"", 0)
     except NotParsed:
-        return NO_COMMAND_LINE
+        return USAGE_ERROR
     except Refused as refused:
         return refusal(refused.fault)

@@ -1,5 +1,5 @@
 """Vaults of Ansible's own tool, changed: bits flipped outside and inside the inner text, cut, spliced of
-two, lines doubled, with another's salt. Each is opened under two secrets.
+two, lines doubled, with another's salt. Each is decrypted with two secrets.
 """
 
 import subprocess
@@ -10,7 +10,7 @@ from typing import NamedTuple
 from lib.limits import SECONDS
 from lib.paths import FIXTURES
 from model.random_requests import Case
-from model.vaults import MAGIC, spelled
+from model.vaults import MAGIC, serialized
 
 WIDTH = 80
 LABELS = ["default", "dev", "prod"]
@@ -22,7 +22,7 @@ STORED = {
     "empty.vault": "one.password",
 }
 FRESH_TEXTS = [b"", b"x", b"key: value\n", b"a" * 16, bytes(range(256)), b"- a line\n" * 300]
-# The label under which each password seals.
+# The label of each password, for encrypting.
 FRESH_SECRETS = {"one.password": "default", "two.password": "dev"}
 
 
@@ -35,7 +35,7 @@ class Vault(NamedTuple):
 class Pieces(NamedTuple):
     salt: bytes
     tag: bytes
-    cipher: bytes
+    ciphertext: bytes
 
 
 def stored_vaults() -> list[Vault]:
@@ -63,7 +63,7 @@ def inner_text(envelope: bytes) -> tuple[bytes, bytes]:
 
 def from_inner(header: bytes, inner: bytes) -> bytes:
     digits = inner.hex().encode()
-    lines = [digits[place : place + WIDTH] for place in range(0, len(digits), WIDTH)]
+    lines = [digits[index : index + WIDTH] for index in range(0, len(digits), WIDTH)]
     return b"\n".join([header, *lines, b""])
 
 
@@ -78,8 +78,8 @@ def label_of(envelope: bytes) -> bytes:
 
 def flipped(random: Random, data: bytes) -> bytes:
     """With one bit changed."""
-    place = random.randrange(len(data))
-    return data[:place] + bytes([data[place] ^ 1 << random.randrange(8)]) + data[place + 1 :]
+    index = random.randrange(len(data))
+    return data[:index] + bytes([data[index] ^ 1 << random.randrange(8)]) + data[index + 1 :]
 
 
 def flip_outside(random: Random, one: bytes, _: bytes) -> bytes:
@@ -93,9 +93,9 @@ def flip_inside(random: Random, one: bytes, _: bytes) -> bytes:
 
 def flip_piece(random: Random, one: bytes, _: bytes) -> bytes:
     pieces = list(pieces_of(one))
-    changed = random.choice([place for place, piece in enumerate(pieces) if piece])
+    changed = random.choice([index for index, piece in enumerate(pieces) if piece])
     pieces[changed] = flipped(random, pieces[changed])
-    return spelled(*pieces, label_of(one))
+    return serialized(*pieces, label_of(one))
 
 
 def cut(random: Random, one: bytes, _: bytes) -> bytes:
@@ -110,8 +110,8 @@ def cut_inside(random: Random, one: bytes, _: bytes) -> bytes:
 def splice(random: Random, one: bytes, other: bytes) -> bytes:
     """The beginning of one and the end of another, cut at one place or at lines of their own."""
     if random.random() < 0.5:
-        place = random.randrange(min(len(one), len(other)))
-        return one[:place] + other[place:]
+        index = random.randrange(min(len(one), len(other)))
+        return one[:index] + other[index:]
     first, second = one.splitlines(keepends=True), other.splitlines(keepends=True)
     return b"".join(first[: random.randrange(1, len(first) + 1)] + second[random.randrange(len(second)) :])
 
@@ -119,7 +119,7 @@ def splice(random: Random, one: bytes, other: bytes) -> bytes:
 def splice_pieces(random: Random, one: bytes, other: bytes) -> bytes:
     """Each of the parts from either; the salt among them."""
     both = zip(pieces_of(one), pieces_of(other))
-    return spelled(*(random.choice(pair) for pair in both), label_of(random.choice([one, other])))
+    return serialized(*(random.choice(pair) for pair in both), label_of(random.choice([one, other])))
 
 
 def other_salt(random: Random, one: bytes, other: bytes) -> bytes:
@@ -133,13 +133,13 @@ def other_salt(random: Random, one: bytes, other: bytes) -> bytes:
         pieces.salt * 8,
         pieces.salt * 8 + b"x",
     ]
-    return spelled(*pieces._replace(salt=random.choice(salts)), label_of(one))
+    return serialized(*pieces._replace(salt=random.choice(salts)), label_of(one))
 
 
 def doubled_line(random: Random, one: bytes, _: bytes) -> bytes:
     lines = one.splitlines(keepends=True)
-    place = random.randrange(len(lines))
-    return b"".join(lines[: place + 1] + lines[place:])
+    index = random.randrange(len(lines))
+    return b"".join(lines[: index + 1] + lines[index:])
 
 
 def moved_line(random: Random, one: bytes, _: bytes) -> bytes:
@@ -150,7 +150,7 @@ def moved_line(random: Random, one: bytes, _: bytes) -> bytes:
 
 
 def relabelled(random: Random, one: bytes, _: bytes) -> bytes:
-    """Another label, which is not covered by the tag; the vault opens as before."""
+    """Another label; the MAC does not cover it, so the vault can still be decrypted."""
     return MAGIC + b";1.2;AES256;" + random.choice(LABELS).encode() + b"\n" + one.partition(b"\n")[2]
 
 

@@ -19,7 +19,7 @@ FULL_DEVICE = "/dev/full"
 
 
 class CaseFiles(HostFiles):
-    """The files of a case and those of the host, where the source of salts gave these bytes."""
+    """The files of a case and those of the host, with these bytes as the content of /dev/urandom."""
 
     def __init__(self, case: Case, salt: bytes) -> None:
         self.files = {**case.files, SALT_FILE: salt}
@@ -50,7 +50,7 @@ class Folder:
 def salt_in(output: bytes) -> bytes:
     """The salt of an envelope or block, 32 bytes; some other bytes where there is none."""
     lines = [line.strip(b" ") for line in output.split(b"\n")]
-    start = next((place for place, line in enumerate(lines) if line.startswith(b"$ANSIBLE")), 0)
+    start = next((index for index, line in enumerate(lines) if line.startswith(b"$ANSIBLE")), 0)
     try:
         inner = bytes.fromhex(b"".join(lines[start + 1 : start + 3]).decode())
         return bytes.fromhex(inner[: 2 * SALT_LENGTH].decode()).ljust(SALT_LENGTH)
@@ -82,7 +82,7 @@ def run(case: Case, program: list[str], folder: Path) -> subprocess.CompletedPro
 
 
 def differences(case: Case, program: list[str]) -> list[str]:
-    """Runs the case in a folder of its own; what is other than the model has it."""
+    """Runs the case in a folder of its own, and lists where the result differs from the model's."""
     with tempfile.TemporaryDirectory() as name:
         folder = Path(name)
         case.lay_out(folder)

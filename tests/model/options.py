@@ -25,7 +25,7 @@ DEFAULT_LABEL = "default"
 
 
 class NotParsed(Exception):
-    """The words are no command line: a text on standard error, status 2."""
+    """The command line is invalid: a text on standard error, status 2."""
 
 
 @dataclass
@@ -87,7 +87,7 @@ def split_word(word: str) -> tuple[str, str | None]:
 
 
 def parse(words: list[str]) -> Matches:
-    """The matches of the words behind the program's name."""
+    """The matches of the words after the program's name."""
     if not words or words[0] not in OPTIONS:
         raise NotParsed("no command")
     matches = Matches(words[0])

@@ -3,7 +3,7 @@
 from random import Random
 
 from model.vaults import CIPHERTEXT_LIMIT, ENVELOPE, ENVELOPE_LIMIT, HEADER, MAGIC, PLAINTEXT_LIMIT
-from model.vaults import padded, parts, seal, spelled
+from model.vaults import padded, parts, seal, serialized
 
 SIZES = [0, 1, 2, 14, 15, 16, 17, 31, 32, 33, 47, 48, 49, 63, 64, 65, 255, 256, 257, 1_000]
 LARGE_SIZES = [4_079, 4_080, 4_095, 4_096, 4_097, 65_519, 65_520, 65_535, 65_536, 65_537]
@@ -43,7 +43,7 @@ def respelled(random: Random, envelope: bytes) -> bytes:
         digits = digits.upper()
     elif random.random() < 0.3:
         digits = bytes(random.choice((digit, digit ^ 32)) if digit > 64 else digit for digit in digits)
-    lines = [digits[place : place + width] for place in range(0, len(digits), width)]
+    lines = [digits[index : index + width] for index in range(0, len(digits), width)]
     if random.random() < 0.3:
         end, lines = b"", [line + random.choice(LINE_ENDS) for line in lines]
     whole = other_header(random, header) + (end or b"\n") + end.join(lines)
@@ -67,21 +67,21 @@ def other_header(random: Random, header: bytes) -> bytes:
 
 def damaged(random: Random, envelope: bytes) -> bytes:
     """One place changed, or cut off."""
-    place = random.randrange(len(envelope))
-    end = random.randrange(place, len(envelope)) + 1
+    index = random.randrange(len(envelope))
+    end = random.randrange(index, len(envelope)) + 1
     byte = bytes([random.choice(b"0aAfFgG \n\r;$\x00\x7f\x80\xff")])
-    flipped = bytes([envelope[place] ^ 1 << random.randrange(8)])
+    flipped = bytes([envelope[index] ^ 1 << random.randrange(8)])
     digit = bytes([random.choice(b"0123456789abcdef")])
     return random.choice(
         [
-            envelope[:place],
-            envelope[:place] + flipped + envelope[place + 1 :],
-            envelope[:place] + flipped + envelope[place + 1 :],
-            envelope[:place] + digit + envelope[place + 1 :],
-            envelope[:place] + byte + envelope[place:],
-            envelope[:place] + envelope[place + 1 :],
-            envelope[:place] + envelope[end:],
-            envelope[:end] + envelope[place:],
+            envelope[:index],
+            envelope[:index] + flipped + envelope[index + 1 :],
+            envelope[:index] + flipped + envelope[index + 1 :],
+            envelope[:index] + digit + envelope[index + 1 :],
+            envelope[:index] + byte + envelope[index:],
+            envelope[:index] + envelope[index + 1 :],
+            envelope[:index] + envelope[end:],
+            envelope[:end] + envelope[index:],
             envelope + byte,
             byte + envelope,
         ]
@@ -108,7 +108,7 @@ def wrong_header(random: Random, envelope: bytes) -> bytes:
     return b";".join(fields) + b"\n" + body
 
 
-def wrong_inside(random: Random, salt: bytes, tag: bytes, cipher: bytes, label: bytes) -> bytes:
+def wrong_inside(random: Random, salt: bytes, tag: bytes, ciphertext: bytes, label: bytes) -> bytes:
     """A well-formed body whose parts are none, or not those that were sealed."""
     change = random.randrange(6)
     if change == 0:
@@ -116,19 +116,19 @@ def wrong_inside(random: Random, salt: bytes, tag: bytes, cipher: bytes, label: 
     elif change == 1:
         salt = bytes(random.choice([255, 256, 257]))
     elif change == 2:
-        cipher = cipher[: random.randrange(len(cipher) + 1)]
+        ciphertext = ciphertext[: random.randrange(len(ciphertext) + 1)]
     elif change == 3:
-        cipher += random.choice([b"\x00", bytes(16)])
+        ciphertext += random.choice([b"\x00", bytes(16)])
     elif change == 4:
-        header, _, body = spelled(salt, tag, cipher, label).partition(b"\n")
+        header, _, body = serialized(salt, tag, ciphertext, label).partition(b"\n")
         inner = bytes.fromhex(body.decode())
         byte = random.choice([b"\n", b"g", b"G", b"\r", b" ", b"A", b"0"])
-        place = random.choice([len(inner), random.randrange(len(inner) + 1), len(salt) * 2])
-        return header + b"\n" + (inner[:place] + byte + inner[place + random.randrange(2) :]).hex().encode()
+        index = random.choice([len(inner), random.randrange(len(inner) + 1), len(salt) * 2])
+        return header + b"\n" + (inner[:index] + byte + inner[index + random.randrange(2) :]).hex().encode()
     else:
-        header, _, body = spelled(salt, tag, cipher, label).partition(b"\n")
+        header, _, body = serialized(salt, tag, ciphertext, label).partition(b"\n")
         return header + b"\n" + bytes.fromhex(body.decode()).upper().hex().encode()
-    return spelled(salt, tag, cipher, label)
+    return serialized(salt, tag, ciphertext, label)
 
 
 def badly_padded(random: Random) -> bytes:
@@ -138,18 +138,18 @@ def badly_padded(random: Random) -> bytes:
 
 
 def envelope(random: Random, password: bytes, label: bytes) -> bytes:
-    """Mostly one that opens; `label` is empty for format 1.1."""
+    """Mostly one that can be decrypted; `label` is empty for format 1.1."""
     salt = random.choice(SALTS)
     kind = random.random()
     if kind < 0.5:
         whole = seal(password, plaintext(random), label, salt)
         return whole if len(whole) > 1_000_000 or random.random() < 0.4 else respelled(random, whole)
     if kind < 0.6:
-        return spelled(*parts(password, badly_padded(random), salt), label)
+        return serialized(*parts(password, badly_padded(random), salt), label)
     pieces = parts(password, padded(repeated(random, random.choice(SIZES))), salt)
     if kind < 0.7:
         return wrong_inside(random, *pieces, label)
-    whole = spelled(*pieces, label)
+    whole = serialized(*pieces, label)
     if kind < 0.8:
         return wrong_header(random, whole)
     if kind < 0.98:

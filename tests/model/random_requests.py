@@ -1,4 +1,4 @@
-"""Random requests: the words of a command line, the files that it meets and its standard input."""
+"""Random requests: the words of a command line, the files that it finds, and its standard input."""
 
 import base64
 import json
@@ -216,7 +216,7 @@ class Maker:
     def spoiled(self, groups: list[list[str]]) -> list[list[str]]:
         """Words that are no command line."""
         other = sorted({option for options in OPTIONS.values() for option in options} - OPTIONS[self.command])
-        twice = sorted(option for option in OPTIONS[self.command] - FLAGS if self.has(option))
+        twice = sorted(OPTIONS[self.command] - FLAGS)
         wrong = [
             ["--loud"],
             ["x", "y"],

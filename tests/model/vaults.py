@@ -20,14 +20,14 @@ CIPHERTEXT_LIMIT = PLAINTEXT_LIMIT + 16
 ENVELOPE_LIMIT = 6 * PLAINTEXT_LIMIT + 8_192
 
 SALT = bytes(range(32))
-# Key streams of up to this length are kept.
-KEPT = 1 << 13
+# Key streams up to this length are cached.
+CACHED_LENGTH = 1 << 13
 
 
-def spelled(salt: bytes, tag: bytes, cipher: bytes, label: bytes = b"") -> bytes:
+def serialized(salt: bytes, tag: bytes, ciphertext: bytes, label: bytes = b"") -> bytes:
     """An envelope, for the label `default` where none is given."""
     header = MAGIC + b";1.2;AES256;" + label if label else HEADER
-    inner = b"\n".join(part.hex().encode() for part in (salt, tag, cipher))
+    inner = b"\n".join(part.hex().encode() for part in (salt, tag, ciphertext))
     digits = inner.hex().encode()
     lines = [digits[i : i + 80] + b"\n" for i in range(0, len(digits), 80)]
     return header + b"\n" + b"".join(lines)
@@ -49,38 +49,38 @@ def keys(password: bytes, salt: bytes) -> bytes:
     return hashlib.pbkdf2_hmac("sha256", password, salt, 10_000, 80)
 
 
-def enciphered(key: bytes, counter: bytes, data: bytes) -> bytes:
+def aes_ctr(key: bytes, counter: bytes, data: bytes) -> bytes:
     command = ["openssl", "enc", "-aes-256-ctr", "-K", key.hex(), "-iv", counter.hex()]
     return subprocess.run(command, input=data, capture_output=True, check=True).stdout
 
 
 @functools.lru_cache(maxsize=1024)
 def first_key_stream(key: bytes, counter: bytes) -> bytes:
-    return enciphered(key, counter, bytes(KEPT))
+    return aes_ctr(key, counter, bytes(CACHED_LENGTH))
 
 
 def counter_mode(key: bytes, counter: bytes, data: bytes) -> bytes:
-    if len(data) > KEPT:
-        return enciphered(key, counter, data)
+    if len(data) > CACHED_LENGTH:
+        return aes_ctr(key, counter, data)
     stream = first_key_stream(key, counter)
     return bytes(byte ^ other for byte, other in zip(data, stream))
 
 
-def tag_of(password: bytes, salt: bytes, cipher: bytes) -> bytes:
-    return hmac.digest(keys(password, salt)[32:64], cipher, "sha256")
+def tag_of(password: bytes, salt: bytes, ciphertext: bytes) -> bytes:
+    return hmac.digest(keys(password, salt)[32:64], ciphertext, "sha256")
 
 
-def applied(password: bytes, salt: bytes, data: bytes) -> bytes:
-    """Enciphers and deciphers."""
+def apply_keystream(password: bytes, salt: bytes, data: bytes) -> bytes:
+    """Encrypts or decrypts: in counter mode both are the same."""
     derived = keys(password, salt)
     return counter_mode(derived[:32], derived[64:], data)
 
 
-def parts(password: bytes, whole: bytes, salt: bytes = SALT) -> tuple[bytes, bytes, bytes]:
-    """Salt, tag and ciphertext of bytes that are taken as padded."""
-    cipher = applied(password, salt, whole)
-    return salt, tag_of(password, salt, cipher), cipher
+def parts(password: bytes, padded_plaintext: bytes, salt: bytes = SALT) -> tuple[bytes, bytes, bytes]:
+    """Salt, tag and ciphertext; the padding need not be valid."""
+    ciphertext = apply_keystream(password, salt, padded_plaintext)
+    return salt, tag_of(password, salt, ciphertext), ciphertext
 
 
 def seal(password: bytes, plaintext: bytes, label: bytes = b"", salt: bytes = SALT) -> bytes:
-    return spelled(*parts(password, padded(plaintext), salt), label)
+    return serialized(*parts(password, padded(plaintext), salt), label)

@@ -54,7 +54,7 @@ def printed(command: list[str], folder: pathlib.Path) -> set[str]:
 
 
 def bash(line: str, folder: pathlib.Path, alias: str = "") -> set[str]:
-    """What it offers for a line; behind a definition of an alias, if there is one."""
+    """What it offers for a line, after the definition of an alias, if there is one."""
     script = str(COMPLETIONS / f"{NAME}.bash")
     command = ["bash", "--norc", "-c", BASH, "bash", script, alias, readline_text(line), *readline_words(line)]
     return printed(command, folder)
@@ -76,17 +76,17 @@ def all_shown(terminal: int) -> bytes:
 
 def typed_in_bash(line: str, folder: pathlib.Path, alias: str = ":") -> list[str]:
     """The arguments that a command gets whose line is typed on a terminal and ended by a tab."""
-    here, there = pty.openpty()
+    controller, terminal = pty.openpty()
     shell = subprocess.Popen(
-        ["bash", "--norc", "--noprofile", "-i"], cwd=folder, stdin=there, stdout=there, stderr=there
+        ["bash", "--norc", "--noprofile", "-i"], cwd=folder, stdin=terminal, stdout=terminal, stderr=terminal
     )
     body = "{ printf 'got'; printf '<%s>' \"$@\"; echo .; }"
-    told = f"{NAME}() {body}; {NAME}-with() {body}; {alias}"
-    setup = f"bind 'set bell-style none'; source {COMPLETIONS / NAME}.bash; {told}"
-    os.close(there)
-    os.write(here, f"{setup}\n{NAME} {line}\t\nexit\n".encode())
-    shown = all_shown(here).decode()
-    os.close(here)
+    definitions = f"{NAME}() {body}; {NAME}-with() {body}; {alias}"
+    setup = f"bind 'set bell-style none'; source {COMPLETIONS / NAME}.bash; {definitions}"
+    os.close(terminal)
+    os.write(controller, f"{setup}\n{NAME} {line}\t\nexit\n".encode())
+    shown = all_shown(controller).decode()
+    os.close(controller)
     shell.kill()
     shell.wait()
     return shown.split("got<")[-1].split(">.\r")[0].split("><")

@@ -35,13 +35,13 @@ class Run(NamedTuple):
 
 class Opened(NamedTuple):
     path: str
-    number: int
+    fd: int
     flags: set[str]
     mode: str
 
 
 def opened_by(call: Call) -> Opened:
-    flags, _, mode = call.words.rpartition('", ')[2].partition(", ")
+    flags, _, mode = call.args.rpartition('", ')[2].partition(", ")
     return Opened(call.path, call.result, set(flags.split("|")), mode)
 
 
@@ -64,12 +64,12 @@ class Watched:
             self.opened.append(opened_by(call))
             self.paths[call.result] = call.path
         if call.name == "close":
-            self.paths.pop(call.number, None)
+            self.paths.pop(call.fd, None)
         if call.name == "read":
-            asked = int(call.words.rsplit(", ", 1)[1])
-            source = self.paths.get(call.number, call.number)
+            asked = int(call.args.rsplit(", ", 1)[1])
+            source = self.paths.get(call.fd, call.fd)
             self.reads.setdefault(source, []).append((asked, call.result))
-        if call.name in ("write", "fchmod", "fsync") or "O_CREAT" in call.words:
+        if call.name in ("write", "fchmod", "fsync") or "O_CREAT" in call.args:
             self.writes.append(call)
 
     def stand_ins(self) -> list[Opened]:

@@ -49,7 +49,7 @@ def created(name: str, words: list[str], to: list[str], read: dict[str, int], wr
     return Run(name, [*words, *to], read, to[1], written, **more)
 
 
-def sealing(files: Files) -> list[Run]:
+def encrypting(files: Files) -> list[Run]:
     one, read = by_file(files.one), files.read
     rekey = ["rekey", *one, "--new-vault-id", f"b@{files.two}"]
     rekeyed = len(seal(b"two", TEXT, b"b"))
@@ -92,7 +92,7 @@ def sealing(files: Files) -> list[Run]:
     ]
 
 
-def opening(files: Files) -> list[Run]:
+def decrypting(files: Files) -> list[Run]:
     one, two, read = by_file(files.one), by_file(files.two), files.read
     many = [files.cases.file(b"%d\n" % number) for number in range(10, 26)]
     sixteen = [word for path in many for word in by_id(path, "dev")]
@@ -256,8 +256,8 @@ def closed_streams(files: Files) -> list[Run]:
 
 
 GROUPS = [
-    sealing,
-    opening,
+    encrypting,
+    decrypting,
     parsing,
     missing_files,
     unread_files,

@@ -1,4 +1,4 @@
-"""Runs that the system disturbs: by a call that fails or carries little, by a signal, by a limit.
+"""Runs with injected faults: a system call that fails or transfers little, a signal, a limit.
 
 Their inputs are shared. Each run writes in a folder of its own, in which nothing may stand afterwards
 but its output.
@@ -72,7 +72,7 @@ class Scenario(NamedTuple):
             return Left(status, prefix, message, {})
         return Left(status, b"", message, {OUTPUT: (prefix, mode)})
 
-    def undisturbed(self) -> Left:
+    def fault_free(self) -> Left:
         if self.status:
             return self.untouched(self.status, self.message)
         return self.written(0, b"", len(self.whole), self.last_mode())

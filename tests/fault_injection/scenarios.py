@@ -3,7 +3,7 @@
 from typing import NamedTuple
 
 from cases import TEXT, Cases, by_file, by_id
-from disturbed import OUTPUT, Scenario, Target
+from fault_injection import OUTPUT, Scenario, Target
 from lib.paths import version
 from model.faults import Fault
 from model.vaults import PLAINTEXT_LIMIT, SALT, seal, yaml_block

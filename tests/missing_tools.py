@@ -18,8 +18,8 @@ from lib.paths import ROOT
 COUNTS = re.compile(r"\w+: (\d+) passed, (\d+) failed, (\d+) skipped")
 
 
-class Lack(NamedTuple):
-    """A command in tests/, or a test of pytest with the name of one in it; and the tools that it does without."""
+class LimitedRun(NamedTuple):
+    """A command in tests/, or a file of tests and a `-k` expression; and the tools that are missing from its PATH."""
 
     words: list[str]
     tools: list[str]
@@ -30,22 +30,22 @@ class Lack(NamedTuple):
 
 
 # `{program}` is the path of the program.
-LACKS = [
-    Lack(["with_valgrind", "{program}"], ["valgrind"]),
-    Lack(["fuzz", "{program}", "--runs", "1"], ["ansible-vault"]),
-    Lack(["failed_allocations", "{program}"], ["cc"]),
-    Lack(["failed_allocations_in_memory", "{program}"], ["cc"]),
-    Lack(["with_strace.py"], ["strace"], "parsing"),
-    Lack(["with_ansible.py"], ["ansible-vault"], "fixed_salt"),
-    Lack(["options_agree.py"], ["zsh", "fish", "mandoc", "groff"], "completions or shown"),
-    Lack(["completions.py"], ["zsh", "fish"], "test_program or quoted"),
-    Lack(["workflows.py"], ["git"], "caveat"),
-    Lack(["workflows.py"], ["zsh"], "Type and not typed"),
-    Lack(["cases/changing_files.py"], ["cc"], "changing"),
-    Lack(["cases/closed_streams.py"], ["strace"], "one_failing_write"),
-    Lack(["companion_cases/hook.py"], ["git"], "where_it_runs"),
-    Lack(["companion_cases/secrecy.py"], ["strace"], "written_files"),
-    Lack(["companion_cases/beside_ansible.py"], ["ansible-vault"], "a_repository"),
+RUNS = [
+    LimitedRun(["with_valgrind", "{program}"], ["valgrind"]),
+    LimitedRun(["fuzz", "{program}", "--runs", "1"], ["ansible-vault"]),
+    LimitedRun(["failed_allocations", "{program}"], ["cc"]),
+    LimitedRun(["failed_allocations_in_memory", "{program}"], ["cc"]),
+    LimitedRun(["with_strace.py"], ["strace"], "parsing"),
+    LimitedRun(["with_ansible.py"], ["ansible-vault"], "fixed_salt"),
+    LimitedRun(["options_agree.py"], ["zsh", "fish", "mandoc", "groff"], "completions or shown"),
+    LimitedRun(["completions.py"], ["zsh", "fish"], "test_program or quoted"),
+    LimitedRun(["workflows.py"], ["git"], "caveat"),
+    LimitedRun(["workflows.py"], ["zsh"], "Type and not typed"),
+    LimitedRun(["cases/changing_files.py"], ["cc"], "changing"),
+    LimitedRun(["cases/closed_streams.py"], ["strace"], "one_failing_write"),
+    LimitedRun(["companion_cases/hook.py"], ["git"], "where_it_runs"),
+    LimitedRun(["companion_cases/secrecy.py"], ["strace"], "written_files"),
+    LimitedRun(["companion_cases/beside_ansible.py"], ["ansible-vault"], "a_repository"),
 ]
 
 
@@ -59,18 +59,18 @@ def link_programs(folder: Path, without: list[str]) -> None:
                 link.symlink_to(program)
 
 
-def command_of(lack: Lack, program: str) -> list[str]:
-    name, *words = (word.format(program=program) for word in lack.words)
+def command_of(run: LimitedRun, program: str) -> list[str]:
+    name, *words = (word.format(program=program) for word in run.words)
     path = str(ROOT / "tests" / name)
-    if not lack.name:
+    if not run.name:
         return [sys.executable, "-B", path, *words]
-    options = ["-p", "no:cacheprovider", f"--program={program}", "-k", lack.name]
+    options = ["-p", "no:cacheprovider", f"--program={program}", "-k", run.name]
     return [sys.executable, "-B", "-m", "pytest", *options, path]
 
 
 def check_run(outcome: Outcome, command: list[str], path: Path, is_required: bool) -> None:
     """Whether it fails, and whether the last line of counts has what it names."""
-    name = "all required" if is_required else "left out"
+    name = "all required" if is_required else "skipped"
     environment = os.environ | {"PATH": str(path), "REQUIRE_ALL": "1" if is_required else ""}
     for variable in ("ANSIBLE_VAULT", "PYTEST_ADDOPTS", "PYTEST_XDIST_WORKER"):
         environment.pop(variable, None)
@@ -78,15 +78,15 @@ def check_run(outcome: Outcome, command: list[str], path: Path, is_required: boo
     lines = done.stdout.splitlines()
     found = [each for each in map(COUNTS.fullmatch, lines) if each]
     failed, skipped = map(int, found[-1].groups()[1:]) if found else (0, 0)
-    named = sum(line.startswith("left out: ") for line in lines)
+    named = sum(line.startswith("skipped: ") for line in lines)
     outcome.check(f"{name}: whether it fails", (done.returncode, failed > 0), (int(is_required), is_required))
     ends = skipped == 0 if is_required else named == skipped > 0
     outcome.holds(f"{name}: what it leaves out", ends, f"{named} lines, and then {lines[-1:]}")
 
 
-@pytest.mark.parametrize("lack", LACKS, ids=str)
-def test_lack(outcome: Outcome, tmp_path: Path, program: str, lack: Lack) -> None:
-    link_programs(tmp_path, lack.tools)
-    command = command_of(lack, program)
+@pytest.mark.parametrize("run", RUNS, ids=str)
+def test_missing_tools(outcome: Outcome, tmp_path: Path, program: str, run: LimitedRun) -> None:
+    link_programs(tmp_path, run.tools)
+    command = command_of(run, program)
     check_run(outcome, command, tmp_path, False)
     check_run(outcome, command, tmp_path, True)

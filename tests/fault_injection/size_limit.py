@@ -5,7 +5,7 @@ import signal
 from concurrent.futures import ThreadPoolExecutor
 
 from cases import Cases
-from disturbed import WORKERS, Left, Scenario, Target, run
+from fault_injection import WORKERS, Left, Scenario, Target, run
 
 
 def run_limited(program: str, scenario: Scenario, amount: int) -> Left:
@@ -15,7 +15,7 @@ def run_limited(program: str, scenario: Scenario, amount: int) -> Left:
 
 def wanted(scenario: Scenario, amount: int) -> Left:
     if amount >= len(scenario.whole):
-        return scenario.undisturbed()
+        return scenario.fault_free()
     return scenario.written(-signal.SIGXFSZ, b"", amount, scenario.last_mode())
 
 

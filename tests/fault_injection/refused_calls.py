@@ -12,11 +12,11 @@ from random import Random
 from typing import Iterator, NamedTuple
 
 from cases import Cases
-from disturbed import OWNER_ONLY, WORKERS, Left, Scenario, Target, run
+from fault_injection import OWNER_ONLY, WORKERS, Left, Scenario, Target, run
 from lib.system_calls import Call, own_calls, tracing
 from model.faults import Fault
 
-# All calls for memory fail from the one on that is refused: a single one is made good by another.
+# All calls that allocate memory fail from this one on: after a single failure another one would succeed.
 NO_MORE_MEMORY = "ENOMEM from then on"
 ERRORS = {
     "openat": ["EINTR", "EAGAIN", "EIO", "EACCES", "EMFILE", "ENOMEM"],
@@ -47,23 +47,23 @@ ROLES = {"--vault-password-file": SECRET, "--vault-id": SECRET, "--new-vault-id"
 
 
 class Step(NamedTuple):
-    """A call of a run; the numbers that the next calls of each name have, itself among them; the path or the
-    stream that it is about; what has come before it: bytes of the output, None where that was not begun, its
-    mode, and bytes of the message."""
+    """A call of a run; the ordinal that the next call of each name has, this one included; the path or the stream
+    that it concerns; and what was written before it: bytes of the output, None if it was not begun, the mode of its
+    file, and bytes of the message."""
 
     call: Call
     numbers: dict[str, int]
     about: str | int | None
     written: int | None
     mode: int
-    told: int
+    message_length: int
 
     @property
     def number(self) -> int:
         return self.numbers[self.call.name]
 
     def errors(self) -> list[str]:
-        return CREATING if "O_CREAT" in self.call.words else ERRORS[self.call.name]
+        return CREATING if "O_CREAT" in self.call.args else ERRORS[self.call.name]
 
 
 class Refusal(NamedTuple):
@@ -85,43 +85,43 @@ def subject(call: Call, paths: dict[int, str]) -> str | int | None:
         return call.path
     if call.name in MEMORY or call.name in OTHERS:
         return None
-    return paths.get(call.number, call.number)
+    return paths.get(call.fd, call.fd)
 
 
 def steps(scenario: Scenario, loading: list[Call], own: list[Call]) -> Iterator[Step]:
     counts, paths = Counter(call.name for call in loading), {}
-    written, mode, told = None, scenario.first_mode(), 0
+    written, mode, message_length = None, scenario.first_mode(), 0
     for call in own:
         about = subject(call, paths)
         numbers = {name: counts[name] + 1 for name in (call.name, *MEMORY)}
-        yield Step(call, numbers, about, written, mode, told)
+        yield Step(call, numbers, about, written, mode, message_length)
         counts[call.name] += 1
         if call.name == "openat":
             paths[call.result] = call.path
-            written = 0 if "O_CREAT" in call.words else written
+            written = 0 if "O_CREAT" in call.args else written
         elif call.name == "write" and about == STDERR:
-            told += call.result
+            message_length += call.result
         elif call.name == "write":
             written = (written or 0) + call.result
         elif call.name == "fchmod":
             mode = OWNER_ONLY
 
 
-def undisturbed(cases: Cases, scenario: Scenario) -> list[Step]:
+def fault_free(cases: Cases, scenario: Scenario) -> list[Step]:
     """The steps of a run without a failure."""
     with tempfile.NamedTemporaryFile() as log:
         path = Path(log.name)
         left = run(scenario, [*tracing(path), cases.program])
         loading, own = own_calls(path)
-    cases.check(scenario.name, left, scenario.undisturbed())
+    cases.check(scenario.name, left, scenario.fault_free())
     names = {call.name for call in own}
     cases.check(f"{scenario.name}: calls that are not refused", names - set(ERRORS) - OTHERS, set())
     return [step for step in steps(scenario, loading, own) if step.call.name in ERRORS]
 
 
 def fault_of(scenario: Scenario, step: Step) -> Fault:
-    """What a run tells that cannot go on from here."""
-    if step.call.name not in ("openat", "read") or "O_CREAT" in step.call.words:
+    """The fault that a run reports if it cannot continue after this call."""
+    if step.call.name not in ("openat", "read") or "O_CREAT" in step.call.args:
         return Fault.NOT_WRITTEN
     values = [value.rpartition("@")[2] for value in scenario.words]
     options = [option for option, value in zip(scenario.words, values[1:]) if value == step.about]
@@ -130,16 +130,16 @@ def fault_of(scenario: Scenario, step: Step) -> Fault:
 
 
 def wanted(refusal: Refusal) -> list[Left]:
-    """What may be left: where memory is refused a run may do without; closing, and what cannot be synced, are
-    passed over."""
+    """What may be left. A run may succeed without the memory that it is refused; a failure of close is ignored, and so
+    is one of fsync with EINVAL."""
     scenario, step, error = refusal
-    whole, memory = scenario.undisturbed(), Fault.MEMORY
+    whole, memory = scenario.fault_free(), Fault.MEMORY
     if step.call.name == "close" or step.about == STAND_IN or (step.call.name, error) == ("fsync", "EINVAL"):
         return [whole]
     if step.call.name in MEMORY:
         return [whole, scenario.untouched(memory.status, memory.line)]
     if step.about == STDERR:
-        return [whole._replace(message=scenario.message[: step.told])]
+        return [whole._replace(message=scenario.message[: step.message_length])]
     again = [whole] if error == "EINTR" and step.call.name in TRIED_AGAIN else []
     fault = fault_of(scenario, step)
     if step.written is None:
@@ -148,8 +148,8 @@ def wanted(refusal: Refusal) -> list[Left]:
 
 
 def injections(step: Step, error: str) -> list[str]:
-    """What strace is told. The system answers a `brk` that it refuses with an address, and any below the one
-    that is asked for will do."""
+    """The options of strace that make the call fail. The system refuses a `brk` by returning an address below the
+    one that was asked for: 0 will do."""
     how = {"brk": "retval=0"}
     if error == NO_MORE_MEMORY:
         return [f"inject={name}:{how.get(name, 'error=ENOMEM')}:when={step.numbers[name]}+" for name in MEMORY]
@@ -158,7 +158,7 @@ def injections(step: Step, error: str) -> list[str]:
 
 
 def run_refused(program: str, refusal: Refusal) -> tuple[Left, bool]:
-    """What a run leaves, and whether the call was met and failed."""
+    """What a run leaves, and whether strace made the call fail."""
     step = refusal.step
     names = MEMORY if step.call.name in MEMORY else (step.call.name,)
     expressions = [f"trace={','.join(names)}", *injections(step, refusal.error)]
@@ -170,7 +170,7 @@ def run_refused(program: str, refusal: Refusal) -> tuple[Left, bool]:
 
 def refusals(cases: Cases, scenarios: list[Scenario]) -> list[Refusal]:
     with ThreadPoolExecutor(WORKERS) as pool:
-        courses = list(pool.map(lambda scenario: undisturbed(cases, scenario), scenarios))
+        courses = list(pool.map(lambda scenario: fault_free(cases, scenario), scenarios))
     made = zip(scenarios, courses)
     return [Refusal(scenario, step, error) for scenario, course in made for step in course for error in step.errors()]
 
@@ -190,10 +190,10 @@ def refused_calls(cases: Cases, scenarios: list[Scenario], seed: int, share: int
     chosen = some_of(every, seed, share)
     with ThreadPoolExecutor(WORKERS) as pool:
         answers = pool.map(lambda refusal: run_refused(cases.program, refusal), chosen)
-        for refusal, (left, met) in zip(chosen, answers):
+        for refusal, (left, was_injected) in zip(chosen, answers):
             fits = left in wanted(refusal)
             cases.holds(refusal.name, fits, "" if fits else f"{left}, want {' or '.join(map(str, wanted(refusal)))}")
-            cases.holds(f"{refusal.name}: it is met", met)
+            cases.holds(f"{refusal.name}: the call is made and fails", was_injected)
     counts = Counter(refusal.step.call.name for refusal in chosen)
     by_name = ", ".join(f"{count} {name}" for name, count in counts.items())
     print(f"refused calls: {len(chosen)} of {len(every)} runs; {by_name}")

@@ -6,7 +6,7 @@ from concurrent.futures import ThreadPoolExecutor
 from pathlib import Path
 
 from cases import Cases
-from disturbed import WORKERS, Left, Scenario, run
+from fault_injection import WORKERS, Left, Scenario, run
 from lib.preloaded import build_library
 
 LIBRARY = "short_transfers"
@@ -19,9 +19,9 @@ LARGE = 100_000
 def run_short(program: str, library: str, scenario: Scenario, most: int) -> tuple[Left, bool]:
     """What a run leaves, and whether a call was cut short."""
     with tempfile.TemporaryDirectory() as folder:
-        told = Path(folder) / "told"
-        environment = {"LD_PRELOAD": library, "MOST_BYTES": str(most), "TOLD_AT": str(told)}
-        return run(scenario, [program], environment), told.exists()
+        marker = Path(folder) / "cut_short"
+        environment = {"LD_PRELOAD": library, "MOST_BYTES": str(most), "CUT_SHORT_MARKER": str(marker)}
+        return run(scenario, [program], environment), marker.exists()
 
 
 def short_transfers(cases: Cases, scenarios: list[Scenario]) -> None:
@@ -32,6 +32,6 @@ def short_transfers(cases: Cases, scenarios: list[Scenario]) -> None:
         answers = list(pool.map(lambda pair: run_short(cases.program, library, *pair), runs))
     for (scenario, most), (left, cut) in zip(runs, answers):
         name = f"{scenario.name}, at most {most} bytes a call"
-        cases.holds(name, left == scenario.undisturbed(), f"{left}, want {scenario.undisturbed()}")
+        cases.holds(name, left == scenario.fault_free(), f"{left}, want {scenario.fault_free()}")
         cases.holds(f"{name}: a call is cut short", cut)
     print(f"short reads and writes: {len(runs)} runs")

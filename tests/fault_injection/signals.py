@@ -12,7 +12,7 @@ from random import Random
 from typing import NamedTuple
 
 from cases import TEXT, Cases, by_file
-from disturbed import OLD, OUTPUT, SCRATCH, SECONDS, WORKERS, Left, Scenario, files_in
+from fault_injection import OLD, OUTPUT, SCRATCH, SECONDS, WORKERS, Left, Scenario, files_in
 from model.vaults import seal
 
 SIGNALS = signal.SIGTERM, signal.SIGINT, signal.SIGHUP
@@ -39,14 +39,14 @@ def wait_for_output(child: subprocess.Popen, folder: str) -> None:
         time.sleep(PAUSE)
 
 
-def started(program: str, scenario: Scenario, folder: str) -> subprocess.Popen:
+def start(program: str, scenario: Scenario, folder: str) -> subprocess.Popen:
     scenario.lay_out(folder)
     with open(scenario.stdin, "rb") as stdin:
         words = [program, *scenario.words]
         return subprocess.Popen(words, stdin=stdin, stdout=subprocess.PIPE, stderr=subprocess.PIPE, cwd=folder)
 
 
-def ended(child: subprocess.Popen, folder: str) -> Left:
+def finish(child: subprocess.Popen, folder: str) -> Left:
     output, message = child.communicate(timeout=SECONDS)
     return Left(child.returncode, output, message, files_in(folder))
 
@@ -66,38 +66,38 @@ def state(scenario: Scenario, left: Left) -> str | None:
     return "whole" if len(content) == len(scenario.whole) else "a prefix"
 
 
-def measured(program: str, scenario: Scenario) -> tuple[int, str | None, float, float]:
-    """How a run ends that is left alone, and for how long it reads and then writes."""
+def measure(program: str, scenario: Scenario) -> tuple[int, str | None, float, float]:
+    """The status and output of a run without a signal, and for how many seconds it reads and then writes."""
     with tempfile.TemporaryDirectory(dir=SCRATCH) as folder:
         start = time.monotonic()
-        child = started(program, scenario, folder)
+        child = start(program, scenario, folder)
         wait_for_output(child, folder)
         begun = time.monotonic()
         child.wait(SECONDS)
         end = time.monotonic()
-        left = ended(child, folder)
+        left = finish(child, folder)
         return left.status, state(scenario, left), begun - start, end - begun
 
 
-def interrupted(program: str, scenario: Scenario, number: signal.Signals, moment: Moment) -> tuple[int, str | None]:
+def interrupt(program: str, scenario: Scenario, number: signal.Signals, moment: Moment) -> tuple[int, str | None]:
     """How a run ends."""
     with tempfile.TemporaryDirectory(dir=SCRATCH) as folder:
-        child = started(program, scenario, folder)
+        child = start(program, scenario, folder)
         if moment.in_output:
             wait_for_output(child, folder)
         time.sleep(moment.seconds)
         child.send_signal(number)
-        left = ended(child, folder)
+        left = finish(child, folder)
         return left.status, state(scenario, left)
 
 
 def moments_of(cases: Cases, scenario: Scenario, random: Random, count: int) -> list[Moment]:
-    """Random ones, each second of them in the time in which the output is written."""
-    status, found, reading, writing = measured(cases.program, scenario)
+    """Random moments; every other one is while the output is written."""
+    status, found, reading, writing = measure(cases.program, scenario)
     cases.check(f"{scenario.name}, no signal", (status, found), (0, "whole"))
     moments = []
-    for place in range(count):
-        in_output = place % 2 == 1
+    for index in range(count):
+        in_output = index % 2 == 1
         moments.append(Moment(in_output, random.random() * (writing if in_output else reading + writing)))
     return moments
 
@@ -111,17 +111,17 @@ def signals_while_blocked(cases: Cases) -> None:
         reading = subprocess.Popen([cases.program, "encrypt", *secret], bufsize=0, **pipes)
         # It has read of this when all is written.
         reading.stdin.write(text)
-        left = signalled(reading, number)
+        left = send_signal(reading, number)
         cases.check(f"{number.name} where the input is waited for", left, (-number, b"", b""))
         writing = subprocess.Popen([cases.program, "view", *secret, vault], bufsize=0, **pipes)
         begun = writing.stdout.read(1)
-        status, output, message = signalled(writing, number)
+        status, output, message = send_signal(writing, number)
         is_part = text.startswith(begun + output) and begun + output != text
         cases.check(f"{number.name} where the output is not taken", (status, is_part, message), (-number, True, b""))
 
 
-def signalled(child: subprocess.Popen, number: signal.Signals) -> tuple[int, bytes, bytes]:
-    """What is left of a run. Its streams are closed behind the signal, so that one that is deaf to it ends, too."""
+def send_signal(child: subprocess.Popen, number: signal.Signals) -> tuple[int, bytes, bytes]:
+    """Sends a signal, and then closes the streams, so that a run that ignores it ends, too."""
     child.send_signal(number)
     output, message = child.communicate(timeout=SECONDS)
     return child.returncode, output, message
@@ -136,7 +136,7 @@ def signals(cases: Cases, scenarios: list[Scenario], seed: int, count: int) -> N
         runs += [(scenario, number, moment) for number, moment in zip(numbers, moments)]
     states = Counter()
     with ThreadPoolExecutor(WORKERS) as pool:
-        answers = pool.map(lambda run: interrupted(cases.program, *run), runs)
+        answers = pool.map(lambda run: interrupt(cases.program, *run), runs)
         for (scenario, number, moment), (status, found) in zip(runs, answers):
             fits = found is not None and status == -number or (status, found) == (0, "whole")
             cases.holds(f"{scenario.name}, {number.name} at {moment}", fits, f"status {status}, output {found}")
