@@ -79,7 +79,8 @@ pub fn prepare_encrypt_in<'a, S: Source>(
     encrypt_plaintext(memory, secrets, choice, form, salt, meter)
 }
 
-/// Seals the plaintext that the memory holds, where a whole block of padding has room after it.
+/// Seals the plaintext that the memory holds, where a whole block of padding has room after it; one
+/// that leaves less room is too long.
 fn encrypt_plaintext<'a>(
     memory: TextMemory<'a>,
     secrets: &'a Secrets,

@@ -11,7 +11,7 @@ use std::alloc::{AllocError, AllocFailed};
 use thiserror::Error;
 use vault_text::{BadLabel, SinkFailed, SourceFailed, TextFault};
 
-/// What a file that cannot be opened or read was opened for.
+/// What a file is opened for.
 #[derive(Clone, Copy, Debug, PartialEq, Eq)]
 pub enum Role {
     /// The plaintext or the envelope.

@@ -36,7 +36,7 @@ impl FailureCount {
 
     /// Whether it is saturated: then each call must fail, since a failure could not be counted.
     pub fn is_saturated(&self) -> bool
-        ensures last { IsTrue result ↔ IsSaturated self.now }
+        ensures saturated { IsTrue result ↔ IsSaturated self.now }
         ensures bound { self.now ≤ u64_max }
     {
         self.count == u64::MAX

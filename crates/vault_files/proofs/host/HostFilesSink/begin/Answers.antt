@@ -35,7 +35,7 @@ returns-in-None-created-clause-takes g c =
           let risen = rw w.self-inside-is at c.raise.ensures.risen in
           rw (← c.self.view_is, w.self-inside-is) (by_calls g.D.System.executes _ _ _ _ _ _ _
           (fails_to_begin executed.0 [] [] 0 Unbegun (none Unbegun)) (rw w.in-Some.is executed.1)
-          stage stage (rises _ _ c.if-is_saturated.ensures.last risen) refl)
+          stage stage (rises _ _ c.if-is_saturated.ensures.saturated risen) refl)
       | in-None w ↦
           let later = rw w.self-inside-is at c.raise.ensures.monotone in
           rw (← c.self.view_is, w.self-inside-is) (unexecuted g.D.System.executes _ _

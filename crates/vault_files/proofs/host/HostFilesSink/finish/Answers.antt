@@ -23,7 +23,7 @@ returns-then-not-synced-clause-takes g c =
           rw (← c.self.view_is, w.self-inside-is) (by_calls g.D.System.executes _ _ _ _ _ _ _
           (fails_to_finish [] [] 0 Begun (none Begun))
           (rw (if_failed-is w.sync.result, made) at w.sync.ensures) stage stage
-          (rises _ _ c.if-is_saturated.ensures.last risen) refl)
+          (rises _ _ c.if-is_saturated.ensures.saturated risen) refl)
       | in-None w ↦
           let never : true ≡ false = rw (stage, w.in-None.is) at c.self.invariant in
           absurd (false≢true (sym never))

@@ -33,7 +33,8 @@ returns-in_default-clause-takes g c =
       | in-Some w ↦
           let call = w.write-written.ensures.executes in
           let risen =
-          rises _ _ c.if-is_saturated.ensures.last (rw w.self-inside-is at c.raise.ensures.risen) in
+          rises _ _ c.if-is_saturated.ensures.saturated
+          (rw w.self-inside-is at c.raise.ensures.risen) in
           rw (← c.self.view_is, w.self-inside-is) (elim c.in_default.branch [
             | in_default-via-in-Ok+else-n-gt0 v ↦
                 let nothing : v.in-Ok.n ≡ 0 = omega (arith, v.if-n-gt0.false) in
