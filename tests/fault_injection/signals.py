@@ -69,14 +69,14 @@ def state(scenario: Scenario, left: Left) -> str | None:
 def measure(program: str, scenario: Scenario) -> tuple[int, str | None, float, float]:
     """The status and output of a run without a signal, and for how many seconds it reads and then writes."""
     with tempfile.TemporaryDirectory(dir=SCRATCH) as folder:
-        start = time.monotonic()
+        started_at = time.monotonic()
         child = start(program, scenario, folder)
         wait_for_output(child, folder)
-        begun = time.monotonic()
+        begun_at = time.monotonic()
         child.wait(SECONDS)
-        end = time.monotonic()
+        ended_at = time.monotonic()
         left = finish(child, folder)
-        return left.status, state(scenario, left), begun - start, end - begun
+        return left.status, state(scenario, left), begun_at - started_at, ended_at - begun_at
 
 
 def interrupt(program: str, scenario: Scenario, number: signal.Signals, moment: Moment) -> tuple[int, str | None]:
