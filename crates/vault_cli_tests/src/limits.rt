@@ -189,12 +189,12 @@ fn are_refused(rt: HostRuntime) -> Result<(), Fail> {
     };
     assert_refused(&rt, alloc, &too_long)?;
     assert_refused(&rt, alloc, &ENDLESS_DAMAGED)?;
-    assert_damage_told(&rt, alloc, 6_299_649)?;
-    assert_damage_told(&rt, alloc, 100_671_488)
+    assert_damage_reported(&rt, alloc, 6_299_649)?;
+    assert_damage_reported(&rt, alloc, 100_671_488)
 }
 
 /// A damaged vault of this length is read as a whole, and refused for its damage.
-fn assert_damage_told(rt: &impl Abort, alloc: Global, length: usize) -> Result<(), Fail> {
+fn assert_damage_reported(rt: &impl Abort, alloc: Global, length: usize) -> Result<(), Fail> {
     let damaged = Long {
         length,
         read: length,

@@ -25,7 +25,7 @@ fn begins_and_takes(rt: &HostRuntime, path: &str) -> Result<(bool, bool), Fail> 
 }
 
 #[test]
-fn tells_what_cannot_be_written(rt: HostRuntime) -> Result<(), Fail> {
+fn reports_what_cannot_be_written(rt: HostRuntime) -> Result<(), Fail> {
     let answers = [
         begins_and_takes(&rt, "/")?,
         begins_and_takes(&rt, "/dev/full")?,

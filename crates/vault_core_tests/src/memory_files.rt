@@ -20,7 +20,7 @@ fn reads_prefixes(rt: HostRuntime) {
 }
 
 #[test]
-fn tells_files_that_break_or_are_missing(rt: HostRuntime) {
+fn reports_files_that_break_or_are_missing(rt: HostRuntime) {
     let entries = [MemFile::broken("two", b"abc")];
     let mut files = MemFiles::new(rt.alloc(), &entries);
     let (breaks, missing) = (Err(FileFault::CannotRead), Err(FileFault::CannotOpen));

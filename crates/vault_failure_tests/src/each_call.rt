@@ -1,6 +1,6 @@
 //! Devices that fail at each of their calls in turn, and are not called again.
 use crate::sinks::{assert_output_leaves, output_failed};
-use crate::sources::{assert_program_tells_read, assert_read_told};
+use crate::sources::{assert_program_reports_read, assert_read_reported};
 use crate::watched::Watched;
 use std::alloc::Global;
 use std::process::Abort;
@@ -24,7 +24,7 @@ const ENCRYPT_STRING: &[&str] = &["encrypt_string", "--vault-id=f1"];
 const REKEY: &[&str] = &["rekey", "--vault-id=f1", "--new-vault-id=f2"];
 
 /// The source gives the input one byte a call. It fails at each call in turn, and then at none.
-fn assert_reads_told<'a>(
+fn assert_reads_reported<'a>(
     rt: &impl Abort,
     alloc: Global,
     words: &'a [&'a str],
@@ -33,47 +33,47 @@ fn assert_reads_told<'a>(
 ) -> Result<(), Fail> {
     let trial = Trial::new(words, secret_files, ZEROS);
     for calls in 0..=input.len() + 1 {
-        assert_read_told(rt, alloc, &trial, input, calls)?;
+        assert_read_reported(rt, alloc, &trial, input, calls)?;
     }
     Ok(())
 }
 
 #[test]
-fn tells_each_read_that_fails(rt: HostRuntime) -> Result<(), Fail> {
+fn reports_each_read_that_fails(rt: HostRuntime) -> Result<(), Fail> {
     let alloc = rt.alloc();
     let vault = envelope(alloc, "default", b"one", ZEROS, b"")?;
     let vault = vault.as_slice();
     assert_eq!(rt; vault.len(), 355);
-    assert_reads_told(&rt, alloc, DECRYPT, ONE, vault)?;
-    assert_reads_told(&rt, alloc, REKEY, TWO, vault)?;
-    assert_reads_told(&rt, alloc, ENCRYPT, ONE, b"text")?;
-    assert_reads_told(&rt, alloc, ENCRYPT_STRING, ONE, b"text")
+    assert_reads_reported(&rt, alloc, DECRYPT, ONE, vault)?;
+    assert_reads_reported(&rt, alloc, REKEY, TWO, vault)?;
+    assert_reads_reported(&rt, alloc, ENCRYPT, ONE, b"text")?;
+    assert_reads_reported(&rt, alloc, ENCRYPT_STRING, ONE, b"text")
 }
 
 /// The same of the program.
-fn assert_program_tells_reads(
+fn assert_program_reports_reads(
     rt: &impl Abort,
     alloc: Global,
     words: &[&str],
     input: &[u8],
 ) -> Result<(), Fail> {
     for calls in 0..=input.len() + 1 {
-        assert_program_tells_read(rt, alloc, words, input, calls)?;
+        assert_program_reports_read(rt, alloc, words, input, calls)?;
     }
     Ok(())
 }
 
 #[test]
-fn the_program_tells_each_read_that_fails(rt: HostRuntime) -> Result<(), Fail> {
+fn the_program_reports_each_read_that_fails(rt: HostRuntime) -> Result<(), Fail> {
     let alloc = rt.alloc();
     let vault = envelope(alloc, "default", b"one", ZEROS, b"")?;
-    assert_program_tells_reads(&rt, alloc, &["view", "--vault-id=a@f1"], vault.as_slice())?;
+    assert_program_reports_reads(&rt, alloc, &["view", "--vault-id=a@f1"], vault.as_slice())?;
     let encrypt = ["encrypt", "--vault-id=a@f1", "--salt=s"];
-    assert_program_tells_reads(&rt, alloc, &encrypt, b"text")
+    assert_program_reports_reads(&rt, alloc, &encrypt, b"text")
 }
 
 /// The sink takes one byte a call. It fails at each call in turn, and then at none.
-fn assert_writes_told<'a>(
+fn assert_writes_reported<'a>(
     rt: &impl Abort,
     alloc: Global,
     words: &'a [&'a str],
@@ -92,23 +92,23 @@ fn assert_writes_told<'a>(
 }
 
 #[test]
-fn tells_each_write_that_fails(rt: HostRuntime) -> Result<(), Fail> {
+fn reports_each_write_that_fails(rt: HostRuntime) -> Result<(), Fail> {
     let alloc = rt.alloc();
     let plain = b"aaaaaaaaaaaaaaa".as_slice();
     let vault = envelope(alloc, "default", b"one", ZEROS, plain)?;
     let block = block(alloc, "", vault.as_slice())?;
     let (vault, block) = (vault.as_slice(), block.as_slice());
-    assert_writes_told(&rt, alloc, DECRYPT, ONE, vault, plain)?;
-    assert_writes_told(&rt, alloc, ENCRYPT, ONE, plain, vault)?;
-    assert_writes_told(&rt, alloc, ENCRYPT_STRING, ONE, plain, block)
+    assert_writes_reported(&rt, alloc, DECRYPT, ONE, vault, plain)?;
+    assert_writes_reported(&rt, alloc, ENCRYPT, ONE, plain, vault)?;
+    assert_writes_reported(&rt, alloc, ENCRYPT_STRING, ONE, plain, block)
 }
 
 #[test]
-fn tells_each_write_of_rekey_that_fails(rt: HostRuntime) -> Result<(), Fail> {
+fn reports_each_write_of_rekey_that_fails(rt: HostRuntime) -> Result<(), Fail> {
     let alloc = rt.alloc();
     let vault = envelope(alloc, "default", b"one", ZEROS, b"text")?;
     let rekeyed = envelope(alloc, "default", b"two", ZEROS, b"text")?;
-    assert_writes_told(&rt, alloc, REKEY, TWO, vault.as_slice(), rekeyed.as_slice())
+    assert_writes_reported(&rt, alloc, REKEY, TWO, vault.as_slice(), rekeyed.as_slice())
 }
 
 /// Writes the envelope of the label "b" and of zeros to a sink that takes one byte a call and

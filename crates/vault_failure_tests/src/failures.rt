@@ -1,6 +1,6 @@
 //! Runs whose devices fail.
 use crate::sinks::{Calls, assert_leaves, assert_output_leaves, output_failed};
-use crate::sources::assert_read_told;
+use crate::sources::assert_read_reported;
 use std::alloc::{AllocError, Global};
 use std::fs::Files;
 use std::process::Abort;
@@ -24,10 +24,10 @@ const NO_VAULT: &str = "ERROR! input is not vault encrypted data\n";
 fn writes_nothing_where_the_source_fails(rt: HostRuntime) -> Result<(), Fail> {
     let alloc = rt.alloc();
     let trial = Trial::new(DECRYPT, FIRST, &[]);
-    assert_read_told(&rt, alloc, &trial, EMPTY_ENVELOPE, 0)?;
-    assert_read_told(&rt, alloc, &trial, EMPTY_ENVELOPE, 1)?;
-    assert_read_told(&rt, alloc, &trial, EMPTY_ENVELOPE, 3)?;
-    assert_read_told(&rt, alloc, &trial, EMPTY_ENVELOPE, 160)
+    assert_read_reported(&rt, alloc, &trial, EMPTY_ENVELOPE, 0)?;
+    assert_read_reported(&rt, alloc, &trial, EMPTY_ENVELOPE, 1)?;
+    assert_read_reported(&rt, alloc, &trial, EMPTY_ENVELOPE, 3)?;
+    assert_read_reported(&rt, alloc, &trial, EMPTY_ENVELOPE, 160)
 }
 
 /// A vault of the plaintext.

@@ -28,7 +28,7 @@ fn assert_ended(
 
 /// The trial, run on a source that gives the input one byte a call and fails after `calls` calls,
 /// says so, or succeeds where no call fails.
-pub fn assert_read_told(
+pub fn assert_read_reported(
     rt: &impl Abort,
     alloc: Global,
     trial: &Trial<'_>,
@@ -42,7 +42,7 @@ pub fn assert_read_told(
 }
 
 /// The same of the program, which has the password files "f1" and "f2".
-pub fn assert_program_tells_read(
+pub fn assert_program_reports_read(
     rt: &impl Abort,
     alloc: Global,
     words: &[&str],

@@ -4,7 +4,7 @@ use std::process::Abort;
 use std::test::Fail;
 use vault_text::TextMemory;
 
-/// Puts a piece that fits, and tells what room is left.
+/// Puts a piece that fits, and returns the room that is left.
 fn put(memory: &mut TextMemory, piece: &[u8]) -> usize {
     if piece.len() <= memory.room() {
         memory.put(piece);
