@@ -1,40 +1,67 @@
 -- How the program ends over devices that it keeps, of which no more is known afterwards.
-use Rattle.std.specs.Prelude.{ℕ, false, List, Option, Result}
-use Rattle.clap.specs.Words.{Kinds}
+use Rattle.std.specs.Prelude.{◌≡◌, ◌≢◌, ℕ, false, List, [], Option}
+use Rattle.clap.specs.Words.{Text, fault_of}
 use Rattle.vault_text.specs.Sink.{SinkState}
 use Rattle.vault_text.specs.Source.{SourceState}
 use Rattle.vault_text.specs.declared.sink.Sink.{Ghosts as SinkTerms}
 use Rattle.vault_text.specs.declared.sink.Stage.TheVariants.{Unbegun}
 use Rattle.vault_text.specs.declared.source.Source.{Ghosts as SourceTerms}
-use Rattle.vault_fault.specs.declared.fault.Fault.{Fault}
+use Rattle.vault_command_line.specs.CommandLine.{vault_app}
 use Rattle.vault_cli.specs.Call.{StoreMembers, sink, source, store}
 use Rattle.vault_cli.specs.Drive.{Drives}
 use Rattle.vault_cli.specs.Explained.{ExplainsOneOf}
-use Rattle.vault_cli.specs.runs.Answer.{Answer}
-use Rattle.vault_cli.specs.Program.{Files}
-use Rattle.vault_request.specs.Request.{Request}
+use Rattle.vault_cli.specs.Program.{program}
+use Rattle.vault_request.specs.Settled.{requested_by}
 use Rattle.vault_cli.specs.declared.runs.status.Status.{Status}
+use Rattle.vault_cli.specs.declared.runs.status.Status.TheVariants.{OutOfMemory}
 
--- a source over a reader that has this left
-abbrev pub new_source : Option (List ℕ) → SourceState
-new_source left = record { left = left; ended = false; failures = 0 }
+-- the devices of a run, in one state: its files, its input, its output and its error output
+pub record Devices (F S K E : Type 0) : Type 0 where
+  pub files : F
+  pub src : S
+  pub out : K
+  pub err : E
 
--- a sink over a writer that holds this
-abbrev pub new_sink : Option (List ℕ) → SinkState
-new_sink held = record { held = held; stage = Unbegun; failures = 0 }
+-- files, with a source over a reader that has this left, and sinks over writers that hold this
+abbrev pub new_devices : {F : Type 0} → F → Option (List ℕ) → Option (List ℕ) → Option (List ℕ)
+    → Devices F SourceState SinkState SinkState
+new_devices files input output message = record {
+  files = files;
+  src = record { left = input; ended = false; failures = 0 };
+  out = record { held = output; stage = Unbegun; failures = 0 };
+  err = record { held = message; stage = Unbegun; failures = 0 };
+}
 
--- there are later states of its devices in which it ended so
-abbrev pub MayDrive : {F R S K E : Type 0} → StoreMembers F R → SourceTerms S → SinkTerms K
-    → SinkTerms E → F → S → K → E → Status → Option (Result Request Fault)
-    → (Files → List ℕ → Answer) → Type 0
-MayDrive {F} {R} {S} {K} {E} of_files of_src of_out of_err files src out err result requested
-    answers =
-    (files_then : F) × (src_then : S) × (out_then : K) × (err_then : E)
-    × Drives (store of_files files files_then) (source of_src src src_then)
-    (sink of_out out out_then) (sink of_err err err_then) result requested answers
+-- what each device says of its states
+pub record DeviceTerms (F R S K E : Type 0) : Type 1 where
+  pub files : StoreMembers F R
+  pub src : SourceTerms S
+  pub out : SinkTerms K
+  pub err : SinkTerms E
 
--- it may explain an error of one of these kinds
-abbrev pub MayExplain : {K E : Type 0} → SinkTerms K → SinkTerms E → K → E → Status → Kinds → Type 0
-MayExplain {K} {E} of_out of_err out err result kinds =
-    (out_then : K) × (err_then : E)
-    × ExplainsOneOf (sink of_out out out_then) (sink of_err err err_then) result kinds
+abbrev pub device_terms : {F R S K E : Type 0} → StoreMembers F R → SourceTerms S → SinkTerms K
+    → SinkTerms E → DeviceTerms F R S K E
+device_terms files src out err = record { files = files; src = src; out = out; err = err }
+
+module _ {F R S K E : Type 0} (terms : DeviceTerms F R S K E) (old new : Devices F S K E) where
+  -- no file was opened, and the input was left alone
+  abbrev pub IsUntouched : Type 0
+  IsUntouched = (new.files ≡ old.files) × (new.src ≡ old.src)
+
+  -- what `drive_over` ensures of its devices, clause by clause
+  pub record IsDriven (result : Status) (words : List Text) : Type 0 where
+    pub answered : fault_of vault_app words ≡ []
+        → Drives (store terms.files old.files new.files) (source terms.src old.src new.src)
+        (sink terms.out old.out new.out) (sink terms.err old.err new.err) result
+        (requested_by words) (program words)
+    pub memory : result ≡ OutOfMemory → IsUntouched
+    pub explained : fault_of vault_app words ≢ []
+        → ExplainsOneOf (sink terms.out old.out new.out) (sink terms.err old.err new.err) result
+        (fault_of vault_app words)
+    pub untouched : fault_of vault_app words ≢ [] → IsUntouched
+
+-- there is a later state of the devices in which it ended so
+abbrev pub MayBeDriven : {F R S K E : Type 0} → DeviceTerms F R S K E → Devices F S K E → Status
+    → List Text → Type 0
+MayBeDriven {F} {R} {S} {K} {E} terms old result words =
+    (new : Devices F S K E) × IsDriven terms old new result words

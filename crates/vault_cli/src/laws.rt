@@ -1,11 +1,18 @@
 //! Laws of the answers and of the program, each the contract of a function that does nothing, or
 //! only names the laws that it rests on.
+ghost use Rattle.std.specs.Prelude.{◌≡◌};
 ghost use Rattle.vault_cli.specs.Laws.{EncryptThenDecrypt, AnswersAreDecided};
 ghost use Rattle.vault_cli.specs.Laws.{RekeyKeepsThePlaintext, ShortTexts};
 ghost use Rattle.vault_cli.specs.ProgramLaws.{ProgramEncryptsThenDecrypts, ProgramIsRun};
 ghost use Rattle.vault_cli.specs.ProgramLaws.{ProgramKeepsThePlaintext, WrittenIsRead};
+ghost use Rattle.vault_cli.specs.declared.limits.TheConstants.{SEALING_SALT_LENGTH};
 
 use vault_request::laws::settled_requests;
+
+/// How many bytes of a salt file are the salt.
+pub fn limits()
+    ensures salt { SEALING_SALT_LENGTH ≡ 32 }
+{}
 
 /// The answer of a run is a success or a refusal. Any other status of `run` comes from its source
 /// or its output; any other status of `drive_over` from these, its files or its memory.

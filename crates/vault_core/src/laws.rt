@@ -1,6 +1,13 @@
 //! Laws of the definitions, each the contract of a function that does nothing.
+ghost use Rattle.std.specs.Prelude.{◌≡◌};
 ghost use Rattle.vault_core.specs.Laws.{EncryptedDecrypts, RekeyedDecrypts, SealedUnseals};
 ghost use Rattle.vault_core.specs.Laws.{SealedReadsBack, ShortInputs};
+ghost use Rattle.vault_core.specs.declared.limits.TheConstants.{PASSWORD_FILE_LIMIT};
+
+/// How many bytes of a password file are taken.
+pub fn limits()
+    ensures password_file { PASSWORD_FILE_LIMIT ≡ 4096 }
+{}
 
 /// Unsealing a sealed plaintext gives it back.
 pub fn sealed_unseals()

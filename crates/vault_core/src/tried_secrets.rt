@@ -1,59 +1,89 @@
 //! Which secret matches an envelope: trying secrets one after the other.
 ghost use Rattle.std.specs.Prelude.{◌≡◌, ◌+◌, ◌<◌, ◌^◌, Some, None, if◌then◌else◌, length};
 ghost use Rattle.std.specs.Prelude.{filter, find, IsTrue, ◌↔◌};
-ghost use Rattle.std.specs.Bool.{beq};
 ghost use Rattle.std.specs.Option.{option_map};
-ghost use Rattle.vault_core.specs.TriedSecrets.{matches, keys_of, tries};
-ghost use Rattle.vault_core.specs.Secrets.{has_label, tried_order};
+ghost use Rattle.vault_core.specs.TriedSecrets.{is_in, matches, keys_of, tries};
+ghost use Rattle.vault_core.specs.Secrets.{tried_order};
 
 use crate::secret::Secret;
 use crate::secrets::Secrets;
 use vault_fault::LabelRule;
 use vault_kdf::{Keys, Meter, derive, hmac};
-use vault_text::{Payload, TAG_LENGTH};
+use vault_text::{Label, Payload, TAG_LENGTH};
 
-/// The keys of the first secret in the tried order that matches the payload. Keys are derived
-/// for a secret only when its turn comes, and for none after the one that matches.
-pub(crate) fn matching_keys(secrets: &Secrets, payload: &Payload, meter: &mut Meter) -> Option<Keys>
+/// The secrets of a list that have the label of an envelope, or those that have another.
+#[derive(Clone, Copy)]
+pub(crate) enum Part {
+    SameLabel,
+    OtherLabels,
+}
+
+/// How a search among secrets ended: how many were tried, and the keys of the last of them, if it
+/// matched.
+#[derive(Drop)]
+pub(crate) struct Search {
+    pub tried: usize,
+    pub keys: Option<Keys>,
+}
+
+/// Tries secrets in the tried order, up to the first that matches the payload. Keys are derived
+/// for a secret only when its turn comes.
+pub(crate) fn find_match(secrets: &Secrets, payload: &Payload, meter: &mut Meter) -> Search
     requires { meter.old < 2 ^ 62 }
-    ensures keys { result ≡ option_map (keys_of payload.now)
+    ensures keys { result.keys ≡ option_map (keys_of payload.now)
         (find (matches payload.now) (tried_order secrets.now payload.now.label)) }
-    ensures counted { meter.new
-        ≡ meter.old + tries payload.now (tried_order secrets.now payload.now.label) }
+    ensures tried { result.tried
+        ≡ tries payload.now (tried_order secrets.now payload.now.label) }
+    ensures counted { meter.new ≡ meter.old + result.tried }
     ensures countable { meter.new < 2 ^ 63 }
 {
     let list = secrets.as_slice();
-    if let Some(keys) = first_match(list, true, payload, meter) {
-        return Some(keys);
+    let same = find_match_in(list, Part::SameLabel, payload, meter);
+    if same.keys.is_some() {
+        return same;
     }
     match secrets.rule() {
-        LabelRule::Hint => first_match(list, false, payload, meter),
-        LabelRule::Required => None,
+        LabelRule::Hint => {
+            let others = find_match_in(list, Part::OtherLabels, payload, meter);
+            Search {
+                tried: same.tried + others.tried,
+                keys: others.keys,
+            }
+        }
+        LabelRule::Required => same,
     }
 }
 
-/// The keys of the first secret that matches among those that have the payload's label, or among
-/// those that have not.
-fn first_match(
-    secrets: &[Secret],
-    labelled: bool,
-    payload: &Payload,
-    meter: &mut Meter,
-) -> Option<Keys>
+/// Tries the secrets of a part, in their order, up to the first that matches the payload.
+fn find_match_in(secrets: &[Secret], part: Part, payload: &Payload, meter: &mut Meter) -> Search
     requires { meter.old + length secrets.now < 2 ^ 63 }
-    ensures keys { result ≡ option_map (keys_of payload.now) (find (matches payload.now)
-        (filter (λ secret. beq (has_label payload.now.label secret) labelled) secrets.now)) }
-    ensures counted { meter.new ≡ meter.old + tries payload.now
-        (filter (λ secret. beq (has_label payload.now.label secret) labelled) secrets.now) }
+    ensures keys { result.keys ≡ option_map (keys_of payload.now)
+        (find (matches payload.now) (filter (is_in part payload.now.label) secrets.now)) }
+    ensures tried { result.tried
+        ≡ tries payload.now (filter (is_in part payload.now.label) secrets.now) }
+    ensures counted { meter.new ≡ meter.old + result.tried }
 {
+    let mut tried = 0;
     for secret in secrets {
-        if secret.has_label(payload.label()) == labelled
-            && let Some(keys) = keys_if_match(secret, payload, meter)
-        {
-            return Some(keys);
+        if is_in(part, payload.label(), secret) {
+            tried += 1;
+            let keys = keys_if_match(secret, payload, meter);
+            if keys.is_some() {
+                return Search { tried, keys };
+            }
         }
     }
-    None
+    Search { tried, keys: None }
+}
+
+/// Whether a secret is in the part, for an envelope with this label.
+fn is_in(part: Part, label: &Label, secret: &Secret) -> bool
+    ensures { result ≡ is_in part label.now secret.now }
+{
+    match part {
+        Part::SameLabel => secret.has_label(label),
+        Part::OtherLabels => !secret.has_label(label),
+    }
 }
 
 /// The keys of a secret, where the tag that they give is the payload's.

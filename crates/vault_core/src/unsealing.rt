@@ -7,7 +7,7 @@ ghost use Rattle.vault_aes.specs.Padding.{padded_length, without_padding};
 ghost use Rattle.vault_core.specs.Secrets.{tried_order};
 
 use crate::secrets::Secrets;
-use crate::tried_secrets::matching_keys;
+use crate::tried_secrets::{Search, find_match};
 use std::marker::Model;
 use vault_aes::{Key, ctr_apply, unpad};
 use vault_fault::Fault;
@@ -46,11 +46,10 @@ pub(crate) fn unseal<'a>(
         ≡ meter.old + tries payload.entry (tried_order secrets.now payload.entry.label) }
     ensures countable { meter.new < 2 ^ 63 }
 {
-    let derived_before = meter.count();
-    let Some(keys) = matching_keys(secrets, &payload, meter) else {
+    let Search { tried, keys } = find_match(secrets, &payload, meter);
+    let Some(keys) = keys else {
         return Err(Fault::NoSecretFits);
     };
-    let tried = (meter.count() - derived_before) as usize;
     let padded = payload.into_body();
     match decipher(padded, &keys) {
         Some(len) => Ok(Unsealed { padded, len, tried }),

@@ -9,6 +9,7 @@
 
 mod fault;
 mod label_rule;
+pub mod laws;
 mod limits;
 
 pub use fault::{Fault, Role};

@@ -1,5 +1,12 @@
 //! Laws of requests, each the contract of a function that does nothing.
+ghost use Rattle.std.specs.Prelude.{◌≡◌};
 ghost use Rattle.vault_request.specs.Laws.{SettledRequests, WordsNameACommand};
+ghost use Rattle.vault_request.specs.declared.limits.TheConstants.{SALT_TEXT_LIMIT};
+
+/// How many bytes the text of `--salt` may have.
+pub fn limits()
+    ensures salt_text { SALT_TEXT_LIMIT ≡ 64 }
+{}
 
 /// Arguments without a fault name a command.
 pub fn words_name_a_command()

@@ -1,24 +1,25 @@
 use Rattle.vault_cli.proofs.system.drive.Goals as goal
 
-pub returns-clause-answered : goal.returns-clause-answered
-returns-clause-answered g c = λ parses.
-    let drives = c.drive_over.ensures.answered parses in (
-      c.drive_over.new.files,
-      c.drive_over.new.src,
-      c.drive_over.new.out,
-      c.drive_over.new.err,
-      rw (
-        c.new-files.ensures,
-        c.new-src.ensures,
-        c.new-out.ensures,
-        c.new-err.ensures,
-      ) at drives,
-    )
-
-pub returns-clause-explained : goal.returns-clause-explained
-returns-clause-explained g c = λ wrong.
-    let explains = c.drive_over.ensures.explained wrong in (
-      c.drive_over.new.out,
-      c.drive_over.new.err,
-      rw (c.new-out.ensures, c.new-err.ensures) at explains,
-    )
+pub returns : goal.returns
+returns g c =
+    let driven = c.drive_over.ensures in
+    let new_files = c.new-files.ensures in
+    let new_src = c.new-src.ensures in
+    let new_out = c.new-out.ensures in
+    let new_err = c.new-err.ensures in
+    record {
+      driven = (
+        record {
+          files = c.drive_over.new.files;
+          src = c.drive_over.new.src;
+          out = c.drive_over.new.out;
+          err = c.drive_over.new.err;
+        },
+        record {
+          answered = λ parses. rw (new_files, new_src, new_out, new_err) at (driven.answered parses);
+          memory = λ none_left. rw (new_files, new_src) at (driven.memory none_left);
+          explained = λ wrong. rw (new_out, new_err) at (driven.explained wrong);
+          untouched = λ wrong. rw (new_files, new_src) at (driven.untouched wrong);
+        },
+      );
+    }

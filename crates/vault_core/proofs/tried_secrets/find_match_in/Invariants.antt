@@ -2,14 +2,15 @@ use Rattle.std.proofs.Common.{◌≡◌, ◌+◌, ◌≤◌, drop}
 use Rattle.std.specs.Prelude.{find}
 use Rattle.vault_core.specs.TriedSecrets.{matches, tries}
 use Rattle.vault_core.proofs.TriedSecretsLemmas.{tried_part}
-use Rattle.vault_core.proofs.tried_secrets.first_match.Given as goal
+use Rattle.vault_core.proofs.tried_secrets.find_match_in.Given as goal
 
 abbrev pub invariant-loop-secret : goal.invariant-loop-secret
 invariant-loop-secret l =
-    let all = tried_part l.labelled l.payload.label l.secrets in
-    let left = tried_part l.labelled l.payload.label (drop l.secret-index l.secrets) in
+    let all = tried_part l.part l.payload.label l.secrets in
+    let left = tried_part l.part l.payload.label (drop l.secret-index l.secrets) in
     record {
       found : find (matches l.payload) left ≡ find (matches l.payload) all;
-      counted : l.meter + tries l.payload left ≡ l.fn.meter + tries l.payload all;
-      few : l.meter ≤ l.fn.meter + l.secret-index;
+      tried : l.tried + tries l.payload left ≡ tries l.payload all;
+      counted : l.meter ≡ l.fn.meter + l.tried;
+      few : l.tried ≤ l.secret-index;
     }
