@@ -1,55 +1,63 @@
-"""Shows that the built program reads the cipher's tables.
+"""Shows that the cipher reads its tables: no contract can say in which way a value is found.
 
-No contract can say which way a value was found. So every eighth entry of each table in turn is
-another number in a copy of the program, which then has to encrypt to other bytes.
+On a copy of the source, another number stands at entry 0 of a table. The key of zeros and the block of zeros
+read that entry, so their vector then has to fail.
 """
 
 import re
-import struct
+import shutil
 import subprocess
 from pathlib import Path
 
 import pytest
 
-from cases import Cases, by_file
-from cases.samples import SALT_TEXT, SALT_WORDS
 from lib.limits import SECONDS
 from lib.paths import ROOT
-from model.vaults import seal
 
-TABLES = ROOT / "crates" / "vault_aes" / "src" / "tables.rt"
-TABLE = re.compile(r"^const (\w+): \[(u8|u32); 256\] = \[(.*?)\];", re.MULTILINE | re.DOTALL)
-FORMATS = {"u8": "<256B", "u32": "<256I"}
-# Of 1,024 blocks, for which the cipher needs every entry.
-TEXT = bytes(1 << 14)
-
-
-def tables() -> dict[str, bytes]:
-    """Each table by its name, as it stands in the program."""
-    numbers = lambda entries: (int(entry, 16) for entry in re.findall(r"0x[0-9a-f]+", entries))
-    found = TABLE.findall(TABLES.read_text())
-    return {name: struct.pack(FORMATS[width], *numbers(entries)) for name, width, entries in found}
+CRATE = Path("crates") / "vault_aes"
+TABLES = CRATE / "src" / "tables.rt"
+TESTS = Path("crates") / "vault_aes_tests"
+VECTORS = TESTS / "src" / "vectors.rt"
+TEST = "vectors::enciphers_zeros_under_the_zero_key"
+TABLE = re.compile(r"^const (\w+): \[u(?:8|32); 256\] = \[\s*0x(\w+)", re.MULTILINE)
+NAMES = [found[1] for found in TABLE.finditer((ROOT / TABLES).read_text())]
 
 
-def sealing(cases: Cases) -> list[str]:
-    return ["encrypt", *by_file(cases.file(b"right\n")), *SALT_WORDS]
+def copy_of_cipher(folder: Path) -> None:
+    """The cipher, and a crate with the test of its vectors alone."""
+    shutil.copytree(ROOT / CRATE, folder / CRATE, ignore=shutil.ignore_patterns("out"))
+    (folder / VECTORS).parent.mkdir(parents=True)
+    shutil.copy(ROOT / VECTORS, folder / VECTORS)
+    (folder / VECTORS).with_name("lib.rt").write_text("#![tactic(auto)]\n#[cfg(test)]\nmod vectors;\n")
+    (folder / "crates.txt").write_text("vault_aes:\nvault_aes_tests: vault_aes\n")
+    shutil.copy(ROOT / "HANDLES", folder)
 
 
-def test_program_as_it_is(cases: Cases) -> None:
-    cases.run("the program as it is", sealing(cases), TEXT, 0, seal(b"right", TEXT, salt=SALT_TEXT))
-    cases.check("there are tables of S and of four rows", len(tables()), 5)
+def change_first_entry(tables: Path, name: str) -> None:
+    def changed(found: re.Match[str]) -> str:
+        first = int(found[2], 16) ^ 1
+        return found[0] if found[1] != name else f"{found[0].removesuffix(found[2])}{first:0{len(found[2])}x}"
+
+    tables.write_text(TABLE.sub(changed, tables.read_text()))
 
 
-@pytest.mark.parametrize("name", tables())
-def test_other_entries(cases: Cases, name: str) -> None:
-    table, content = tables()[name], Path(cases.program).read_bytes()
-    words, sealed = sealing(cases), seal(b"right", TEXT, salt=SALT_TEXT)
-    copy = Path(cases.file(content, 0o755))
-    cases.check(f"{name} stands in the program once", content.count(table), 1)
-    for offset in range(0, len(table), len(table) // 32):
-        changed = bytearray(content)
-        changed[content.find(table) + offset] ^= 1
-        copy.write_bytes(changed)
-        done = subprocess.run([copy, *words], input=TEXT, capture_output=True, timeout=SECONDS)
-        found = done.returncode, done.stdout != sealed
-        cases.check(f"{name}: the text under another entry at byte {offset}", found, (0, True))
+def outcome_of_vector(folder: Path) -> str:
+    """How `rt try` ends the test of the vector, before any proof."""
+    done = subprocess.run(
+        ["rt", "try", "--test"], cwd=folder / TESTS, capture_output=True, text=True, timeout=SECONDS
+    )
+    found = re.search(rf"^test {TEST} \.\.\. (\w+)$", done.stdout, re.MULTILINE)
+    assert found, done.stdout + done.stderr
+    return found[1]
+
+
+def test_number_of_tables() -> None:
+    assert len(NAMES) == 5, "a table of S, and one for each of the four rows"
+
+
+@pytest.mark.parametrize("name", [None, *NAMES])
+def test_entry_0(tmp_path: Path, name: str | None) -> None:
+    copy_of_cipher(tmp_path)
+    if name:
+        change_first_entry(tmp_path / TABLES, name)
+    assert outcome_of_vector(tmp_path) == ("FAILED" if name else "ok")

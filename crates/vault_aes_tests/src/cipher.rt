@@ -1,44 +1,15 @@
-//! The vectors of the standards, and the cipher beside one that computes over the field.
+//! Key schedule, counter mode and padding of the standards, and the cipher beside one that computes
+//! over the field.
 use crate::field_cipher::FieldCipher;
+use crate::vectors::{ZERO_KEY, counting_key};
 use std::process::Abort;
 use vault_aes::{Key, ctr_apply, laws, pad, unpad};
-
-const ZERO_KEY: [u8; 32] = [0; 32];
 
 /// The key of FIPS 197, A.3, and of SP 800-38A, F.5.5.
 const EXAMPLE_KEY: [u8; 32] = [
     0x60, 0x3d, 0xeb, 0x10, 0x15, 0xca, 0x71, 0xbe, 0x2b, 0x73, 0xae, 0xf0, 0x85, 0x7d, 0x77, 0x81,
     0x1f, 0x35, 0x2c, 0x07, 0x3b, 0x61, 0x08, 0xd7, 0x2d, 0x98, 0x10, 0xa3, 0x09, 0x14, 0xdf, 0xf4,
 ];
-
-/// The key 00 01 .. 1f of FIPS 197, C.3.
-fn counting_key() -> [u8; 32] {
-    let mut key = [0; 32];
-    for i in 0..32 {
-        key[i] = i as u8;
-    }
-    key
-}
-
-/// FIPS 197, C.3.
-#[test]
-fn enciphers_under_the_counting_key(rt: HostRuntime) {
-    let block = 0x00112233445566778899aabbccddeeffu128.to_be_bytes();
-    let want = 0x8ea2b7ca516745bfeafc49904b496089u128.to_be_bytes();
-    assert_eq!(rt; Key::new(&counting_key()).block(&block), want);
-}
-
-#[test]
-fn enciphers_zeros_under_the_zero_key(rt: HostRuntime) {
-    let want = 0xdc95c078a2408989ad48a21492842087u128.to_be_bytes();
-    assert_eq!(rt; Key::new(&ZERO_KEY).block(&[0; 16]), want);
-}
-
-#[test]
-fn enciphers_one_under_the_zero_key(rt: HostRuntime) {
-    let want = 0x530f8afbc74536b9a963b4f1c4cb738bu128.to_be_bytes();
-    assert_eq!(rt; Key::new(&ZERO_KEY).block(&1u128.to_be_bytes()), want);
-}
 
 /// FIPS 197, A.3.
 #[test]

@@ -5,3 +5,5 @@
 mod cipher;
 #[cfg(test)]
 mod field_cipher;
+#[cfg(test)]
+mod vectors;

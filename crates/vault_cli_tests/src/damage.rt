@@ -5,7 +5,7 @@ use std::process::Abort;
 use std::test::Fail;
 use vault_aes::{Key, ctr_apply};
 use vault_kdf::{Meter, derive};
-use vault_test_data::{envelope, spelled, tagged};
+use vault_made::{envelope, spelled, tagged};
 use vault_test_runs::{Left, Trial};
 
 const SALT: &[u8; 32] = &[7; 32];

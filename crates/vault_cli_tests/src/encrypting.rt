@@ -3,7 +3,7 @@ use crate::leaving::{assert_leaves, assert_left};
 use std::alloc::{AllocError, Global};
 use std::process::Abort;
 use std::test::Fail;
-use vault_test_data::{EMPTY_ENVELOPE, block, envelope};
+use vault_made::{EMPTY_ENVELOPE, block, envelope};
 use vault_test_runs::{Left, Trial};
 use vault_text::FailingSource;
 

@@ -4,7 +4,8 @@ use std::alloc::{AllocError, Global};
 use std::process::Abort;
 use std::test::Fail;
 use vault_cli::Status;
-use vault_test_data::{CountingReader, envelope};
+use vault_made::envelope;
+use vault_test_data::CountingReader;
 use vault_test_runs::{Left, Trial, run_on_system};
 use vault_text::{CIPHERTEXT_LIMIT, ENVELOPE_LIMIT, PLAINTEXT_LIMIT};
 

@@ -6,7 +6,7 @@ use crate::leaving::assert_leaves_in_steps;
 use std::alloc::{AllocError, Global};
 use std::process::Abort;
 use std::test::Fail;
-use vault_test_data::spelled;
+use vault_made::spelled;
 use vault_test_runs::{Left, Trial};
 use vault_text::{CIPHERTEXT_LIMIT, EnvelopeReader, TextFault};
 

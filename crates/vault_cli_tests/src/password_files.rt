@@ -4,7 +4,8 @@ use std::alloc::Global;
 use std::process::Abort;
 use std::test::Fail;
 use vault_cli::{MemFile, Status};
-use vault_test_data::{CountingReader, EMPTY_ENVELOPE};
+use vault_made::EMPTY_ENVELOPE;
+use vault_test_data::CountingReader;
 use vault_test_runs::Left;
 
 /// The program, run on these words over these files, leaves this. It reads nothing of its input,

@@ -3,7 +3,7 @@ use crate::leaving::assert_leaves;
 use std::alloc::Global;
 use std::process::Abort;
 use std::test::Fail;
-use vault_test_data::envelope;
+use vault_made::envelope;
 use vault_test_runs::{Left, Trial};
 
 /// How a vault under the label `prod` and a salt of 20 bytes 01 and more begins.

@@ -7,7 +7,8 @@ use std::alloc::Global;
 use std::process::Abort;
 use std::test::Fail;
 use vault_cli::{MemFile, MemSink, MemSource, Status};
-use vault_test_data::{CountingReader, EMPTY_ENVELOPE, envelope};
+use vault_made::{EMPTY_ENVELOPE, envelope};
+use vault_test_data::CountingReader;
 use vault_test_runs::{Left, Trial};
 
 const DECRYPT: &[&str] = &["decrypt", "--vault-password-file", "one"];

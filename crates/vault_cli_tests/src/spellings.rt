@@ -3,7 +3,7 @@ use crate::leaving::assert_leaves;
 use std::alloc::{AllocError, Global};
 use std::process::Abort;
 use std::test::Fail;
-use vault_test_data::envelope;
+use vault_made::envelope;
 use vault_test_runs::{Left, Trial};
 
 const DECRYPT: &[&str] = &["decrypt", "--vault-password-file", "one"];

@@ -3,7 +3,7 @@
 use std::test::Fail;
 use vault_core::{Fault, LabelRule, Secrets, password_of, prepare_decrypt};
 use vault_kdf::Meter;
-use vault_test_data::envelope;
+use vault_made::envelope;
 use vault_text::{Label, MemSource};
 
 /// The contents of the password files.

@@ -4,7 +4,7 @@ use std::process::Abort;
 use std::test::Fail;
 use vault_core::{Fault, Secrets, password_of, prepare_decrypt};
 use vault_kdf::Meter;
-use vault_test_data::{EMPTY_ENVELOPE, envelope, spelled};
+use vault_made::{EMPTY_ENVELOPE, envelope, spelled};
 use vault_text::{Label, MemSource};
 
 const SALT: &[u8; 32] = &[0; 32];

@@ -2,7 +2,7 @@
 use std::alloc::{AllocError, Global};
 use vault_aes::{Key, ctr_apply};
 use vault_kdf::{Meter, derive, hmac};
-use vault_test_data::{envelope, spelled};
+use vault_made::{envelope, spelled};
 
 const SALT: [u8; 32] = [0; 32];
 

@@ -5,7 +5,7 @@ use crate::watched::Watched;
 use std::alloc::Global;
 use std::process::Abort;
 use std::test::Fail;
-use vault_test_data::{block, envelope, spelled};
+use vault_made::{block, envelope, spelled};
 use vault_test_runs::{Left, Trial};
 use vault_text::{FailingSink, Label, Salt, Sink, write_envelope};
 

@@ -6,7 +6,8 @@ use std::fs::Files;
 use std::process::Abort;
 use std::test::Fail;
 use vault_cli::{Status, drive};
-use vault_test_data::{CountingReader, EMPTY_ENVELOPE, NarrowWriter, envelope, line_of};
+use vault_made::{EMPTY_ENVELOPE, envelope};
+use vault_test_data::{CountingReader, NarrowWriter, line_of};
 use vault_test_runs::{LINUX_FILE, Left, Trial};
 
 const DECRYPT: &[&str] = &["decrypt", "--vault-password-file", "one"];

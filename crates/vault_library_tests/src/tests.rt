@@ -8,7 +8,7 @@ use std::alloc::Global;
 use std::process::Abort;
 use std::test::Fail;
 use vault_cli::{Fault, MemSink, Status};
-use vault_test_data::{block, envelope};
+use vault_made::{block, envelope};
 use vault_text::Salt;
 
 const SALT: &[u8; 32] = &[7; 32];

@@ -3,7 +3,7 @@ use std::alloc::Global;
 use std::process::Abort;
 use std::test::Fail;
 use vault_cli::{MemFiles, MemSource, Status};
-use vault_test_data::EMPTY_ENVELOPE;
+use vault_made::EMPTY_ENVELOPE;
 use vault_test_runs::{Left, Ran, run_program};
 
 /// Runs the program on these words and this input, where there is no file.

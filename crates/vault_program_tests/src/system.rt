@@ -4,7 +4,8 @@ use std::fs::Files;
 use std::process::Abort;
 use std::test::Fail;
 use vault_cli::Status;
-use vault_test_data::{CountingReader, envelope};
+use vault_made::envelope;
+use vault_test_data::CountingReader;
 use vault_test_runs::{LINUX_FILE, run_on_system};
 
 const PLAINTEXT: &[u8] = b"key: value\n";
