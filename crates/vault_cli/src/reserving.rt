@@ -1,16 +1,21 @@
 //! The memory of a run, which is reserved before any file is opened.
-ghost use Rattle.std.specs.Prelude.{◌≡◌, ◌+◌, ◌≤◌, All, IfOk, vec_capacity, vec_len};
+ghost use Rattle.std.specs.Prelude.{◌≡◌, ◌+◌, ◌≤◌, All, IfOk, length};
+ghost use Rattle.std.specs.Prelude.{vec_capacity, vec_len};
 ghost use Rattle.std.specs.Option.{option_map};
 ghost use Rattle.std.specs.String.{string_bytes};
 ghost use Rattle.vault_core.specs.declared.limits.TheConstants.{PASSWORD_FILE_LIMIT};
 ghost use Rattle.vault_text.specs.declared.limits.TheConstants.{CIPHERTEXT_LIMIT};
 ghost use Rattle.vault_cli.specs.Reserved.{HasRoomFor};
+ghost use Rattle.vault_cli.specs.declared.limits.TheConstants.{SEALING_SALT_LENGTH};
 
 use crate::limits::SEALING_SALT_LENGTH;
 use std::alloc::{AllocError, Global};
 use vault_core::PASSWORD_FILE_LIMIT;
 use vault_request::Request;
 use vault_text::CIPHERTEXT_LIMIT;
+
+/// How much of the stack a run takes below `reserve`, with some to spare, in bytes.
+const STACK_LENGTH: usize = 49_152;
 
 /// Memory for what is read of the files of a request: one buffer for each password file, the list
 /// that its contents are put into, and a buffer for the salt.
@@ -29,7 +34,8 @@ pub(crate) struct Reserved {
     pub output: Option<String>,
 }
 
-/// All memory that a request needs.
+/// All memory that a request needs. The stack is touched, too: one that is too small ends the
+/// program here, before any file is opened.
 pub(crate) fn reserve(alloc: Global, request: &Request) -> Result<Reserved, AllocError>
     ensures text { IfOk result (λ reserved. CIPHERTEXT_LIMIT ≤ vec_capacity reserved.text) }
     ensures buffers { IfOk result (λ reserved. HasRoomFor request.now reserved.buffers) }
@@ -37,10 +43,12 @@ pub(crate) fn reserve(alloc: Global, request: &Request) -> Result<Reserved, Allo
         option_map string_bytes reserved.output ≡ request.now.output) }
 {
     let text = Vec::with_capacity(alloc, CIPHERTEXT_LIMIT)?;
+    let mut salt = vec![in alloc; 0; SEALING_SALT_LENGTH]?;
+    touch_stack(request.files(), salt.as_mut_slice());
     let buffers = Buffers {
         unread: password_buffers(alloc, request.files())?,
         contents: Vec::with_capacity(alloc, request.files())?,
-        salt: vec![in alloc; 0; SEALING_SALT_LENGTH]?,
+        salt,
     };
     let output = match request.output() {
         Some(path) => Some(String::from_str(alloc, path)?),
@@ -51,6 +59,18 @@ pub(crate) fn reserve(alloc: Global, request: &Request) -> Result<Reserved, Allo
         buffers,
         output,
     })
+}
+
+/// Touches the stack that a run needs. Bytes of it are copied from a place that the compiler does
+/// not know, so that it leaves none of it out.
+#[inline(never)]
+fn touch_stack(place: usize, buf: &mut [u8])
+    requires { length buf.old ≡ SEALING_SALT_LENGTH }
+    ensures { length buf.new ≡ SEALING_SALT_LENGTH }
+{
+    let stack = [0; STACK_LENGTH];
+    let start = place % (STACK_LENGTH - SEALING_SALT_LENGTH);
+    buf.copy_from_slice(&stack[start..start + SEALING_SALT_LENGTH]);
 }
 
 /// Buffers for this many password files, each for one byte more than is taken.

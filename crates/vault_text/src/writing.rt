@@ -83,5 +83,5 @@ fn put_lines<K: Sink>(
     let (batch, rest) = split_batch(rest);
     append_ciphertext(&mut text, indentation, batch);
     put_all(sink, text.as_slice())?;
-    put_ciphertext(sink, indentation, rest)
+    put_ciphertext(sink, &mut text, indentation, rest)
 }

@@ -52,9 +52,11 @@ pub(super) fn split_batch(ciphertext: &[u8]) -> (&[u8], &[u8])
     ciphertext.split_at(ciphertext.len().min(BATCH_CIPHERTEXT))
 }
 
-/// Writes lines that spell the digits of the ciphertext, from the start of a line on.
+/// Writes lines that spell the digits of the ciphertext, from the start of a line on. The lines of
+/// each batch take the place of what `text` holds.
 pub(super) fn put_ciphertext<K: Sink>(
     sink: &mut K,
+    text: &mut Text,
     indentation: &[u8],
     ciphertext: &[u8],
 ) -> Result<(), SinkFailed>
@@ -70,14 +72,19 @@ pub(super) fn put_ciphertext<K: Sink>(
     let mut done = 0;
     while ciphertext.len() - done > BATCH_CIPHERTEXT {
         let batch = &ciphertext[done..done + BATCH_CIPHERTEXT];
-        put_batch(sink, indentation, batch)?;
+        put_batch(sink, text, indentation, batch)?;
         done += BATCH_CIPHERTEXT;
     }
-    put_batch(sink, indentation, &ciphertext[done..])
+    put_batch(sink, text, indentation, &ciphertext[done..])
 }
 
-/// Writes the lines of one batch of ciphertext.
-fn put_batch<K: Sink>(sink: &mut K, indentation: &[u8], ciphertext: &[u8]) -> Result<(), SinkFailed>
+/// Writes the lines of one batch of ciphertext, in the place of what `text` holds.
+fn put_batch<K: Sink>(
+    sink: &mut K,
+    text: &mut Text,
+    indentation: &[u8],
+    ciphertext: &[u8],
+) -> Result<(), SinkFailed>
     requires begun { K.stage sink.old ≡ Stage.Begun }
     requires narrow { length indentation.now ≤ INDENTATION_LIMIT }
     requires batch { length ciphertext.now ≤ BATCH_CIPHERTEXT }
@@ -88,7 +95,7 @@ fn put_batch<K: Sink>(sink: &mut K, indentation: &[u8], ciphertext: &[u8]) -> Re
     ensures stage { K.stage sink.new ≡ Stage.Begun }
     ensures failed { CountsFailure (K.failures sink.old) (K.failures sink.new) result }
 {
-    let mut text = Text::new();
-    append_ciphertext(&mut text, indentation, ciphertext);
+    text.clear();
+    append_ciphertext(text, indentation, ciphertext);
     put_all(sink, text.as_slice())
 }
