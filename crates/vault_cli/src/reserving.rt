@@ -15,7 +15,7 @@ use vault_request::Request;
 use vault_text::CIPHERTEXT_LIMIT;
 
 /// How much of the stack a run takes below `reserve`, with some to spare, in bytes.
-const STACK_LENGTH: usize = 49_152;
+const STACK_LENGTH: usize = 36_864;
 
 /// Memory for what is read of the files of a request: one buffer for each password file, the list
 /// that its contents are put into, and a buffer for the salt.
