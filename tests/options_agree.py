@@ -12,7 +12,7 @@ import pytest
 
 from lib.option_sets import companion_options, companion_page, companion_statuses, described_options, page_sets
 from lib.option_sets import help_commands, help_of, help_options, help_text, options_in, sections, spellings
-from lib.option_table import code_in, constants_in, entries, literals_in, named_in, table_options
+from lib.option_table import code_in, constants_in, entries, helps_of, literals_in, named_in, table_options
 from lib.outcome import Outcome
 from lib.paths import COMPANIONS, PAGE, ROOT, version
 from model.options import COMMON, FLAGS, OPTIONS
@@ -23,7 +23,6 @@ REQUIRED = {
     "--vault-password-file": "default",
     "--salt-file": "/dev/urandom by default",
     "--salt": "used twice",
-    "--output": "required if FILE",
 }
 
 # The definitions and the crates that name each option.
@@ -73,10 +72,10 @@ def test_completions(outcome: Outcome, shell: str) -> None:
 def test_code(outcome: Outcome) -> None:
     """The code and the definitions name what the table has, and the code has no name of its own."""
     names = {entry.name for entry in entries()}
-    constants = {entry.constant for entry in entries()}
     outcome.holds("the table is read", len(names) > 10, sorted(names))
     for crate in CODE:
-        outcome.check(f"crates/{crate}/src uses each entry of the table", sorted(constants - constants_in(crate)), [])
+        used = {entry.name for entry in entries() if entry.constant in constants_in(crate)}
+        outcome.check(f"crates/{crate}/src uses each name of the table", sorted(names - used), [])
         outcome.check(f"crates/{crate}/src has no name beside the table", literals_in(code_in(crate)) & names, set())
     for specs in SPECS:
         outcome.check(f"crates/{specs} names each entry of the table", sorted(names - named_in(specs)), [])
@@ -104,7 +103,7 @@ def test_table(outcome: Outcome) -> None:
         value = f" <{entry.value_name}>" if entry.value_name else ""
         start = re.escape(f"{entry.option}{value}" if entry.is_option else f"[{entry.name}]")
         said = set(re.findall(rf"^ .*(?<![\w-]){start}  +(.*)$", texts, re.MULTILINE))
-        outcome.check(f"the stored texts have the help of {entry.name}", said, {entry.help})
+        outcome.check(f"the stored texts have the help of {entry.name}", said, helps_of(entry.name))
 
 
 # The end of a command line, by the value's name of an option, and the files that are offered.
@@ -141,10 +140,17 @@ def test_help(outcome: Outcome, program: str) -> None:
         outcome.check(what, sorted(found), sorted(sets[command]))
         silent = [option for option in REQUIRED.keys() & found if REQUIRED[option] not in help_of(text, option)]
         outcome.check("and says of them what it has to", silent, [])
+        takes_file = "[FILE]" in text
+        outcome.check("and names FILE if the command takes one", "FILE" in text, takes_file)
+        if "--output" in found:
+            needed = "required if FILE is given" in help_of(text, "--output")
+            outcome.check("and says that FILE requires --output", needed, takes_file)
         for entry in table_options():
             if entry.option in found:
-                wanted = f"<{entry.value_name}> {entry.help}" if entry.value_name else entry.help
-                outcome.check(f"and of {entry.option} what the table has", help_of(text, entry.option), wanted)
+                value = f"<{entry.value_name}> " if entry.value_name else ""
+                said = help_of(text, entry.option)
+                wanted = {value + each for each in helps_of(entry.name)}
+                outcome.holds(f"and of {entry.option} what the table has", said in wanted, said)
         outcome.holds("and needs no word that it does not explain", "envelope" not in text)
 
 

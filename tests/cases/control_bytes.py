@@ -1,19 +1,25 @@
-"""Standard error is text: UTF-8 without control characters, except line feeds.
+"""Standard error is text: UTF-8 without unprintable characters, except the line feeds of the message itself.
 
-Each control character is put in each argument, in a path, and in the files that a run reads.
+Each such character is put in each argument, in a path, and in the files that a run reads.
 """
 
 import itertools
 import os
-import unicodedata
+import re
 
 from cases import Cases, by_file
 from cases.modes import with_output
 from cases.samples import samples
+from cases.texts import stored_mistakes
 from model.vaults import HEADER
 
+# Control characters, zero-width spaces and joiners, separators, and characters that set the direction of text.
+UNPRINTABLE = re.compile("[\0-\x1f\x7f-\x9f\u200b-\u200f\u2028-\u202e\u2066-\u2069]")
 # All of ASCII but 0, which no argument can hold, and two of U+0080 to U+009F.
 CONTROLS = [*map(chr, range(1, 32)), "\x7f", "\x1b[31m", "\x1b]0;title\x07", "\r\n", "\x80", "\x9b31m"]
+INVISIBLE = [*map(chr, itertools.chain(range(0x200B, 0x2010), range(0x2028, 0x202F), range(0x2066, 0x206A)))]
+# Their neighbours, and other characters, which are shown as they are.
+PRINTABLE = " ~\xa0\xe9\u200a\u2010\u2027\u202f\u2065\u206a\U0001f600"
 COMMANDS = ["encrypt", "decrypt", "view", "rekey", "encrypt_string"]
 
 
@@ -22,7 +28,11 @@ def is_text(message: bytes) -> bool:
         text = message.decode()
     except UnicodeDecodeError:
         return False
-    return all(character == "\n" or unicodedata.category(character) != "Cc" for character in text)
+    return not UNPRINTABLE.search(text.replace("\n", ""))
+
+
+def escaped(word: str) -> str:
+    return UNPRINTABLE.sub(lambda found: f"\\u{{{ord(found[0]):x}}}", word)
 
 
 def check_text(cases: Cases, words: list, stdin: bytes = b"") -> None:
@@ -32,20 +42,40 @@ def check_text(cases: Cases, words: list, stdin: bytes = b"") -> None:
     cases.check(f"{words!r:.200}: standard error is text ({done.stderr!r:.200})", found, (True, b"", True))
 
 
+def check_escaped(cases: Cases, words: list) -> None:
+    """The words are refused in the message of the escaped words."""
+    check_text(cases, words)
+    found, wanted = (cases.done(each).stderr for each in (words, [escaped(word) for word in words]))
+    cases.check(f"{words!r:.200}: the message shows the words escaped", found, wanted)
+
+
 def test_in_words(cases: Cases) -> None:
     """Words that the parser names in its text."""
-    for control in CONTROLS:
+    for control in CONTROLS + INVISIBLE:
         word = f"a{control}b"
-        check_text(cases, [word])
-        check_text(cases, [f"--{word}"])
-        check_text(cases, [f"-{control}"])
+        check_escaped(cases, [word])
+        check_escaped(cases, [f"--{word}"])
+        check_escaped(cases, [f"-{control}"])
         for command in COMMANDS:
             for words in (
                 [f"--{word}"], [f"--{word}=x"], ["x", word], [f"-{control}"],
                 ["--vault-id", "x", f"--vault-id{control}", "y"],
             ):
-                check_text(cases, [command, *words])
-        check_text(cases, ["view", f"--require-id-match={word}"])
+                check_escaped(cases, [command, *words])
+        check_escaped(cases, ["view", f"--require-id-match={word}"])
+
+
+def test_forged_lines(cases: Cases) -> None:
+    """A line end in an argument begins no line of the message."""
+    forged = "\nERROR! no secret decrypts this vault\n::error::x"
+    for word, shown in (
+        (forged, r"\u{a}ERROR! no secret decrypts this vault\u{a}::error::x"),
+        ("\r\x1b[31m\x9b", r"\u{d}\u{1b}[31m\u{9b}"),
+        ("\u200b\u2028\u202e\u2066", r"\u{200b}\u{2028}\u{202e}\u{2066}"),
+        (PRINTABLE, PRINTABLE),
+    ):
+        message = stored_mistakes("view")["view x y"].replace("'y'", f"'{shown}'")
+        cases.run(f"{word!r}", ["view", "x", word], status=2, err=message.encode())
 
 
 def test_in_bytes(cases: Cases) -> None:
@@ -57,7 +87,7 @@ def test_in_bytes(cases: Cases) -> None:
 
 def test_in_values(cases: Cases) -> None:
     """Paths, labels, names and salts, which no message names."""
-    for control in CONTROLS:
+    for control in CONTROLS + INVISIBLE:
         path = os.path.join(cases.path(), f"a{control}b")
         for sample in samples(cases):
             check_text(cases, [*sample.words, *by_file(path)], sample.stdin)

@@ -41,6 +41,11 @@ def table_options() -> list[Entry]:
     return [entry for entry in entries() if entry.is_option]
 
 
+def helps_of(name: str) -> set[str]:
+    """What the entries of a name say of it: those of one option may differ by the command."""
+    return {entry.help for entry in entries() if entry.name == name}
+
+
 def code_in(crate: str) -> str:
     """The code of a crate without comments, but for the table."""
     files = sorted((ROOT / "crates" / crate / "src").rglob("*.rt"))

@@ -11,6 +11,6 @@ pub mod PerformedLemmas
 pub mod PlannedLemmas
 pub mod ProgramLemmas
 pub mod ReservedLemmas
-pub mod ShownLemmas
+pub mod EscapedLemmas
 pub mod StatusLemmas
 pub mod TaskLemmas

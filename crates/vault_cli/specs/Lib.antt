@@ -2,7 +2,7 @@ pub mod runs
 pub mod Access
 pub mod Call
 pub mod Explained
-pub mod Shown
+pub mod Escaped
 pub mod Program
 pub mod OpenedPaths
 pub mod Reserved

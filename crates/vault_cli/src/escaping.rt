@@ -1,63 +1,59 @@
-//! What is shown of a text that may hold control characters.
-ghost use Rattle.std.specs.Prelude.{◌≡◌, ◌<◌, ◌++◌, IfOk, OnOk};
-ghost use Rattle.vault_cli.specs.Shown.{digit_of, is_c1_trail_byte, is_escaped};
-ghost use Rattle.vault_cli.specs.Shown.{shown_between, shown_text};
+//! Arguments as messages show them.
+ghost use Rattle.std.specs.Prelude.{◌≡◌, ◌++◌, All, IfOk, OnOk, map};
+ghost use Rattle.std.specs.Str.{chars, encode_utf8_all};
+ghost use Rattle.std.specs.String.{string_bytes};
+ghost use Rattle.vault_cli.specs.Escaped.{IsPrintable, escaped_char, escaped_text};
+ghost use Rattle.vault_cli.specs.Escaped.{is_unprintable};
 
 use std::alloc::{AllocError, Global};
 
-/// The text with each control byte but LF as `\x` and its two digits, so that no terminal obeys an
-/// argument. So are both bytes of a C1 control character (U+0080 to U+009F).
-pub(crate) fn escaped(alloc: Global, text: &[u8]) -> Result<Vec<u8>, AllocError>
-    ensures { IfOk result (λ shown. shown.items ≡ shown_text text.now) }
+/// The arguments, each escaped.
+pub(crate) fn escaped_words(alloc: Global, words: &[String]) -> Result<Vec<String>, AllocError>
+    ensures { IfOk result (λ escaped.
+        map string_bytes escaped.items ≡ map escaped_text (map string_bytes words.now)) }
 {
-    let mut shown = Vec::new(alloc);
-    let mut before = 0;
-    for i in 0..text.len() {
-        let byte = text[i];
-        let after = text.get(i + 1).copied().unwrap_or(0);
-        append_shown(&mut shown, before, byte, after)?;
-        before = byte;
+    let mut escaped = Vec::new(alloc);
+    for i in 0..words.len() {
+        escaped.push(escaped_text(alloc, words[i].as_str())?)?;
     }
-    Ok(shown)
+    Ok(escaped)
 }
 
-/// Appends what is shown of a byte between two others.
-fn append_shown(shown: &mut Vec<u8>, before: u8, byte: u8, after: u8) -> Result<(), AllocError>
+/// The text with each unprintable character escaped, so that it neither drives a terminal nor
+/// forges a line of a message.
+fn escaped_text(alloc: Global, text: &str) -> Result<String, AllocError>
+    ensures escaped { IfOk result (λ escaped. string_bytes escaped ≡ escaped_text text.now) }
+    ensures printable { IfOk result (λ escaped.
+        All IsPrintable (chars (string_bytes escaped))) }
+{
+    let mut escaped = String::new(alloc);
+    for c in text.chars() {
+        append_escaped(&mut escaped, c)?;
+    }
+    Ok(escaped)
+}
+
+/// Appends the character; an unprintable one as its number in hexadecimal, as in `\u{1b}`.
+fn append_escaped(escaped: &mut String, c: char) -> Result<(), AllocError>
     ensures { OnOk result
-        (shown.new.items ≡ shown.old.items ++ shown_between before byte after) }
+        (string_bytes escaped.new ≡ string_bytes escaped.old ++ encode_utf8_all (escaped_char c)) }
 {
-    if is_escaped(before, byte, after) {
-        shown.extend_from_slice(&[b'\\', b'x', digit(byte >> 4), digit(byte & 15)])?;
+    if is_unprintable(c) {
+        let number = u32::from(c);
+        write!(escaped, "\\u{{{number:x}}}")
     } else {
-        shown.push(byte)?;
-    }
-    Ok(())
-}
-
-/// Whether a byte between two others is part of a control character in UTF-8 other than LF.
-fn is_escaped(before: u8, byte: u8, after: u8) -> bool
-    ensures { result ≡ is_escaped before byte after }
-{
-    match byte {
-        b'\n' => false,
-        0..=31 | 127 => true,
-        0xc2 => is_c1_trail_byte(after),
-        0x80..=0x9f => before == 0xc2,
-        _ => false,
+        escaped.push(c)
     }
 }
 
-/// Whether a byte, after `0xc2`, ends a C1 control character.
-fn is_c1_trail_byte(byte: u8) -> bool
-    ensures { result ≡ is_c1_trail_byte byte }
+/// Whether a character is a control character, a zero-width space or joiner, a separator of lines
+/// or paragraphs, or sets the direction of text.
+fn is_unprintable(c: char) -> bool
+    ensures { result ≡ is_unprintable c }
 {
-    matches!(byte, 0x80..=0x9f)
-}
-
-/// The hexadecimal digit of a number.
-fn digit(value: u8) -> u8
-    requires { value < 16 }
-    ensures { result ≡ digit_of value }
-{
-    b"0123456789abcdef"[usize::from(value)]
+    c.is_control()
+        || matches!(
+            c,
+            '\u{200b}'..='\u{200f}' | '\u{2028}'..='\u{202e}' | '\u{2066}'..='\u{2069}'
+        )
 }

@@ -1,21 +1,26 @@
 //! What the program says where its arguments do not parse.
-ghost use Rattle.std.specs.Prelude.{◌≡◌, ◌≢◌, ◌⊎◌, ℕ, List, All};
+ghost use Rattle.std.specs.Prelude.{◌≡◌, ◌≢◌, ◌⊎◌, ℕ, [], List, All, IfOk, MatchOption, map, true};
 ghost use Rattle.std.specs.IoError.{error_kind};
+ghost use Rattle.std.specs.String.{string_bytes};
 ghost use Rattle.std.specs.declared.io.ErrorKind.TheVariants.{OutOfMemory};
 ghost use Rattle.clap.specs.Values.{kind_of};
+ghost use Rattle.clap.specs.Words.{IsAmong, fault_of};
+ghost use Rattle.vault_command_line.specs.CommandLine.{vault_app};
 ghost use Rattle.vault_fault.specs.declared.fault.Fault.TheVariants.{Memory};
 ghost use Rattle.vault_cli.specs.Call.{sink};
+ghost use Rattle.vault_cli.specs.Escaped.{escaped_text};
 ghost use Rattle.vault_cli.specs.Explained.{Explains, IsShown};
 ghost use Rattle.vault_cli.specs.runs.ReportLine.{line_of, not_text_line};
 ghost use Rattle.vault_cli.specs.runs.Reports.{Reports};
 
-use crate::escaping::escaped;
+use crate::escaping::escaped_words;
 use crate::runs::{Status, report, write_text};
 use clap::Error;
 use clap::error::ErrorKind;
-use std::alloc::Global;
+use std::alloc::{AllocError, Global};
 use std::io;
 use vault_core::Fault;
+use vault_request::parse;
 use vault_text::{Sink, SinkFailed, Stage};
 
 /// Says on `err` that an argument is not UTF-8, or that there is no memory for the arguments, and
@@ -39,6 +44,7 @@ pub fn reject_words<E: Sink>(error: &io::Error, err: &mut E) -> Status
 /// Writes what the parser says: help and the version to `out`, a mistake to `err`.
 pub(crate) fn explain<K: Sink, E: Sink>(
     alloc: Global,
+    words: &[String],
     error: &Error,
     out: &mut K,
     err: &mut E,
@@ -51,29 +57,68 @@ pub(crate) fn explain<K: Sink, E: Sink>(
     if matches!(error.kind(), ErrorKind::OutOfMemory) {
         return report(Fault::Memory, err);
     }
+    if error.use_stderr() {
+        return reject(alloc, words, err);
+    }
     let Ok(text) = error.to_string(alloc) else {
         return report(Fault::Memory, err);
     };
-    if error.use_stderr() {
-        return reject(alloc, text.as_bytes(), err);
-    }
     match write_text(text.as_bytes(), out) {
         Ok(()) => Status::Success,
         Err(SinkFailed) => report(Fault::Write, err),
     }
 }
 
-/// Says on `err` what is wrong with the arguments, some of which the text repeats.
-fn reject<E: Sink>(alloc: Global, text: &[u8], err: &mut E) -> Status
+/// Says on `err` what is wrong with the arguments.
+fn reject<E: Sink>(alloc: Global, words: &[String], err: &mut E) -> Status
     requires { E.stage err.old ≡ Stage.Unbegun }
     ensures { ((result ≡ Status.ParseFault)
         × ((shown : List ℕ) × All IsShown shown × Reports (sink E.Sink err.old err.new) shown))
         ⊎ ((result ≡ Status.OutOfMemory)
         × Reports (sink E.Sink err.old err.new) (line_of Memory)) }
 {
-    let Ok(shown) = escaped(alloc, text) else {
+    let Ok(text) = mistake_text(alloc, words) else {
         return report(Fault::Memory, err);
     };
-    let _ = write_text(shown.as_slice(), err);
+    let _ = write_text(text.as_bytes(), err);
     Status::ParseFault
+}
+
+/// The parser's text of the mistake, with the arguments escaped. No contract says what such a text
+/// holds, so it is shown only if it passes `is_shown`.
+fn mistake_text(alloc: Global, words: &[String]) -> Result<String, AllocError>
+    ensures { IfOk result (λ text. All IsShown (string_bytes text)) }
+{
+    if let Some(error) = escaped_mistake(alloc, words)? {
+        let text = error.to_string(alloc)?;
+        if is_shown(text.as_str()) {
+            return Ok(text);
+        }
+    }
+    String::from_str(alloc, "error: the arguments are invalid\n")
+}
+
+/// The mistake in the escaped arguments, so that each line end in its text is the parser's.
+/// Escaping turns no argument into a command or an option, so there is a mistake.
+fn escaped_mistake(alloc: Global, words: &[String]) -> Result<Option<Error>, AllocError>
+    ensures { let kinds = fault_of vault_app (map escaped_text (map string_bytes words.now)) in
+        IfOk result (λ mistake.
+        MatchOption mistake (kinds ≡ []) (λ error. IsAmong (kind_of error) kinds)) }
+{
+    let escaped = escaped_words(alloc, words)?;
+    let Some(error) = parse(alloc, escaped.as_slice()).err() else {
+        return Ok(None);
+    };
+    if matches!(error.kind(), ErrorKind::OutOfMemory) {
+        return Err(AllocError);
+    }
+    Ok(Some(error))
+}
+
+/// Whether a text has no control byte but line ends.
+fn is_shown(text: &str) -> bool
+    ensures { result ≡ true → All IsShown text.now }
+{
+    text.bytes()
+        .all(|byte| byte == b'\n' || !byte.is_ascii_control())
 }

@@ -63,7 +63,7 @@ pub fn drive_over<F: FileSystem, S: Source, K: Sink, E: Sink>(
 {
     match parse(alloc, words) {
         Ok(matches) => drive_matches(files, alloc, &matches, src, out, err),
-        Err(error) => explain(alloc, &error, out, err),
+        Err(error) => explain(alloc, words, &error, out, err),
     }
 }
 

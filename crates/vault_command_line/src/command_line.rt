@@ -89,7 +89,7 @@ fn encrypt_string<'a>(alloc: Global) -> Result<Command<'a>, AllocError>
 {
     with_name(alloc)?
         .arg(option(alloc, table::ENCRYPT_VAULT_ID))?
-        .arg(option(alloc, table::OUTPUT))?
+        .arg(option(alloc, table::STRING_OUTPUT))?
         .arg(positional(alloc, table::STRING))
 }
 

@@ -83,6 +83,13 @@ pub const OUTPUT: OptionEntry = OptionEntry {
         given",
 };
 
+/// `--output` of `encrypt_string`, which has no FILE.
+pub const STRING_OUTPUT: OptionEntry = OptionEntry {
+    name: "output",
+    value_name: "PATH",
+    help: "The file to write, or - for standard output, which is the default",
+};
+
 pub const FILE: OptionEntry = OptionEntry {
     name: "FILE",
     value_name: "",

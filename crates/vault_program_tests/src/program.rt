@@ -74,6 +74,40 @@ fn explains_the_command_line(rt: HostRuntime) -> Result<(), Fail> {
     assert_misspelled(&rt, alloc, &["--vault-id", "one", "view"])
 }
 
+/// Asserts that the message shows an argument too many in this form.
+fn assert_shown(rt: &impl Abort, alloc: Global, argument: &str, form: &str) -> Result<(), Fail> {
+    let refused = ran_alone(alloc, &["view", "x", argument], b"")?;
+    let start = format!(in alloc; "error: unexpected argument '{form}' found\n")?;
+    let message = refused.message.as_str();
+    assert!(rt;
+        message.starts_with(start.as_str()),
+        "{argument:?}: {message}"
+    );
+    Ok(())
+}
+
+#[test]
+fn escapes_arguments(rt: HostRuntime) -> Result<(), Fail> {
+    let alloc = rt.alloc();
+    let forged = "x\nERROR! no secret decrypts this vault\n";
+    let form = "x\\u{a}ERROR! no secret decrypts this vault\\u{a}";
+    assert_shown(&rt, alloc, forged, form)?;
+    assert_shown(
+        &rt,
+        alloc,
+        "\t\r\u{1b}\u{7f}\u{80}\u{9f}",
+        "\\u{9}\\u{d}\\u{1b}\\u{7f}\\u{80}\\u{9f}",
+    )?;
+    assert_shown(
+        &rt,
+        alloc,
+        "\u{200b}\u{200f}\u{2028}\u{202e}\u{2066}\u{2069}",
+        "\\u{200b}\\u{200f}\\u{2028}\\u{202e}\\u{2066}\\u{2069}",
+    )?;
+    let printable = " ~\u{a0}\u{200a}\u{2010}\u{2027}\u{202f}\u{2065}\u{206a}\u{10ffff}";
+    assert_shown(&rt, alloc, printable, printable)
+}
+
 /// Asserts that a run on these words ends with this exit status.
 fn assert_code(rt: &impl Abort, alloc: Global, words: &[&str], code: u8) -> Result<(), Fail> {
     let ended = ran_alone(alloc, words, b"")?;
