@@ -19,12 +19,12 @@ from model.vaults import ENVELOPE_LIMIT
 from watched import STDERR, STDIN, STDOUT, Run, Watched, opened_by, watch
 from watched.runs import GROUPS, Files
 
-OF_FILES = {"openat", "read", "write", "close", "statx", "fchmod", "fsync"}
+OF_FILES = {"openat", "read", "write", "close", "statx", "fchmod", "ftruncate", "fsync"}
 OF_MEMORY = {"brk", "mmap", "munmap", "mremap"}
 OTHERS = {"rt_sigaction", "getrandom", "exit_group"}
 # What the loader reads besides libraries.
 LISTS = {"/etc/ld.so.cache", "/etc/ld.so.preload"}
-READING, CREATING = {"O_RDONLY"}, {"O_WRONLY", "O_CREAT", "O_TRUNC"}
+READING, CREATING = {"O_RDONLY"}, {"O_WRONLY", "O_CREAT"}
 # What changes nothing here: no terminal becomes the program's own, no other program is started, and
 # folders give no bytes.
 HARMLESS = {"O_NOCTTY", "O_CLOEXEC", "O_LARGEFILE", "O_DIRECTORY"}
@@ -78,15 +78,18 @@ def check_source(cases: Cases, name: str, reads: list[tuple[int, int]], limit: i
 
 
 def check_writes(cases: Cases, run: Run, watched: Watched) -> None:
-    """A file is created when all is read, made its owner's before its first byte, and synced at last."""
+    """A file is opened when all is read, made its owner's, emptied only then, written, and synced at last."""
     calls = watched.writes
     names = [name for name, _ in groupby(call.name for call in calls)]
     if not run.created:
         cases.holds(f"{run.name}: no file is written", set(names) <= {"write"})
         return check_lengths(cases, run, watched, STDOUT)
     private = run.words[0] == "decrypt"
-    wanted = ["openat", *(["fchmod"] if private else []), *(["write"] if run.written else []), "fsync"]
+    restricting, writing = ["fchmod"] if private else [], ["write"] if run.written else []
+    wanted = ["openat", *restricting, "ftruncate", *writing, "fsync"]
     cases.check(f"{run.name}: how the file is written", names, wanted)
+    lengths = [call.args.partition(", ")[2] for call in calls if call.name == "ftruncate"]
+    cases.check(f"{run.name}: the length to which it is cut", lengths, ["0"])
     modes = [call.args.partition(", ")[2] for call in calls if call.name == "fchmod"]
     cases.check(f"{run.name}: its mode", modes, [OWNER_ALONE] if private else [])
     number = next((call.result for call in calls if call.name == "openat"), None)

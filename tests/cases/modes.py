@@ -120,14 +120,14 @@ def test_sockets(cases: Cases) -> None:
 
 
 def test_order(cases: Cases) -> None:
-    """The file is truncated, then made private, and only then is the plaintext written."""
+    """The file is made private, and only then truncated and written."""
     for sample in with_output(cases):
         path = cases.file(OLD, 0o644)
         events = FileEvents(path)
         cases.run(f"{sample.command} to a watched file", [*sample.words, "--output", path], sample.stdin)
         wanted = [IN_MODIFY, IN_CLOSE_WRITE]
         if sample.command == "decrypt":
-            wanted = [IN_MODIFY, IN_ATTRIB, *wanted]
+            wanted = [IN_ATTRIB, *wanted]
         cases.check(f"{sample.command}: what happened to the file", events.read(), wanted)
 
 
@@ -145,7 +145,7 @@ def test_refused(cases: Cases) -> None:
 
 
 def test_of_another_owner(cases: Cases) -> None:
-    """No plaintext is written to a file whose mode cannot be changed; to test this, another user runs the program."""
+    """A file whose mode cannot be changed is as it was; to test this, another user runs the program."""
     if os.geteuid() != 0:
         return cases.skip("a file of another owner", "that takes the rights of root")
     program = cases.program_for_all()
@@ -156,7 +156,7 @@ def test_of_another_owner(cases: Cases) -> None:
         words = [program, *sample.words, "--output", path]
         done = run_captured(words, sample.stdin, user=NOBODY, group=NOBODY)
         keeps = sample.command != "decrypt"
-        wanted = (0, b"", sample.output) if keeps else (Fault.NOT_WRITTEN.status, Fault.NOT_WRITTEN.line, b"")
+        wanted = (0, b"", sample.output) if keeps else (Fault.NOT_WRITTEN.status, Fault.NOT_WRITTEN.line, OLD)
         found = (done.returncode, done.stderr, Path(path).read_bytes())
         cases.check(f"{sample.command} to a file of another owner", found, wanted)
         cases.check(f"{sample.command} to a file of another owner: mode", mode(path), oct(0o666))

@@ -61,9 +61,9 @@ class Scenario(NamedTuple):
             path.write_bytes(OLD)
             path.chmod(OLD_MODE)
 
-    def untouched(self, status: int, message: bytes) -> Left:
-        """What is left where the output was not begun."""
-        return Left(status, b"", message, {OUTPUT: (OLD, OLD_MODE)} if self.target is Target.OLD else {})
+    def untouched(self, status: int, message: bytes, mode: int = OLD_MODE) -> Left:
+        """What is left where the output was not emptied; an old file has the mode."""
+        return Left(status, b"", message, {OUTPUT: (OLD, mode)} if self.target is Target.OLD else {})
 
     def written(self, status: int, message: bytes, size: int, mode: int) -> Left:
         """What is left where the output holds `size` bytes, and its file has the mode."""

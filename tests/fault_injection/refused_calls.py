@@ -23,7 +23,8 @@ ERRORS = {
     "read": ["EINTR", "EAGAIN", "EIO", "EBADF", "ENOMEM"],
     "write": ["EINTR", "EAGAIN", "EIO", "ENOSPC", "EDQUOT", "EPIPE", "EBADF"],
     "statx": ["EACCES", "EIO", "ENOMEM", "EBADF"],
-    "fchmod": ["EINTR", "EACCES", "EIO", "EBADF"],
+    "fchmod": ["EINTR", "EACCES", "EPERM", "EIO", "EBADF"],
+    "ftruncate": ["EINTR", "EPERM", "EIO", "EBADF"],
     "fsync": ["EINTR", "EIO", "ENOSPC", "EDQUOT", "EBADF", "EINVAL"],
     "close": ["EINTR", "EIO", "ENOSPC", "EDQUOT", "EBADF"],
     "mmap": ["ENOMEM", NO_MORE_MEMORY],
@@ -36,7 +37,7 @@ CREATING = [*ERRORS["openat"], "ENOSPC", "EDQUOT"]
 OTHERS = {"rt_sigaction", "getrandom", "munmap", "exit_group"}
 MEMORY = ("mmap", "mremap", "brk")
 # Where these are interrupted the library may try them again.
-TRIED_AGAIN = ("openat", "fchmod", "fsync")
+TRIED_AGAIN = ("openat", "fchmod", "ftruncate", "fsync")
 # The folder that takes the numbers of closed streams.
 STAND_IN = "/"
 STDIN, STDERR = 0, 2
@@ -48,8 +49,8 @@ ROLES = {"--vault-password-file": SECRET, "--vault-id": SECRET, "--new-vault-id"
 
 class Step(NamedTuple):
     """A call of a run; the ordinal that the next call of each name has, this one included; the path or the stream
-    that it concerns; and what was written before it: bytes of the output, None if it was not begun, the mode of its
-    file, and bytes of the message."""
+    that it concerns; and what was written before it: bytes of the output, None if that is as it was, the mode of
+    its file, and bytes of the message."""
 
     call: Call
     numbers: dict[str, int]
@@ -98,7 +99,9 @@ def steps(scenario: Scenario, loading: list[Call], own: list[Call]) -> Iterator[
         counts[call.name] += 1
         if call.name == "openat":
             paths[call.result] = call.path
-            written = 0 if "O_CREAT" in call.args else written
+            written = 0 if "O_CREAT" in call.args and scenario.target is Target.NEW else written
+        elif call.name == "ftruncate":
+            written = 0
         elif call.name == "write" and about == STDERR:
             message_length += call.result
         elif call.name == "write":
@@ -143,7 +146,7 @@ def wanted(refusal: Refusal) -> list[Left]:
     again = [whole] if error == "EINTR" and step.call.name in TRIED_AGAIN else []
     fault = fault_of(scenario, step)
     if step.written is None:
-        return [scenario.untouched(fault.status, fault.line), *again]
+        return [scenario.untouched(fault.status, fault.line, step.mode), *again]
     return [scenario.written(fault.status, fault.line, step.written, step.mode), *again]
 
 

@@ -12,7 +12,7 @@ from random import Random
 from typing import NamedTuple
 
 from cases import TEXT, Cases, by_file
-from fault_injection import OLD, OUTPUT, SCRATCH, SECONDS, WORKERS, Left, Scenario, files_in
+from fault_injection import OLD, OLD_MODE, OUTPUT, SCRATCH, SECONDS, WORKERS, Left, Scenario, files_in
 from model.vaults import seal
 
 SIGNALS = signal.SIGTERM, signal.SIGINT, signal.SIGHUP
@@ -55,13 +55,12 @@ def state(scenario: Scenario, left: Left) -> str | None:
     """What has come of the output; None where it is nothing that may come of it."""
     if (left.output, left.message) != (b"", b""):
         return None
-    if left.files == scenario.untouched(0, b"").files:
+    if any(left.files == scenario.untouched(0, b"", mode).files for mode in (OLD_MODE, scenario.last_mode())):
         return "untouched"
     if set(left.files) != {OUTPUT}:
         return None
     [(content, mode)] = left.files.values()
-    modes = {scenario.last_mode()} if content else {scenario.first_mode(), scenario.last_mode()}
-    if not scenario.whole.startswith(content) or mode not in modes:
+    if not scenario.whole.startswith(content) or mode != scenario.last_mode():
         return None
     return "whole" if len(content) == len(scenario.whole) else "a prefix"
 

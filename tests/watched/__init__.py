@@ -69,7 +69,7 @@ class Watched:
             asked = int(call.args.rsplit(", ", 1)[1])
             source = self.paths.get(call.fd, call.fd)
             self.reads.setdefault(source, []).append((asked, call.result))
-        if call.name in ("write", "fchmod", "fsync") or "O_CREAT" in call.args:
+        if call.name in ("write", "fchmod", "ftruncate", "fsync") or "O_CREAT" in call.args:
             self.writes.append(call)
 
     def stand_ins(self) -> list[Opened]:

@@ -1,7 +1,8 @@
 -- From what one call asks of a disk to what the files say of it.
 use Rattle.std.proofs.Common.{◌≡◌, ◌↔◌, ℕ, ◌+◌, ◌≤◌, List, [], ◌∷◌, ◌++◌, refl, arith, ap}
-use Rattle.std.proofs.Common.{inl, inr, true, false, if◌then◌else◌, IsTrue, None, Result, Ok, Err}
-use Rattle.std.specs.Result.{is_ok}
+use Rattle.std.proofs.Common.{inl, inr, true, false, if◌then◌else◌, IsTrue, Some, None, Result}
+use Rattle.std.proofs.Common.{Ok, Err, take}
+use Rattle.std.specs.Result.{MatchResult, is_ok, result_ok}
 use Rattle.std.proofs.lemmas.Bool.{cases_lt, false≢true}
 use Rattle.std.proofs.lemmas.List.{append-nil}
 use Rattle.vault_text.specs.Failures.{HasRisen, IsSaturated, u64_max}
@@ -9,9 +10,11 @@ use Rattle.vault_text.specs.declared.sink.Stage.{Stage}
 use Rattle.vault_text.specs.declared.sink.Stage.TheVariants.{Unbegun, Begun}
 use Rattle.vault_files.specs.System.{OpenCalls, SystemCall, if_failed}
 use Rattle.vault_files.specs.System.OpenCalls.{no_opens, opens, fails_to_open}
-use Rattle.vault_files.specs.System.SystemCall.{Open, Write, Failed}
-use Rattle.vault_files.specs.Host.{HostState, HostTakes, OutputCalls, beginning}
+use Rattle.vault_files.specs.System.SystemCall.{Open, Create, Truncate, Write, Failed}
+use Rattle.vault_files.specs.Host.{HostState, HostTakes, OutputCalls, beginning, restricting}
 use Rattle.vault_files.specs.Host.OutputCalls.{none, begins, writes}
+use Rattle.vault_files.specs.declared.access.Access.{Access}
+use Rattle.vault_files.specs.declared.access.Access.TheVariants.{Kept, OwnerOnly}
 
 -- a count that has not stopped rises by one
 pub rises : (before after : ℕ) → (IsTrue false ↔ IsSaturated before) → HasRisen before after
@@ -33,6 +36,30 @@ pub if_failed-is : {T E : Type 0} (r : Result T E)
     → if_failed r ≡ (if is_ok r then [] else Failed ∷ [])
 if_failed-is (Ok value) = refl
 if_failed-is (Err error) = refl
+
+-- what holds of a call by what is kept of its result
+pub from-some : {T E : Type 0} (r : Result T E) (value : T) (P : Type 0) (Q : E → Type 0)
+    → result_ok r ≡ Some value → MatchResult r (λ _. P) Q → P
+from-some (Ok value) _ P Q is p = p
+from-some (Err error) _ P Q is q = absurd cc
+
+pub from-none : {T E : Type 0} (r : Result T E) (P : T → Type 0) (Q : Type 0)
+    → result_ok r ≡ None → MatchResult r P (λ _. Q) → Q
+from-none (Ok value) P Q is p = absurd cc
+from-none (Err error) P Q is q = q
+
+-- a failure to restrict an output, or to truncate it, is one of its beginning
+pub fails-restricting : (path : List ℕ) (access : Access)
+    → (n : ℕ) × (take n (beginning (Some path) access) ++ Failed ∷ []
+    ≡ Create path ∷ restricting access ++ Failed ∷ [])
+fails-restricting path Kept = (1, refl)
+fails-restricting path OwnerOnly = (2, refl)
+
+pub fails-truncating : (path : List ℕ) (access : Access)
+    → (n : ℕ) × (take n (beginning (Some path) access) ++ Failed ∷ []
+    ≡ Create path ∷ restricting access ++ Truncate ∷ Failed ∷ [])
+fails-truncating path Kept = (2, refl)
+fails-truncating path OwnerOnly = (3, refl)
 
 -- the calls of an output that is begun, or written to, once
 pub begins_once : (first : List SystemCall) → OutputCalls first Unbegun first [] 0 Begun

@@ -4,7 +4,8 @@ use Rattle.std.specs.Prelude.{Option, Some, None, is_some}
 use Rattle.vault_text.specs.declared.sink.Stage.{Stage}
 use Rattle.vault_text.specs.declared.sink.Stage.TheVariants.{Unbegun, Begun, Finished}
 use Rattle.vault_files.specs.System.{OpenCalls, SystemCall}
-use Rattle.vault_files.specs.System.SystemCall.{Create, ChmodOwnerOnly, Write, Sync, Failed}
+use Rattle.vault_files.specs.System.SystemCall.{Create, ChmodOwnerOnly, Truncate, Write, Sync}
+use Rattle.vault_files.specs.System.SystemCall.{Failed}
 use Rattle.vault_files.specs.declared.access.Access.{Access}
 use Rattle.vault_files.specs.declared.access.Access.TheVariants.{Kept, OwnerOnly}
 
@@ -27,11 +28,15 @@ new_host system = record {
   failures = 0;
 }
 
--- what begins an output, before its first byte
+-- what restricts an output that is open
+abbrev pub restricting : Access → List SystemCall
+restricting Kept = []
+restricting OwnerOnly = ChmodOwnerOnly ∷ []
+
+-- what begins an output, before its first byte: a file that was there is truncated last
 abbrev pub beginning : Option (List ℕ) → Access → List SystemCall
 beginning None access = []
-beginning (Some path) Kept = Create path ∷ []
-beginning (Some path) OwnerOnly = Create path ∷ ChmodOwnerOnly ∷ []
+beginning (Some path) access = Create path ∷ restricting access ++ Truncate ∷ []
 
 -- the calls that bring an output with this beginning from one stage to another, while it takes
 -- bytes; so often it failed: a call did, or a write took nothing

@@ -4,10 +4,12 @@ use Rattle.std.specs.Prelude.{ℕ, List, [], ◌∷◌, Result, Ok, Err}
 pub data SystemCall : Type 0 where
   -- the file at this path is opened for reading
   Open : List ℕ → SystemCall
-  -- the file at this path is created for its owner alone, or truncated if it exists
+  -- the file at this path is opened for writing: as it is, or created for its owner alone
   Create : List ℕ → SystemCall
-  -- the file that was created is made its owner's alone, where it is a regular one
+  -- that file is made its owner's alone, if it is a regular one
   ChmodOwnerOnly : SystemCall
+  -- it is cut to no byte, if it is a regular one
+  Truncate : SystemCall
   -- it takes these bytes
   Write : List ℕ → SystemCall
   -- what it took is brought to its device

@@ -1,18 +1,21 @@
 //! Files of a system.
-ghost use Rattle.std.specs.Prelude.{◌≡◌, ℕ, ◌++◌, [], ◌∷◌, Some, MatchOption, take};
+ghost use Rattle.std.specs.Prelude.{◌≡◌, ℕ, ◌++◌, [], ◌∷◌, Some, MatchResult, take};
+ghost use Rattle.vault_files.specs.System.{if_failed};
 ghost use Rattle.vault_files.specs.System.SystemCall.{Failed};
-ghost use Rattle.vault_files.specs.Host.{beginning, new_host};
+ghost use Rattle.vault_files.specs.Host.{beginning, new_host, restricting};
 
 use crate::access::Access;
 use crate::fault::FileFault;
 use crate::file_system::FileSystem;
 use crate::system::System;
+use std::io;
 use std::marker::Model;
 use vault_text::{FailureCount, ReadSource, Sink, SinkFailed, Stage};
 
-/// The files of a system. An output is created when it is begun; under `Access::OwnerOnly` it is
-/// then made its owner's alone, and where that fails, so does `begin`. It is synced when it is
-/// finished. What a file holds is what the system's reader has left.
+/// The files of a system. When an output is begun, it is opened, made its owner's alone under
+/// `Access::OwnerOnly`, and only then truncated. Where one of these fails, so does `begin`, and a
+/// file that was there keeps its bytes. An output is synced when it is finished. What a file holds
+/// is what the system's reader has left.
 #[derive(Drop)]
 pub struct HostFiles<D: System> {
     system: D,
@@ -66,23 +69,27 @@ impl<D: System> HostFiles<D> {
     }
 }
 
-/// Creates the file that is to be written, or truncates it if it exists; None if that fails.
-fn create<D: System>(system: &mut D, path: &str, access: Access) -> Option<D::Writer>
-    ensures { MatchOption result
-        ((n : ℕ) × D.executes system.old
-        (take n (beginning (Some path.now) access) ++ Failed ∷ []) system.new)
-        (λ file. D.executes system.old (beginning (Some path.now) access) system.new) }
+/// Restricts an output that is open.
+fn restrict<D: System>(system: &mut D, file: &D::Writer, access: Access) -> io::Result<()>
+    ensures { D.executes system.old (restricting access ++ if_failed result) system.new }
 {
-    let Ok(file) = system.create(path) else {
-        return None;
-    };
     match access {
-        Access::Kept => Some(file),
-        Access::OwnerOnly => match system.chmod_owner_only(&file) {
-            Ok(()) => Some(file),
-            Err(_) => None,
-        },
+        Access::Kept => Ok(()),
+        Access::OwnerOnly => system.chmod_owner_only(file),
     }
+}
+
+/// The file that is to be written, open and empty.
+fn open_output<D: System>(system: &mut D, path: &str, access: Access) -> io::Result<D::Writer>
+    ensures { MatchResult result
+        (λ file. D.executes system.old (beginning (Some path.now) access) system.new)
+        (λ error. (n : ℕ) × D.executes system.old
+        (take n (beginning (Some path.now) access) ++ Failed ∷ []) system.new) }
+{
+    let file = system.create(path)?;
+    restrict(system, &file, access)?;
+    system.truncate(&file)?;
+    Ok(file)
 }
 
 impl<D: System> Sink for HostFiles<D> {
@@ -106,11 +113,11 @@ impl<D: System> Sink for HostFiles<D> {
         if self.failures.is_saturated() {
             return Err(SinkFailed);
         }
-        let created = match &self.output_file {
-            Some(path) => create(&mut self.system, path.as_str(), self.access),
+        let opened = match &self.output_file {
+            Some(path) => open_output(&mut self.system, path.as_str(), self.access).ok(),
             None => None,
         };
-        match created {
+        match opened {
             Some(file) => {
                 self.output = Some(file);
                 self.stage = Stage::Begun;

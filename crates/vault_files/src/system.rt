@@ -3,15 +3,16 @@ ghost use Rattle.std.specs.Prelude.{ℕ, ◌≤◌, List, [], ◌∷◌, ◌++�
 ghost use Rattle.std.specs.Prelude.{Option, Some, None, IfOk, IfErr};
 ghost use Rattle.vault_text.specs.Sink.{taken};
 ghost use Rattle.vault_files.specs.System.{OpenCalls, SystemCall, if_failed};
-ghost use Rattle.vault_files.specs.System.SystemCall.{Open, Create, ChmodOwnerOnly, Write, Sync};
+ghost use Rattle.vault_files.specs.System.SystemCall.{Open, Create, ChmodOwnerOnly, Truncate};
+ghost use Rattle.vault_files.specs.System.SystemCall.{Write, Sync};
 
 mod runtime;
 
 use std::io;
 use std::io::Read;
 
-/// All that files ask of the system. Each method makes one system call, but `chmod_owner_only`,
-/// which first asks whether the file is a regular one.
+/// All that files ask of the system. Each method makes one system call, but `chmod_owner_only` and
+/// `truncate` first ask whether the file is a regular one.
 pub trait System {
     type Reader: Read + Drop;
 
@@ -29,14 +30,18 @@ pub trait System {
         ensures found { IfOk result (λ reader. reader_at self.old path.now (Some reader)) }
         ensures missing { IfErr result (λ _. reader_at self.old path.now None) };
 
-    /// Opens a file for writing: it is created for its owner alone, less the umask, or truncated
-    /// if it is there already.
+    /// Opens a file for writing, as it is; if there is none, it is created for its owner alone,
+    /// less the umask.
     fn create(&mut self, path: &str) -> io::Result<Self::Writer>
         ensures { executes self.old (Create path.now ∷ if_failed result) self.new };
 
     /// Makes a regular file readable and writable by its owner alone.
     fn chmod_owner_only(&mut self, file: &Self::Writer) -> io::Result<()>
         ensures { executes self.old (ChmodOwnerOnly ∷ if_failed result) self.new };
+
+    /// Cuts a regular file to no byte.
+    fn truncate(&mut self, file: &Self::Writer) -> io::Result<()>
+        ensures { executes self.old (Truncate ∷ if_failed result) self.new };
 
     /// Hands the file bytes, of which it takes a prefix, and answers its length.
     fn write(&mut self, file: &mut Self::Writer, bytes: &[u8]) -> io::Result<usize>

@@ -14,7 +14,8 @@ use Rattle.vault_text.specs.SourceProofs.{MemoryGives-none}
 use Rattle.vault_text.specs.declared.sink.Stage.{Stage}
 use Rattle.vault_text.specs.declared.sink.Stage.TheVariants.{Unbegun, Begun, Finished}
 use Rattle.vault_files.specs.System.{SystemCall}
-use Rattle.vault_files.specs.System.SystemCall.{Open, Create, ChmodOwnerOnly, Write, Sync, Failed}
+use Rattle.vault_files.specs.System.SystemCall.{Open, Create, ChmodOwnerOnly, Truncate}
+use Rattle.vault_files.specs.System.SystemCall.{Write, Sync, Failed}
 use Rattle.vault_files.specs.File.{FileState, Found}
 use Rattle.vault_files.specs.File.FileState.{Missing, Whole, Broken}
 use Rattle.vault_files.specs.Host.{HostOpens, HostState, HostTakes, OutputCalls, beginning}
@@ -34,7 +35,7 @@ use Rattle.vault_cli.specs.runs.Answer.{Answer}
 use Rattle.vault_cli.specs.declared.runs.status.Status.{Status}
 use Rattle.vault_cli.specs.declared.runs.status.Status.TheVariants.{DeviceFailed}
 use Rattle.vault_program_tests.specs.System.{SystemExecutes, SystemFile, SystemGives, SystemState}
-use Rattle.vault_program_tests.specs.System.{IsOn, after}
+use Rattle.vault_program_tests.specs.System.{IsOn, after, created}
 use Rattle.vault_program_tests.specs.System.{bytes_at}
 use Rattle.vault_program_tests.specs.SystemProofs.{after-append}
 use Rattle.vault_program_tests.specs.OnDisk.{Leaves, Stands}
@@ -119,15 +120,17 @@ holds first _ t _ bytes held _ d (fails_to_finish calls _ m _ p) b is =
 
 -- creating a file leaves the path at which that can be done
 created-output : (b : Bool) (d : SystemState)
-    → (if b then record d { written = Some [] } else d).output ≡ d.output
+    → (if b then created d else d).output ≡ d.output
 created-output true d = refl
 created-output false d = refl
 
 output-stays : (calls : List SystemCall) (d : SystemState) → (after calls d).output ≡ d.output
 output-stays [] d = refl
 output-stays (Create path ∷ calls) d =
-    output-stays calls (if bytes_eq d.output path then record d { written = Some [] } else d)
+    output-stays calls (if bytes_eq d.output path then created d else d)
     ∙ created-output (bytes_eq d.output path) d
+output-stays (Truncate ∷ calls) d =
+    output-stays calls (record d { written = option_map (λ held. []) d.written })
 output-stays (Write bytes ∷ calls) d =
     output-stays calls (record d { written = option_map (λ held. held ++ bytes) d.written })
 output-stays (Open path ∷ calls) d = output-stays calls d
@@ -138,7 +141,7 @@ output-stays (Failed ∷ calls) d = output-stays calls d
 bytes_eq-same : (xs : List ℕ) → bytes_eq xs xs ≡ true
 bytes_eq-same xs = (bytes_eq-Decides xs xs).1 refl
 
--- a file that is created at its path is empty
+-- an output that is begun at its path is empty
 empty : (path : List ℕ) (access : Access) (d : SystemState) → path ≡ d.output
     → (after (beginning (Some path) access) d).written ≡ Some []
 empty path Kept d is = rw (is, bytes_eq-same d.output) refl

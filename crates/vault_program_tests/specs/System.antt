@@ -1,9 +1,11 @@
 -- A disk in memory.
 use Rattle.std.specs.Prelude.{◌≡◌, ℕ, if◌then◌else◌, List, [], ◌∷◌, ◌++◌, Option, Some, None}
+use Rattle.std.specs.Prelude.{unwrap_or}
 use Rattle.std.specs.Option.{option_map}
 use Rattle.std.specs.Str.{bytes_eq}
 use Rattle.vault_files.specs.System.{SystemCall}
-use Rattle.vault_files.specs.System.SystemCall.{Open, Create, ChmodOwnerOnly, Write, Sync, Failed}
+use Rattle.vault_files.specs.System.SystemCall.{Open, Create, ChmodOwnerOnly, Truncate}
+use Rattle.vault_files.specs.System.SystemCall.{Write, Sync, Failed}
 use Rattle.vault_files.specs.File.{FileState}
 use Rattle.vault_files.specs.File.FileState.{Missing, Whole, Broken}
 
@@ -18,17 +20,22 @@ bytes_at [] path = None
 bytes_at (file ∷ files) path =
     if bytes_eq file.path path then Some file.bytes else bytes_at files path
 
--- the files, the one path at which another can be created, and what that took once it was
+-- the files, the one path at which another can be created, and what that holds once it was
 pub record SystemState : Type 0 where
   pub files : List SystemFile
   pub output : List ℕ
   pub written : Option (List ℕ)
 
+-- a disk whose output is there, and holds what it held
+abbrev pub created : SystemState → SystemState
+created s = record s { written = Some (unwrap_or s.written []) }
+
 -- the disk after these calls
 abbrev pub after : List SystemCall → SystemState → SystemState
 after [] s = s
 after (Create path ∷ calls) s =
-    after calls (if bytes_eq s.output path then record s { written = Some [] } else s)
+    after calls (if bytes_eq s.output path then created s else s)
+after (Truncate ∷ calls) s = after calls (record s { written = option_map (λ held. []) s.written })
 after (Write bytes ∷ calls) s =
     after calls (record s { written = option_map (λ held. held ++ bytes) s.written })
 after (Open path ∷ calls) s = after calls s

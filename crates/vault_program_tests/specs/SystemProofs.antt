@@ -4,15 +4,18 @@ use Rattle.std.specs.Option.{option_map}
 use Rattle.std.specs.Str.{bytes_eq}
 use Rattle.std.proofs.Common.{Some, Bool, ap, sym, ◌∙◌}
 use Rattle.vault_files.specs.System.{OpenCalls, SystemCall}
-use Rattle.vault_files.specs.System.SystemCall.{Open, Create, ChmodOwnerOnly, Write, Sync, Failed}
+use Rattle.vault_files.specs.System.SystemCall.{Open, Create, ChmodOwnerOnly, Truncate}
+use Rattle.vault_files.specs.System.SystemCall.{Write, Sync, Failed}
 use Rattle.vault_program_tests.specs.System.{SystemExecutes, SystemGives, SystemState, after}
-use Rattle.vault_program_tests.specs.System.{bytes_at}
+use Rattle.vault_program_tests.specs.System.{bytes_at, created}
 
 pub after-append : (xs ys : List SystemCall) (s : SystemState)
     → after (xs ++ ys) s ≡ after ys (after xs s)
 after-append [] ys s = refl
 after-append (Create path ∷ xs) ys s =
-    after-append xs ys (if bytes_eq s.output path then record s { written = Some [] } else s)
+    after-append xs ys (if bytes_eq s.output path then created s else s)
+after-append (Truncate ∷ xs) ys s =
+    after-append xs ys (record s { written = option_map (λ held. []) s.written })
 after-append (Write bytes ∷ xs) ys s =
     after-append xs ys (record s { written = option_map (λ held. held ++ bytes) s.written })
 after-append (Open path ∷ xs) ys s = after-append xs ys s
@@ -26,15 +29,17 @@ SystemExecutes-more s t u xs ys p q = q ∙ ap (after ys) p ∙ sym (after-appen
 
 -- creating a file leaves the others
 created-stay : (b : Bool) (s : SystemState)
-    → (if b then record s { written = Some [] } else s).files ≡ s.files
+    → (if b then created s else s).files ≡ s.files
 created-stay true s = refl
 created-stay false s = refl
 
 files-stay : (calls : List SystemCall) (s : SystemState) → (after calls s).files ≡ s.files
 files-stay [] s = refl
 files-stay (Create path ∷ calls) s =
-    files-stay calls (if bytes_eq s.output path then record s { written = Some [] } else s)
+    files-stay calls (if bytes_eq s.output path then created s else s)
     ∙ created-stay (bytes_eq s.output path) s
+files-stay (Truncate ∷ calls) s =
+    files-stay calls (record s { written = option_map (λ held. []) s.written })
 files-stay (Write bytes ∷ calls) s =
     files-stay calls (record s { written = option_map (λ held. held ++ bytes) s.written })
 files-stay (Open path ∷ calls) s = files-stay calls s

@@ -23,7 +23,7 @@ impl<'a> Model for SystemFile<'a> {
     ghost view = { λ f. record { path = f.path.now; bytes = f.bytes.now } };
 }
 
-/// Files, and one path at which another can be created. What that takes is not read back.
+/// Files, and one path at which another can be created. What that holds is not read back.
 #[derive(Drop)]
 pub struct MemSystem<'a> {
     files: &'a [SystemFile<'a>],
@@ -57,7 +57,7 @@ impl<'a> MemSystem<'a> {
         }
     }
 
-    /// What the file that was created has taken; None where none was.
+    /// What the file that was created holds; None where none was.
     pub fn into_written(self) -> Option<Vec<u8>> {
         self.written
     }
@@ -135,11 +135,20 @@ impl<'a> System for MemSystem<'a> {
         if self.output != path {
             return Err(ErrorKind::PermissionDenied.into());
         }
-        self.written = Some(Vec::new(self.alloc));
+        if self.written.is_none() {
+            self.written = Some(Vec::new(self.alloc));
+        }
         Ok(Created)
     }
 
     fn chmod_owner_only(&mut self, _file: &Created) -> io::Result<()> {
+        Ok(())
+    }
+
+    fn truncate(&mut self, _file: &Created) -> io::Result<()> {
+        if let Some(written) = &mut self.written {
+            written.clear();
+        }
         Ok(())
     }
 

@@ -35,7 +35,7 @@ impl<R: Files> System for &R {
 
     fn create(&mut self, path: &str) -> io::Result<R::File> {
         let mut options = OpenOptions::new();
-        options.write(true).create(true).truncate(true);
+        options.write(true).create(true);
         options.mode(OWNER_ONLY);
         options.open(*self, path)
     }
@@ -45,6 +45,13 @@ impl<R: Files> System for &R {
             return Ok(());
         }
         file.set_permissions(Permissions::from_mode(OWNER_ONLY))
+    }
+
+    fn truncate(&mut self, file: &R::File) -> io::Result<()> {
+        if !file.metadata()?.is_file() {
+            return Ok(());
+        }
+        file.set_len(0)
     }
 
     fn write(&mut self, file: &mut R::File, bytes: &[u8]) -> io::Result<usize> {
