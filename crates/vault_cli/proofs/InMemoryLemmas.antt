@@ -9,8 +9,9 @@ use Rattle.std.proofs.Math.Seq.{drop-append_seam}
 use Rattle.vault_text.specs.Sink.{MemSinkState, MemoryTakes, has_begun}
 use Rattle.vault_text.specs.Source.{MemSourceState, MemoryGives}
 use Rattle.vault_text.specs.declared.sink.Stage.TheVariants.{Unbegun}
-use Rattle.vault_files.specs.Memory.{IsReaderOf, Logs, ReaderState, StoreOpens, StoreState}
+use Rattle.vault_files.specs.Memory.{IsReaderOf, ReaderState, StoreOpens, StoreState}
 use Rattle.vault_files.specs.Memory.{StoreTakes, file_at, stands_at}
+use Rattle.vault_files.specs.PathLog.{LogState, logged}
 use Rattle.vault_files.specs.declared.access.Access.{Access}
 use Rattle.vault_fault.specs.declared.fault.Fault.{Fault}
 use Rattle.vault_fault.specs.declared.fault.Fault.TheVariants.{Memory, Write}
@@ -87,7 +88,7 @@ taken-left text input left limit ended e fits last (inl end) =
 taken-left text input left limit ended e fits last (inr exact) =
     rw (e, ← exact) (sym (drop-append_seam input left))
 
-module _ (result : Status) (files : Change StoreState) (log : Option (List (List ℕ)))
+module _ (result : Status) (files : Change StoreState) (log : Option LogState)
     (out err : Change MemSinkState) (unbegun : files.old.output.stage ≡ Unbegun)
     (empty : files.old.output.held ≡ []) (access : Access) where
   -- the files after the opens
@@ -206,7 +207,7 @@ module _ (result : Status) (files : Change StoreState) (src : Change MemSourceSt
       (answer_to requested found src.old.left)
       × (result ≢ OutOfMemory
       → Taken (stdin_needed requested found) src
-      × Logs files.old.log (opened_paths requested found) files.new.log)
+      × (files.new.log ≡ logged files.old.log (opened_paths requested found)))
   drives-in_memory (inl (same, unread, memory)) = (
     inr (inl (record {
       status = memory.status;
@@ -220,7 +221,8 @@ module _ (result : Status) (files : Change StoreState) (src : Change MemSourceSt
       let (went, ends) = drives-in (memory_store files) (memory_source src) (memory_sink out)
       (memory_sink err) result (file_at files.old.entries) opened requested seen all_found driven in
       -- after opens the files are those before, but for the log
-      let (so, taken, stays) = ends-given result files opened.log out err unbegun empty
+      let (so, taken, stays) = ends-given result files
+      (logged files.old.log (opened_paths requested found)) out err unbegun empty
       (access_of requested) (output_path requested) src not_ended (stdin_needed requested found)
-      (answer_to requested found) (answer-prefix requested found) (rw went.rest at ends) in
-      (so, λ fits. (taken, rw stays went.log))
+      (answer_to requested found) (answer-prefix requested found) (rw went at ends) in
+      (so, λ fits. (taken, stays))

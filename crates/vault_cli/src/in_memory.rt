@@ -2,7 +2,7 @@
 ghost use Rattle.std.specs.Prelude.{◌≡◌, ◌≢◌, [], false, map};
 ghost use Rattle.std.specs.String.{string_bytes};
 ghost use Rattle.clap.specs.Words.{fault_of};
-ghost use Rattle.vault_files.specs.Memory.{Logs};
+ghost use Rattle.vault_files.specs.PathLog.{logged};
 ghost use Rattle.vault_cli.specs.Call.{sink};
 ghost use Rattle.vault_command_line.specs.CommandLine.{vault_app};
 ghost use Rattle.vault_cli.specs.InMemory.{EndsInMemory, Taken, change, found_by};
@@ -20,7 +20,7 @@ use vault_text::{MemSink, MemSource, Sink, Stage};
 /// All that the program does, as `drive_over`, over files, an input and sinks in memory. The files
 /// that it finds are those at the paths of its arguments, so that arguments, files and
 /// input determine its answer. `MemFiles::content` and `MemSink::bytes` return what is held
-/// afterwards, and `MemFiles::log` which paths were opened.
+/// afterwards, and `MemFiles::log`, where `keep_log` has begun one, which paths were opened.
 pub fn drive_in_memory(
     files: &mut MemFiles<'_>,
     alloc: Global,
@@ -48,7 +48,7 @@ pub fn drive_in_memory(
     ensures opened { let texts = map string_bytes words.now in
         let paths = opened_paths (requested_by texts) (found_by files.old texts) in
         fault_of vault_app texts ≡ [] → result ≢ Status.OutOfMemory
-        → Logs files.old.log paths files.new.log }
+        → files.new.log ≡ logged files.old.log paths }
     ensures memory { result ≡ Status.OutOfMemory
         → (files.new ≡ files.old) × (src.new ≡ src.old) }
 

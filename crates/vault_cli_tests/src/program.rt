@@ -8,6 +8,10 @@ use vault_test_data::CountingReader;
 use vault_test_runs::{Left, Ran, run_program};
 use vault_text::Source;
 
+/// More than a run here opens, and the length of its longest path.
+const OPENS: usize = 20;
+const LONGEST_PATH: usize = 12;
+
 /// What a run left, and the paths that it opened, each with a space after it.
 #[derive(Drop)]
 pub struct Opened {
@@ -23,6 +27,7 @@ pub fn run_over<'a, S: Source>(
     src: &mut S,
 ) -> Result<Opened, Fail> {
     let mut files = MemFiles::new(alloc, entries);
+    files.keep_log(alloc, OPENS, LONGEST_PATH)?;
     let ran = run_program(alloc, &mut files, words, src)?;
     let log = files.log().ok_or("an open was not logged")?;
     let mut paths = String::new(alloc);

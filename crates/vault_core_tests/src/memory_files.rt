@@ -76,6 +76,7 @@ fn logs_each_open(rt: HostRuntime) -> Result<(), Fail> {
     let alloc = rt.alloc();
     let entries = [MemFile::whole("one", b"abc")];
     let mut files = MemFiles::new(alloc, &entries);
+    files.keep_log(alloc, 3, 4)?;
     let mut buf = [0; 4];
     let missing = Err(FileFault::CannotOpen);
     assert_reads(&rt, &mut files, "none", &mut buf, missing);
@@ -84,5 +85,22 @@ fn logs_each_open(rt: HostRuntime) -> Result<(), Fail> {
     files.set_output(String::from_str(alloc, "out")?, Access::Kept);
     write_new(&rt, &mut files, "out")?;
     assert!(rt; has_opened(&files, &["none", "one", "one"]));
+    Ok(())
+}
+
+#[test]
+fn ends_a_log_that_has_no_room(rt: HostRuntime) -> Result<(), Fail> {
+    let alloc = rt.alloc();
+    let mut files = MemFiles::new(alloc, &[]);
+    let missing = Err(FileFault::CannotOpen);
+    assert!(rt; files.log().is_none());
+    files.keep_log(alloc, 1, 4)?;
+    assert_reads(&rt, &mut files, "none", &mut [0; 1], missing);
+    assert!(rt; has_opened(&files, &["none"]));
+    assert_reads(&rt, &mut files, "one", &mut [0; 1], missing);
+    assert!(rt; files.log().is_none());
+    files.keep_log(alloc, 1, 3)?;
+    assert_reads(&rt, &mut files, "none", &mut [0; 1], missing);
+    assert!(rt; files.log().is_none());
     Ok(())
 }

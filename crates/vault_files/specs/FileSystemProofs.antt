@@ -1,15 +1,17 @@
 -- What readers give of their files, and what was opened in two calls, one after the other.
-use Rattle.std.specs.Prelude.{◌≡◌, ℕ, ◌<◌, ◌≤◌, nat_lt, ◌⊎◌, List, [], ◌++◌, length, take}
-use Rattle.std.specs.Prelude.{Bool, true, false, IsTrue, refl, Option, Some, None, Ok, Err}
-use Rattle.std.proofs.Common.{inl, inr, arith, sym, ap, ◌∙◌, append_assoc, length-append}
+use Rattle.std.specs.Prelude.{◌≡◌, ℕ, ◌<◌, ◌≤◌, nat_lt, ◌⊎◌, List, [], ◌∷◌, ◌++◌, length}
+use Rattle.std.specs.Prelude.{take, Bool, true, false, IsTrue, refl, Option, Ok, Err}
+use Rattle.std.specs.Option.{option_and_then}
+use Rattle.std.proofs.Common.{inl, inr, arith, sym, ap, ◌∙◌, length-append}
 use Rattle.std.proofs.Common.{rules, tests}
 use Rattle.std.proofs.lemmas.List.{append-nil, take_all, take-append-le}
 use Rattle.std.proofs.lemmas.Bool.{false≢true}
 use Rattle.vault_text.specs.Failures.{HasRisen}
 use Rattle.vault_files.specs.File.{Answers, FileState, prefix}
 use Rattle.vault_files.specs.File.FileState.{Missing, Whole, Broken}
-use Rattle.vault_files.specs.Memory.{IsAtEnd, IsReaderOf, Logs, ReaderState, Reads, StoreOpens}
+use Rattle.vault_files.specs.Memory.{IsAtEnd, IsReaderOf, ReaderState, Reads, StoreOpens}
 use Rattle.vault_files.specs.Memory.{StoreState, new_reader}
+use Rattle.vault_files.specs.PathLog.{LogState, logged, with_path}
 use Rattle.vault_files.specs.declared.fault.FileFault.TheVariants.{CannotRead}
 
 -- the first bytes of a file that begins with those that were given
@@ -79,24 +81,16 @@ pub break-found : (file : FileState) (r t : ReaderState) (xs : List ℕ) (n : �
 break-found file r t xs n opened gives short risen =
     record { file = file; found = refl; same = break-given file r t xs n opened gives short risen }
 
--- a log of no opens, and of opens after opens
-Logs-none : (log : Option (List (List ℕ))) → Logs log [] log
-Logs-none None = tt
-Logs-none (Some log) = sym (append-nil log)
-
-Logs-more : (a b c : Option (List (List ℕ))) (xs ys : List (List ℕ))
-    → Logs a xs b → Logs b ys c → Logs a (xs ++ ys) c
-Logs-more a b None xs ys p q = tt
-Logs-more a None (Some c) xs ys p q = absurd q
-Logs-more None (Some b) (Some c) xs ys p q = absurd p
-Logs-more (Some a) (Some b) (Some c) xs ys p q = rw (← append_assoc a xs ys) (rw p at q)
+-- a log after paths, and after those that follow them
+logged-append : (log : Option LogState) (xs ys : List (List ℕ))
+    → logged log (xs ++ ys) ≡ logged (logged log xs) ys
+logged-append log [] ys = refl
+logged-append log (path ∷ xs) ys =
+    logged-append (option_and_then (λ some. with_path some path) log) xs ys
 
 pub StoreOpens-none : (s : StoreState) → StoreOpens s [] s
-StoreOpens-none s = record { log = Logs-none s.log; rest = refl }
+StoreOpens-none s = refl
 
 pub StoreOpens-more : (s t u : StoreState) (xs ys : List (List ℕ))
     → StoreOpens s xs t → StoreOpens t ys u → StoreOpens s (xs ++ ys) u
-StoreOpens-more s t u xs ys p q = record {
-  log = Logs-more s.log t.log u.log xs ys p.log q.log;
-  rest = rw p.rest at q.rest;
-}
+StoreOpens-more s t u xs ys p q = rw (logged-append s.log xs ys) (rw p at q)

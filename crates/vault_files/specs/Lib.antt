@@ -1,4 +1,5 @@
 pub mod File
+pub mod PathLog
 pub mod Memory
 pub mod System
 pub mod Host

@@ -6,6 +6,7 @@ use Rattle.vault_text.specs.Sink.{MemSinkState, Takes, has_begun, state_of}
 use Rattle.vault_text.specs.declared.sink.Stage.TheVariants.{Unbegun}
 use Rattle.vault_files.specs.File.{FileState}
 use Rattle.vault_files.specs.File.FileState.{Missing, Whole, Broken}
+use Rattle.vault_files.specs.PathLog.{LogState, logged}
 
 -- a file in memory, under its path
 pub record Entry : Type 0 where
@@ -54,12 +55,12 @@ pub record Reads (old : ReaderState) (given : List ℕ) (new : ReaderState) : Ty
   pub failures_monotone : old.failures ≤ new.failures
 
 -- files in memory, the path of the output where one was chosen, what the output has taken, and the
--- paths that were opened, in their order, unless there was no memory to log one of them
+-- log of the paths that were opened, if one is kept and has room for all
 pub record StoreState : Type 0 where
   pub entries : List Entry
   pub output_file : Option (List ℕ)
   pub output : MemSinkState
-  pub log : Option (List (List ℕ))
+  pub log : Option LogState
 
 -- between two states the output took these bytes, and all else stayed
 pub record StoreTakes (old : StoreState) (taken : List ℕ) (new : StoreState) : Type 0 where
@@ -68,24 +69,17 @@ pub record StoreTakes (old : StoreState) (taken : List ℕ) (new : StoreState) :
   pub output_file : new.output_file ≡ old.output_file
   pub log : new.log ≡ old.log
 
--- these paths come after a log; it is lost where there was no memory for one of them
-abbrev pub Logs : Option (List (List ℕ)) → List (List ℕ) → Option (List (List ℕ)) → Type 0
-Logs old paths None = Unit {0}
-Logs None paths (Some new) = ⊥
-Logs (Some old) paths (Some new) = new ≡ old ++ paths
-
 -- between two states these paths were opened, in this order, and all else stayed
-pub record StoreOpens (old : StoreState) (paths : List (List ℕ)) (new : StoreState) : Type 0 where
-  pub log : Logs old.log paths new.log
-  pub rest : new ≡ record old { log = new.log }
+abbrev pub StoreOpens : StoreState → List (List ℕ) → StoreState → Type 0
+StoreOpens old paths new = new ≡ record old { log = logged old.log paths }
 
--- files of which none was opened yet, and whose output was not chosen
+-- files without a log, whose output was not chosen
 abbrev pub new_store : List Entry → StoreState
 new_store entries = record {
   entries = entries;
   output_file = None;
   output = record { held = []; stage = Unbegun; failures = 0; step = 2 ^ 64 - 1 };
-  log = Some [];
+  log = None;
 }
 
 -- whether the path is the one that was chosen for the output

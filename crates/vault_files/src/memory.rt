@@ -1,5 +1,6 @@
 //! Files in memory, for tests and for programs that embed this one.
 mod entry;
+mod path_log;
 mod reader;
 mod store;
 

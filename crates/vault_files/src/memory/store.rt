@@ -1,13 +1,15 @@
 //! All the files in memory of a run.
-ghost use Rattle.std.specs.Prelude.{◌≡◌, [], ◌∷◌, ◌++◌, MatchOption, IsErr, OnOk, OnErr, map};
+ghost use Rattle.std.specs.Prelude.{◌≡◌, [], ◌∷◌, Some, MatchOption, IsErr, OnOk, OnErr, map};
 ghost use Rattle.std.specs.Option.{option_map};
 ghost use Rattle.std.specs.String.{string_bytes};
 ghost use Rattle.vault_files.specs.File.FileState.{Missing};
 ghost use Rattle.vault_text.specs.Failures.{CountsFailure, IsSaturated};
 ghost use Rattle.vault_files.specs.Memory.{StoreOpens, StoreTakes, bytes_of, file_at};
 ghost use Rattle.vault_files.specs.Memory.{new_store, stands_at};
+ghost use Rattle.vault_files.specs.PathLog.{new_log};
 
 use super::entry::MemFile;
+use super::path_log::PathLog;
 use super::reader::MemFileReader;
 use crate::access::Access;
 use crate::fault::FileFault;
@@ -18,19 +20,17 @@ use vault_text::{MemSink, Sink, SinkFailed, Stage};
 
 /// Files in memory. Of two files under one path the first counts. What is written is at the
 /// path that was chosen, from `begin` on, in the place of what stood there; where none was chosen
-/// it is at no path. An allocation that fails counts as a failure of the output. A log keeps
-/// the paths that were opened, also those where no file was found, until there is no memory for one
-/// of them.
+/// it is at no path. An allocation that fails counts as a failure of the output. A log keeps the
+/// paths that were opened, also those where no file was found, as long as all of them have room.
 #[derive(Drop)]
 pub struct MemFiles<'a> {
     entries: &'a [MemFile<'a>],
     output_file: Option<String>,
     output: MemSink,
-    log: Option<Vec<String>>,
+    log: Option<PathLog>,
 }
 
 impl<'a> Model for MemFiles<'a> {
-    ghost use Rattle.std.specs.Prelude.{map};
     ghost use Rattle.std.specs.Option.{option_map};
     ghost use Rattle.std.specs.String.{string_bytes};
     ghost use Rattle.vault_files.specs.Memory.{StoreState};
@@ -41,12 +41,12 @@ impl<'a> Model for MemFiles<'a> {
       entries = s.entries.now;
       output_file = option_map string_bytes s.output_file;
       output = s.output;
-      log = option_map (λ log. map string_bytes log.items) s.log;
+      log = s.log;
     } };
 }
 
 impl<'a> MemFiles<'a> {
-    /// These files, and an output that was not chosen yet.
+    /// These files, without a log, and an output that was not chosen yet.
     pub fn new(alloc: Global, entries: &'a [MemFile<'a>]) -> Self
         ensures { result ≡ new_store entries.now }
     {
@@ -54,7 +54,7 @@ impl<'a> MemFiles<'a> {
             entries,
             output_file: None,
             output: MemSink::new(alloc, usize::MAX),
-            log: Some(Vec::new(alloc)),
+            log: None,
         }
     }
 
@@ -69,31 +69,39 @@ impl<'a> MemFiles<'a> {
         }
     }
 
-    /// The paths that were opened, in their order; None where there was no memory for one of them.
-    pub fn log(&self) -> Option<&[String]>
-        ensures { option_map (λ log. map string_bytes log.now) result ≡ self.now.log }
+    /// Begins a log with room for this many paths, each of at most `longest` bytes.
+    pub fn keep_log(
+        &mut self,
+        alloc: Global,
+        count: usize,
+        longest: usize,
+    ) -> Result<(), AllocError>
+        ensures begun { OnOk result
+            (self.new ≡ record self.old { log = Some (new_log count longest) }) }
+        ensures refused { OnErr result (self.new ≡ self.old) }
     {
-        self.log.as_ref().map(|log| log.as_slice())
+        self.log = Some(PathLog::new(alloc, count, longest)?);
+        Ok(())
+    }
+
+    /// The paths that were opened since the log was begun, in their order; None where there is no
+    /// log, or it had no room for one of them.
+    pub fn log(&self) -> Option<&[String]>
+        ensures { option_map (λ log. map string_bytes log.now) result
+            ≡ option_map (λ log. log.paths) self.now.log }
+    {
+        self.log.as_ref().map(|log| log.paths())
     }
 
     /// Logs an open.
     fn note(&mut self, path: &str)
         ensures { StoreOpens self.old (path.now ∷ []) self.new }
     {
-        if let Some(mut log) = self.log.take()
-            && push_path(&mut log, path).is_ok()
-        {
-            self.log = Some(log);
-        }
+        self.log = match self.log.take() {
+            Some(log) => log.with(path),
+            None => None,
+        };
     }
-}
-
-fn push_path(log: &mut Vec<String>, path: &str) -> Result<(), AllocError>
-    ensures { OnOk result
-        (map string_bytes log.new.items ≡ map string_bytes log.old.items ++ path.now ∷ []) }
-{
-    log.push(String::from_str(*log.allocator(), path)?)?;
-    Ok(())
 }
 
 /// The first file under a path.
@@ -174,13 +182,13 @@ impl<'a> FileSystem for MemFiles<'a> {
 
     ghost opens_more = { StoreOpens-more };
 
-    ghost opens_stage = { λ s t paths opens. rw opens.rest refl };
+    ghost opens_stage = { λ s t paths opens. rw opens refl };
 
-    ghost opens_failures = { λ s t paths opens. rw opens.rest refl };
+    ghost opens_failures = { λ s t paths opens. rw opens refl };
 
-    ghost opens_finds = { λ s t paths path file opens found. rw opens.rest at found };
+    ghost opens_finds = { λ s t paths path file opens found. rw opens at found };
 
-    ghost opens_reader = { λ s t paths path reader opens opened. rw opens.rest at opened };
+    ghost opens_reader = { λ s t paths path reader opens opened. rw opens at opened };
 
     ghost finds_some = { λ s path. (file_at s.entries path, refl) };
 
