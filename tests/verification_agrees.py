@@ -23,7 +23,7 @@ BLOCK = re.compile(r"^```rust\n(.*?)^```$", re.MULTILINE | re.DOTALL)
 # What stands in the document, and the file that it is from: the groups of the pattern, or all of it.
 SHOWN = {
     "the contract of drive_over": ("crates/vault_cli/src/program.rt", r"^pub fn drive_over\b.*?(?=^\{)"),
-    "main": ("crates/ansible_vault/src/main.rt", r"^fn main\b.*?^\}"),
+    "the program itself": ("crates/ansible_vault/src/main.rt", r"^/// The arguments\..*"),
     "the body of drive": ("crates/vault_cli/src/system.rt", r"(^pub fn drive\b.*?\) -> Status\n).*?(^\{.*?^\})"),
     "the system of the runtime": ("crates/vault_files/src/system/runtime.rt", r"^const OWNER_ONLY.*"),
 }

@@ -1,0 +1,116 @@
+"""Under a stack that is too small a run ends by a signal before it opens a file, so that each file is as it was.
+
+Arguments and environment variables are on the stack, too. Each run has the file that it replaces as its FILE.
+"""
+
+import errno
+import resource
+import subprocess
+from pathlib import Path
+from typing import NamedTuple
+
+import pytest
+
+from cases import SECONDS, TEXT, Cases, by_file
+from cases.samples import Sample, samples
+
+KIB = 1 << 10
+PAGE = resource.getpagesize()
+# Every run ends well in this much, whatever its arguments and environment variables here.
+ENOUGH = 512 * KIB
+# What is tried below the least stack in which a run ends well: every page of so much.
+BELOW = 100 * KIB
+ABOVE = 64 * KIB
+ENVIRONMENT = [0, 40_000, 80_000, 120_000]
+# Of a path, and of the password files of a run.
+LONGEST_PATH = 4_000
+MOST_FILES = 16
+
+
+class Run(NamedTuple):
+    """A command with its arguments and environment variables, and the file that it replaces."""
+
+    words: list[str]
+    environment: dict[str, str]
+    path: Path
+    before: bytes
+    after: bytes
+
+    def outcome(self, program: str, stack: int) -> str:
+        """Whether the run ended well, or by a signal with the file as it was; or what it left."""
+        self.path.write_bytes(self.before)
+        status, left = self.status(program, stack), self.path.read_bytes()
+        if status == 0 and left == self.after:
+            return "whole"
+        return "untouched" if status < 0 and left == self.before else f"status {status}, {left[:80]!r}"
+
+    def status(self, program: str, stack: int) -> int:
+        """The exit status, negative after a signal and where the system does not start the program."""
+        limits = (stack, resource.RLIM_INFINITY)
+        try:
+            return subprocess.run(
+                [program, *self.words], env=self.environment, capture_output=True, timeout=SECONDS,
+                preexec_fn=lambda: resource.setrlimit(resource.RLIMIT_STACK, limits),
+            ).returncode
+        except OSError as error:
+            if error.errno != errno.E2BIG:
+                raise
+            return -errno.E2BIG
+
+    def least(self, program: str) -> int:
+        """The least stack, in pages, in which the run ends well."""
+        low, high = 1, ENOUGH // PAGE
+        while low < high:
+            middle = (low + high) // 2
+            if self.outcome(program, middle * PAGE) == "whole":
+                high = middle
+            else:
+                low = middle + 1
+        return low * PAGE
+
+
+def in_place(cases: Cases, sample: Sample, environment: int) -> Run:
+    """The sample, whose FILE or STRING is replaced by what it writes."""
+    path, before = Path(cases.file(sample.stdin)), sample.stdin
+    if sample.command == "encrypt_string":
+        words = [*("--name" if word == "--stdin-name" else word for word in sample.words), sample.stdin.decode()]
+    else:
+        words = [*sample.words, str(path)]
+    is_written = sample.command != "view"
+    return Run(
+        [*words, "--output", str(path)] if is_written else words, {"X": "x" * environment} if environment else {},
+        path, before, sample.output if is_written else before,
+    )
+
+
+def with_long_words(run: Run, name: str, right: str) -> Run:
+    """The same with as many password files as a run may have, at long paths."""
+    padding = "/." * ((LONGEST_PATH - len(right)) // 2)
+    long_path = str(Path(right).parent) + padding + "/" + Path(right).name
+    chosen = ["--encrypt-vault-id", "default"] if name.startswith("encrypt") else []
+    return run._replace(words=[*run.words, *chosen, *by_file(long_path) * (MOST_FILES - 1)])
+
+
+def check_each_stack(cases: Cases, name: str, run: Run) -> None:
+    least = run.least(cases.program)
+    assert PAGE < least < ENOUGH, name
+    stacks = [*range(max(PAGE, least - BELOW), least, PAGE), *range(least, ENOUGH + 1, ABOVE)]
+    outcomes = {stack // KIB: run.outcome(cases.program, stack) for stack in stacks}
+    wrong = {stack: found for stack, found in outcomes.items() if found not in ("whole", "untouched")}
+    assert not wrong, f"{name}, by KiB of stack"
+    assert outcomes[stacks[-1] // KIB] == "whole", name
+
+
+@pytest.mark.parametrize("environment", ENVIRONMENT)
+def test_small_stacks(cases: Cases, environment: int) -> None:
+    for sample in samples(cases, TEXT * 2_000):
+        check_each_stack(cases, sample.command, in_place(cases, sample, environment))
+
+
+def test_small_stacks_with_long_words(cases: Cases) -> None:
+    right = cases.file(b"right\n")
+    for sample in samples(cases):
+        run = with_long_words(in_place(cases, sample, 0), sample.command, right)
+        check_each_stack(cases, f"{sample.command} with long words", run)
+    sample = next(each for each in samples(cases, b"x" * 120_000) if each.command == "encrypt_string")
+    check_each_stack(cases, "encrypt_string of a long STRING", in_place(cases, sample, 0))
