@@ -14,7 +14,10 @@ from ansible_vault_companions.yaml_values import Style, Value
 
 # How many columns an envelope stands to the right of its key, as Ansible's tool writes it.
 INDENTATION = 10
-BODY = re.compile(rb"\r?\n(?P<spaces> *)")
+# How the first line of a body that is not empty is indented.
+INDENTED = re.compile(rb"\s*[\r\n](?P<spaces> *)")
+# Ends of lines that YAML has as characters of a text.
+SEPARATOR = re.compile(rb"\xe2\x80[\xa8\xa9]")
 
 
 class Change(NamedTuple):
@@ -40,7 +43,7 @@ def replacement(value: Value, header: bytes, body: bytes, end: int) -> list[Chan
 
 def line_end(data: bytes, place: int) -> bytes:
     """How a line ends that ends here."""
-    return b"\r\n" if data.startswith(b"\r\n", place) else b"\n"
+    return re.compile(rb"\r\n?|").match(data, place)[0] or b"\n"
 
 
 def named(value: Value) -> str:
@@ -68,14 +71,16 @@ class Block:
     def replace(self, value: Value, envelope: bytes) -> list[Change]:
         """Another envelope where a value stands."""
         header = self.header if value.column == self.value.column else b"|"
-        found = BODY.match(self.body)
+        found = INDENTED.match(self.body)
         indentation = len(found["spaces"]) - max(self.value.column, 0)
         return replacement(value, header, _body(value, envelope, indentation, line_end(self.body, 0)), value.end)
 
 
-def new_block(value: Value, envelope: bytes, end: bytes) -> list[Change]:
+def new_block(data: bytes, value: Value, envelope: bytes) -> list[Change]:
     """An envelope in the place of a value that was none."""
-    return replacement(value, b"|", _body(value, envelope, INDENTATION, end), value.end)
+    header = b"|-" if SEPARATOR.match(data, value.end) else b"|"
+    body = _body(value, envelope, INDENTATION, line_end(data, value.line_end))
+    return replacement(value, header, body, value.end)
 
 
 def _body(value: Value, envelope: bytes, indentation: int, end: bytes) -> bytes:

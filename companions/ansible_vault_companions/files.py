@@ -26,6 +26,7 @@ also within another text; and in the plaintext of a vault. An envelope in
 another form (quotes, JSON, comments, tabs, `!vault >`, UTF-16, after a byte
 order mark) is reported as a failure, with what to do."""
 
+Item = TypeVar("Item")
 Result = TypeVar("Result")
 
 
@@ -64,13 +65,13 @@ def _candidates(path: str, refuse: Callable[[str, Exception], None]) -> Iterator
 
 
 def work_on(
-    files: Iterable[str], jobs: int, work: Callable[[str], Result], take: Callable[[Result], None]
+    items: Iterable[Item], jobs: int, work: Callable[[Item], Result], take: Callable[[Result], None]
 ) -> None:
-    """Processes several files at once, and takes the results in order. If that is ended early, the files in process
-    are finished, and no other is begun."""
+    """Processes several files, or parts of one, at once, and takes the results in order. If that is ended early, those
+    in process are finished, and no other is begun."""
     with ThreadPoolExecutor(jobs) as pool:
         # It cancels the others when it is left.
-        for result in pool.map(work, files):
+        for result in pool.map(work, items):
             take(result)
 
 

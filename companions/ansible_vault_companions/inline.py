@@ -10,13 +10,14 @@ from collections import Counter
 from dataclasses import dataclass, field
 from typing import Callable, NamedTuple
 
-from ansible_vault_companions import blocks, literals, matching
+from ansible_vault_companions import blocks, files, literals, matching
 from ansible_vault_companions.blocks import Change, Decrypted, named
 from ansible_vault_companions.matching import Choice, Typed
 from ansible_vault_companions.program import Refused
 from ansible_vault_companions.secret_files import Secret
 from ansible_vault_companions.tool import Tool
-from ansible_vault_companions.yaml_values import SPACES, Scan, Value, scan
+from ansible_vault_companions.yaml_nodes import NotYaml
+from ansible_vault_companions.yaml_values import Scan, Value
 
 # Decrypts an envelope.
 Decrypt = Callable[[bytes], tuple[Secret, bytes]]
@@ -26,11 +27,13 @@ INDENTATION = 2
 # What the comments of an edit begin with.
 NOTE = b"# ansible-vault: "
 # What may follow a value: empty lines, and a comment before all else.
+SPACES = re.compile(rb" *")
 EMPTY_LINE = re.compile(rb"\r?\n[ \t]*\r?\n")
 COMMENT = re.compile(rb"(?:[ \t]*\r?\n)+(?P<spaces> *)#")
 
 JOINED = "it is empty, and the comment below would become its text"
 HIDDEN = "`!vault` within a comment or another text is no tag, and what follows it would stay in plaintext"
+NO_PLACE = "there is no place for a block after `!vault`; is there a tab in an empty line?"
 
 
 class StillEncrypted(NamedTuple):
@@ -97,38 +100,43 @@ def _named(value: Value) -> bytes:
 
 def showing(data: bytes, decrypt: Decrypt, with_notes: bool) -> Showing:
     """A file with its values in plaintext. Notes say which of them stay encrypted."""
-    made = Showing(data, scan(data), NOTE if with_notes else b"")
+    made = Showing(data, Scan(data), NOTE if with_notes else b"")
     while made.note and made.note in data:
         made.note = b"#" + made.note
-    for value in made.found.values:
-        if not blocks.is_envelope(value):
-            continue
+    vaults = [value for value in made.found.values if blocks.is_envelope(value)]
+    decrypted: list[Decrypted | Refused] = []
+    files.work_on(vaults, files.processors(), lambda value: _decrypted(data, value, decrypt), decrypted.append)
+    for value, each in zip(vaults, decrypted):
         try:
-            made.show(_decrypted(data, value, decrypt))
+            if isinstance(each, Refused):
+                raise each
+            made.show(each)
         except Refused as fault:
             made.keep_encrypted(value, str(fault))
-    if [value.content for value in scan(made.text()).values] != made.contents():
+    if [value.content for value in Scan(made.text()).values] != made.contents():
         raise Refused("its values cannot be shown as literals of YAML")
     return made
 
 
-def _decrypted(data: bytes, value: Value, decrypt: Decrypt) -> Decrypted:
-    block = blocks.block_of(data, value)
-    secret, plaintext = decrypt(block.envelope)
+def _decrypted(data: bytes, value: Value, decrypt: Decrypt) -> Decrypted | Refused:
+    """A value in plaintext, or why it stays encrypted."""
+    try:
+        block = blocks.block_of(data, value)
+        secret, plaintext = decrypt(block.envelope)
+    except Refused as fault:
+        return fault
     if "@" in block.label:
-        raise Refused(f"no option can give the label {block.label}, which has an @")
+        return Refused(f"no option can give the label {block.label}, which has an @")
     why = literals.obstacle(plaintext)
-    if why:
-        raise Refused(why)
-    return Decrypted(block, secret, plaintext)
+    return Refused(why) if why else Decrypted(block, secret, plaintext)
 
 
 def encrypted(shown: Showing, text: bytes, tool: Tool, choice: Choice) -> bytes:
     """The file for an edited text."""
-    found = scan(text)
+    found = Scan(text)
     _check_hidden(shown.found, found)
     typed = [Typed(value, _plain(value)) for value in found.values if not blocks.is_envelope(value)]
-    changes = [Change(start, end, b"") for start, end in found.comments if _is_note(shown, text[start:end])]
+    changes = [Change(start, end, b"") for start, end in found.comments(shown.note.strip().decode())]
     for (value, plaintext), action in zip(typed, matching.actions(shown.decrypted, typed, choice)):
         if action.key is None:
             changes += action.block.block.in_place_of(value)
@@ -137,10 +145,22 @@ def encrypted(shown: Showing, text: bytes, tool: Tool, choice: Choice) -> bytes:
         if action.block:
             changes += action.block.block.replace(value, envelope)
         else:
-            changes += blocks.new_block(value, envelope, blocks.line_end(text, value.line_end))
+            changes += blocks.new_block(text, value, envelope)
     after = blocks.changed(text, changes)
-    has_end_of_ours = any(map(shown.needs_final_newline, shown.decrypted))
-    return after.removesuffix(b"\n").removesuffix(b"\r") if has_end_of_ours else after
+    if any(map(shown.needs_final_newline, shown.decrypted)):
+        after = after.removesuffix(b"\n").removesuffix(b"\r")
+    _check_encrypted(after, len(found.values))
+    return after
+
+
+def _check_encrypted(data: bytes, count: int) -> None:
+    """Refuses what is not read as it was meant."""
+    try:
+        encrypted = list(map(blocks.is_envelope, Scan(data).values))
+    except NotYaml:
+        encrypted = []
+    if encrypted != [True] * count:
+        raise Refused(NO_PLACE)
 
 
 def _plain(value: Value) -> bytes:
@@ -150,14 +170,10 @@ def _plain(value: Value) -> bytes:
         raise Refused(f"line {value.line}: {named(value)} {fault}") from None
 
 
-def _is_note(shown: Showing, line: bytes) -> bool:
-    return bool(shown.note) and line.strip().startswith(shown.note.strip())
-
-
 def _check_hidden(before: Scan, after: Scan) -> None:
     """Refuses a tag that was typed where it is none."""
-    known = Counter(each.text for each in before.hidden)
-    for each in after.hidden:
+    known = Counter(each.text for each in before.hidden())
+    for each in after.hidden():
         known[each.text] -= 1
         if known[each.text] < 0:
             raise Refused(f"line {each.line}: {HIDDEN}")

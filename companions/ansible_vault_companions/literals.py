@@ -9,7 +9,7 @@ import re
 
 from ansible_vault_companions.envelopes import MAGIC
 from ansible_vault_companions.program import Refused
-from ansible_vault_companions.yaml_values import Style, Value
+from ansible_vault_companions.yaml_values import LINE_END, Style, Value
 
 # What YAML has in no text, or would take for the end of a line.
 UNSHOWN = re.compile("[^\t\n\x20-\x7e\xa0-\u2027\u202a-\ud7ff\ue000-\ufefe\uff00-\ufffd\U00010000-\U0010ffff]")
@@ -30,29 +30,6 @@ FOLDED = "is a folded scalar (`>`); write `!vault |-`, and its lines below"
 NOTHING = 'is missing after `!vault`; write `""` for an empty one'
 NO_TEXT = "is not a string: a list, a mapping, a key or an alias"
 SURROGATE = "has an escape for half of a character; write the character"
-STRANGE_ESCAPE = "has an escape that YAML does not have"
-
-ESCAPE = re.compile(r"\\(x[0-9a-fA-F]{2}|u[0-9a-fA-F]{4}|U[0-9a-fA-F]{8}|.)", re.DOTALL)
-ESCAPES = {
-    "0": "\0",
-    "a": "\a",
-    "b": "\b",
-    "t": "\t",
-    "\t": "\t",
-    "n": "\n",
-    "v": "\v",
-    "f": "\f",
-    "r": "\r",
-    "e": "\x1b",
-    " ": " ",
-    '"': '"',
-    "/": "/",
-    "\\": "\\",
-    "N": "\x85",
-    "_": "\xa0",
-    "L": "\u2028",
-    "P": "\u2029",
-}
 
 
 def obstacle(text: bytes) -> str:
@@ -90,48 +67,20 @@ def lines(text: bytes, spaces: int, end: bytes) -> bytes:
 
 
 def plain(value: Value) -> bytes:
-    """The text that a value stands for."""
+    """The text of a value that is to be encrypted."""
+    written = value.written.replace(b"\r\n", b"\n").replace(b"\r", b"\n")
     faults = {
         NOTHING: value.style is Style.NOTHING,
         NO_TEXT: value.style is Style.NO_TEXT,
         IN_FLOW: value.in_flow,
         FOLDED: value.style is Style.FOLDED,
         BELOW: value.is_below,
-        SEVERAL_LINES: value.style is not Style.LITERAL and b"\n" in value.content,
+        SEVERAL_LINES: value.style is not Style.LITERAL and LINE_END.search(written),
+        "is not UTF-8": obstacle(written) == NOT_UTF_8,
+        BY_ESCAPES: obstacle(written) == CONTROL,
+        SURROGATE: obstacle(value.content) == NOT_UTF_8,
     }
-    fault = next((what for what, holds in faults.items() if holds), None)
-    if fault is None and obstacle(value.content) == NOT_UTF_8:
-        fault = "is not UTF-8"
-    elif fault is None and obstacle(value.content):
-        fault = BY_ESCAPES
-    if fault:
-        raise Refused(fault)
-    return _unquoted(value)
-
-
-def _unquoted(value: Value) -> bytes:
-    if value.style is Style.SINGLE:
-        return value.content[1:-1].replace(b"''", b"'")
-    if value.style is Style.DOUBLE:
-        text = ESCAPE.sub(_unescaped, value.content[1:-1].decode())
-        try:
-            return text.encode()
-        except UnicodeEncodeError:
-            raise Refused(SURROGATE) from None
+    for fault, holds in faults.items():
+        if holds:
+            raise Refused(fault)
     return value.content
-
-
-def _unescaped(found: re.Match[str]) -> str:
-    code = found[1]
-    if len(code) > 1:
-        return _character(int(code[1:], 16))
-    if code not in ESCAPES:
-        raise Refused(STRANGE_ESCAPE)
-    return ESCAPES[code]
-
-
-def _character(number: int) -> str:
-    try:
-        return chr(number)
-    except (ValueError, OverflowError):
-        raise Refused(STRANGE_ESCAPE) from None

@@ -20,7 +20,7 @@ from ansible_vault_companions.envelopes import MAGIC, label_of
 from ansible_vault_companions.program import Refused
 from ansible_vault_companions.secret_files import Secret
 from ansible_vault_companions.tool import Tool
-from ansible_vault_companions.yaml_values import Style, scan
+from ansible_vault_companions.yaml_values import Scan, Style
 
 # What git names the sides of a conflict by.
 SIDES = ("ours", "base", "theirs")
@@ -146,7 +146,7 @@ class Values:
 
     def _side(self, data: bytes) -> _Side:
         try:
-            found = [value for value in scan(data).values if value.style is Style.LITERAL]
+            found = [value for value in Scan(data).values if value.style is Style.LITERAL]
         except Refused:
             # It is merged as any text.
             return _Side(data, [])

@@ -90,10 +90,6 @@ class Tool:
         """The plaintext under a secret and this label."""
         return self.run(["encrypt", secret.option(label=label)], plaintext, [secret])
 
-    def rekey(self, envelope: bytes, old: Secret, new: Secret) -> bytes:
-        """The same plaintext under a new secret."""
-        return self.run(["rekey", old.option(), new.option("--new-vault-id")], envelope, [old, new])
-
 
 def _refusal(done: subprocess.CompletedProcess) -> Refused:
     if done.returncode < 0:

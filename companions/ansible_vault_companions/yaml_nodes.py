@@ -1,10 +1,10 @@
-"""The nodes of a YAML text as PyYAML reads them, with which Ansible reads its files, and the bytes of each."""
+"""The nodes of a YAML text as PyYAML reads them, with which Ansible reads its files."""
 
 from __future__ import annotations
 
 import re
 import sys
-from typing import Iterator, NamedTuple, Tuple, Union
+from typing import Collection, Iterator, NamedTuple, Tuple, Union
 
 from ansible_vault_companions.envelopes import MAGIC
 from ansible_vault_companions.program import Refused
@@ -33,28 +33,25 @@ class NotYaml(Refused):
 class NoPyYaml(Refused):
     """PyYAML is not installed."""
 
-    def __init__(self) -> None:
-        super().__init__(NO_PYYAML)
-
 
 class Node(NamedTuple):
     """A scalar, an alias, or the beginning of a collection."""
 
     # What leads to it; the path of a key ends with the key itself.
     path: Path
+    is_key: bool
     tag: str | None
     style: str
     # Of a scalar, or of the one that an alias stands for.
     text: str
-    # Offsets of bytes, from its tag or anchor to its end. A block scalar ends below the empty lines that follow it.
+    # Its characters, from its tag or anchor on. A block scalar ends below the empty lines that follow it.
     start: int
     end: int
-    # Of its start, from 1.
+    # Where it starts, and where it ends; lines are counted from 1.
     line: int
-    # Of the block collection that it is in; -1 where it is in none.
     column: int
-    in_flow: bool
-    is_key: bool
+    last_line: int
+    container: Container
 
     @property
     def is_value(self) -> bool:
@@ -66,10 +63,99 @@ class Node(NamedTuple):
         return self.tag in TAGS and self.text.lstrip().startswith(MAGIC.decode())
 
 
-def nodes(data: bytes) -> list[Node]:
-    """All nodes in their order. Bytes that YAML has in no text are read as U+FFFD."""
-    text = data.decode(errors="surrogateescape")
-    return list(_Reader(text).nodes())
+class Container:
+    """A mapping or a list; or a document, which has a single node, to which nothing leads."""
+
+    __slots__ = ("path", "style", "column", "in_flow", "is_key", "key", "count")
+
+    def __init__(self, path: Path, style: str | None, column: int, in_flow: bool, is_key: bool) -> None:
+        self.path = path
+        self.style = style
+        # That of its keys or dashes; in flow style, that of the collection around it. -1 for a document.
+        self.column = column
+        self.in_flow = in_flow
+        # Whether it is part of a key.
+        self.is_key = is_key
+        # The key whose value comes next; None where a key does.
+        self.key: str | None = None
+        self.count = 0
+
+    def next(self, text: str) -> tuple[Path, bool]:
+        """The path of its next node, which has this text, and whether it is a key. A key that is a collection has no
+        text."""
+        if self.style is MAPPING:
+            if self.key is None:
+                self.key = text
+                return (*self.path, text), True
+            key, self.key = self.key, None
+            return (*self.path, key), self.is_key
+        if self.style is LIST:
+            self.count += 1
+            return (*self.path, self.count - 1), self.is_key
+        return (), False
+
+
+def decoded(data: bytes) -> str:
+    """The characters that the places of nodes count. Each byte that is no UTF-8 is one."""
+    return data.decode(errors="surrogateescape")
+
+
+def nodes(data: bytes, tags: Collection[str] = ()) -> Iterator[Node]:
+    """All nodes in their order, or those with one of some tags. What YAML has in no text is read as U+FFFD."""
+    yaml = _pyyaml()
+    text = decoded(data)
+    content = text.lstrip(BYTE_ORDER_MARK)
+    skipped = len(text) - len(content)
+    containers = [Container((), None, -1, False, False)]
+    # By anchors: tags and texts of scalars.
+    anchored: dict[str, tuple[str | None, str]] = {}
+    beginnings = {yaml.MappingStartEvent: MAPPING, yaml.SequenceStartEvent: LIST}
+    ends = (yaml.MappingEndEvent, yaml.SequenceEndEvent)
+    for event in _events(yaml, UNREADABLE.sub(REPLACEMENT, content)):
+        kind = type(event)
+        if kind is yaml.ScalarEvent:
+            tag, style, value = event.tag, event.style or PLAIN, event.value
+            if event.anchor:
+                anchored[event.anchor] = (tag, value)
+        elif kind in beginnings:
+            tag, style, value = event.tag, beginnings[kind], ""
+        elif kind is yaml.AliasEvent:
+            style = ALIAS
+            tag, value = anchored.get(event.anchor, (None, ""))
+        else:
+            if kind in ends:
+                containers.pop()
+            continue
+        around = containers[-1]
+        path, is_key = around.next(value)
+        if tag in tags or not tags:
+            start, end = event.start_mark, event.end_mark
+            places = (start.index + skipped, end.index + skipped, start.line + 1, start.column, end.line + 1)
+            yield Node(path, is_key, tag, style, value, *places, around)
+        if kind in beginnings:
+            column = around.column if event.flow_style else _column(content, style, event.end_mark)
+            containers.append(Container(path, style, column, bool(event.flow_style), is_key))
+
+
+def _column(text: str, style: str, mark) -> int:
+    """That of a collection in block style. The event of its beginning ends at the first key or dash; or behind the
+    dash, if that is in the column of the key above."""
+    return mark.column if style is MAPPING or text.startswith("-", mark.index) else mark.column - 1
+
+
+def _events(yaml, text: str) -> Iterator:
+    try:
+        yield from yaml.parse(text, getattr(yaml, "CSafeLoader", yaml.SafeLoader))
+    except yaml.MarkedYAMLError as fault:
+        raise NotYaml(_explained(fault)) from None
+    except yaml.YAMLError as fault:
+        raise NotYaml(f"it cannot be read as YAML: {fault}") from None
+
+
+def _explained(fault) -> str:
+    mark = fault.context_mark if fault.context in BEGIN_EARLIER else fault.problem_mark
+    context = f" {fault.context}" if fault.context else ""
+    return f"line {mark.line + 1}: it cannot be read as YAML: {fault.problem}{context}"
 
 
 def _pyyaml():
@@ -82,128 +168,5 @@ def _pyyaml():
             site.main()
         import yaml
     except ImportError:
-        raise NoPyYaml from None
+        raise NoPyYaml(NO_PYYAML) from None
     return yaml
-
-
-class _Collection:
-    """One that goes on, and what leads to its next node."""
-
-    __slots__ = ("path", "column", "in_flow", "is_mapping", "is_key", "key", "count")
-
-    def __init__(self, path: Path, column: int, in_flow: bool, is_mapping: bool, is_key: bool) -> None:
-        self.path = path
-        self.column = column
-        self.in_flow = in_flow
-        self.is_mapping = is_mapping
-        # Whether it is part of a key.
-        self.is_key = is_key
-        # The key whose value comes next; None where a key does.
-        self.key: str | None = None
-        self.count = 0
-
-    def next(self, text: str) -> tuple[Path, bool]:
-        """The path of the next node, which has this text, and whether it is a key. A key that is a collection has no
-        text."""
-        if not self.is_mapping:
-            self.count += 1
-            return (*self.path, self.count - 1), self.is_key
-        if self.key is None:
-            self.key = text
-            return (*self.path, text), True
-        key, self.key = self.key, None
-        return (*self.path, key), self.is_key
-
-
-class _Document(_Collection):
-    """What a document or the whole text is in, where nothing leads to a node."""
-
-    def __init__(self) -> None:
-        super().__init__((), -1, False, False, False)
-
-    def next(self, text: str) -> tuple[Path, bool]:
-        return (), False
-
-
-class _Reader:
-    def __init__(self, text: str) -> None:
-        self.yaml = _pyyaml()
-        self.text = text
-        self.is_ascii = text.isascii()
-        self.loader = getattr(self.yaml, "CSafeLoader", self.yaml.SafeLoader)
-        # libyaml does not count a byte order mark.
-        is_counted = self.loader is self.yaml.SafeLoader or not text.startswith(BYTE_ORDER_MARK)
-        self.uncounted = 0 if is_counted else 1
-        # A place by characters and by bytes, from which the next one is counted.
-        self.last = (0, 0)
-        # By anchors: tags and texts of scalars.
-        self.anchored: dict[str, tuple[str | None, str]] = {}
-        self.stack: list[_Collection] = [_Document()]
-
-    def nodes(self) -> Iterator[Node]:
-        events = self.yaml.events
-        for event in self._events():
-            kind = type(event)
-            if kind is events.ScalarEvent:
-                if event.anchor:
-                    self.anchored[event.anchor] = (event.tag, event.value)
-                yield self._node(event, event.tag, event.style or PLAIN, event.value)
-            elif kind is events.AliasEvent:
-                tag, text = self.anchored.get(event.anchor, (None, ""))
-                yield self._node(event, tag, ALIAS, text)
-            elif kind in (events.MappingStartEvent, events.SequenceStartEvent):
-                yield self._collection(event, kind is events.MappingStartEvent)
-            elif kind in (events.MappingEndEvent, events.SequenceEndEvent):
-                self.stack.pop()
-            elif kind is events.DocumentStartEvent:
-                self.anchored = {}
-
-    def _events(self) -> Iterator:
-        try:
-            yield from self.yaml.parse(UNREADABLE.sub(REPLACEMENT, self.text), self.loader)
-        except self.yaml.MarkedYAMLError as fault:
-            raise NotYaml(_explained(fault)) from None
-        except self.yaml.YAMLError as fault:
-            raise NotYaml(f"it cannot be read as YAML: {fault}") from None
-
-    def _collection(self, event, is_mapping: bool) -> Node:
-        outer = self.stack[-1]
-        node = self._node(event, event.tag, MAPPING if is_mapping else LIST, "")
-        in_flow = bool(event.flow_style)
-        column = outer.column if in_flow else self._column(event, is_mapping)
-        self.stack.append(_Collection(node.path, column, in_flow, is_mapping, node.is_key))
-        return node
-
-    def _column(self, event, is_mapping: bool) -> int:
-        """The column of a block collection, at whose first key or dash its event ends; or behind the dash, if that is
-        in the column of the key above."""
-        mark = event.end_mark
-        if is_mapping or self.text.startswith("-", mark.index + self.uncounted):
-            return mark.column
-        return mark.column - 1
-
-    def _node(self, event, tag: str | None, style: str, text: str) -> Node:
-        collection = self.stack[-1]
-        path, is_key = collection.next(text)
-        start = self._offset(event.start_mark)
-        end = self._offset(event.end_mark)
-        line = event.start_mark.line + 1
-        return Node(path, tag, style, text, start, end, line, collection.column, collection.in_flow, is_key)
-
-    def _offset(self, mark) -> int:
-        """The bytes before a mark, which counts characters."""
-        index = mark.index + self.uncounted
-        if self.is_ascii:
-            return index
-        last, offset = self.last if self.last[0] <= index else (0, 0)
-        offset += len(self.text[last:index].encode(errors="surrogateescape"))
-        self.last = (index, offset)
-        return offset
-
-
-def _explained(fault) -> str:
-    begins_earlier = fault.context in BEGIN_EARLIER and fault.context_mark
-    mark = fault.context_mark if begins_earlier else fault.problem_mark or fault.context_mark
-    where = f"line {mark.line + 1}: " if mark else ""
-    context = f" {fault.context}" if fault.context else ""
-    return f"{where}it cannot be read as YAML: {fault.problem}{context}"

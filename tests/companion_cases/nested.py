@@ -52,7 +52,9 @@ def faults_within(cases: Companions) -> None:
         cases.check("the others are rotated", texts(within(place, "all.yml", "new"), "new"), [None, TEXT])
     with cases.place() as place:
         place.put("all.yml", sealed("old", block("old")))
-        place.wrap_tool('[ "$1" != encrypt ] || { echo "ERROR! out of memory" >&2; exit 4; }')
+        # The block within it is encrypted, and then it is not.
+        fails = 'if [ -e ../one ]; then echo "ERROR! out of memory" >&2; exit 4; fi; touch ../one'
+        place.wrap_tool(f'if [ "$1" = encrypt ]; then {fails}; fi')
         done = place.run(ROTATE, *to_new(place), ".")
         cases.ended("it is not sealed", done, 1, "./all.yml: out of memory", summary(0, failed=1))
         cases.check("the vault stays", place.get("all.yml"), sealed("old", block("old")))

@@ -200,7 +200,7 @@ def dry_run(cases: Companions) -> None:
 def changed_meanwhile(cases: Companions) -> None:
     with cases.place() as place:
         place.put("a.yml", block("old"))
-        place.wrap_tool('[ "$1" = rekey ] && echo "b: theirs" >> a.yml')
+        place.wrap_tool('[ "$1" = encrypt ] && echo "b: theirs" >> a.yml')
         done = place.run(ROTATE, *to_new(place), ".")
         cases.ended("changed meanwhile", done, 1, "./a.yml: it was changed meanwhile", summary(0, failed=1))
         cases.check("their change stays", place.files(), {"a.yml": block("old") + b"b: theirs\n"})

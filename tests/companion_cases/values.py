@@ -30,9 +30,12 @@ REFUSED = {
     "!vault [a]": "is not a string",
     "!vault {{ a }}": "is not a string",
     "!vault\n  b: c": "is not a string",
-    '!vault "\\q"': "has an escape that YAML does not have",
-    '!vault "\\ud800"': "has an escape for half of a character",
     "!vault |-\n  a\x01": "has control characters",
+}
+# What PyYAML refuses.
+NOT_YAML = {
+    '!vault "\\q"': "found unknown escape character",
+    '!vault "\\ud800"': "found invalid Unicode character escape code",
 }
 
 
@@ -99,12 +102,14 @@ def typed_forms(cases: Companions) -> None:
             after = place.get("vars.yml")
             cases.check(f"{form}: it is encrypted", texts(after, "old"), [text])
             cases.holds(f"{form}: the rest stays", after.endswith(b"\nc: 2\n"), after)
-        for form, why in REFUSED.items():
+        refused = {form: f"line 1: b {why}" for form, why in REFUSED.items()}
+        refused |= {form: f"line 1: it cannot be read as YAML: {why}" for form, why in NOT_YAML.items()}
+        for form, why in refused.items():
             content = block("old", b"x", name="b")
             place.put("vars.yml", content)
             place.put("typed", f"b: {form}\nc: 2\n".encode())
             done = edit(place, 'cp typed "$1"', *place.by_file("old"), "vars.yml")
-            cases.ended(form, done, 1, f"line 1: b {why}", "what you saved is encrypted in")
+            cases.ended(form, done, 1, why, "what you saved is encrypted in")
             cases.check(f"{form}: the file stays", place.get("vars.yml"), content)
             kept = done.stderr.strip().rpartition(" ")[2]
             cases.check(f"{form}: what was typed is kept", decrypted("old", place.get(kept)), place.get("typed"))
@@ -114,8 +119,8 @@ def typed_forms(cases: Companions) -> None:
 def misplaced(cases: Companions) -> None:
     """Plaintext that stands where it would not be encrypted is refused."""
     texts_ = {
-        "b: !vault |-\n  x\ny\n": "line 3: a line without a key",
-        "b: !vault |-\n   x\n  y\n": "line 3: what stands here is neither",
+        "b: !vault |-\n  x\ny\n": "line 3: it cannot be read as YAML: could not find expected ':'",
+        "b: !vault |-\n   x\n  y\n": "line 3: it cannot be read as YAML: did not find expected key",
         "# b: !vault |-\n#   x\n": "line 1: `!vault` within a comment",
         "t: |\n  b: !vault |-\n    x\n": "line 2: `!vault` within",
         "b: {c: !vault x}\n": "line 1: c is within brackets",

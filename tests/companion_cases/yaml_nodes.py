@@ -82,13 +82,14 @@ def read(cases: Companions) -> None:
     def values(loader: str) -> None:
         for text, wanted in READ.items():
             data = as_bytes(text)
+            characters = yaml_nodes.decoded(data)
             found = [node for node in yaml_nodes.nodes(data) if node.is_value]
-            wanted = [(path, is_vault, as_bytes(part)) for path, is_vault, part in wanted]
-            parts = [(node.path, node.is_vault, data[node.start : node.end]) for node in found]
+            wanted = [(path, is_vault, yaml_nodes.decoded(as_bytes(part))) for path, is_vault, part in wanted]
+            parts = [(node.path, node.is_vault, characters[node.start : node.end]) for node in found]
             cases.check(f"{loader}: {text!r}", parts, wanted)
         for text, column in COLUMNS.items():
             [node] = [node for node in yaml_nodes.nodes(as_bytes(text)) if node.text == "x"]
-            cases.check(f"{loader}: {text!r}: the column", node.column, column)
+            cases.check(f"{loader}: {text!r}: the column", node.container.column, column)
 
     with_both_loaders(cases, values)
 
@@ -97,7 +98,7 @@ def refused(cases: Companions) -> None:
     def faults(loader: str) -> None:
         for text, wanted in REFUSED.items():
             try:
-                found = repr(yaml_nodes.nodes(as_bytes(text)))
+                found = repr([*yaml_nodes.nodes(as_bytes(text))])
             except NotYaml as fault:
                 found = str(fault)
             cases.holds(f"{loader}: {text!r}: {wanted}", found.startswith(wanted), found)
@@ -110,7 +111,7 @@ import sys
 sys.path[0] = {companions!r}
 from ansible_vault_companions import yaml_nodes
 try:
-    print(len(yaml_nodes.nodes(b"a: 1")))
+    print(len([*yaml_nodes.nodes(b"a: 1")]))
 except yaml_nodes.NoPyYaml as fault:
     print(fault)
 """
