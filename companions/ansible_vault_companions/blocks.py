@@ -10,13 +10,14 @@ from ansible_vault_companions import literals
 from ansible_vault_companions.envelopes import FOLDED, IN_A_LINE, label_of
 from ansible_vault_companions.program import Refused, shown
 from ansible_vault_companions.secret_files import Secret
-from ansible_vault_companions.yaml_values import Style, Value
+from ansible_vault_companions.yaml_values import LINE_END, Style, Value
 
 # How many columns an envelope stands to the right of its key, as Ansible's tool writes it.
 INDENTATION = 10
 # How the first line of a body that is not empty is indented.
-INDENTED = re.compile(rb"\s*[\r\n](?P<spaces> *)")
-# Ends of lines that YAML has as characters of a text.
+INDENTED = re.compile(rb"(?: *%s)+(?P<spaces> *)" % LINE_END.pattern)
+SIMPLE_END = re.compile(rb"\r\n?|\xc2\x85|")
+# Ends of lines that YAML keeps as characters of a text.
 SEPARATOR = re.compile(rb"\xe2\x80[\xa8\xa9]")
 
 
@@ -43,7 +44,7 @@ def replacement(value: Value, header: bytes, body: bytes, end: int) -> list[Chan
 
 def line_end(data: bytes, place: int) -> bytes:
     """How a line ends that ends here."""
-    return re.compile(rb"\r\n?|").match(data, place)[0] or b"\n"
+    return SIMPLE_END.match(data, place)[0] or b"\n"
 
 
 def named(value: Value) -> str:

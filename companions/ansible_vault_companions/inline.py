@@ -17,7 +17,7 @@ from ansible_vault_companions.program import Refused
 from ansible_vault_companions.secret_files import Secret
 from ansible_vault_companions.tool import Tool
 from ansible_vault_companions.yaml_nodes import NotYaml
-from ansible_vault_companions.yaml_values import Scan, Value
+from ansible_vault_companions.yaml_values import LINE_END, Scan, Value
 
 # Decrypts an envelope.
 Decrypt = Callable[[bytes], tuple[Secret, bytes]]
@@ -28,12 +28,13 @@ INDENTATION = 2
 NOTE = b"# ansible-vault: "
 # What may follow a value: empty lines, and a comment before all else.
 SPACES = re.compile(rb" *")
-EMPTY_LINE = re.compile(rb"\r?\n[ \t]*\r?\n")
-COMMENT = re.compile(rb"(?:[ \t]*\r?\n)+(?P<spaces> *)#")
+EMPTY_LINE = re.compile(rb"%s[ \t]*%s" % (LINE_END.pattern, LINE_END.pattern))
+COMMENT = re.compile(rb"(?:[ \t]*%s)+(?P<spaces> *)#" % LINE_END.pattern)
+LAST_LINE_END = re.compile(rb"%s\Z" % LINE_END.pattern)
 
 JOINED = "it is empty, and the comment below would become its text"
 HIDDEN = "`!vault` within a comment or another text is no tag, and what follows it would stay in plaintext"
-NO_PLACE = "there is no place for a block after `!vault`; is there a tab in an empty line?"
+NO_PLACE = "no block can be put into this YAML; is there a tab, or an indented comment, below a value?"
 
 
 class StillEncrypted(NamedTuple):
@@ -134,33 +135,32 @@ def _decrypted(data: bytes, value: Value, decrypt: Decrypt) -> Decrypted | Refus
 def encrypted(shown: Showing, text: bytes, tool: Tool, choice: Choice) -> bytes:
     """The file for an edited text."""
     found = Scan(text)
-    _check_hidden(shown.found, found)
+    _check_hidden(shown, found)
     typed = [Typed(value, _plain(value)) for value in found.values if not blocks.is_envelope(value)]
     changes = [Change(start, end, b"") for start, end in found.comments(shown.note.strip().decode())]
+    envelopes = {}
     for (value, plaintext), action in zip(typed, matching.actions(shown.decrypted, typed, choice)):
+        envelopes[value] = tool.encrypt(plaintext, *action.key) if action.key else action.block.block.envelope
         if action.key is None:
             changes += action.block.block.in_place_of(value)
-            continue
-        envelope = tool.encrypt(plaintext, *action.key)
-        if action.block:
-            changes += action.block.block.replace(value, envelope)
+        elif action.block:
+            changes += action.block.block.replace(value, envelopes[value])
         else:
-            changes += blocks.new_block(text, value, envelope)
+            changes += blocks.new_block(text, value, envelopes[value])
     after = blocks.changed(text, changes)
     if any(map(shown.needs_final_newline, shown.decrypted)):
-        after = after.removesuffix(b"\n").removesuffix(b"\r")
-    _check_encrypted(after, len(found.values))
+        after = LAST_LINE_END.sub(b"", after)
+    if _envelopes(after) != [envelopes.get(value, value.content).strip() for value in found.values]:
+        raise Refused(NO_PLACE)
     return after
 
 
-def _check_encrypted(data: bytes, count: int) -> None:
-    """Refuses what is not read as it was meant."""
+def _envelopes(data: bytes) -> list[bytes]:
+    """As they are read where they were put; none where that is no YAML."""
     try:
-        encrypted = list(map(blocks.is_envelope, Scan(data).values))
+        return [value.content.strip() for value in Scan(data).values]
     except NotYaml:
-        encrypted = []
-    if encrypted != [True] * count:
-        raise Refused(NO_PLACE)
+        return []
 
 
 def _plain(value: Value) -> bytes:
@@ -170,10 +170,10 @@ def _plain(value: Value) -> bytes:
         raise Refused(f"line {value.line}: {named(value)} {fault}") from None
 
 
-def _check_hidden(before: Scan, after: Scan) -> None:
+def _check_hidden(shown: Showing, found: Scan) -> None:
     """Refuses a tag that was typed where it is none."""
-    known = Counter(each.text for each in before.hidden())
-    for each in after.hidden():
+    known = Counter(each.text for each in shown.found.hidden())
+    for each in found.hidden():
         known[each.text] -= 1
-        if known[each.text] < 0:
+        if known[each.text] < 0 and not each.text.startswith(shown.note.decode()):
             raise Refused(f"line {each.line}: {HIDDEN}")

@@ -68,16 +68,18 @@ def lines(text: bytes, spaces: int, end: bytes) -> bytes:
 
 def plain(value: Value) -> bytes:
     """The text of a value that is to be encrypted."""
-    written = value.written.replace(b"\r\n", b"\n").replace(b"\r", b"\n")
+    written = LINE_END.sub(b"\n", value.written)
+    # What an escape stands for may be anything.
+    as_is = value.content if value.style is Style.LITERAL else written
     faults = {
         NOTHING: value.style is Style.NOTHING,
         NO_TEXT: value.style is Style.NO_TEXT,
         IN_FLOW: value.in_flow,
         FOLDED: value.style is Style.FOLDED,
         BELOW: value.is_below,
-        SEVERAL_LINES: value.style is not Style.LITERAL and LINE_END.search(written),
+        SEVERAL_LINES: value.style is not Style.LITERAL and b"\n" in written,
         "is not UTF-8": obstacle(written) == NOT_UTF_8,
-        BY_ESCAPES: obstacle(written) == CONTROL,
+        BY_ESCAPES: CONTROL in (obstacle(written), obstacle(as_is)),
         SURROGATE: obstacle(value.content) == NOT_UTF_8,
     }
     for fault, holds in faults.items():

@@ -16,10 +16,11 @@ from typing import NamedTuple
 from ansible_vault_companions import blocks, stopping
 from ansible_vault_companions.blocks import Block, Change
 from ansible_vault_companions.inline import Decrypt
-from ansible_vault_companions.envelopes import MAGIC, label_of
+from ansible_vault_companions.envelopes import MAGIC, TAG_NAME, label_of
 from ansible_vault_companions.program import Refused
 from ansible_vault_companions.secret_files import Secret
 from ansible_vault_companions.tool import Tool
+from ansible_vault_companions.yaml_nodes import NotYaml
 from ansible_vault_companions.yaml_values import Scan, Style
 
 # What git names the sides of a conflict by.
@@ -145,10 +146,12 @@ class Values:
         self.ours, self.base, self.theirs = map(self._side, (ours, base, theirs))
 
     def _side(self, data: bytes) -> _Side:
+        # What is no YAML, or has no such value, is merged as any text.
+        if TAG_NAME not in data:
+            return _Side(data, [])
         try:
             found = [value for value in Scan(data).values if value.style is Style.LITERAL]
-        except Refused:
-            # It is merged as any text.
+        except NotYaml:
             return _Side(data, [])
         places = [self._place(blocks.block_of(data, value)) for value in found if blocks.is_envelope(value)]
         changes = [change for place in places for change in self._tokenized(data, place)]

@@ -17,7 +17,7 @@ from ansible_vault_companions.yaml_nodes import Node
 
 TAG = yaml_nodes.TAGS[0]
 # How a line ends in YAML 1.1.
-LINE_END = re.compile(rb"\r\n?|\n|\xc2\x85|\xe2\x80[\xa8\xa9]")
+LINE_END = re.compile(rb"(?:\r\n?|\n|\xc2\x85|\xe2\x80[\xa8\xa9])")
 LINE_ENDS_IN_TEXT = "\n\u2028\u2029"
 # The tag and the anchor of a value, and what is between them and it.
 PROPERTIES = re.compile(rb"(?:[!&][^ \t\r\n]*(?:[ \t]+(?:#[^\r\n]*)?|%s)*)+" % LINE_END.pattern)
@@ -93,7 +93,7 @@ class Scan:
         offsets = _Offsets(self.text)
         for place, line in self._lines():
             comment = line.lstrip()
-            if comment.startswith(beginning) and self._all.at(place + len(line) - len(comment)) is None:
+            if comment.startswith(beginning) and self._texts.at(place + len(line) - len(comment)) is None:
                 yield offsets.of(place), offsets.of(place + len(line))
 
     def _values(self) -> Iterator[Value]:
@@ -110,19 +110,21 @@ class Scan:
         return [found[place] for place in sorted(found)]
 
     @cached_property
-    def _all(self) -> _Places:
-        return _Places(self._nodes())
+    def _texts(self) -> _Places:
+        collections = (yaml_nodes.LIST, yaml_nodes.MAPPING)
+        return _Places(node for node in self._nodes() if node.style not in collections)
 
     def _lines(self) -> Iterator[tuple[int, str]]:
-        place = 0
-        for line in self.text.splitlines(keepends=True):
+        content = self.text.lstrip(yaml_nodes.BYTE_ORDER_MARK)
+        place = len(self.text) - len(content)
+        for line in content.splitlines(keepends=True):
             yield place, line
             place += len(line)
 
     def _is_hidden(self, place: int) -> bool:
         if self.tagged.at(place):
             return False
-        node = self._all.at(place)
+        node = self._texts.at(place)
         return node is None or node.last_line > node.line
 
 

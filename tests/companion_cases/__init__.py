@@ -10,6 +10,7 @@ import shutil
 import stat
 import subprocess
 from contextlib import contextmanager
+from importlib.util import find_spec
 from pathlib import Path
 from typing import Iterator
 
@@ -200,3 +201,9 @@ class Companions(Outcome):
         if missing:
             self.skip(what, f"without {', '.join(missing)}")
         return not missing
+
+    def needs_pyyaml(self, what: str) -> bool:
+        is_there = find_spec("yaml") is not None
+        if not is_there:
+            self.skip(what, "without PyYAML")
+        return is_there

@@ -1,8 +1,9 @@
 """Blocks of YAML: what stands around them keeps every byte."""
 
+import os
 import re
 
-from companion_cases import CHECK, ROTATE, TEXT, Companions, block, decrypted, sealed
+from companion_cases import CHECK, ROTATE, TEXT, TEXTCONV, Companions, block, decrypted, sealed
 from companion_cases.rotating import summary, to_new
 
 
@@ -114,4 +115,34 @@ def no_blocks_of_lines(cases: Companions) -> None:
             cases.ended(f"{name}: it is not passed over", done, 1, "0 decrypted, 1 not")
 
 
-TESTS = [around, mixed, no_blocks_of_lines]
+# A run of this command waits for another one.
+MEET = """\
+if [ "$1" = {} ]; then
+    touch ../run.$$
+    for i in $(seq 500); do [ "$(ls ../run.* | wc -l)" -gt 1 ] && break; sleep 0.02; done
+    [ "$(ls ../run.* | wc -l)" -gt 1 ] || {{ echo "ERROR! it runs alone" >&2; exit 4; }}
+fi"""
+
+
+def at_once(cases: Companions) -> None:
+    """Blocks of one file are decrypted and encrypted at once; a secret that is refused is reported once."""
+    content = b"".join(block("old", b"text", name=f"n{number}") for number in range(8))
+    with cases.place() as place:
+        place.put("vars.yml", content)
+        place.wrap_tool(MEET.format("encrypt"))
+        done = place.run(ROTATE, *to_new(place), "--jobs", "2", ".")
+        cases.ended("rotate", done, 0, "./vars.yml: 8 blocks rotated", summary(8))
+        cases.check("they are rotated", texts(place.get("vars.yml"), "new"), [b"text"] * 8)
+    if len(os.sched_getaffinity(0)) < 2:
+        cases.skip("textconv at once", "there is one processor")
+        return
+    with cases.place() as place:
+        place.put("vars.yml", content)
+        place.wrap_tool(MEET.format("view"))
+        done = place.run(TEXTCONV, *place.by_file("missing"), *place.by_file("old"), "vars.yml")
+        shown = "".join(f"n{number}: !vault |-\n  text\n" for number in range(8))
+        cases.check("textconv", (done.returncode, done.stdout), (0, shown))
+        cases.check("what is refused", done.stderr.count("missing: a password file cannot be opened"), 1)
+
+
+TESTS = [around, mixed, no_blocks_of_lines, at_once]

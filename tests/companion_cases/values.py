@@ -147,6 +147,11 @@ def closed(cases: Companions) -> None:
             parts = [b"# ansible-vault: a stays encrypted: ", why.encode()]
             cases.check(f"{text!r}: a comment", [part in shown for part in parts], [True, True])
             cases.check(f"{text!r}: all else stays", place.get("vars.yml"), content.replace(b"x: 1", b"x: 2"))
+        quoted = b'b: !vault "' + sealed("old").replace(b"\n", b"\\n") + b'"\n'
+        place.put("vars.yml", block("old", b"a", name="a") + quoted)
+        cases.silent("beside quotes", edit(place, "sed -i 's/^  a$/  A/' \"$1\"", *place.by_file("old"), "vars.yml"))
+        cases.check("it is encrypted", texts(place.get("vars.yml"), "old"), [b"A"])
+        cases.holds("what is in quotes stays", place.get("vars.yml").endswith(b"\n" + quoted))
         place.put("plain.yml", b"a: 1\n")
         done = edit(place, "true", *place.by_file("old"), "plain.yml")
         cases.ended("no vault", done, 1, "it is not a vault", "ansible-vault encrypt", "NAME: !vault TEXT")

@@ -61,11 +61,10 @@ def as_bytes(text: str) -> bytes:
 
 def with_both_loaders(cases: Companions, work) -> None:
     """Runs a test with libyaml, if PyYAML has it, and without."""
-    try:
-        import yaml
-    except ImportError:
-        cases.skip("reading YAML", "without PyYAML")
+    if not cases.needs_pyyaml("reading YAML"):
         return
+    import yaml
+
     if not yaml.__with_libyaml__:
         cases.skip("reading YAML by libyaml", "PyYAML is without it")
         work("PyYAML")

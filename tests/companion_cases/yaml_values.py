@@ -1,0 +1,235 @@
+"""Random YAML: its values with the tag `!vault` are those that PyYAML composes, and those that are shown, changed and
+encrypted again are, too. No envelope is decrypted here: one holds the digits of its plaintext."""
+
+from __future__ import annotations
+
+import binascii
+import random
+import sys
+
+from companion_cases import COMPANIONS, Companions
+
+sys.path.insert(0, str(COMPANIONS))
+from ansible_vault_companions import inline, yaml_nodes  # noqa: E402
+from ansible_vault_companions.blocks import Change, changed  # noqa: E402
+from ansible_vault_companions.matching import Choice  # noqa: E402
+from ansible_vault_companions.program import Refused  # noqa: E402
+from ansible_vault_companions.secret_files import Secret  # noqa: E402
+from ansible_vault_companions.yaml_values import Scan, Style  # noqa: E402
+
+SEED = 62
+STRUCTURED, UNSTRUCTURED = 700, 20_000
+HEADER = b"$ANSIBLE_VAULT;1.1;AES256\n"
+SECRET = Secret("default", "", "")
+LINE_ENDS = ["\n"] * 3 + ["\r\n", "\r", "\x85"]
+KEYS = ["a", "b c", "'q: ''x'", '"\\u00e9\\t"', "größe", "&k c", "!!str 1", "? d\n{}", "<<"]
+SCALARS = ["", "word", "'it''s'", '"a\\tb"', "two\n{}  words", "|\n{}  text\n\n{}   more", "{{a: 'x', b: [1, 2]}}"]
+SCALARS += ["word # no !vault", "&x 1", "~", ">-\n{}  folded\n{}  lines", "!other 1", "[]", "'!vault'"]
+PLAINTEXTS = ["word", "größe\n", "two\nlines\n\n", " x", "", "# x", "!vault |\n  x", "a: b\n"]
+PIECES = ["a", "b:", "c: ", "- ", "  ", "    ", "\n", "\n", "\n", "\r\n", "\r", "\x85", "\u2028", "!vault ", "!vault "]
+PIECES += ["!vault |\n", "|", "|-\n", "|2+\n", ">", "'", '"', "[", "]", "{", "}", ", ", "# x\n", "&x ", "? ", ": "]
+PIECES += ["---\n", "...\n", "\t", "x y", "$ANSIBLE_VAULT;1.1;AES256\n", "  6162\n", "ü", "<<: ", "!<!vault> ", "!!map "]
+# Of a file with a conflict: the values, and what each has.
+CONFLICT = b"""\
+a: !vault one
+<<<<<<< ours
+b:
+  c: !vault |-
+    two
+||||||| base
+b: !vault three
+=======
+d:
+- !vault 'f\xc3\xbcnf'
+>>>>>>> theirs
+e: !vault |
+  six
+"""
+IN_CONFLICT = [(("a",), b"one"), (("b", "c"), b"two"), (("b",), b"three"), (("d",), "fünf".encode()), (("e",), b"six\n")]
+
+
+def envelope(plaintext: bytes) -> bytes:
+    return HEADER + binascii.hexlify(plaintext) + b"\n"
+
+
+def decrypt(text: bytes) -> tuple[Secret, bytes]:
+    try:
+        return SECRET, binascii.unhexlify(b"".join(text.split()[1:]))
+    except ValueError:
+        raise Refused("a comment below is part of its text") from None
+
+
+class Tool:
+    def encrypt(self, plaintext: bytes, _secret: Secret, _label: str) -> bytes:
+        return envelope(plaintext)
+
+
+class Generator:
+    """Makes mappings and lists of scalars, some of which are blocks, in any depth."""
+
+    def __init__(self, number: int) -> None:
+        self.random = random.Random(f"{SEED} {number}")
+
+    def text(self) -> str:
+        documents = [self.collection(3, 0) for _ in range(self.random.choice((1, 1, 1, 2)))]
+        text = "# größe\n---\n".join(documents)
+        text = self.random.choice(("", "", "\ufeff", "# first\n", "%YAML 1.1\n---\n")) + text
+        ends = self.random.choice(LINE_ENDS)
+        # A file may end without an end of its line.
+        return text.replace("\n", ends).removesuffix(self.random.choice(("", ends)))
+
+    def collection(self, depth: int, column: int) -> str:
+        names = self.random.sample(KEYS, self.random.randint(1, 4))
+        is_list = self.random.random() < 0.3
+        margin = " " * column
+        heads = ["-" for _ in names] if is_list else [name.format(margin) + ":" for name in names]
+        items = [f"{margin}{head}{self.node(depth - 1, column)}" for head in heads]
+        return "".join(items)
+
+    def node(self, depth: int, column: int) -> str:
+        """What follows a key or a dash, with the end of its line."""
+        kind = self.random.random()
+        if depth and kind < 0.3:
+            head = self.random.choice(("", "", " &y", "  # why"))
+            return f"{head}\n{self.collection(depth, column + self.random.randint(1, 4))}"
+        if kind < 0.6:
+            return f" {self.block(column)}{self.blank_lines()}"
+        return f" {self.random.choice(SCALARS).format(*[' ' * column] * 4)}\n{self.blank_lines()}"
+
+    def block(self, column: int) -> str:
+        plaintext = self.random.choice(PLAINTEXTS).encode()
+        tag = self.random.choice(("!vault", "!vault", "&z !vault", "!vault &z", "!vault-encrypted", "!<!vault>"))
+        lines = envelope(plaintext).decode().split()
+        if self.random.random() < 0.1:
+            return f'{tag} "{" ".join(lines)}"\n'
+        step = self.random.randint(1, 12)
+        header = "|" + self.random.choice(("", "", "-", "+", str(step) if step < 10 else ""))
+        margin = " " * (column + step)
+        comment = self.random.choice(("", "", "  # why"))
+        return f"{tag} {header}{comment}\n" + "".join(f"{margin}{line}\n" for line in lines)
+
+    def blank_lines(self) -> str:
+        return self.random.choice(("", "", "", "\n", "\n\n", "# a comment\n", "\n    # !vault\n"))
+
+
+def composed(text: str) -> list[tuple[tuple[str, ...], str]] | None:
+    """The keys and the text of each value with the tag, as PyYAML composes them; None where it is no YAML."""
+    import yaml
+
+    found, seen = [], set()
+
+    def walk(node, path: tuple[str, ...]) -> None:
+        if id(node) in seen:
+            return
+        seen.add(id(node))
+        if node.tag in yaml_nodes.TAGS and isinstance(node, yaml.ScalarNode):
+            found.append((path, node.value))
+        elif isinstance(node, yaml.SequenceNode):
+            for item in node.value:
+                walk(item, path)
+        elif isinstance(node, yaml.MappingNode):
+            for key, value in node.value:
+                walk(value, (*path, key.value if isinstance(key, yaml.ScalarNode) else ""))
+
+    try:
+        for document in yaml.compose_all(text, getattr(yaml, "CSafeLoader", yaml.SafeLoader)):
+            walk(document, ())
+    except yaml.YAMLError:
+        return None
+    return found
+
+
+def scanned(data: bytes) -> list[tuple[tuple[str, ...], str]]:
+    return [(value.path, value.content.decode()) for value in Scan(data).values if value.style is not Style.NO_TEXT]
+
+
+def anything(cases: Companions) -> None:
+    """Whatever PyYAML composes is read in the same way."""
+    if not cases.needs_pyyaml("random YAML"):
+        return
+    generator = random.Random(SEED)
+    count = 0
+    for _ in range(UNSTRUCTURED):
+        text = "".join(generator.choice(PIECES) for _ in range(generator.randint(1, 25)))
+        wanted = composed(text)
+        if wanted is None:
+            continue
+        found = scanned(text.encode())
+        count += len(wanted)
+        if found != wanted:
+            cases.check(f"{text!r}", found, wanted)
+    cases.holds("many values are compared", count > 300, str(count))
+
+
+def shown_and_encrypted(cases: Companions) -> None:
+    if not cases.needs_pyyaml("random YAML"):
+        return
+    counts = {"values": 0, "shown": 0, "changed": 0}
+    for number in range(STRUCTURED):
+        text = Generator(number).text()
+        data = text.encode()
+        wanted = composed(text)
+        if wanted is None:
+            continue
+        counts["values"] += len(wanted)
+        if scanned(data) != wanted:
+            cases.check(f"{text!r}", scanned(data), wanted)
+            continue
+        showing = inline.showing(data, decrypt, with_notes=True)
+        counts["shown"] += len(showing.decrypted)
+        check_shown(cases, showing, wanted)
+        counts["changed"] += check_changed(cases, showing, Generator(number).random)
+    for what, count in counts.items():
+        cases.holds(f"many values are {what}", count > 300, str(counts))
+
+
+def check_shown(cases: Companions, showing: inline.Showing, wanted: list) -> None:
+    """Each that is shown is the plaintext by PyYAML, too; and what is not changed keeps every byte."""
+    texts = iter(showing.contents())
+    plain = [(path, next(texts).decode()) for path, _ in wanted]
+    text = showing.text()
+    if composed(text.decode()) != plain:
+        cases.check(f"{showing.data!r}: shown", composed(text.decode()), plain)
+    kept = encrypted(showing, text)
+    if kept != showing.data:
+        cases.check(f"{text!r}: nothing is changed", kept, showing.data)
+
+
+def check_changed(cases: Companions, showing: inline.Showing, generator: random.Random) -> int:
+    """One value is typed anew."""
+    found = [value for value in Scan(showing.text()).values if value.style is Style.LITERAL]
+    if not found:
+        return 0
+    value = generator.choice(found)
+    new = [Change(value.start, value.header_end, b'"neu\\n"'), Change(value.line_end, value.end, b"")]
+    typed = changed(showing.text(), new)
+    wanted = composed(typed.decode())
+    after = encrypted(showing, typed)
+    if after == inline.NO_PLACE:
+        return 0
+    found = isinstance(after, bytes) and [text.split() for _, text in composed(after.decode()) or []]
+    envelopes = [text if text.startswith("$") else envelope(text.encode()).decode() for _, text in wanted]
+    if found != [text.split() for text in envelopes]:
+        cases.check(f"{typed!r}: a value is typed", after, envelopes)
+    return 1
+
+
+def encrypted(showing: inline.Showing, text: bytes) -> bytes | str:
+    """The file, or why it is refused."""
+    try:
+        return inline.encrypted(showing, text, Tool(), Choice([SECRET], None))
+    except Refused as fault:
+        return str(fault)
+
+
+def conflicts(cases: Companions) -> None:
+    """Each side of a conflict is read without the others."""
+    if not cases.needs_pyyaml("conflicts"):
+        return
+    values = Scan(CONFLICT).values
+    cases.check("the values", [(value.path, value.content) for value in values], IN_CONFLICT)
+    parts = [CONFLICT[value.start : value.end] for value in values]
+    cases.check("their bytes", parts, [b"one", b"|-\n    two", b"three", "'fünf'".encode(), b"|\n  six"])
+
+
+TESTS = [anything, shown_and_encrypted, conflicts]
