@@ -2,7 +2,8 @@
 
 import shutil
 
-from companion_cases import CHECK, EDIT, MERGE, ROTATE, TEXT, TEXTCONV, WITH, Companions, Place, block, decrypted, sealed
+from companion_cases import CHECK, EDIT, MERGE, ROTATE, TEXT, TEXTCONV, WITH
+from companion_cases import Companions, Place, block, decrypted, sealed
 from companion_cases.blocks import texts
 from companion_cases.rotating import summary, to_new
 

@@ -26,9 +26,9 @@ KEYS = ["a", "b c", "'q: ''x'", '"\\u00e9\\t"', "größe", "&k c", "!!str 1", "?
 SCALARS = ["", "word", "'it''s'", '"a\\tb"', "two\n{}  words", "|\n{}  text\n\n{}   more", "{{a: 'x', b: [1, 2]}}"]
 SCALARS += ["word # no !vault", "&x 1", "~", ">-\n{}  folded\n{}  lines", "!other 1", "[]", "'!vault'"]
 PLAINTEXTS = ["word", "größe\n", "two\nlines\n\n", " x", "", "# x", "!vault |\n  x", "a: b\n"]
-PIECES = ["a", "b:", "c: ", "- ", "  ", "    ", "\n", "\n", "\n", "\r\n", "\r", "\x85", "\u2028", "!vault ", "!vault "]
-PIECES += ["!vault |\n", "|", "|-\n", "|2+\n", ">", "'", '"', "[", "]", "{", "}", ", ", "# x\n", "&x ", "? ", ": "]
-PIECES += ["---\n", "...\n", "\t", "x y", "$ANSIBLE_VAULT;1.1;AES256\n", "  6162\n", "ü", "<<: ", "!<!vault> ", "!!map "]
+PIECES = ["a", "b:", "c: ", "- ", "  ", "    ", "\n", "\n", "\n", "\r\n", "\r", "\x85", "\u2028"]
+PIECES += ["!vault ", "!vault ", "!vault |\n", "|", "|-\n", "|2+\n", ">", "'", '"', "[", "]", "{", "}", ", ", "# x\n", "&x "]
+PIECES += ["? ", ": ", "---\n", "...\n", "\t", "x y", "$ANSIBLE_VAULT;1.1;AES256\n", "  6162\n", "ü", "<<: ", "!<!vault> ", "!!map "]
 # Of a file with a conflict: the values, and what each has.
 CONFLICT = b"""\
 a: !vault one
@@ -45,7 +45,7 @@ d:
 e: !vault |
   six
 """
-IN_CONFLICT = [(("a",), b"one"), (("b", "c"), b"two"), (("b",), b"three"), (("d",), "fünf".encode()), (("e",), b"six\n")]
+IN_CONFLICT = [(("a",), b"one"), (("b", "c"), b"two"), (("b",), b"three"), (("d",), b"f\xc3\xbcnf"), (("e",), b"six\n")]
 
 
 def envelope(plaintext: bytes) -> bytes:
