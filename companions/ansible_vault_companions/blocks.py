@@ -6,19 +6,17 @@ import re
 from dataclasses import dataclass
 from typing import Iterable, NamedTuple
 
-from ansible_vault_companions import literals
+from ansible_vault_companions import literals, yaml_nodes
 from ansible_vault_companions.envelopes import FOLDED, IN_A_LINE, label_of
 from ansible_vault_companions.program import Refused, shown
 from ansible_vault_companions.secret_files import Secret
-from ansible_vault_companions.yaml_values import LINE_END, Style, Value
+from ansible_vault_companions.yaml_values import LINE_END, Value
 
 # How many columns an envelope stands to the right of its key, as Ansible's tool writes it.
 INDENTATION = 10
 # How the first line of a body that is not empty is indented.
 INDENTED = re.compile(rb"(?: *%s)+(?P<spaces> *)" % LINE_END.pattern)
 SIMPLE_END = re.compile(rb"\r\n?|\xc2\x85|")
-# Ends of lines that YAML keeps as characters of a text.
-SEPARATOR = re.compile(rb"\xe2\x80[\xa8\xa9]")
 
 
 class Change(NamedTuple):
@@ -79,9 +77,7 @@ class Block:
 
 def new_block(data: bytes, value: Value, envelope: bytes) -> list[Change]:
     """An envelope in the place of a value that was none."""
-    header = b"|-" if SEPARATOR.match(data, value.end) else b"|"
-    body = _body(value, envelope, INDENTATION, line_end(data, value.line_end))
-    return replacement(value, header, body, value.end)
+    return replacement(value, b"|", _body(value, envelope, INDENTATION, line_end(data, value.line_end)), value.end)
 
 
 def _body(value: Value, envelope: bytes, indentation: int, end: bytes) -> bytes:
@@ -94,8 +90,8 @@ def is_envelope(value: Value) -> bool:
 
 def block_of(data: bytes, value: Value) -> Block:
     """The block that a value is, where it can be put back."""
-    if value.style is not Style.LITERAL:
-        raise Refused(FOLDED if value.style is Style.FOLDED else IN_A_LINE)
+    if value.is_key or value.style != yaml_nodes.LITERAL:
+        raise Refused(FOLDED if value.style == yaml_nodes.FOLDED else IN_A_LINE)
     envelope = value.content.strip() + b"\n"
     # Empty lines below are none of the envelope's.
     body = data[value.line_end : value.content_end]

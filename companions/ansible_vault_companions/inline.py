@@ -172,8 +172,8 @@ def _plain(value: Value) -> bytes:
 
 def _check_hidden(shown: Showing, found: Scan) -> None:
     """Refuses a tag that was typed where it is none."""
-    known = Counter(each.text for each in shown.found.hidden())
-    for each in found.hidden():
-        known[each.text] -= 1
-        if known[each.text] < 0 and not each.text.startswith(shown.note.decode()):
-            raise Refused(f"line {each.line}: {HIDDEN}")
+    known = Counter(text for _, text in shown.found.hidden())
+    for line, text in found.hidden():
+        known[text] -= 1
+        if known[text] < 0 and not text.startswith(shown.note.decode()):
+            raise Refused(f"line {line}: {HIDDEN}")

@@ -7,9 +7,10 @@ from __future__ import annotations
 
 import re
 
+from ansible_vault_companions import yaml_nodes
 from ansible_vault_companions.envelopes import MAGIC
 from ansible_vault_companions.program import Refused
-from ansible_vault_companions.yaml_values import LINE_END, Style, Value
+from ansible_vault_companions.yaml_values import LINE_END, Value
 
 # What YAML has in no text, or would take for the end of a line.
 UNSHOWN = re.compile("[^\t\n\x20-\x7e\xa0-\u2027\u202a-\ud7ff\ue000-\ufefe\uff00-\ufffd\U00010000-\U0010ffff]")
@@ -28,7 +29,7 @@ BELOW = "stands below its tag; write it in the line of `!vault`"
 SEVERAL_LINES = "continues in further lines; write `!vault |-`, and its lines below"
 FOLDED = "is a folded scalar (`>`); write `!vault |-`, and its lines below"
 NOTHING = 'is missing after `!vault`; write `""` for an empty one'
-NO_TEXT = "is not a string: a list, a mapping, a key or an alias"
+NO_TEXT = "is not a string: a list, a mapping or a key"
 SURROGATE = "has an escape for half of a character; write the character"
 
 
@@ -70,14 +71,14 @@ def plain(value: Value) -> bytes:
     """The text of a value that is to be encrypted."""
     written = LINE_END.sub(b"\n", value.written)
     # What an escape stands for may be anything.
-    as_is = value.content if value.style is Style.LITERAL else written
+    as_is = value.content if value.style == yaml_nodes.LITERAL else written
     faults = {
-        NOTHING: value.style is Style.NOTHING,
-        NO_TEXT: value.style is Style.NO_TEXT,
+        NO_TEXT: value.is_key or value.style in (yaml_nodes.LIST, yaml_nodes.MAPPING),
+        NOTHING: not written,
         IN_FLOW: value.in_flow,
-        FOLDED: value.style is Style.FOLDED,
+        FOLDED: value.style == yaml_nodes.FOLDED,
         BELOW: value.is_below,
-        SEVERAL_LINES: value.style is not Style.LITERAL and b"\n" in written,
+        SEVERAL_LINES: value.style != yaml_nodes.LITERAL and b"\n" in written,
         "is not UTF-8": obstacle(written) == NOT_UTF_8,
         BY_ESCAPES: CONTROL in (obstacle(written), obstacle(as_is)),
         SURROGATE: obstacle(value.content) == NOT_UTF_8,

@@ -20,8 +20,8 @@ from ansible_vault_companions.envelopes import MAGIC, TAG_NAME, label_of
 from ansible_vault_companions.program import Refused
 from ansible_vault_companions.secret_files import Secret
 from ansible_vault_companions.tool import Tool
-from ansible_vault_companions.yaml_nodes import NotYaml
-from ansible_vault_companions.yaml_values import Scan, Style
+from ansible_vault_companions.yaml_nodes import LITERAL, NotYaml
+from ansible_vault_companions.yaml_values import Scan
 
 # What git names the sides of a conflict by.
 SIDES = ("ours", "base", "theirs")
@@ -150,7 +150,7 @@ class Values:
         if TAG_NAME not in data:
             return _Side(data, [])
         try:
-            found = [value for value in Scan(data).values if value.style is Style.LITERAL]
+            found = [value for value in Scan(data).values if value.style == LITERAL]
         except NotYaml:
             return _Side(data, [])
         places = [self._place(blocks.block_of(data, value)) for value in found if blocks.is_envelope(value)]

@@ -10,8 +10,8 @@ from ansible_vault_companions.envelopes import MAGIC
 from ansible_vault_companions.program import Refused
 
 TAGS = ("!vault", "!vault-encrypted")
-# Styles besides those of scalars, which are `|`, `>`, `'`, `"`, and PLAIN.
-PLAIN, ALIAS, LIST, MAPPING = "", "*", "[", "{"
+# Styles; others are the quotes of scalars.
+LITERAL, FOLDED, PLAIN, ALIAS, LIST, MAPPING = "|", ">", "", "*", "[", "{"
 
 BYTE_ORDER_MARK = "\ufeff"
 # PyYAML refuses a whole text for one of these, even in a comment.

@@ -8,7 +8,6 @@ from __future__ import annotations
 
 import re
 from bisect import bisect_right
-from enum import Enum
 from functools import cached_property
 from typing import Collection, Iterable, Iterator, NamedTuple
 
@@ -26,21 +25,12 @@ CONFLICT = "<<<<<<<"
 CONFLICT_MARKER = re.compile(r"([<|=>])\1{6}(?:[ \t]|\r?\Z)")
 
 
-class Style(Enum):
-    """How a value is written."""
-
-    LITERAL = "|"
-    FOLDED = ">"
-    IN_LINE = "in quotes, or plain"
-    NOTHING = "nothing"
-    # A collection or a key.
-    NO_TEXT = "no text"
-
-
 class Value(NamedTuple):
     """What follows a tag."""
 
-    style: Style
+    # As of nodes.
+    style: str
+    is_key: bool
     # Of the tag: its line, from 1, and where that begins.
     line: int
     line_start: int
@@ -67,13 +57,6 @@ class Value(NamedTuple):
         return self.path[-1] if self.path else ""
 
 
-class Hidden(NamedTuple):
-    """A line in which `!vault` is part of a comment, or of a text of several lines."""
-
-    line: int
-    text: str
-
-
 class Scan:
     """What a file contains."""
 
@@ -83,10 +66,11 @@ class Scan:
         self.tagged = _Places(node for node in self._nodes(yaml_nodes.TAGS) if node.style != yaml_nodes.ALIAS)
         self.values = list(self._values())
 
-    def hidden(self) -> Iterator[Hidden]:
+    def hidden(self) -> Iterator[tuple[int, str]]:
+        """The lines, with their numbers, in which `!vault` is part of a comment, or of a text of several lines."""
         for number, (place, line) in enumerate(self._lines(), 1):
             if TAG in line and any(self._is_hidden(place + tag.start()) for tag in re.finditer(TAG, line)):
-                yield Hidden(number, line.strip())
+                yield number, line.strip()
 
     def comments(self, beginning: str) -> Iterator[tuple[int, int]]:
         """The offsets of the lines, with their ends, that are comments and begin so."""
@@ -184,14 +168,14 @@ def _value(data: bytes, node: Node, head: str, tag: int, end: int) -> Value:
     """The value of a node that has these bytes, behind the head of its line."""
     start = PROPERTIES.match(data, tag, end).end()
     written = data[start:end]
-    style = _style(node, not written)
-    header = BLOCK_HEADER.match(data, start) if style in (Style.LITERAL, Style.FOLDED) else None
+    header = BLOCK_HEADER.match(data, start) if node.style in (yaml_nodes.LITERAL, yaml_nodes.FOLDED) else None
     header_end = header.end() if header else end
     line_end = _end_of_line(data, header_end)
     end, content_end = _ends(data, line_end, end, header["indicators"], node.text) if header else (line_end, line_end)
     keys = node.path[:-1] if node.is_key else node.path
     return Value(
-        style,
+        node.style,
+        node.is_key,
         node.line,
         tag - len(_encoded(head)),
         tuple(key for key in keys if isinstance(key, str)),
@@ -206,14 +190,6 @@ def _value(data: bytes, node: Node, head: str, tag: int, end: int) -> Value:
         end,
         content_end,
     )
-
-
-def _style(node: Node, is_empty: bool) -> Style:
-    if node.is_key or node.style in (yaml_nodes.LIST, yaml_nodes.MAPPING):
-        return Style.NO_TEXT
-    if node.style in "|>" and node.style:
-        return Style(node.style)
-    return Style.NOTHING if is_empty else Style.IN_LINE
 
 
 def _ends(data: bytes, line_end: int, end: int, indicators: bytes, text: str) -> tuple[int, int]:
