@@ -21,7 +21,9 @@ from watched.runs import GROUPS, Files
 
 OF_FILES = {"openat", "read", "write", "close", "statx", "fchmod", "ftruncate", "fsync"}
 OF_MEMORY = {"brk", "mmap", "munmap", "mremap"}
-OTHERS = {"rt_sigaction", "getrandom", "exit_group"}
+OTHERS = {"rt_sigaction", "getrandom", "fcntl", "exit_group"}
+# How each stream is asked whether it is open.
+DUPLICATING = ["F_DUPFD_CLOEXEC"] * 3
 # What the loader reads besides libraries.
 LISTS = {"/etc/ld.so.cache", "/etc/ld.so.preload"}
 READING, CREATING = {"O_RDONLY"}, {"O_WRONLY", "O_CREAT"}
@@ -50,7 +52,7 @@ def check_opens(cases: Cases, run: Run, watched: Watched) -> None:
         wanted = (CREATING, OWNER_ALONE) if creates else (READING, "")
         cases.check(f"{run.name}: how {opened.path} is opened", (opened.flags - HARMLESS, opened.mode), wanted)
     taken = [opened.fd for opened in watched.stand_ins()]
-    cases.check(f"{run.name}: closed streams are replaced", taken[: len(run.closed)], list(run.closed))
+    cases.check(f"{run.name}: closed streams are replaced", taken, list(run.closed))
     low = [opened.path for opened in files if 0 <= opened.fd <= STDERR]
     cases.check(f"{run.name}: no file takes the number of a stream", low, [])
 
@@ -125,6 +127,8 @@ def check_others(cases: Cases, run: Run, watched: Watched) -> None:
     cases.check(f"{run.name}: other calls", {call.name for call in own} - OF_FILES - OF_MEMORY - OTHERS, set())
     signals = {call.args.partition(",")[0] for call in own if call.name == "rt_sigaction"}
     cases.check(f"{run.name}: other signals", signals - {"SIGPIPE"}, set())
+    asked = [(call.fd, call.args.split(", ")[1]) for call in own if call.name == "fcntl"]
+    cases.check(f"{run.name}: whether the streams are open", asked, list(enumerate(DUPLICATING)))
     mapped = [call.args for call in own if call.name == "mmap" and "MAP_ANONYMOUS" not in call.args]
     cases.check(f"{run.name}: files that are mapped", mapped, [])
     of_open_files = ('""', "NULL")

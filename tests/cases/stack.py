@@ -93,17 +93,16 @@ def with_long_words(run: Run, name: str, right: str) -> Run:
 
 def check_each_stack(cases: Cases, name: str, run: Run) -> None:
     least = run.least(cases.program)
-    assert PAGE < least < ENOUGH, name
-    stacks = [*range(max(PAGE, least - BELOW), least, PAGE), *range(least, ENOUGH + 1, ABOVE)]
-    outcomes = {stack // KIB: run.outcome(cases.program, stack) for stack in stacks}
-    wrong = {stack: found for stack, found in outcomes.items() if found not in ("whole", "untouched")}
-    assert not wrong, f"{name}, by KiB of stack"
-    assert outcomes[stacks[-1] // KIB] == "whole", name
+    cases.holds(f"{name}: the least stack", PAGE < least < ENOUGH, f"{least // KIB} KiB")
+    for stack in (*range(max(PAGE, least - BELOW), least, PAGE), *range(least, ENOUGH, ABOVE)):
+        found = run.outcome(cases.program, stack)
+        cases.holds(f"{name}, {stack // KIB} KiB of stack", found in ("whole", "untouched"), found)
+    cases.check(f"{name}, {ENOUGH // KIB} KiB of stack", run.outcome(cases.program, ENOUGH), "whole")
 
 
 @pytest.mark.parametrize("environment", ENVIRONMENT)
 def test_small_stacks(cases: Cases, environment: int) -> None:
-    for sample in samples(cases, TEXT * 2_000):
+    for sample in samples(cases, TEXT * 400):
         check_each_stack(cases, sample.command, in_place(cases, sample, environment))
 
 

@@ -8,8 +8,8 @@ from lib.system_calls import Call, Traced, trace
 from model.faults import Fault
 
 STDIN, STDOUT, STDERR = 0, 1, 2
-# What takes the numbers of closed streams, and how often it is opened at most.
-STAND_IN, STAND_INS = "/", 3
+# What takes the numbers of closed streams.
+STAND_IN = "/"
 
 
 class Run(NamedTuple):
@@ -75,7 +75,7 @@ class Watched:
     def stand_ins(self) -> list[Opened]:
         """The files that were opened first of all to take numbers."""
         count = 0
-        while count < min(STAND_INS, len(self.opened)) and self.opened[count].path == STAND_IN:
+        while count < len(self.opened) and self.opened[count].path == STAND_IN:
             count += 1
         return self.opened[:count]
 
