@@ -27,6 +27,8 @@ NEW_FILE, OLD_FILE = "new", "old"
 SIZE_LIMIT = 100
 # The write that fails, counted from 1, while those after it do not.
 FAILING_WRITE = 1
+# What takes the number of a closed stream: the first that can be opened.
+DIRECTORIES = ["/", "/proc", "/dev", "."]
 
 
 class Left(NamedTuple):
@@ -241,3 +243,37 @@ def test_one_failing_write(cases: Cases) -> None:
     for sample, closed in itertools.product(samples(cases), COMBINATIONS):
         if sample.command != "view":
             check_write_fault(cases, "a write that fails", sample.command, closed, NEW_FILE, under=strace)
+
+
+def refusing(directories: list[str]) -> list[str]:
+    """The words of strace under which these cannot be opened."""
+    named = [word for path in directories for word in ("-P", path)]
+    return ["strace", "-o", "/dev/null", *named, "-e", "trace=openat", "-e", "inject=openat:error=EACCES"]
+
+
+def test_refused_directories(cases: Cases) -> None:
+    """The next directory takes the number of a closed stream; without any, a run ends before it opens a file."""
+    if shutil.which("strace") is None:
+        return cases.skip("directories that cannot be opened", "strace is not installed (Debian's package strace)")
+    writing = [sample.command for sample in samples(cases) if sample.command != "view"]
+    for command, closed, count in itertools.product(writing, COMBINATIONS[1:], range(1, len(DIRECTORIES))):
+        name, strace = f"a limited file, {DIRECTORIES[:count]} refused", refusing(DIRECTORIES[:count])
+        check_write_fault(cases, name, command, closed, NEW_FILE, under=strace, preexec_fn=limited)
+    for sample, closed in itertools.product(samples(cases), COMBINATIONS[1:]):
+        check_without_directories(cases, sample.command, closed)
+
+
+def check_without_directories(cases: Cases, command: str, closed: set[int]) -> None:
+    with tempfile.TemporaryDirectory() as folder:
+        sample = own_sample(cases.program, folder, command)
+        for name, content in ((OLD_FILE, OLD), ("given", sample.stdin), ("stdin", sample.stdin)):
+            (Path(folder) / name).write_bytes(content)
+        before = contents(Path(folder))
+        output = [] if command == "view" else ["--output", OLD_FILE]
+        words = [cases.program, *named(sample, "given").words, *output]
+        done = run_closed(words, closed, folder, under=refusing(DIRECTORIES))
+        left = Left(done.returncode, done.stdout, done.stderr, changed(before, folder))
+    fault = Fault.INPUT_NOT_READ if 0 in closed else Fault.NOT_WRITTEN
+    # strace says on standard error what it makes of a relative path.
+    left = left._replace(message=b"".join(line for line in left.message.splitlines(True) if b"strace" not in line))
+    cases.check(f"{command} without a directory and without {sorted(closed)}", left, failed(fault, closed))

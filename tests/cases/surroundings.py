@@ -33,8 +33,10 @@ NOT_READ = {
 }
 # Files that may be open at once, standard streams too: the fewest under which a program starts, and the
 # fewest under which every run ends well.
-STARTS, ENOUGH = 4, 8
-STACK = 128 * KIB
+STARTS, ENOUGH = 4, 5
+# What a run needs of the stack, besides its arguments and environment variables.
+STACK = 64 * KIB
+POINTER = 8
 LARGE = 1 << 20
 
 
@@ -124,6 +126,13 @@ def test_few_files(cases: Cases) -> None:
             cases.check(f"{name}: FILE stays", Path(given).read_bytes(), sample.stdin)
 
 
+def run_on_stack(cases: Cases, words: list[str], stdin: bytes) -> tuple:
+    """In the stack that a run needs."""
+    texts = [*words, *(f"{name}={value}" for name, value in os.environ.items())]
+    besides = sum(len(os.fsencode(text)) + 1 + POINTER for text in texts)
+    return run_under(cases, resource.RLIMIT_STACK, STACK + besides, words, stdin)
+
+
 def test_small_stack(cases: Cases) -> None:
     """With long texts, and with all secrets that a run may have."""
     others = [word for number in range(15) for word in by_id(cases.file(b"wrong\n"), f"l{number}")]
@@ -131,9 +140,9 @@ def test_small_stack(cases: Cases) -> None:
     runs = [("sixteen secrets", Sample(words, seal(b"right", TEXT, b"other"), TEXT))]
     runs += [(f"{len(text)} bytes", sample) for text in (TEXT, bytes(LARGE)) for sample in samples(cases, text)]
     for name, sample in runs:
-        answer = run_under(cases, resource.RLIMIT_STACK, STACK, sample.words, sample.stdin)
+        answer = run_on_stack(cases, sample.words, sample.stdin)
         cases.check(f"{sample.command}, {name} with a small stack", answer, (0, sample.output, b""))
     for words, status in ((["--help"], 0), (["rekey", "--help"], 0), (["view", "--loud"], 2), ([], 2)):
         usual = cases.done(words)
-        answer = run_under(cases, resource.RLIMIT_STACK, STACK, words, b"")
+        answer = run_on_stack(cases, words, b"")
         cases.check(f"{words} with a small stack", answer, (status, usual.stdout, usual.stderr))

@@ -27,6 +27,7 @@ ERRORS = {
     "ftruncate": ["EINTR", "EPERM", "EIO", "EBADF"],
     "fsync": ["EINTR", "EIO", "ENOSPC", "EDQUOT", "EBADF", "EINVAL"],
     "close": ["EINTR", "EIO", "ENOSPC", "EDQUOT", "EBADF"],
+    "fcntl": ["EMFILE"],
     "mmap": ["ENOMEM", NO_MORE_MEMORY],
     "mremap": ["ENOMEM", NO_MORE_MEMORY],
     "brk": ["ENOMEM", NO_MORE_MEMORY],
@@ -134,10 +135,10 @@ def fault_of(scenario: Scenario, step: Step) -> Fault:
 
 def wanted(refusal: Refusal) -> list[Left]:
     """What may be left. A run may succeed without the memory that it is refused; a failure of close is ignored, and so
-    is one of fsync with EINVAL."""
+    is one of fsync with EINVAL. A stream that cannot be asked whether it is open is taken for one that is closed."""
     scenario, step, error = refusal
     whole, memory = scenario.fault_free(), Fault.MEMORY
-    if step.call.name == "close" or step.about == STAND_IN or (step.call.name, error) == ("fsync", "EINVAL"):
+    if step.call.name in ("close", "fcntl") or step.about == STAND_IN or (step.call.name, error) == ("fsync", "EINVAL"):
         return [whole]
     if step.call.name in MEMORY:
         return [whole, scenario.untouched(memory.status, memory.line)]
