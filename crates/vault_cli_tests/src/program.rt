@@ -10,6 +10,7 @@ use vault_text::Source;
 
 /// More than a run here opens, and the length of its longest path.
 const OPENS: usize = 20;
+
 const LONGEST_PATH: usize = 12;
 
 /// What a run left, and the paths that it opened, each with a space after it.
