@@ -8,9 +8,10 @@ use vault_test_data::CountingReader;
 use vault_test_runs::{Left, Ran, run_program};
 use vault_text::Source;
 
-/// More than a run here opens, and the length of its longest path.
+/// At least as many files as a run here opens.
 const OPENS: usize = 20;
 
+/// The length of the longest path of a run here.
 const LONGEST_PATH: usize = 12;
 
 /// What a run left, and the paths that it opened, each with a space after it.
