@@ -25,7 +25,7 @@ LINE_ENDS = ["\n"] * 3 + ["\r\n", "\r", "\x85"]
 KEYS = ["a", "b c", "'q: ''x'", '"\\u00e9\\t"', "größe", "&k c", "!!str 1", "? d\n{}", "<<"]
 SCALARS = ["", "word", "'it''s'", '"a\\tb"', "two\n{}  words", "|\n{}  text\n\n{}   more", "{{a: 'x', b: [1, 2]}}"]
 SCALARS += ["word # no !vault", "&x 1", "~", ">-\n{}  folded\n{}  lines", "!other 1", "[]", "'!vault'"]
-PLAINTEXTS = ["word", "größe\n", "two\nlines\n\n", " x", "", "# x", "!vault |\n  x", "a: b\n"]
+PLAINTEXTS = ["word", "größe\n", "two\nlines\n\n", " x", "", "# x", "!vault |\n  x", "a\n# ansible-vault: b\n"]
 PIECES = ["a", "b:", "c: ", "- ", "  ", "    ", "\n", "\n", "\n", "\r\n", "\r", "\x85", "\u2028", "\t", "# x\n"]
 PIECES += ["!vault ", "!vault ", "!vault |\n", "|", "|-\n", "|2+\n", ">", "'", '"', "[", "]", "{", "}", ", ", "&x "]
 PIECES += ["? ", ": ", "---\n", "...\n", "x y", "  6162\n", "ü", "<<: ", "!<!vault> ", "!!map ", "$ANSIBLE_VAULT;"]
@@ -226,6 +226,16 @@ def encrypted(showing: inline.Showing, text: bytes) -> bytes | str:
         return str(fault)
 
 
+def no_place(cases: Companions) -> None:
+    """What would not be read as it is meant is not written."""
+    if not cases.needs_pyyaml("values without a place"):
+        return
+    data = b"a: !vault |\n  " + envelope(b"old").replace(b"\n", b"\n  ") + b"\n"
+    showing = inline.showing(data, decrypt, with_notes=True)
+    for text in (b"a: !vault new\n            # a comment\n", b"a: !vault new\xe2\x80\xa8b: 1"):
+        cases.check(f"{text!r}", encrypted(showing, text), inline.NO_PLACE)
+
+
 def conflicts(cases: Companions) -> None:
     """Each side of a conflict is read without the others."""
     if not cases.needs_pyyaml("conflicts"):
@@ -236,4 +246,4 @@ def conflicts(cases: Companions) -> None:
     cases.check("their bytes", parts, [b"one", b"|-\n    two", b"three", "'fünf'".encode(), b"|\n  six"])
 
 
-TESTS = [anything, shown_and_encrypted, conflicts]
+TESTS = [anything, shown_and_encrypted, no_place, conflicts]
