@@ -77,7 +77,7 @@ _ansible_vault_arguments() {
     )
     local -a rotation=(
         '--dry-run[write nothing, and report what would be done]'
-        '--jobs=[how many files at once]:number: '
+        '--jobs=[how many vaults and blocks at once]:number: '
     )
 
     case $1 in
