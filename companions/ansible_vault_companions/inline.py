@@ -114,7 +114,7 @@ def showing(data: bytes, decrypt: Decrypt, with_notes: bool) -> Showing:
             made.show(each)
         except Refused as fault:
             made.keep_encrypted(value, str(fault))
-    if [value.content for value in Scan(made.text()).values] != made.contents():
+    if _contents(made.text()) != made.contents():
         raise Refused("its values cannot be shown as literals of YAML")
     return made
 
@@ -150,15 +150,16 @@ def encrypted(shown: Showing, text: bytes, tool: Tool, choice: Choice) -> bytes:
     after = blocks.changed(text, changes)
     if any(map(shown.needs_final_newline, shown.decrypted)):
         after = LAST_LINE_END.sub(b"", after)
-    if _envelopes(after) != [envelopes.get(value, value.content).strip() for value in found.values]:
+    wanted = [envelopes.get(value, value.content).strip() for value in found.values]
+    if [content.strip() for content in _contents(after)] != wanted:
         raise Refused(NO_PLACE)
     return after
 
 
-def _envelopes(data: bytes) -> list[bytes]:
-    """As they are read where they were put; none where that is no YAML."""
+def _contents(data: bytes) -> list[bytes]:
+    """What the values of a text are; none where it is no YAML."""
     try:
-        return [value.content.strip() for value in Scan(data).values]
+        return [value.content for value in Scan(data).values]
     except NotYaml:
         return []
 
