@@ -1,40 +1,44 @@
-"""What is asked of git: which files a commit has, what they hold, and which of them are marked."""
+"""Runs git, reads its blobs, and knows which files are marked and which are still to be merged."""
 
 from __future__ import annotations
 
 import os
 import subprocess
-import tempfile
-from contextlib import contextmanager
-from dataclasses import dataclass
 from functools import lru_cache
-from typing import Iterator
+from typing import NamedTuple
 
 from ansible_vault_companions.leaks import DIFF, VAULT_ALONE
 from ansible_vault_companions.program import Refused
 
 # What git calls files: neither links nor modules.
 FILE_MODES = {"100644", "100755"}
-RAW = ("--raw", "-z", "--no-abbrev", "--no-renames")
-# By a variable of this name git names to a hook a commit that is merged.
-MERGED = "GITHEAD_"
-# Where contents are noted that have conflict markers within a vault, which are seen with a secret alone.
+LINK_MODE = "120000"
+# Where it is noted what is still to be merged, which neither git nor the hook can see without a secret. A line of one
+# word is the blob of a content with conflict markers. A line of three is a file that the merge driver could not
+# merge: its blobs in ours and in theirs, and its name in hexadecimal digits.
 CONFLICTS = "ansible-vault-conflicts"
+# How many contents are kept, since a file is compared with the one before it in several ways.
+RECENT = 4
+# What git calls the commits whose changes it merges.
+THEIRS = ("MERGE_HEAD", "CHERRY_PICK_HEAD", "REBASE_HEAD", "REVERT_HEAD^@")
 
 
-@dataclass
-class File:
-    """A file of a commit, with its content there and in the parents that have another."""
+class Unmerged(NamedTuple):
+    """A file that is as ours has it, since the merge driver failed."""
 
     name: bytes
-    blob: str
-    before: list[str]
+    ours: str
+    theirs: str
 
 
-def git(*words: str, data: bytes = b"", index: str | None = None, folder: str | None = None) -> bytes:
+def git(
+    *words: str, data: bytes = b"", index: str | None = None, folder: str | None = None, is_quiet: bool = False
+) -> bytes:
     environment = {**os.environ, "GIT_INDEX_FILE": index} if index else None
+    errors = subprocess.DEVNULL if is_quiet else None
+    options = {"stdout": subprocess.PIPE, "stderr": errors, "env": environment, "cwd": folder}
     try:
-        done = subprocess.run(["git", *words], input=data, stdout=subprocess.PIPE, env=environment, cwd=folder)
+        done = subprocess.run(["git", *words], input=data, **options)
     except FileNotFoundError:
         raise Refused("git is not installed") from None
     if done.returncode != 0:
@@ -42,100 +46,97 @@ def git(*words: str, data: bytes = b"", index: str | None = None, folder: str | 
     return done.stdout
 
 
-def note_conflict(content: bytes) -> None:
-    """Notes in the repository, if this is one, that a content is still to be merged."""
+def note_conflict(content: bytes, folder: str | None = None) -> None:
+    """Notes in the repository of a folder, if there is one, that a content is still to be merged."""
     try:
-        blob = git("hash-object", "--stdin", data=content).decode().strip()
-        path = git("rev-parse", "--git-path", CONFLICTS).removesuffix(b"\n")
+        blob = git("hash-object", "--stdin", data=content, folder=folder, is_quiet=True).decode().strip()
+        path = git("rev-parse", "--git-path", CONFLICTS, folder=folder, is_quiet=True).removesuffix(b"\n")
     except Refused:
         return
-    with open(path, "a", encoding="ascii") as file:
+    with open(os.path.join(os.fsencode(folder or ""), path), "a", encoding="ascii") as file:
         file.write(f"{blob}\n")
 
 
 def conflicts() -> set[str]:
-    """The contents that are noted to be still to be merged."""
+    """The blobs that have conflict markers."""
+    return {words[0] for words in _lines(_notes()) if len(words) == 1}
+
+
+def note_unmerged(name: str, ours: str, theirs: str) -> None:
+    """Notes that a file is not merged yet. Its versions are at these paths."""
+    notes = _notes()
+    if notes:
+        blobs = git("hash-object", "--no-filters", "--", ours, theirs).decode().split()
+        with open(notes, "a", encoding="ascii") as file:
+            file.write(f"{' '.join(blobs)} {os.fsencode(name).hex()}\n")
+
+
+def forget_unmerged(name: str) -> None:
+    """Takes that note back, since the file is merged."""
+    notes = _notes()
+    lines = _lines(notes)
+    kept = [words for words in lines if words[2:] != [os.fsencode(name).hex()]]
+    if len(kept) < len(lines):
+        with open(notes, "w", encoding="ascii") as file:
+            file.writelines(f"{' '.join(words)}\n" for words in kept)
+
+
+def unmerged(folder: str | None = None) -> list[Unmerged]:
+    """The files that the merge driver could not merge, as long as git has not finished that merge."""
+    noted = {Unmerged(bytes.fromhex(words[2]), *words[:2]) for words in _lines(_notes(folder)) if len(words) == 3}
+    merged = _blobs_of_theirs(folder) if noted else set()
+    return sorted(each for each in noted if each.theirs in merged)
+
+
+def unmerged_of(paths: list[str]) -> set[str]:
+    """The files whose content is still that of ours, each in the repository that it is in, if in any."""
+    found = set()
+    for repository, names in _by_repository(paths).items():
+        for each in unmerged(repository):
+            if each.name in names:
+                blob = git("hash-object", "--", os.fsdecode(each.name), folder=repository).decode().strip()
+                found.update([names[each.name]] if blob == each.ours else [])
+    return found
+
+
+def unmerged_in_index() -> list[tuple[bytes, str]]:
+    """The files whose staged content is still that of ours: their names and blobs."""
+    noted = [(each.name, each.ours) for each in unmerged()]
+    return [(name, blob) for name, blob in noted if staged(name).get(name, ("", ""))[1] == blob]
+
+
+def _blobs_of_theirs(folder: str | None) -> set[str]:
+    blobs = set()
+    for name in THEIRS:
+        try:
+            commits = git("rev-parse", name, folder=folder, is_quiet=True).decode().split()
+        except Refused:
+            continue
+        for each in commits:
+            lines = git("ls-tree", "-r", "-z", "--full-tree", each, folder=folder).split(b"\0")[:-1]
+            blobs.update(line.partition(b"\t")[0].split()[2].decode() for line in lines)
+    return blobs
+
+
+def _notes(folder: str | None = None) -> str | None:
+    """The path of the notes; none outside of a repository."""
     try:
-        with open(git("rev-parse", "--git-path", CONFLICTS).removesuffix(b"\n"), encoding="ascii") as file:
-            return set(file.read().split())
+        path = git("rev-parse", "--git-path", CONFLICTS, folder=folder, is_quiet=True).removesuffix(b"\n")
+    except Refused:
+        return None
+    return os.path.join(folder or "", os.fsdecode(path))
+
+
+def _lines(notes: str | None) -> list[list[str]]:
+    try:
+        with open(notes or os.devnull, encoding="ascii") as file:
+            return [line.split() for line in file]
     except FileNotFoundError:
-        return set()
+        return []
 
 
 def top() -> str:
     return os.fsdecode(git("rev-parse", "--show-toplevel").removesuffix(b"\n"))
-
-
-def commit(name: str) -> str:
-    """The commit that a name means."""
-    return git("rev-parse", "--verify", "--end-of-options", f"{name}^{{commit}}").decode().strip()
-
-
-def commits_since(name: str) -> list[str]:
-    """Those that are checked out and not in this one, the oldest first."""
-    return git("rev-list", "--reverse", "--topo-order", f"{commit(name)}..HEAD").decode().split()
-
-
-def parents(name: str) -> list[str]:
-    """A tree without files is the parent of a first commit."""
-    found = git("rev-list", "--parents", "--max-count=1", name).decode().split()[1:]
-    return found or [git("hash-object", "-t", "tree", "--stdin").decode().strip()]
-
-
-def staged() -> list[File]:
-    """The files that a commit of the index adds or changes."""
-    files = _files(git("diff", "--cached", "--no-relative", *RAW))
-    for parent in _merged() if files else []:
-        for name, other in _files(git("diff-index", "--cached", *RAW, parent)).items():
-            if name in files:
-                files[name].before += other.before
-    return list(files.values())
-
-
-def _merged() -> list[str]:
-    """The commits that are merged into the one that is checked out."""
-    found = {name.removeprefix(MERGED) for name in os.environ if name.startswith(MERGED)}
-    try:
-        with open(git("rev-parse", "--git-path", "MERGE_HEAD").removesuffix(b"\n"), encoding="ascii") as file:
-            found.update(file.read().split())
-    except FileNotFoundError:
-        pass
-    return sorted(found)
-
-
-def changed(name: str) -> list[File]:
-    """The files that a commit adds or changes, from any of its parents."""
-    files: dict[bytes, File] = {}
-    for parent in parents(name):
-        for path, file in _files(git("diff-tree", "-r", *RAW, parent, name)).items():
-            files.setdefault(path, File(path, file.blob, [])).before += file.before
-    return list(files.values())
-
-
-def files_of(name: str) -> list[File]:
-    """All files of a commit."""
-    lines = git("ls-tree", "-r", "-z", "--full-tree", name).split(b"\0")[:-1]
-    fields = [(line.partition(b"\t")[0].decode().split(), line.partition(b"\t")[2]) for line in lines]
-    return [File(path, about[2], []) for about, path in fields if about[0] in FILE_MODES]
-
-
-def _files(raw: bytes) -> dict[bytes, File]:
-    fields = raw.split(b"\0")
-    files = {}
-    for about, name in zip(fields[::2], fields[1::2]):
-        old_mode, mode, old_blob, blob, _ = about.decode().removeprefix(":").split()
-        if mode in FILE_MODES:
-            files[name] = File(name, blob, [old_blob] if old_mode in FILE_MODES else [])
-    return files
-
-
-@contextmanager
-def index_of(name: str) -> Iterator[str]:
-    """An index that has the files of a commit."""
-    with tempfile.TemporaryDirectory(prefix="ansible-vault-") as folder:
-        path = os.path.join(folder, "index")
-        git("read-tree", name, index=path)
-        yield path
 
 
 def marks(names: list[bytes], index: str | None = None, folder: str | None = None) -> dict[bytes, set[str]]:
@@ -151,17 +152,31 @@ def marks(names: list[bytes], index: str | None = None, folder: str | None = Non
     return found
 
 
-def blobs_in(folder: bytes, index: str | None = None) -> list[str]:
-    """The contents of the files in a folder itself."""
-    path = os.fsdecode(folder)
-    lines = git("--literal-pathspecs", "ls-files", "-s", "-z", "--", path or ".", index=index).split(b"\0")[:-1]
+def is_meant_plain(name: bytes, index: str | None = None) -> bool:
+    """Whether the attribute `-ansible-vault` says so."""
+    fields = git("check-attr", "--cached", "-z", "--stdin", VAULT_ALONE, data=name + b"\0", index=index).split(b"\0")
+    return fields[2] == b"unset"
+
+
+def staged(path: bytes, index: str | None = None) -> dict[bytes, tuple[str, str]]:
+    """What is in an index at a path, or below it: modes and blobs by their names."""
+    words = ["--literal-pathspecs", "ls-files", "-s", "-z", "--", os.fsdecode(path) or "."]
+    lines = git(*words, index=index).split(b"\0")[:-1]
     entries = [(about.decode().split(), name) for about, _, name in (line.partition(b"\t") for line in lines)]
-    return [about[1] for about, name in entries if about[0] in FILE_MODES and os.path.dirname(name) == folder]
+    return {name: (about[0], about[1]) for about, name in entries}
 
 
 def marks_of(paths: list[str]) -> dict[str, set[str]]:
     """The attributes by which files are marked, each in the repository that it is in, if in any."""
     found: dict[str, set[str]] = {path: set() for path in paths}
+    for repository, names in _by_repository(paths).items():
+        for name, attributes in marks(list(names), folder=repository).items():
+            found[names[name]] = attributes
+    return found
+
+
+def _by_repository(paths: list[str]) -> dict[str, dict[bytes, str]]:
+    """The paths by the repository that each is in, and by their names there."""
     repositories: dict[str, dict[bytes, str]] = {}
     for path in paths:
         target = os.path.realpath(path)
@@ -169,10 +184,7 @@ def marks_of(paths: list[str]) -> dict[str, set[str]]:
         if repository:
             name = os.fsencode(os.path.relpath(target, repository))
             repositories.setdefault(repository, {})[name] = path
-    for repository, names in repositories.items():
-        for name, attributes in marks(list(names), folder=repository).items():
-            found[names[name]] = attributes
-    return found
+    return repositories
 
 
 @lru_cache(maxsize=None)
@@ -190,6 +202,7 @@ class Blobs:
     def __enter__(self) -> Blobs:
         command = ["git", "cat-file", "--batch"]
         self.git = subprocess.Popen(command, stdin=subprocess.PIPE, stdout=subprocess.PIPE)
+        self.recent: dict[str, bytes] = {}
         return self
 
     def __exit__(self, *_) -> None:
@@ -198,6 +211,12 @@ class Blobs:
         self.git.wait()
 
     def read(self, blob: str) -> bytes:
+        if blob not in self.recent:
+            self.recent = dict([*self.recent.items()][1 - RECENT :])
+            self.recent[blob] = self._read(blob)
+        return self.recent[blob]
+
+    def _read(self, blob: str) -> bytes:
         self.git.stdin.write(blob.encode() + b"\n")
         self.git.stdin.flush()
         about = self.git.stdout.readline().split()

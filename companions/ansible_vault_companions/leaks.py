@@ -6,7 +6,8 @@ import binascii
 import re
 from collections import Counter
 
-from ansible_vault_companions.envelopes import MAGIC, Envelope, envelopes
+from ansible_vault_companions import plain_values
+from ansible_vault_companions.envelopes import MAGIC, START, Envelope, envelopes
 from ansible_vault_companions.program import shown
 
 # The attributes of git that mark a file: the first lets it be YAML with blocks, the second a vault alone.
@@ -15,11 +16,16 @@ DIFF, VAULT_ALONE = "diff", "ansible-vault"
 NOT_ENCRYPTED = "is not encrypted"
 DAMAGED = "is a damaged vault"
 UNMERGED = "has git's conflict markers"
+WAS_VAULT = "is not a vault, but was one"
+WITHOUT_THEIRS = "is not merged: the merge driver failed, and the file has nothing of theirs"
 
 HEADER = re.compile(rb"\$ANSIBLE_VAULT;1\.(?:1;AES256|2;AES256;[^;\r\n]{1,128})[ \t]*(?=[\r\n]|\Z)")
 # Lengths in bytes.
 TAG_LENGTH = 32
 CIPHER_BLOCK = 16
+# Of an envelope, whose digits spell digits: two of 32 bytes and their ends of lines come before the ciphertext.
+DIGITS_BEFORE_CIPHERTEXT = 2 * (2 * (2 * 32 + 1))
+DIGITS_PER_BYTE = 4
 CONFLICT_MARKER = re.compile(rb"^(?:<<<<<<<|>>>>>>>|\|\|\|\|\|\|\|)(?:[ \t][^\r\n]*)?\r?$", re.MULTILINE)
 # What follows a block, up to its first character.
 NEXT_LINE = re.compile(rb"(?:\r?\n[ \t]*(?=[\r\n]))*\r?\n(?P<spaces> *)\S")
@@ -75,24 +81,38 @@ def _is_whole_block(content: bytes, block: Envelope) -> bool:
     return not block.obstacle and is_whole(block.text) and not is_longer
 
 
+def plaintext_length(vault: bytes) -> int:
+    """How many bytes its plaintext has, or up to a block fewer."""
+    digits = sum(len(line) for line in vault.split()[1:])
+    return (digits - DIGITS_BEFORE_CIPHERTEXT) // DIGITS_PER_BYTE - 1
+
+
 def decrypted(before: bytes, after: bytes) -> str | None:
-    """What was encrypted in a file and is not any longer; a variable that has gone is none."""
+    """What was encrypted in a file and is not any longer. A variable that has gone is none. The message ends where the
+    name of the other commit follows."""
     if before.startswith(MAGIC):
         was_damaged = not is_whole(before)
         is_encrypted = is_whole(after) or (was_damaged and after.startswith(MAGIC))
-        return None if is_encrypted or not after.strip() else "was a vault in the parent commit, and is not one now"
+        return None if is_encrypted or not after.strip() else WAS_VAULT
     names = now_plain(before, after)
-    return f"has {', '.join(names)} in plaintext, encrypted in the parent commit" if names else None
+    return f"has {', '.join(names)} in plaintext, encrypted" if names else None
 
 
 def now_plain(before: bytes, after: bytes) -> list[str]:
-    """The variables of which fewer are encrypted than before, and more are not."""
-    encrypted = _encrypted(before)
-    if not encrypted:
+    """The values that were encrypted and are not, by their keys or else by the names of their variables."""
+    if START not in before or not plain_values.differ(before, after):
         return []
-    still, lines, lines_before = _encrypted(after), _lines(after), _lines(before)
+    paths = plain_values.now_plain(before, after)
+    last_keys = {path[-1] for path in paths if path}
+    names = [name for name in _plain_names(before, after) if (name or plain_values.ITEM) not in last_keys]
+    return [*map(plain_values.shown_path, paths), *(shown(name) if name else "an item of a list" for name in names)]
+
+
+def _plain_names(before: bytes, after: bytes) -> list[str | None]:
+    """The variables of which fewer are encrypted than before, and more are not."""
+    encrypted, still, lines, lines_before = _encrypted(before), _encrypted(after), _lines(after), _lines(before)
     return [
-        shown(name) if name else "an item of a list"
+        name
         for name, count in encrypted.items()
         if still[name] < count and lines[name] - still[name] > lines_before[name] - count
     ]

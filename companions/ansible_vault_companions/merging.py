@@ -17,9 +17,9 @@ from ansible_vault_companions import blocks, stopping
 from ansible_vault_companions.blocks import Block, Change
 from ansible_vault_companions.inline import Decrypt
 from ansible_vault_companions.envelopes import MAGIC, TAG_NAME, label_of
-from ansible_vault_companions.program import Refused
+from ansible_vault_companions.program import Refused, shown
 from ansible_vault_companions.secret_files import Secret
-from ansible_vault_companions.tool import Tool
+from ansible_vault_companions.tool import NOT_DECRYPTED, SecretRefused, Tool
 from ansible_vault_companions.yaml_nodes import LITERAL, NotYaml
 from ansible_vault_companions.yaml_values import Scan
 
@@ -27,6 +27,8 @@ from ansible_vault_companions.yaml_values import Scan
 SIDES = ("ours", "base", "theirs")
 # The status of `git merge-file` is the number of conflicts, up to this; a greater one is a failure.
 MOST_CONFLICTS = 127
+OURS, BASE, THEIRS = SIDES
+SIDE_NOT_DECRYPTED = "no secret decrypts {}, with the label {}"
 KINDS_DIFFER = "one side is a vault and the other is not"
 LABELS_DIFFER = "the labels differ: {} in ours, {} in theirs"
 SECRETS_DIFFER = "both sides have put it under new secrets, and these differ"
@@ -83,8 +85,8 @@ def merged(tool: Tool, decrypt: Decrypt, base: bytes, ours: bytes, theirs: bytes
 
 
 def _merged_vaults(tool: Tool, decrypt: Decrypt, base: bytes, ours: bytes, theirs: bytes) -> Merged:
-    first, second = _decrypted(decrypt, ours), _decrypted(decrypt, theirs)
-    before = _decrypted(decrypt, base) if base.startswith(MAGIC) else None
+    first, second = _decrypted(decrypt, ours, OURS), _decrypted(decrypt, theirs, THEIRS)
+    before = _decrypted(decrypt, base, BASE) if base.startswith(MAGIC) else None
     if first.label != second.label:
         raise Refused(LABELS_DIFFER.format(first.label, second.label))
     text, conflicts = merged_lines(first.plaintext, before.plaintext if before else base, second.plaintext)
@@ -95,9 +97,16 @@ def _merged_vaults(tool: Tool, decrypt: Decrypt, base: bytes, ours: bytes, their
     return Merged(tool.encrypt(text, secret, first.label), conflicts)
 
 
-def _decrypted(decrypt: Decrypt, envelope: bytes) -> Version:
-    secret, plaintext = decrypt(envelope)
-    return Version(envelope, label_of(envelope) or "", secret, plaintext)
+def _decrypted(decrypt: Decrypt, envelope: bytes, side: str) -> Version:
+    label = label_of(envelope) or ""
+    try:
+        secret, plaintext = decrypt(envelope)
+    except SecretRefused:
+        raise
+    except Refused as fault:
+        is_locked = str(fault) == NOT_DECRYPTED
+        raise Refused(SIDE_NOT_DECRYPTED.format(side, shown(label)) if is_locked else f"{side}: {fault}") from None
+    return Version(envelope, label, secret, plaintext)
 
 
 def _is_same(one: Secret, other: Secret) -> bool:

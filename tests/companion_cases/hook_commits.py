@@ -1,10 +1,11 @@
 """ansible-vault-hook in a pipeline (--all, --since), and how it is installed."""
 
 import os
+from pathlib import Path
 
 from companion_cases import HOOK, TEXT, Companions, Place, block, sealed
 from companion_cases.hook import all_of_git, refused, unmarking
-from companion_cases.leaks import IN_PART, MEANT, WHOLE, again
+from companion_cases.leaks import IN_PART, WHOLE, again, meant
 from companion_cases.repository import add_and_commit, commit, under_git
 
 ATTRIBUTES = "*.vault.yml diff=ansible-vault\n"
@@ -31,7 +32,8 @@ def every_file(cases: Companions) -> None:
         committed(place, "vars.yml", b"secret: plain\n")
         names = ("deep/c.vault.yml", "vars.yml")
         done = place.shell(f"{HOOK} --all", folder="deep")
-        lines = [f"{HOOK}: deep/c.vault.yml is not encrypted", f"{HOOK}: vars.yml {IN_PART.format('secret')}", MEANT]
+        lines = [f"{HOOK}: deep/c.vault.yml is not encrypted", f"{HOOK}: vars.yml {IN_PART.format('secret')}"]
+        lines.append(meant("vars.yml"))
         cases.check("each is refused", (done.returncode, done.stderr.splitlines()), (1, lines))
         # The commit counts, and neither the index nor the folder.
         for name in names:
@@ -52,7 +54,8 @@ def each_commit(cases: Companions) -> None:
         cases.silent("nothing since", place.run(HOOK, "--since", "HEAD"))
         leak = committed(place, "vars.yml", TEXT)
         committed(place, "vars.yml", sealed("new"))
-        refused(cases, "taken back", place.run(HOOK, "--since", first), f"{leak[:10]}: vars.yml", why=WHOLE, hint=MEANT)
+        done = place.run(HOOK, "--since", first)
+        refused(cases, "taken back", done, f"{leak[:10]}: vars.yml", why=WHOLE, hint=meant("vars.yml"))
         cases.silent("--all sees it no more", place.run(HOOK, "--all"))
         cases.silent("and neither what came before", place.run(HOOK, "--since", leak))
         marked = committed(place, "a.vault.yml", TEXT)
@@ -77,7 +80,7 @@ def cherry_picks(cases: Companions) -> None:
         place.shell(f"git checkout -q - && git cherry-pick {leak}")
         picked = place.shell("git rev-parse HEAD").stdout.strip()
         done = place.run(HOOK, "--since", base)
-        refused(cases, "a cherry-pick", done, f"{picked[:10]}: vars.yml", why=WHOLE, hint=MEANT)
+        refused(cases, "a cherry-pick", done, f"{picked[:10]}: vars.yml", why=WHOLE, hint=meant("vars.yml"))
         place.shell(f"git reset -q --hard {base} && git commit -q --allow-empty -m x")
         place.shell("git merge -q --no-verify branch")
         done = place.run(HOOK, "--since", base)
@@ -88,29 +91,46 @@ def cherry_picks(cases: Companions) -> None:
 
 
 def shallow_clones(cases: Companions) -> None:
-    """As pipelines have them."""
+    """As pipelines have them: what was encrypted before is not there to be compared."""
     with cases.place() as place:
         under_git(place, ATTRIBUTES)
-        committed(place, "a.vault.yml", sealed("old"))
-        committed(place, "b.vault.yml", TEXT)
+        committed(place, "a.yml", sealed("old"))
+        committed(place, "a.yml", TEXT)
+        committed(place, "b.yml", TEXT)
         place.shell("git clone -q --depth 1 file://$PWD ../shallow")
-        done = place.shell(f"cd ../shallow && {HOOK} --all")
-        refused(cases, "a shallow clone", done, "b.vault.yml", hint=unmarking("b.vault.yml"))
+        for words in ("--all", "--since HEAD", "--since origin/HEAD", "--since nowhere"):
+            done = place.shell(f"cd ../shallow && {HOOK} {words}")
+            parts = ("this clone is shallow", "`git fetch --unshallow`", "fetch-depth: 0")
+            cases.ended(f"a shallow clone, {words}", done, 1, *parts)
+        place.put("../shallow/b.vault.yml", TEXT)
+        done = place.shell(f"cd ../shallow && git add -A && {HOOK}")
+        refused(cases, "what is staged in it", done, "b.vault.yml")
+        done = place.shell(f"cd ../shallow && git fetch -q --unshallow && {HOOK} --all")
+        cases.ended("no longer shallow", done, 1, "a.yml is not a vault, but was one in an earlier commit")
+
+
+THIS_ONE = "git runs what is in this folder for this repository and its worktrees"
+
+
+def installs(cases: Companions, what: str, done, hooks: Path, told: str = "installed", which: str = THIS_ONE) -> None:
+    """It prints what it installed where, and for which repositories."""
+    lines = [*(f"{hooks}/{name}: {told}" for name in ("pre-commit", "pre-merge-commit")), which]
+    cases.check(what, (done.returncode, done.stdout.splitlines(), done.stderr), (0, lines, ""))
 
 
 def installed(cases: Companions) -> None:
     with cases.place() as place:
         under_git(place, ATTRIBUTES)
-        for _ in range(2):
-            cases.silent("it is installed", place.run(HOOK, "--install"))
         hooks = place.tree / ".git/hooks"
+        for told in ("installed", "already installed"):
+            installs(cases, told, place.run(HOOK, "--install"), hooks, told)
         for name in ("pre-commit", "pre-merge-commit"):
             cases.check(f"{name} leads to it", os.path.realpath(hooks / name), os.path.realpath(place.tools / HOOK))
         place.put("a.vault.yml", TEXT)
         refused(cases, "it works", add_and_commit(place), "a.vault.yml")
         committed(place, "a.vault.yml", sealed("old"))
         place.shell("git worktree add -q ../second && echo plain > ../second/b.vault.yml && rm .git/hooks/pre-*commit")
-        cases.silent("from another worktree", place.shell(f"cd ../second && {HOOK} --install"))
+        installs(cases, "from another worktree", place.shell(f"cd ../second && {HOOK} --install"), hooks)
         done = place.shell("cd ../second && git add -A && git commit -qm second")
         refused(cases, "it works there", done, "b.vault.yml", hint=unmarking("b.vault.yml"))
         refused(cases, "and in the first", again(place, "a.vault.yml", TEXT), "a.vault.yml")
@@ -135,7 +155,9 @@ def other_hooks(cases: Companions) -> None:
     with cases.place() as place:
         under_git(place, ATTRIBUTES)
         place.shell("git config core.hooksPath ../my-hooks && mkdir inner")
-        cases.silent("core.hooksPath", place.shell(f"{HOOK} --install"))
+        which = "git runs what is in this folder for this repository and its worktrees: core.hooksPath is set by {}"
+        done = place.shell(f"{HOOK} --install", folder="inner")
+        installs(cases, "core.hooksPath", done, place.path / "my-hooks", which=which.format(".git/config"))
         found = sorted(each.name for each in (place.path / "my-hooks").iterdir())
         cases.check("is where they are", found, ["pre-commit", "pre-merge-commit"])
         place.put("inner/a.vault.yml", TEXT)
@@ -144,4 +166,42 @@ def other_hooks(cases: Companions) -> None:
         cases.silent("nothing else is refused", commit(place, "--allow-empty"))
 
 
-TESTS = [*map(all_of_git, [every_file, each_commit, cherry_picks, shallow_clones, installed, other_hooks])]
+def moved_programs(cases: Companions) -> None:
+    """git ignores a hook that is a link to nothing; a link to an earlier place of this program is replaced."""
+    with cases.place() as place:
+        under_git(place, ATTRIBUTES)
+        old = place.path / "old" / HOOK
+        old.parent.mkdir()
+        old.symlink_to(place.tools / HOOK)
+        place.shell(f"../old/{HOOK} --install")
+        old.unlink()
+        place.put("a.vault.yml", TEXT)
+        cases.silent("git runs no hook", add_and_commit(place))
+        hooks = place.tree / ".git/hooks"
+        installs(cases, "repaired", place.run(HOOK, "--install"), hooks, f"installed in the place of a link to {old}")
+        place.put("a.vault.yml", TEXT * 2)
+        refused(cases, "git runs it", add_and_commit(place), "a.vault.yml")
+        (hooks / "pre-commit").unlink()
+        (hooks / "pre-commit").symlink_to("/nowhere/else")
+        done = place.run(HOOK, "--install")
+        why = f"{hooks}/pre-commit leads to /nowhere/else, which is not there"
+        cases.ended("the link of somebody else", done, 1, why)
+        cases.check("it stays", os.readlink(hooks / "pre-commit"), "/nowhere/else")
+
+
+def for_every_repository(cases: Companions) -> None:
+    with cases.place() as place:
+        under_git(place, ATTRIBUTES)
+        hooks = place.path / "hooks"
+        settings = place.path / "settings"
+        settings.write_text(f"[core]\nhooksPath = {hooks}\n")
+        for variable, whose in (("GLOBAL", "of this user"), ("SYSTEM", "on this machine")):
+            done = place.run(HOOK, "--install", **{f"GIT_CONFIG_{variable}": str(settings)})
+            which = f"git runs what is in this folder for every repository {whose}: core.hooksPath is set by {settings}"
+            installs(cases, whose, done, hooks, which=which)
+            for name in ("pre-commit", "pre-merge-commit"):
+                (hooks / name).unlink()
+
+
+TESTS = [every_file, each_commit, cherry_picks, shallow_clones, installed, other_hooks, moved_programs]
+TESTS = [*map(all_of_git, [*TESTS, for_every_repository])]

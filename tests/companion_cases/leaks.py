@@ -6,9 +6,13 @@ from companion_cases import AWKWARD, HOOK, TEXT, Companions, Place, block, seale
 from companion_cases.hook import all_of_git, refused, unmarking
 from companion_cases.repository import add_and_commit, commit, under_git
 
-WHOLE = "was a vault in the parent commit, and is not one now"
+WHOLE = "is not a vault, but was one in the parent commit"
 IN_PART = "has {} in plaintext, encrypted in the parent commit"
-MEANT = "  if that is meant, commit with --no-verify"
+
+
+def meant(name: str) -> str:
+    """The hint for plaintext that may be meant."""
+    return f"  if that is meant, commit with --no-verify, or add to .gitattributes: /{name} -ansible-vault"
 
 
 def with_hooks(place: Place, attributes: str = "") -> None:
@@ -30,7 +34,7 @@ def unmarked_vaults(cases: Companions) -> None:
         place.put("plain.yml", TEXT)
         cases.silent("a vault", again(place, "group_vars/all.yml", sealed("old")))
         done = again(place, "group_vars/all.yml", TEXT)
-        refused(cases, "plaintext", done, "group_vars/all.yml", why=WHOLE, hint=MEANT)
+        refused(cases, "plaintext", done, "group_vars/all.yml", why=WHOLE, hint=meant("group_vars/all.yml"))
         for what, content in {
             "a part of it": sealed("old")[:-100],
             "conflict markers": sealed("old").replace(b"\n", b"\n<<<<<<< ours\n", 1),
@@ -38,7 +42,7 @@ def unmarked_vaults(cases: Companions) -> None:
             "plaintext with a block": TEXT + block("old"),
         }.items():
             done = again(place, "group_vars/all.yml", content)
-            refused(cases, what, done, "group_vars/all.yml", why=WHOLE, hint=MEANT)
+            refused(cases, what, done, "group_vars/all.yml", why=WHOLE, hint=meant("group_vars/all.yml"))
         cases.silent("another vault", again(place, "group_vars/all.yml", sealed("new")))
         cases.silent("plaintext elsewhere", again(place, "plain.yml", TEXT * 2))
         place.shell("git rm -q group_vars/all.yml")
@@ -49,7 +53,9 @@ def unmarked_vaults(cases: Companions) -> None:
         cases.silent("vaults that the tool does not read", add_and_commit(place))
         place.put("old.yml", TEXT)
         place.put("cut.yml", TEXT)
-        refused(cases, "their plaintext", add_and_commit(place), "cut.yml", "old.yml", why=WHOLE, hint=MEANT)
+        done = add_and_commit(place)
+        lines = [line for name in ("cut.yml", "old.yml") for line in (f"{HOOK}: {name} {WHOLE}", meant(name))]
+        cases.check("their plaintext", (done.returncode, done.stderr.splitlines()), (1, lines))
 
 
 def decrypted_blocks(cases: Companions) -> None:
@@ -67,7 +73,7 @@ def decrypted_blocks(cases: Companions) -> None:
         "b": before.replace(block("old", name="b"), b"b: plain\n"),
         "e": before.replace(block("old", name="e"), b"e: |\n  plain\n"),
         "b, e": before.replace(block("old", name="b"), b'"b": plain\n').replace(block("old", name="e"), b"e: x\n"),
-        "an item of a list": re.sub(rb"- !vault \|\n(?: .*\n)*", b"- plain\n", before),
+        "f[]": re.sub(rb"- !vault \|\n(?: .*\n)*", b"- plain\n", before),
     }
     with cases.place() as place:
         with_hooks(place)
@@ -79,7 +85,7 @@ def decrypted_blocks(cases: Companions) -> None:
         again(place, "vars.yml", before)
         for name, content in plain.items():
             done = again(place, "vars.yml", content)
-            refused(cases, name, done, "vars.yml", why=IN_PART.format(name), hint=MEANT)
+            refused(cases, name, done, "vars.yml", why=IN_PART.format(name), hint=meant("vars.yml"))
 
 
 def merges(cases: Companions) -> None:
@@ -105,7 +111,7 @@ def merges(cases: Companions) -> None:
         # Theirs is the vault, and what is committed in its place is plaintext.
         place.shell("git merge --no-commit branch")
         done = again(place, "vars.yml", TEXT)
-        refused(cases, "theirs in plaintext", done, "vars.yml", why=WHOLE, hint=MEANT)
+        refused(cases, "theirs in plaintext", done, "vars.yml", why=WHOLE, hint=meant("vars.yml"))
         place.put("vars.yml", sealed("new"))
         cases.silent("theirs encrypted", add_and_commit(place))
     with cases.place() as place:
@@ -116,7 +122,7 @@ def merges(cases: Companions) -> None:
             again(place, "vars.yml", sealed(password))
         place.shell("git merge -q ours")
         done = add_and_commit(place)
-        refused(cases, "conflict markers in a vault", done, "vars.yml", why=WHOLE, hint=MEANT)
+        refused(cases, "conflict markers in a vault", done, "vars.yml", why=WHOLE, hint=meant("vars.yml"))
 
 
 def marked_content(cases: Companions) -> None:

@@ -67,6 +67,14 @@ def some_labels(cases: Companions) -> None:
         done = place.run(CHECK, *dev, "--label", "dev", ".")
         counts = "2 decrypted, 1 not, 3 of other labels"
         cases.ended("one that cannot be decrypted", done, 1, "./d.yml: dev: no secret", counts)
+        done = place.run(CHECK, *dev, "--label", "prdo", "--label", "prod", "--label", "none", "b.yml")
+        nothing = [f"{CHECK}: nothing has the label {label}" for label in ("none", "prdo")]
+        wanted = ["b.yml: prod: no secret decrypts this vault", *nothing]
+        cases.check("labels that nothing has", (done.returncode, done.stderr.splitlines()), (1, wanted))
+        place.put("within.yml", sealed("dev", block("old"), "dev"))
+        done = place.run(CHECK, *dev, *place.by_file("old"), "--label", "dev", "--label", "default", "within.yml")
+        cases.ended("a label that a block within a vault has", done, 0, "2 decrypted, 0 not")
+        (place.tree / "within.yml").unlink()
         place.put("d.yml", b"$ANSIBLE_VAULT;1.1\n")
         done = place.run(CHECK, *dev, "--label", "dev", ".")
         cases.ended("one without a header", done, 1, "./d.yml: no label: vault header line is malformed")

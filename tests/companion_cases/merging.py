@@ -1,11 +1,15 @@
 """ansible-vault-merge below git: two branches of a vault, and of YAML with values that are vaults."""
 
-from companion_cases import CHECK, EDIT, HOOK, MERGE, Companions, Place, block, decrypted, sealed
+from contextlib import contextmanager
+from typing import Iterator
+
+from companion_cases import CHECK, EDIT, HOOK, MERGE, PASSWORDS, Companions, Place, block, decrypted, sealed
 from companion_cases.beside_ansible import theirs
 from companion_cases.blocks import texts
 from companion_cases.editing import edit
-from companion_cases.repository import add_and_commit, under_git
+from companion_cases.repository import add_and_commit, commit, under_git
 from lib.ansible import ansible_vault
+from model.vaults import SALT, seal
 
 BASE = b"one: 1\n2: 2\n3: 3\nfour: 4\n"
 OURS, THEIRS = BASE.replace(b"one: 1", b"one: I"), BASE.replace(b"four: 4", b"four: IV")
@@ -97,7 +101,9 @@ def rotated(cases: Companions) -> None:
 
 # Versions that are not merged, and why.
 REFUSED = {
-    "no secret decrypts this vault": (sealed("old"), sealed("old", OURS), sealed("dev", THEIRS)),
+    "no secret decrypts theirs, with the label default": (sealed("old"), sealed("old", OURS), sealed("dev", THEIRS)),
+    "no secret decrypts ours, with the label dev": (sealed("old"), sealed("dev", OURS, "dev"), sealed("old", THEIRS)),
+    "no secret decrypts base, with the label default": (sealed("dev"), sealed("old", OURS), sealed("old", THEIRS)),
     "one side is a vault and the other is not": (sealed("old"), sealed("old", OURS), THEIRS),
     "both sides have put it under new secrets, and these differ": (sealed("old"), sealed("new"), sealed("prod")),
     "git merge-file cannot merge it; it may be binary": (
@@ -105,7 +111,7 @@ REFUSED = {
         sealed("old", b"a\0\n"),
         sealed("old", b"b\0\n"),
     ),
-    "vault header line is malformed": (sealed("old"), sealed("old", OURS), b"$ANSIBLE_VAULT;1.1\n"),
+    "theirs: vault header line is malformed": (sealed("old"), sealed("old", OURS), b"$ANSIBLE_VAULT;1.1\n"),
 }
 
 
@@ -137,4 +143,76 @@ def those_that_fail(cases: Companions) -> None:
         cases.check("ours stays", place.files(), {"a.yml": changes[1]})
 
 
-TESTS = [without_conflict, with_conflict, labels, rotated, those_that_fail]
+NOT_MERGED = "is not merged: the merge driver failed, and the file has nothing of theirs"
+AGAIN = "  run `git checkout --merge a.yml` with a secret for each side; to keep ours, commit with --no-verify"
+
+
+@contextmanager
+def failed_merge(cases: Companions, *words: str, tool: str = "") -> Iterator[Place]:
+    """Where the driver has failed, with the hooks installed."""
+    with cases.place() as place:
+        if tool:
+            place.wrap_tool(tool)
+        ours, other = {"a.yml": sealed("old", OURS)}, {"a.yml": sealed("new", THEIRS)}
+        done = branches(place, {"a.yml": sealed("old", BASE)}, ours, other, *words)
+        cases.ended("the driver fails", done, 1, "Merge conflict in a.yml")
+        cases.check("ours stays", place.get("a.yml"), ours["a.yml"])
+        place.run(HOOK, "--install")
+        yield place
+
+
+def refused_by_hook(cases: Companions, what: str, done) -> None:
+    cases.check(what, (done.returncode, done.stderr.splitlines()), (1, [f"{HOOK}: a.yml {NOT_MERGED}", AGAIN]))
+
+
+def not_merged(cases: Companions) -> None:
+    """The hook and the check refuse what the driver could not merge, which git commits as ours, without theirs."""
+    for what, name, tool in (("no secret", "old", ""), ("no file", "missing", ""), ("killed", "old", "kill -9 $PPID")):
+        secrets = ["--vault-password-file", f"../secrets/{name}"]
+        with failed_merge(cases, *secrets, tool=tool) as place:
+            both = [*place.by_file("old"), *place.by_file("new")]
+            place.wrap_tool("")
+            done = place.run(CHECK, *both, ".")
+            cases.check(f"{what}: the check", (done.returncode, done.stderr), (1, f"./a.yml: {NOT_MERGED}\n"))
+            refused_by_hook(cases, f"{what}: commit -a", commit(place, "-a"))
+            refused_by_hook(cases, f"{what}: add", add_and_commit(place))
+            place.run("git", "config", "merge.ansible-vault.driver", f"{MERGE} {' '.join(both)} %O %A %B %P")
+            place.shell("git checkout --merge -- a.yml")
+            cases.ended(f"{what}: the check again", place.run(CHECK, *both, "."), 0)
+            cases.silent(f"{what}: the commit", add_and_commit(place))
+            found = decrypted("new", place.get("a.yml"))
+            cases.check(f"{what}: both changes are there", found, OURS.replace(b"four: 4", b"four: IV"))
+
+
+def left_as_ours(cases: Companions) -> None:
+    """Where that is meant, and where the merge is given up."""
+    secrets = ["--vault-password-file", "../secrets/old"]
+    with failed_merge(cases, *secrets) as place:
+        cases.silent("what is meant", commit(place, "-a", "--no-verify"))
+        cases.ended("the check", place.run(CHECK, *secrets, "."), 0)
+        place.put("b.yml", b"b: 1\n")
+        cases.silent("the next commit", add_and_commit(place))
+    with failed_merge(cases, *secrets) as place:
+        place.shell("git merge --abort && git checkout -qb other HEAD~1")
+        place.put("b.yml", b"b: 1\n")
+        place.shell("git add b.yml && git commit -qm b && git checkout -q - && git merge -q --no-commit other")
+        cases.silent("another merge", commit(place))
+        cases.ended("a cherry-pick", place.shell("git cherry-pick theirs"), 1, "no secret decrypts theirs")
+        refused_by_hook(cases, "and its commit", commit(place, "-a"))
+
+
+def same_as_ours(cases: Companions) -> None:
+    """A result that is ours to the byte is merged."""
+    with cases.place() as place:
+        base, other = sealed("old", BASE), seal(PASSWORDS["old"], BASE, b"", SALT[::-1])
+        ours = {"a.yml": sealed("old", OURS), "b.yml": block("old", b"1", name="b")}
+        theirs = {"a.yml": other, "b.yml": block("old", b"2", name="b")}
+        done = branches(place, {"a.yml": base, "b.yml": block("old", b"0", name="b")}, ours, theirs)
+        cases.ended("b.yml has a conflict", done, 1, "b.yml: 1 conflict")
+        cases.check("a.yml is merged", place.get("a.yml"), ours["a.yml"])
+        place.run(HOOK, "--install")
+        place.put("b.yml", block("old", b"3", name="b"))
+        cases.silent("the commit", add_and_commit(place))
+
+
+TESTS = [without_conflict, with_conflict, labels, rotated, those_that_fail, not_merged, left_as_ours, same_as_ours]

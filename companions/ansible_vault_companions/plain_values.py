@@ -1,0 +1,109 @@
+"""Which values of YAML were encrypted and are not any longer, by the keys that lead to them."""
+
+from __future__ import annotations
+
+from collections import Counter, defaultdict
+from functools import lru_cache
+from typing import NamedTuple, Tuple
+
+from ansible_vault_companions.envelopes import MAGIC, envelopes
+from ansible_vault_companions.program import Refused, shown
+from ansible_vault_companions.yaml_nodes import ALIAS, PLAIN, Node, nodes
+
+# Keys of mappings. What merges a mapping into another one is none; any item of a list has the same key.
+Path = Tuple[str, ...]
+ITEM = "[]"
+MERGE = "<<"
+# Plain scalars that have no text.
+NOTHING = ("", "~", "null")
+NOWHERE: Counter[str] = Counter()
+
+
+class Values(NamedTuple):
+    """The texts at each path, and how often each is there."""
+
+    encrypted: dict[Path, Counter[str]]
+    plain: dict[Path, Counter[str]]
+
+
+# Two for the two versions of a file.
+@lru_cache(maxsize=2)
+def values(content: bytes) -> Values | None:
+    """None if it cannot be read as YAML, or PyYAML is not installed."""
+    encrypted, plain = defaultdict(Counter), defaultdict(Counter)
+    try:
+        for node in nodes(content):
+            text = node.text.strip()
+            if text.startswith(MAGIC.decode()):
+                encrypted[_path(node)][text] += node.is_value
+            elif node.is_value and not (node.style == PLAIN and text in NOTHING):
+                plain[_path(node)][ALIAS + text if node.style == ALIAS else text] += 1
+    except Refused:
+        return None
+    return Values(encrypted, plain)
+
+
+def _path(node: Node) -> Path:
+    path, is_merged = [], False
+    for key in node.path:
+        is_item = isinstance(key, int)
+        if key != MERGE and not (is_item and is_merged):
+            path.append(ITEM if is_item else key)
+        is_merged = key == MERGE
+    return tuple(path)
+
+
+def shown_path(path: Path) -> str:
+    """It as jq writes it."""
+    return shown(".".join(path).replace(f".{ITEM}", ITEM))
+
+
+@lru_cache(maxsize=1)
+def differ(before: bytes, after: bytes) -> bool:
+    """Whether they differ in more than their envelopes. If not, nothing has been decrypted."""
+    return _around_envelopes(before) != _around_envelopes(after)
+
+
+def _around_envelopes(content: bytes) -> list[bytes]:
+    pieces, place = [], 0
+    for each in envelopes(content):
+        pieces.append(content[place : each.start])
+        place = each.end
+    return [*pieces, content[place:]]
+
+
+def now_plain(before: bytes, after: bytes) -> list[Path]:
+    """The paths from which an envelope has gone, if a plaintext has come at, above or below them. Of others the last
+    key, if fewer envelopes have it than before, and a plaintext has come that has it."""
+    old, new = values(before), values(after)
+    if old is None or new is None:
+        return []
+    gone, came = lost(old, new), added(old, new)
+    found = [path for path in gone if any(_is_same_branch(path, each) for each in came)]
+    fewer = _by_last_key(old.encrypted) - _by_last_key(new.encrypted)
+    named = fewer.keys() & {path[-1:] for path in came} - {path[-1:] for path in found}
+    return [*found, *sorted(named)]
+
+
+def lost(old: Values, new: Values) -> list[Path]:
+    """Where an envelope is no longer."""
+    return [path for path, found in old.encrypted.items() if found - new.encrypted.get(path, NOWHERE)]
+
+
+def added(old: Values, new: Values) -> list[Path]:
+    """Where a plaintext is that was not there."""
+    return [path for path, found in new.plain.items() if found - old.plain.get(path, NOWHERE)]
+
+
+def _by_last_key(found: dict[Path, Counter[str]]) -> Counter[Path]:
+    """How many texts there are, but for items of lists."""
+    counts = Counter()
+    for path, texts in found.items():
+        if path[-1:] != (ITEM,):
+            counts[path[-1:]] += sum(texts.values())
+    return counts
+
+
+def _is_same_branch(one: Path, other: Path) -> bool:
+    length = min(len(one), len(other))
+    return one[:length] == other[:length]
