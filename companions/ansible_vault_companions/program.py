@@ -85,13 +85,13 @@ def run(name: str, main: Callable[[list[str]], int]) -> None:
     try:
         status = _status_of(main)
         write(b"")
-        stopping.check()
     except stopping.Stopped:
-        stopping.end_by_signal()
+        status = 1
     except (Refused, OSError) as fault:
         with suppress(OSError):
             write_error(f"{name}: {shown(str(fault))}")
         status = 1
+    stopping.end_by_signal()
     for stream in (sys.stdout, sys.stderr):
         try:
             stream.flush()

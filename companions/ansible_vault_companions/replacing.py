@@ -12,6 +12,9 @@ from ansible_vault_companions import files
 from ansible_vault_companions.program import Refused
 
 PREFIX = ".ansible-vault-"
+# What the name of a copy of what was saved begins with, and how many bytes of the target's name follow.
+SAVED = f"{PREFIX}saved-"
+LONGEST_NAME = 200
 # The mode of what its owner alone may read.
 PRIVATE = 0o600
 # What says that a file system has no hard links.
@@ -45,12 +48,17 @@ def check_replaceable(target: str) -> None:
 
 
 def save_copy(target: str, content: bytes) -> str:
-    """The path of a new file with this content, for its owner alone: beside the target, or where
-    temporary files stand."""
+    """The path of a new file with this content, for its owner alone: beside the target, or in $TMPDIR. Its name is
+    that of the target, and in $TMPDIR its whole path."""
     try:
-        return _write_new(os.path.dirname(target), content)
+        return _write_new(os.path.dirname(target), content, prefix=_prefix_of_copy(os.path.basename(target)))
     except OSError:
-        return _write_new(tempfile.gettempdir(), content)
+        return _write_new(tempfile.gettempdir(), content, prefix=_prefix_of_copy(target.replace("/", "%")))
+
+
+def _prefix_of_copy(name: str) -> str:
+    """With the end of a long name."""
+    return f"{SAVED}{os.fsencode(name)[-LONGEST_NAME:].decode(errors='ignore')}-"
 
 
 def _create(beside: str, target: str) -> None:
@@ -75,8 +83,10 @@ def _write_beside(target: str, content: bytes, is_private: bool = False) -> str:
     return _write_new(os.path.dirname(target), content, target if os.path.lexists(target) else None, is_private)
 
 
-def _write_new(folder: str, content: bytes, like: str | None = None, is_private: bool = False) -> str:
-    descriptor, path = tempfile.mkstemp(prefix=PREFIX, dir=folder)
+def _write_new(
+    folder: str, content: bytes, like: str | None = None, is_private: bool = False, prefix: str = PREFIX
+) -> str:
+    descriptor, path = tempfile.mkstemp(prefix=prefix, dir=folder)
     try:
         with open(descriptor, "wb") as file:
             file.write(content)

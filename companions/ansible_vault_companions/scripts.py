@@ -28,9 +28,15 @@ def password(path: str, label: str) -> bytes:
     """What the script writes for a label, which is empty where none is given, without line ends around it."""
     is_client = os.path.splitext(path)[0].endswith(CLIENT)
     words = [os.path.abspath(path), *(["--vault-id", label] if is_client and label else [])]
+    # A script may ask at the terminal by its streams; it is not to read the data of the companion. Of a client only
+    # faults are shown.
+    options = {
+        "stdin": None if os.isatty(0) else subprocess.DEVNULL,
+        "stdout": subprocess.PIPE,
+        "stderr": subprocess.PIPE if is_client else None,
+    }
     try:
-        # A script may ask at the terminal by its streams. Of a client only faults are shown.
-        done = stopping.run(words, stdout=subprocess.PIPE, stderr=subprocess.PIPE if is_client else None)
+        done = stopping.run(words, **options)
     except OSError as fault:
         raise Refused(f"this script cannot be run: {reason(fault)}; if it is not a script, `chmod -x` it") from None
     if done.returncode != 0:

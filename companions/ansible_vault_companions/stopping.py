@@ -1,7 +1,8 @@
 """How a signal ends a companion: between its steps and never within one, and with nothing left behind.
 
 A signal is recorded, and forwarded to the programs that run. It raises an exception only before or after the
-run of a program, or while a password is awaited. So a `finally` block is never interrupted.
+run of a program, or while a password is awaited. So a `finally` block is never interrupted. Where something must not
+be lost, signals are postponed.
 """
 
 from __future__ import annotations
@@ -11,7 +12,7 @@ import signal
 import subprocess
 import time
 from contextlib import contextmanager, suppress
-from typing import Iterator, NoReturn
+from typing import Iterator
 
 # Those that cannot be noted, that end no program by default, and that a fault of Python itself would
 # raise again at once.
@@ -20,15 +21,22 @@ NOT_NOTED = ("KILL", "STOP", "CHLD", "CONT", "URG", "WINCH", "TSTP", "TTIN", "TT
 ENDING = sorted(signal.valid_signals() - {getattr(signal, f"SIG{name}") for name in NOT_NOTED})
 # What a terminal sends to all that run on it.
 KEYBOARD_SIGNALS = {signal.SIGINT, signal.SIGQUIT}
-# Seconds.
+# Seconds that programs have to end by themselves, before they are killed.
 GRACE_PERIOD = 5
+# Seconds in which another signal counts as the same: a terminal that is closed and its shell both send one.
+SAME_SIGNAL = 1
+# Seconds in which what was killed is gone.
+KILL_PERIOD = 1
 
 _noted: list[int] = []
+# When the first of them came.
+_first_time = 0.0
 _left_to_programs: set[int] = set()
 _running: set[subprocess.Popen] = set()
 # What these started, where a signal was passed on to it.
 _signalled: set[int] = set()
 _is_interruptible = False
+_is_postponed = False
 
 
 class Stopped(Exception):
@@ -43,13 +51,21 @@ def listen() -> None:
 
 
 def _note(number: int, _frame) -> None:
+    global _first_time
     if number in _left_to_programs:
         return
+    is_first = not _noted
     _noted.append(number)
+    if is_first:
+        _first_time = time.monotonic()
+        # It is noted as another signal, which kills the programs that still run.
+        signal.alarm(GRACE_PERIOD)
+    elif time.monotonic() < _first_time + SAME_SIGNAL:
+        return
     for program in list(_running):
-        _pass_on(program, number if len(_noted) == 1 else signal.SIGKILL)
+        _pass_on(program, number if is_first else signal.SIGKILL)
     # The first alone, so that the terminal is put back whole.
-    if _is_interruptible and len(_noted) == 1:
+    if _is_interruptible and is_first:
         raise Stopped
 
 
@@ -58,7 +74,11 @@ def _pass_on(program: subprocess.Popen, number: int) -> None:
     if program.returncode is None:
         _signalled.update(_descendants(program.pid))
     program.send_signal(number)
-    for process in _signalled:
+    _signal_all(number)
+
+
+def _signal_all(number: int) -> None:
+    for process in list(_signalled):
         with suppress(OSError):
             os.kill(process, number)
 
@@ -80,16 +100,47 @@ def _is_alive(process: int) -> bool:
         return False
 
 
-def _wait_for_signalled() -> None:
-    """What is ended by the signal, too, may still write where something is to be removed."""
-    end = time.monotonic() + GRACE_PERIOD
-    while any(map(_is_alive, _signalled)) and time.monotonic() < end:
+def _end_signalled() -> None:
+    """What the signal is to end, too, may still write where something is to be read or removed."""
+    if not _wait_for_signalled(GRACE_PERIOD):
+        _signal_all(signal.SIGKILL)
+        _wait_for_signalled(KILL_PERIOD)
+    _signalled.clear()
+
+
+def _wait_for_signalled(seconds: float) -> bool:
+    """Whether all have ended by then."""
+    end = time.monotonic() + seconds
+    while are_alive := any(map(_is_alive, list(_signalled))):
+        if time.monotonic() > end:
+            break
         time.sleep(0.02)
+    return not are_alive
 
 
 def check() -> None:
-    if _noted:
+    if _noted and not _is_postponed:
         raise Stopped
+
+
+def ending_signal() -> int | None:
+    """The signal that asks for the end, also one that is postponed."""
+    return next(iter([*_noted, *sorted(signal.sigpending())]), None)
+
+
+@contextmanager
+def postponed() -> Iterator[None]:
+    """Signals wait until the end of what is within, also for programs that run there, which inherit this. One that
+    came before does not end it either."""
+    global _is_postponed
+    handled = [number for number in ENDING if signal.getsignal(number) is _note]
+    mask = signal.pthread_sigmask(signal.SIG_BLOCK, handled)
+    _is_postponed = True
+    try:
+        yield
+    finally:
+        _is_postponed = False
+        signal.pthread_sigmask(signal.SIG_SETMASK, mask)
 
 
 @contextmanager
@@ -111,33 +162,41 @@ def restore_signals() -> None:
         signal.signal(number, signal.SIG_DFL)
 
 
-def end_by_signal() -> NoReturn:
-    """Ends as the signal would have ended it, so that a shell sees why."""
-    signal.signal(_noted[0], signal.SIG_DFL)
-    os.kill(os.getpid(), _noted[0])
-    raise SystemExit(128 + _noted[0])
+def end_by_signal() -> None:
+    """Ends as a signal would have ended it, if one asks for it, so that a shell sees why."""
+    if _noted:
+        signal.signal(_noted[0], signal.SIG_DFL)
+        os.kill(os.getpid(), _noted[0])
+        raise SystemExit(128 + _noted[0])
 
 
 def run(words: list[str], data: bytes | None = None, **options) -> subprocess.CompletedProcess:
     """Runs a program to its end."""
     check()
-    with subprocess.Popen(words, **options) as program:
-        _running.add(program)
-        try:
-            if _noted:
-                _pass_on(program, _noted[0])
-            output, errors = program.communicate(data)
-            _wait_for_signalled()
-        finally:
-            _running.discard(program)
+    done = _run(words, data, **options)
     check()
-    return subprocess.CompletedProcess(words, program.returncode, output, errors)
+    return done
 
 
 def run_on_terminal(words: list[str]) -> int:
-    """Runs a program that has the terminal, and so the signals of its keys, for itself."""
+    """Runs a program that has the terminal, and so the signals of its keys, for itself. A signal during the run
+    raises nothing after it: what the program has written is to be looked at first."""
+    check()
     _left_to_programs.update(KEYBOARD_SIGNALS)
     try:
-        return run(words).returncode
+        return _run(words).returncode
     finally:
         _left_to_programs.clear()
+
+
+def _run(words: list[str], data: bytes | None = None, **options) -> subprocess.CompletedProcess:
+    with subprocess.Popen(words, **options) as program:
+        _running.add(program)
+        try:
+            if _noted and not _is_postponed:
+                _pass_on(program, _noted[0])
+            output, errors = program.communicate(data)
+            _end_signalled()
+        finally:
+            _running.discard(program)
+    return subprocess.CompletedProcess(words, program.returncode, output, errors)

@@ -22,18 +22,22 @@ def check_encrypted(cases: Companions, what: str, place: Place, done, why: str, 
         return
     path = place.tree / found[1]
     cases.check(f"{what}: it stands in its place", path.parent, folder)
+    cases.holds(f"{what}: its name tells whose it is", "all.yml-" in path.name, path.name)
     cases.check(f"{what}: it is the text, encrypted", decrypted("old", path.read_bytes()), CHANGED)
     cases.check(f"{what}: for its owner alone", oct(path.stat().st_mode & 0o777), "0o600")
     cases.check(f"{what}: no plaintext is left", place.left(), [])
     path.unlink()
 
 
-def check_plain(cases: Companions, what: str, done, why: str, text: bytes) -> None:
+def check_plain(cases: Companions, what: str, place: Place, done, why: str, text: bytes) -> None:
+    """It is left in $TMPDIR, which stays when the user logs out, and not in the folder that goes then."""
     cases.ended(what, done, 1, why)
     found = PLAIN.search(done.stderr)
     cases.holds(f"{what}: the message says where", found is not None, done.stderr)
+    cases.check(f"{what}: nothing is left in memory", place.left(), [])
     if found:
         [path] = Path(found[1]).iterdir()
+        cases.check(f"{what}: it is in $TMPDIR", path.parent.parent, Path("/tmp"))
         cases.check(f"{what}: it is the text", path.read_bytes(), text)
         modes = [oct(each.stat().st_mode & 0o777) for each in (path.parent, path)]
         cases.check(f"{what}: for its owner alone", modes, ["0o700", "0o600"])
@@ -112,10 +116,12 @@ def full_and_read_only_folders(cases: Companions) -> None:
         }
         done = place.as_nobody(EDIT, *place.by_file("old"), "all.yml")
         check_encrypted(cases, "a read-only folder", place, done, "Permission denied", temporary)
+        whole = str(place.tree / "all.yml").replace("/", "%")
+        cases.holds("its name has the whole path", f"{temporary}/.ansible-vault-saved-{whole}-" in done.stderr)
         cases.check("the vault stays", place.get("all.yml"), sealed("old"))
         place.tree.chmod(0o777)
     full = """
-def full(*words):
+def full(*words, **options):
     raise OSError(28, "No space left on device")
 replacing._write_beside, replacing.check_replaceable = full, lambda target: None
 """
@@ -126,7 +132,7 @@ replacing._write_beside, replacing.check_replaceable = full, lambda target: None
         check_encrypted(cases, "no space", place, done, "No space left on device", place.tree)
         full += "replacing._write_new = full\n"
         done = run_changed(place, EDIT, full, [*place.by_file("old"), "all.yml"], EDITOR=editor)
-        check_plain(cases, "no space anywhere", done, "No space left on device", CHANGED)
+        check_plain(cases, "no space anywhere", place, done, "No space left on device", CHANGED)
         cases.check("the vault stays", place.get("all.yml"), sealed("old"))
 
 
@@ -149,18 +155,68 @@ def mounted_vaults(cases: Companions) -> None:
 
 
 def sealing_fails(cases: Companions) -> None:
-    """The private folder stays, since there is no other copy."""
+    """The plaintext stays, since there is no other copy."""
     vault = b"$ANSIBLE_VAULT\n"
     with cases.place() as place:
         place.put("all.yml", sealed("old"))
         done = edit(place, 'printf "\\$ANSIBLE_VAULT\\n" > "$1"', *place.by_file("old"), "all.yml")
-        check_plain(cases, "a text like a vault", done, "already vault encrypted", vault)
+        check_plain(cases, "a text like a vault", place, done, "already vault encrypted", vault)
         place.wrap_tool('[ "$1" != encrypt ] || { echo "ERROR! out of memory" >&2; exit 4; }')
         done = edit(place, CHANGE, *place.by_file("old"), "all.yml")
-        check_plain(cases, "the tool fails", done, "out of memory", CHANGED)
+        check_plain(cases, "the tool fails", place, done, "out of memory", CHANGED)
         done = edit(place, f"{CHANGE}; exit 3", *place.by_file("old"), "all.yml")
-        check_plain(cases, "the tool and the editor fail", done, "out of memory", CHANGED)
+        check_plain(cases, "the tool and the editor fail", place, done, "out of memory", CHANGED)
         cases.check("the vault stays", place.get("all.yml"), sealed("old"))
+
+
+def no_other_place(cases: Companions) -> None:
+    """Where $TMPDIR takes nothing either, the plaintext stays in its folder."""
+    with cases.place() as place:
+        place.put("all.yml", sealed("old"))
+        (place.path / "file").touch()
+        full = """
+def full(*words, **options):
+    raise OSError(28, "No space left on device")
+replacing.replace = replacing._write_new = full
+replacing.check_replaceable = lambda target: None
+import shutil
+shutil.copytree = full
+"""
+        editor = place.script(CHANGE, "editor")
+        done = run_changed(place, EDIT, full, [*place.by_file("old"), "all.yml"], EDITOR=editor)
+        cases.ended("no place", done, 1, "No space left on device; what you saved is left in plaintext in ")
+        folder = Path(PLAIN.search(done.stderr)[1])
+        cases.check("it is in its folder", (folder.parent, (folder / "all.yml").read_bytes()), (place.runtime, CHANGED))
+        cases.check("the vault stays", place.get("all.yml"), sealed("old"))
+
+
+def faults_of_its_own(cases: Companions) -> None:
+    """A fault that nobody thought of does not lose it either."""
+    broken = """
+from ansible_vault_companions import layers
+encrypted, seen = layers.encrypted, []
+def broken(*words):
+    if not seen:
+        seen.append(words)
+        raise RecursionError("too deep")
+    return encrypted(*words)
+layers.encrypted = broken
+"""
+    with cases.place() as place:
+        place.put("all.yml", sealed("old"))
+        editor = place.script(CHANGE, "editor")
+        done = run_changed(place, EDIT, broken, [*place.by_file("old"), "all.yml"], EDITOR=editor)
+        check_encrypted(cases, "a fault", place, done, "too deep", place.tree)
+        cases.check("the vault stays", place.get("all.yml"), sealed("old"))
+
+
+def long_names(cases: Companions) -> None:
+    """The copy of a file whose name is as long as can be has the end of it."""
+    name = "ö" * 120 + "all.yml"
+    with cases.place() as place:
+        place.put(name, sealed("old"))
+        done = edit(place, f"{CHANGE}; exit 3", *place.by_file("old"), name)
+        check_encrypted(cases, "a long name", place, done, "the editor failed", place.tree)
 
 
 def lost_passwords(cases: Companions) -> None:
@@ -196,4 +252,4 @@ def warnings(cases: Companions) -> None:
 
 
 TESTS = [replacing_fails, made_meanwhile, full_and_read_only_folders, mounted_vaults, sealing_fails]
-TESTS += [lost_passwords, busy_helpers, warnings]
+TESTS += [no_other_place, faults_of_its_own, long_names, lost_passwords, busy_helpers, warnings]

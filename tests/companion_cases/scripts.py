@@ -6,6 +6,7 @@ from pathlib import Path
 from companion_cases import CHECK, EDIT, PASSWORDS, ROTATE, TEXT, TEXTCONV, WITH, Companions, decrypted, sealed
 from companion_cases.both import ours, theirs
 from companion_cases.secrecy import NOTE
+from companion_cases.terminal import at_terminal
 from lib.ansible import ansible_vault
 
 # Records its arguments, and writes the password.
@@ -129,13 +130,23 @@ def what_cannot_be_run(cases: Companions) -> None:
 
 
 def standard_input(cases: Companions) -> None:
-    """A script may ask by the streams of the companion."""
+    """A script may ask at the terminal by its standard input. If that is anything else, it is the companion's."""
+    swallowing = "cat > ../swallowed; cat ../secrets/dev"
     with cases.place() as place:
         place.put("a.yml", sealed("dev"))
-        place.script("read -r word; echo \"$word\"", "asking")
-        line = f"{WITH} view --vault-password-file ../asking a.yml < {place.secret('dev')}"
-        done = place.shell(line)
-        cases.check("it is read", (done.returncode, done.stdout, done.stderr), (0, TEXT.decode(), ""))
+        place.script("printf 'Which? ' > /dev/tty; read -r word; echo \"$word\"", "asking")
+        words = ["sh", "-c", 'exec "$@" < /dev/tty', "sh", WITH, "view", "--vault-password-file", "../asking", "a.yml"]
+        done = at_terminal(place, words, ("Which? ", PASSWORDS["dev"] + b"\n"))
+        cases.check("a terminal", (done.returncode, done.stdout, done.stderr), (0, TEXT.decode(), ""))
+        for name in ("asking", "asking-client"):
+            place.script(swallowing, name)
+            line = f"printf 'db_password: correct horse\\n' | {WITH} encrypt --vault-id @../{name} --output new.yml"
+            cases.silent(f"{name}: data", place.shell(line))
+            cases.check(f"{name}: all of it is encrypted", decrypted("dev", place.get("new.yml")), TEXT)
+            line = f"{CHECK} --vault-id @../{name} a.yml && wc -c"
+            done = place.shell(f"echo data | {{ {line}; }}")
+            cases.ended(f"{name}: check", done, 0, "1 decrypted, 0 not\n5\n")
+            cases.check(f"{name}: it reads nothing", (place.path / "swallowed").read_bytes(), b"")
 
 
 def secrecy(cases: Companions) -> None:

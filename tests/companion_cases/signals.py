@@ -1,10 +1,14 @@
 """Signals at each step: nothing is lost, nothing is left, and the end is that of the signal."""
 
+import fcntl
 import os
+import re
 import shutil
 import signal
 import subprocess
+import termios
 import time
+from contextlib import suppress
 from pathlib import Path
 
 from companion_cases import CHECK, EDIT, MERGE, ROTATE, SECONDS, TEXT, TEXTCONV, WITH
@@ -14,6 +18,11 @@ from companion_cases.rotating import summary, to_new
 
 CHANGE = 'sed -i s/correct/wrong/ "$1"'
 CHANGED = TEXT.replace(b"correct", b"wrong")
+# The copy of what was saved, and the message that names it.
+COPY = ".ansible-vault-saved-a.yml-"
+TOLD = re.compile(r"a\.yml: ended by signal (\d+); what you saved is encrypted in (.+)\n\Z")
+# The companion that runs an editor, which stands below a shell.
+ABOVE_EDITOR = "$(cut -d ' ' -f 4 /proc/$PPID/stat)"
 # Signals the companion before the run of the program of this number, which then dies by it or goes on.
 AT_RUN = """
 count=1; mkdir -p ../counted; until mkdir ../counted/$count 2>/dev/null; do count=$((count + 1)); done
@@ -49,7 +58,8 @@ def tree(place: Place) -> None:
     versions(place, "b.yml", b"x: 1\n" + block("old", CHANGED) + block("old", CHANGED, name="c"), blocks, rekeyed)
     place.put("a.yml", vault, 0o640)
     place.put("b.yml", blocks, 0o600)
-    place.environment["EDITOR"] = place.script(CHANGE, "editor")
+    place.environment["EDITOR"] = place.script(f"{CHANGE}; touch ../saved", "editor")
+    (place.path / "saved").unlink(missing_ok=True)
 
 
 def merge_of(place: Place, name: str) -> list[str]:
@@ -86,6 +96,20 @@ def check_whole(cases: Companions, what: str, place: Place) -> None:
     cases.check(f"{what}: modes stay", modes, ["0o640" if is_vault else "0o600", "0o600"])
 
 
+def check_saved(cases: Companions, what: str, place: Place, errors: str | None, wanted: bytes = CHANGED) -> None:
+    """What an editor saved is in the vault or, encrypted, in a copy that the message names; which is then removed."""
+    copies = [place.tree / name for name in place.names() if name.startswith(COPY)]
+    is_saved = (place.path / "saved").exists()
+    texts = [decrypted("old", each.read_bytes()) for each in copies]
+    is_replaced = decrypted("old", place.get("a.yml")) == wanted
+    cases.check(f"{what}: what was saved", texts, [wanted] if is_saved and not is_replaced else [])
+    for copy in copies:
+        told = TOLD.search(errors) if errors is not None else None
+        cases.holds(f"{what}: the message says where", errors is None or told and told[2] == str(copy), errors)
+        cases.check(f"{what}: it is for its owner alone", oct(copy.stat().st_mode & 0o777), "0o600")
+        copy.unlink()
+
+
 def at_each_run(cases: Companions) -> None:
     """Before each run of the program, or of git, which dies by the signal, or goes on in spite of it."""
     with cases.place() as place:
@@ -103,6 +127,8 @@ def at_each_run(cases: Companions) -> None:
                 what = f"{companion}, run {number}"
                 cases.check(f"{what}: the status", done.returncode, -signal.Signals[f"SIG{name}"])
                 cases.check(f"{what}: no word of Python", "Traceback" in done.stderr, False)
+                if companion == EDIT:
+                    check_saved(cases, what, place, done.stderr)
                 check_whole(cases, what, place)
             cases.holds(f"{companion}: there were such runs", 3 < number < 19, str(number))
             check_whole(cases, f"{companion}, without a signal", place)
@@ -123,6 +149,8 @@ def at_each_call(cases: Companions) -> None:
             what = f"{companion}, {when} {call}"
             reached = companion == EDIT or call != "os.unlink"
             cases.check(f"{what}: the status", done.returncode, -signal.Signals[name] if reached else 0)
+            if companion == EDIT:
+                check_saved(cases, what, place, done.stderr)
             check_whole(cases, what, place)
 
 
@@ -142,16 +170,14 @@ def interrupted_then_finished(cases: Companions) -> None:
 
 
 def while_the_editor_runs(cases: Companions) -> None:
-    """The signals of a terminal's keys are the editor's, the others end it, and the plaintext is gone."""
+    """The signals of a terminal's keys are the editor's. The others end it, and what it saved is kept."""
     for name, status in (("INT", 0), ("QUIT", 0), ("TERM", None), ("HUP", None), ("USR1", None)):
         with cases.place() as place:
             tree(place)
-            # The editor stands below a shell.
-            companion = "$(cut -d ' ' -f 4 /proc/$PPID/stat)"
             # One that the companion has to end waits for what never comes.
             os.mkfifo(place.path / "never")
             waits = ": < ../never; " if status is None else ""
-            text = f"{CHANGE}; kill -{name} {companion}; {waits}touch ../survived"
+            text = f"{CHANGE}; touch ../saved; kill -{name} {ABOVE_EDITOR}; {waits}touch ../survived"
             place.environment["EDITOR"] = place.script(text, "editor")
             done = place.run(EDIT, *place.by_file("old"), "a.yml")
             number = signal.Signals[f"SIG{name}"]
@@ -159,29 +185,107 @@ def while_the_editor_runs(cases: Companions) -> None:
             cases.check(f"{name}: the editor ends", (place.path / "survived").exists(), status == 0)
             wanted = CHANGED if status == 0 else TEXT
             cases.check(f"{name}: the vault", decrypted("old", place.get("a.yml")), wanted)
-            cases.check(f"{name}: nothing is left", (place.names(), place.left()), (["a.yml", "b.yml"], []))
+            told = TOLD.search(done.stderr)
+            cases.check(f"{name}: the message", told and int(told[1]), number if status is None else None)
+            check_saved(cases, name, place, done.stderr)
+            check_whole(cases, name, place)
+
+
+def last_words(cases: Companions) -> None:
+    """What an editor writes when it is asked to end is awaited, also if it is asked twice: a terminal that is closed
+    and its shell both send a signal."""
+    last = 'trap \'sleep 0.3; printf last > "$1"; touch ../saved; exit\' TERM'
+    ready = "until [ -e ../ready ]; do sleep 0.02; done"
+    ends = {"itself": last, "a child": f"({last}; sleep {SECONDS} & touch ../ready; wait) & {ready}; trap exit TERM"}
+    for who, text in ends.items():
+        with cases.place() as place:
+            tree(place)
+            os.mkfifo(place.path / "never")
+            twice = f"kill -TERM {ABOVE_EDITOR}; sleep 0.1; kill -TERM {ABOVE_EDITOR}"
+            text = f'printf first > "$1"; {text}; {twice}; : < ../never'
+            place.environment["EDITOR"] = place.script(text, "editor")
+            done = place.run(EDIT, *place.by_file("old"), "a.yml")
+            cases.check(f"by {who}: the status", done.returncode, -signal.SIGTERM)
+            check_saved(cases, f"by {who}", place, done.stderr, b"last")
+            check_whole(cases, f"by {who}", place)
+
+
+def signals_to_all(cases: Companions) -> None:
+    """Signals to the companion and to the program that encrypts do not end the rescue."""
+    again = "kill -HUP $PPID; kill -TERM $PPID; kill -TERM $$; kill -HUP $$; kill -INT $$"
+    for when in ("while the editor runs", "after it"):
+        with cases.place() as place:
+            tree(place)
+            place.wrap_tool(f'[ "$1" != encrypt ] || {{ {again}; }}')
+            first = f"kill -TERM {ABOVE_EDITOR}; sleep {SECONDS}" if when == "while the editor runs" else ":"
+            place.environment["EDITOR"] = place.script(f"{CHANGE}; touch ../saved; {first}", "editor")
+            done = place.run(EDIT, *place.by_file("old"), "a.yml")
+            cases.holds(f"{when}: the status", done.returncode in (-signal.SIGTERM, -signal.SIGHUP), done.returncode)
+            cases.check(f"{when}: the vault stays", decrypted("old", place.get("a.yml")), TEXT)
+            check_saved(cases, when, place, done.stderr)
+            check_whole(cases, when, place)
+
+
+def wait_until(condition, what: str) -> None:
+    end = time.monotonic() + SECONDS
+    while not condition():
+        if time.monotonic() > end:
+            raise AssertionError(f"{what} takes too long")
+        time.sleep(0.02)
+
+
+def closed_terminals(cases: Companions) -> None:
+    """The message can reach nobody, and the name of the copy says whose it is."""
+    leaders = {"the companion leads the session": [], "a shell does": ["sh", "-c", '"$@"; exit', "sh"]}
+    for what, leader in leaders.items():
+        with cases.place() as place:
+            tree(place)
+            os.mkfifo(place.path / "never")
+            editor = f"{CHANGE}; echo {ABOVE_EDITOR} > ../companion; touch ../saved; : < ../never"
+            place.environment["EDITOR"] = place.script(editor, "editor")
+            controller, terminal = os.openpty()
+            begin = lambda: fcntl.ioctl(0, termios.TIOCSCTTY, 0)
+            options = {"cwd": place.tree, "env": place.environment, "start_new_session": True, "preexec_fn": begin}
+            streams = {"stdin": terminal, "stdout": terminal, "stderr": terminal}
+            words = [*leader, EDIT, *place.by_file("old"), "a.yml"]
+            with subprocess.Popen(words, **streams, **options) as process:
+                os.close(terminal)
+                wait_until((place.path / "saved").exists, "the editor")
+                companion = (place.path / "companion").read_text().strip()
+                os.close(controller)
+                process.wait(SECONDS)
+            wait_until(lambda: not os.path.exists(f"/proc/{companion}"), "the end")
+            cases.check(f"{what}: it ends by the signal", process.returncode, -signal.SIGHUP)
+            cases.check(f"{what}: the vault stays", decrypted("old", place.get("a.yml")), TEXT)
+            check_saved(cases, what, place, None)
+            check_whole(cases, what, place)
 
 
 def stubborn_programs(cases: Companions) -> None:
-    """Another signal ends what does not end by the first. Two may come as one, so there are more."""
-    with cases.place() as place:
-        tree(place)
-        stubborn = f"trap '' TERM; echo $$ > ../started; exec sleep {2 * SECONDS}"
-        place.environment["EDITOR"] = place.script(stubborn, "editor")
-        begun = time.monotonic()
-        words = [EDIT, *place.by_file("old"), "a.yml"]
-        streams = {"stdin": subprocess.DEVNULL, "stdout": subprocess.DEVNULL, "stderr": subprocess.DEVNULL}
-        process = subprocess.Popen(words, cwd=place.tree, env=place.environment, **streams)
-        started = place.path / "started"
-        while not (started.exists() and started.read_text()) and time.monotonic() < begun + SECONDS:
-            time.sleep(0.02)
-        while process.poll() is None and time.monotonic() < begun + SECONDS:
-            process.terminate()
-            time.sleep(0.1)
-        cases.check("the second signal", process.wait(SECONDS), -signal.SIGTERM)
-        editor = Path("/proc", started.read_text().strip(), "cmdline")
-        cases.check("the editor is gone", editor.read_text() if editor.exists() else "", "")
-        check_whole(cases, "the second signal", place)
+    """What does not end by a signal is killed: by another one, or after a while."""
+    for what, pause in (("another signal", 0.1), ("one signal", SECONDS)):
+        with cases.place() as place:
+            tree(place)
+            stubborn = f"{CHANGE}; touch ../saved; trap '' TERM; echo $$ > ../started; exec sleep {2 * SECONDS}"
+            place.environment["EDITOR"] = place.script(stubborn, "editor")
+            words = [EDIT, *place.by_file("old"), "a.yml"]
+            streams = {"stdin": subprocess.DEVNULL, "stdout": subprocess.DEVNULL, "stderr": subprocess.PIPE}
+            process = subprocess.Popen(words, cwd=place.tree, env=place.environment, text=True, **streams)
+            started = place.path / "started"
+            wait_until(lambda: started.exists() and started.read_text(), "the editor")
+            begun = time.monotonic()
+            while process.poll() is None and time.monotonic() < begun + SECONDS:
+                process.terminate()
+                with suppress(subprocess.TimeoutExpired):
+                    process.wait(pause)
+            seconds = time.monotonic() - begun
+            cases.holds(f"{what}: how long it takes", seconds < 4 if pause < 1 else 4 < seconds < 60, str(seconds))
+            cases.check(what, process.wait(SECONDS), -signal.SIGTERM)
+            editor = Path("/proc", started.read_text().strip(), "cmdline")
+            cases.check(f"{what}: the editor is gone", editor.read_text() if editor.exists() else "", "")
+            check_saved(cases, what, place, process.stderr.read())
+            process.stderr.close()
+            check_whole(cases, what, place)
 
 
 def signals_at_the_start(cases: Companions) -> None:
@@ -217,5 +321,5 @@ def ignored_signals(cases: Companions) -> None:
         cases.ended("an ignored signal", done, 0, summary(3))
 
 
-TESTS = [at_each_run, at_each_call, interrupted_then_finished, while_the_editor_runs, stubborn_programs]
-TESTS += [signals_at_the_start, ignored_signals]
+TESTS = [at_each_run, at_each_call, interrupted_then_finished, while_the_editor_runs, last_words, signals_to_all]
+TESTS += [closed_terminals, stubborn_programs, signals_at_the_start, ignored_signals]
