@@ -3,7 +3,8 @@
 import os
 from pathlib import Path
 
-from companion_cases import AWKWARD, EDIT, NOBODY, TEXT, Companions, Place, decrypted, sealed
+from companion_cases import AWKWARD, EDIT, HOOK, NOBODY, TEXT, Companions, Place, decrypted, sealed
+from companion_cases.repository import AUTHOR
 
 CHANGED = TEXT.replace(b"correct", b"wrong")
 CHANGE = 'sed -i s/correct/wrong/ "$1"'
@@ -222,6 +223,36 @@ def changed_meanwhile(cases: Companions) -> None:
         cases.check("it holds what was written, encrypted", decrypted("old", place.get(kept)), CHANGED)
 
 
+def conflict_markers(cases: Companions) -> None:
+    """A vault that is saved with git's conflict markers is noted, and the hook refuses it until they are gone."""
+    if not cases.needs("conflict markers that stay", "git"):
+        return
+    marked = "printf '<<<<<<< ours\\nx: 1\\n=======\\nx: 2\\n>>>>>>> theirs\\n'"
+    still, refused = "all.yml: it still has git's conflict markers\n", "all.yml has git's conflict markers\n"
+    for name in ("repository/all.yml", "repository/deep/er/all.yml"):
+        with cases.place() as place:
+            place.environment.update(AUTHOR)
+            old = place.by_file("old")
+            place.put(name, sealed("old"))
+            cases.ended("in no repository", edit(place, f'{marked} > "$1"', *old, name), 0, still)
+            cases.check("git says nothing of it", place.run(EDIT, *old, name, EDITOR="true").stderr.count("fatal"), 0)
+            place.put(name, sealed("old"))
+            at = lambda *words: place.run("git", "-C", "repository", *words)
+            at("init", "-q")
+            at("add", "-A")
+            at("commit", "-qm", "change")
+            hook = lambda: place.shell(f"git add -A && {HOOK}", folder="repository")
+            cases.ended("markers that were typed", edit(place, f'{marked} > "$1"', *old, name), 0, still)
+            cases.ended("are refused", hook(), 1, refused)
+            cases.ended("other markers", edit(place, f'{marked} >> "$1"', *old, name), 0, still)
+            cases.ended("are refused, too", hook(), 1, refused)
+            (place.tree / "repository/.git/ansible-vault-conflicts").unlink()
+            cases.ended("an edit without a change", edit(place, "true", *old, name), 0, "nothing was changed")
+            cases.ended("notes them again", hook(), 1, refused)
+            cases.ended("no markers", edit(place, 'echo "x: 1" > "$1"', *old, name), 0)
+            cases.silent("are not refused", hook())
+
+
 def command_line(cases: Companions) -> None:
     with cases.place() as place:
         secret = place.by_file("old")
@@ -244,4 +275,5 @@ def typed_password(cases: Companions) -> None:
 
 
 TESTS = [what_changes, where_the_plaintext_lies, what_stays, refusals, read_only_folder, what_cannot_be_removed]
-TESTS += [labels, editors, links, names, new_vaults, changed_meanwhile, command_line, typed_password]
+TESTS += [labels, editors, links, names, new_vaults, changed_meanwhile, conflict_markers, command_line]
+TESTS += [typed_password]
