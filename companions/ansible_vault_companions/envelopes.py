@@ -27,6 +27,7 @@ COMMENTED = "an envelope in a comment; remove it, or the comment's marks"
 BEHIND_TABS = "an envelope after tabs; indent with spaces"
 FOLDED = "an envelope in a folded scalar (`>`), which is not read; write `!vault |`"
 BEHIND_MARK = "an envelope after a byte order mark; remove the mark"
+BEHIND_SPACE = "an envelope after empty lines or spaces at the start of the file, which is no vault; remove them"
 IN_UTF_16 = "envelopes in UTF-16, which are not read; write the file in UTF-8"
 
 # The lines of a block, but for the end of the last one.
@@ -124,6 +125,8 @@ class _Line:
     def __init__(self, data: bytes) -> None:
         self.data = data
         self.place = self.start = 0
+        # Of the first character that is no white space.
+        self.first = len(data) - len(data.lstrip())
         self.number = 1
         self.head = LINE_HEAD.match(data)
 
@@ -162,17 +165,23 @@ def _block(line: _Line) -> Envelope | None:
     if not (tag or found["digits"]):
         return None
     text = re.sub(rb"^ +", b"", found[0], flags=re.MULTILINE) + b"\n"
-    is_folded = tag is not None and tag["style"] == b">"
+    obstacle = _obstacle_of_block(line, tag)
     return Envelope(
         found.start(),
         found.end(),
         line.number,
         found["spaces"],
-        b"" if is_folded else text,
+        b"" if obstacle else text,
         label_of(text),
         _name(tag_line[: tag.start()]) if tag else None,
-        FOLDED if is_folded else "",
+        obstacle,
     )
+
+
+def _obstacle_of_block(line: _Line, tag: re.Match[bytes] | None) -> str:
+    if tag:
+        return FOLDED if tag["style"] == b">" else ""
+    return BEHIND_SPACE if line.place == line.first else ""
 
 
 def _elsewhere(line: _Line) -> Envelope | None:

@@ -24,7 +24,8 @@ a PATH. Blocks are found in every file except prose (.md, .rst, .adoc, .html):
 an envelope whose lines have the same indentation, as after `NAME: !vault |`,
 also within another text; and in the plaintext of a vault. An envelope in
 another form (quotes, JSON, comments, tabs, `!vault >`, UTF-16, after a byte
-order mark) is reported as a failure, with what to do."""
+order mark, or after empty lines at the start of a file) is reported as a
+failure, with what to do."""
 
 Item = TypeVar("Item")
 Result = TypeVar("Result")
@@ -79,13 +80,17 @@ def processors() -> int:
     return len(os.sched_getaffinity(0))
 
 
+def is_prose(path: str) -> bool:
+    return path.lower().endswith(PROSE)
+
+
 def contents(path: str, with_prose: bool = False) -> bytes:
     """The content of a file; empty if it has no envelope that is to be looked at."""
     with _opened(path) as file:
         begins = file.read(len(MAGIC)) == MAGIC
         file.seek(0)
-        is_prose = path.lower().endswith(PROSE) and not with_prose
-        if not begins and (is_prose or not _mentions_envelope(file)):
+        is_skipped = is_prose(path) and not with_prose
+        if not begins and (is_skipped or not _mentions_envelope(file)):
             return b""
         file.seek(0)
         return file.read()

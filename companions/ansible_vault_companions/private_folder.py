@@ -7,8 +7,9 @@ import os
 import shutil
 import tempfile
 import time
+from contextlib import suppress
 
-from ansible_vault_companions import program
+from ansible_vault_companions import files, program
 from ansible_vault_companions.program import Refused
 
 PREFIX = "ansible-vault-"
@@ -49,6 +50,15 @@ class PrivateFolder:
         with open(path, "xb", opener=_private_opener) as file:
             file.write(content)
         return path
+
+    def others(self, name: str) -> list[tuple[str, bytes]]:
+        """The files here but for this one, with what they hold."""
+        found = []
+        for entry in os.scandir(self.path):
+            if entry.name != name and entry.is_file(follow_symlinks=False):
+                with suppress(Refused, OSError):
+                    found.append((entry.name, files.read(entry.path) or b""))
+        return found
 
     def remove(self) -> None:
         """What the editor has left running may still write there."""

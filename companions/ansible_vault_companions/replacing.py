@@ -7,6 +7,7 @@ import os
 import re
 import stat
 import tempfile
+from contextlib import suppress
 
 from ansible_vault_companions import files
 from ansible_vault_companions.program import Refused
@@ -48,17 +49,30 @@ def check_replaceable(target: str) -> None:
 
 
 def save_copy(target: str, content: bytes) -> str:
-    """The path of a new file with this content, for its owner alone: beside the target, or in $TMPDIR. Its name is
-    that of the target, and in $TMPDIR its whole path."""
+    """The path of a new file with this content, for its owner alone: beside the target, or in $TMPDIR."""
+    (folder, prefix), (other_folder, other_prefix) = _places_of_copies(target)
     try:
-        return _write_new(os.path.dirname(target), content, prefix=_prefix_of_copy(os.path.basename(target)))
+        return _write_new(folder, content, prefix=prefix)
     except OSError:
-        return _write_new(tempfile.gettempdir(), content, prefix=_prefix_of_copy(target.replace("/", "%")))
+        return _write_new(other_folder, content, prefix=other_prefix)
 
 
-def _prefix_of_copy(name: str) -> str:
-    """With the end of a long name."""
-    return f"{SAVED}{os.fsencode(name)[-LONGEST_NAME:].decode(errors='ignore')}-"
+def copies(target: str) -> list[str]:
+    """The copies of what was saved that there are."""
+    found = []
+    for folder, prefix in _places_of_copies(target):
+        with suppress(OSError):
+            names = [name for name in os.listdir(folder) if name.startswith(prefix)]
+            found += [os.path.join(folder, name) for name in sorted(names) if "-" not in name[len(prefix) :]]
+    return found
+
+
+def _places_of_copies(target: str) -> list[tuple[str, str]]:
+    """Folders, with what the names of copies begin with there: the target's name, or in $TMPDIR its whole path. Of a
+    long one it is the end."""
+    places = [(os.path.dirname(target), os.path.basename(target)), (tempfile.gettempdir(), target.replace("/", "%"))]
+    shortened = lambda name: os.fsencode(name)[-LONGEST_NAME:].decode(errors="ignore")
+    return [(folder, f"{SAVED}{shortened(name)}-") for folder, name in places]
 
 
 def _create(beside: str, target: str) -> None:

@@ -125,7 +125,7 @@ def check() -> None:
 
 def ending_signal() -> int | None:
     """The signal that asks for the end, also one that is postponed."""
-    return next(iter([*_noted, *sorted(signal.sigpending())]), None)
+    return next(iter([*_noted, *sorted(signal.sigpending().intersection(ENDING))]), None)
 
 
 @contextmanager

@@ -8,6 +8,8 @@ from companion_cases.repository import AUTHOR
 
 CHANGED = TEXT.replace(b"correct", b"wrong")
 CHANGE = 'sed -i s/correct/wrong/ "$1"'
+# The companion that runs an editor, which stands below a shell.
+ABOVE_EDITOR = "$(cut -d ' ' -f 4 /proc/$PPID/stat)"
 NOT_MADE = ("new.yml", "nothing was changed")
 
 

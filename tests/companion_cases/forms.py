@@ -19,6 +19,9 @@ REPORTED = {
     "tabs": (b"a: !vault |\n" + BODY.replace(b"          ", b"\t"), "after tabs; indent with spaces"),
     "a folded scalar": (b"a: !vault >\n" + BODY + b"\n", "in a folded scalar"),
     "a byte order mark": (b"\xef\xbb\xbf" + sealed("old"), "after a byte order mark"),
+    "an empty line": (b"\n" + sealed("old"), "after empty lines or spaces at the start of the file"),
+    "several empty lines": (b" \r\n\t\n" + sealed("old"), "which is no vault; remove them"),
+    "spaces": (b"  " + sealed("old").replace(b"\n", b"\n  "), "which is no vault; remove them"),
     "UTF-16": ("\ufeff".encode("utf-16-le") + block("old").decode().encode("utf-16-le"), "write the file in UTF-8"),
     "UTF-16, big-endian": (block("old").decode().encode("utf-16-be"), "write the file in UTF-8"),
 }

@@ -6,8 +6,8 @@ import shutil
 import subprocess
 from pathlib import Path
 
-from companion_cases import EDIT, Companions, Place, decrypted, sealed
-from companion_cases.editing import CHANGE, CHANGED, edit
+from companion_cases import EDIT, TEXT, Companions, Place, decrypted, sealed
+from companion_cases.editing import ABOVE_EDITOR, CHANGE, CHANGED, edit
 
 ENCRYPTED = re.compile(r"; what you saved is encrypted in (.+)\n\Z")
 PLAIN = re.compile(r"; what you saved is left in plaintext in (.+)\n\Z")
@@ -169,6 +169,54 @@ def sealing_fails(cases: Companions) -> None:
         cases.check("the vault stays", place.get("all.yml"), sealed("old"))
 
 
+def what_the_editor_left(cases: Companions) -> None:
+    """If the editor is ended or fails, its own files may hold what was typed and not saved. They are encrypted, too."""
+    leave = 'cd "${1%/*}"; printf typed > .all.yml.swp; : > empty; cp all.yml all.yml~; ln -s nowhere ".#all.yml"'
+    ends = {
+        "a failure": (f"{leave}; exit 3", TEXT, "status 3)", "; nothing was changed"),
+        "a failure after a change": (f"{leave}; {CHANGE}; exit 3", CHANGED, "status 3)", "; what you saved is "),
+        "a signal": (f"{leave}; kill -TERM {ABOVE_EDITOR}; sleep 9", TEXT, "by signal 15", "; nothing was changed"),
+        "no file": (f'{leave}; rm "$1"; kill -TERM {ABOVE_EDITOR}; sleep 9', TEXT, "by signal 15", "; nothing was"),
+    }
+    for what, (editor, text, why, after) in ends.items():
+        with cases.place() as place:
+            place.put("all.yml", sealed("old"))
+            done = edit(place, editor, *place.by_file("old"), "all.yml")
+            told = f"{re.escape(why)}; what the editor left is encrypted in ([^;]*){re.escape(after)}"
+            found = re.search(told, done.stderr)
+            cases.holds(f"{what}: the message says where", found is not None, done.stderr)
+            names = [name for name in place.names() if name != "all.yml"]
+            texts = sorted(decrypted("old", place.get(name)) for name in names)
+            wanted = [b"typed"] if text == TEXT else [CHANGED, b"typed"]
+            cases.check(f"{what}: the copies", texts, wanted)
+            [swap] = [name for name in names if name.startswith(".ansible-vault-saved-.all.yml.swp-")]
+            cases.check(f"{what}: it is named", found and found[1], str(place.tree / swap))
+            cases.check(f"{what}: the vault stays", place.get("all.yml"), sealed("old"))
+            cases.check(f"{what}: no plaintext is left", place.left(), [])
+    with cases.place() as place:
+        place.put("all.yml", sealed("old"))
+        cases.silent("an editor that ends well", edit(place, f"{leave}; {CHANGE}", *place.by_file("old"), "all.yml"))
+        cases.check("no copy is made", place.names(), ["all.yml"])
+
+
+def earlier_copies(cases: Companions) -> None:
+    """The next edit names the copies that there are of the same vault."""
+    with cases.place() as place:
+        temporary = place.path / "temporary"
+        temporary.mkdir()
+        place.environment["TMPDIR"] = str(temporary)
+        for name in ("all.yml", "all.yml-more"):
+            place.put(name, sealed("old"))
+            cases.ended(name, edit(place, f"{CHANGE}; exit 3", *place.by_file("old"), name), 1)
+        [copy, _] = sorted((name for name in place.names() if name.startswith(".")), key=len)
+        elsewhere = temporary / f".ansible-vault-saved-{str(place.tree).replace('/', '%')}%all.yml-abcd1234"
+        elsewhere.write_bytes(sealed("old"))
+        done = edit(place, "true", *place.by_file("old"), "all.yml")
+        lines = [f"an earlier edit is encrypted in {each}" for each in (place.tree / copy, elsewhere)]
+        found = [line.removeprefix("ansible-vault-edit: all.yml: ") for line in done.stderr.splitlines()]
+        cases.check("they are named", (done.returncode, found[:-1]), (0, lines))
+
+
 def no_other_place(cases: Companions) -> None:
     """Where $TMPDIR takes nothing either, the plaintext stays in its folder."""
     with cases.place() as place:
@@ -252,4 +300,5 @@ def warnings(cases: Companions) -> None:
 
 
 TESTS = [replacing_fails, made_meanwhile, full_and_read_only_folders, mounted_vaults, sealing_fails]
-TESTS += [no_other_place, faults_of_its_own, long_names, lost_passwords, busy_helpers, warnings]
+TESTS += [what_the_editor_left, earlier_copies, no_other_place, faults_of_its_own, long_names, lost_passwords]
+TESTS += [busy_helpers, warnings]

@@ -2,14 +2,14 @@
 
 import re
 
-from companion_cases import CHECK, EDIT, ROTATE, TEXT, Companions, Place, block, decrypted, sealed
+from companion_cases import CHECK, ROTATE, TEXT, Companions, Place, block, decrypted, sealed
 from companion_cases.editing import edit
 
 OF_DEV, OF_PROD = b"the word of dev\n", b"the word of prod\n"
 SHOWN = b"a: !vault |\n  the word of dev\nb: !vault |\n  the word of prod\n"
 # What no secret is chosen for, and what is no YAML.
 UNFINISHED = {"a new value": "new: !vault more", "no YAML": "c: !vault \"more"}
-KEPT = re.compile(r"; what you saved is encrypted in (\S+), under 2 secrets in turn; ansible-vault-edit decrypts it\n\Z")
+KEPT = re.compile(r"; what you saved is encrypted in (\S+), under 2 secrets in turn; ansible-vault-edit decrypts it\n")
 NOTE = b"# The vault below is under another secret; ansible-vault-edit decrypts both.\n"
 
 
@@ -28,7 +28,8 @@ def copy_of(cases: Companions, what: str, place: Place, line: str) -> str:
     cases.check(f"{what}: the status", done.returncode, 1)
     told = KEPT.search(done.stderr)
     cases.holds(f"{what}: the message says where it is, and how to read it", told is not None, done.stderr)
-    cases.check(f"{what}: the file stays, and no plaintext is left", (place.get("vars.yml"), place.left()), (before, []))
+    cases.check(f"{what}: the file stays", place.get("vars.yml"), before)
+    cases.check(f"{what}: no plaintext is left", place.left(), [])
     [name] = [name for name in place.names() if name != "vars.yml"]
     cases.check(f"{what}: it is the one that is named", told and told[1], str(place.tree / name))
     return name

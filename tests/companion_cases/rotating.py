@@ -197,6 +197,36 @@ def dry_run(cases: Companions) -> None:
         cases.ended("nothing is left", done, 0, "0 to be rotated, 3 under the new secret already")
 
 
+def documents(cases: Companions) -> None:
+    """What an old secret decrypts in a document is not rotated, and counted; an example is neither."""
+    left = "it is in a document, so it is not rotated; --skip-documents ignores it\n"
+    line = sealed("old").decode().replace("\n", "\\n")
+    prose = {
+        "README.md": (b"An example:\n\n" + block("old"), ":4: "),
+        "a.rst": (block("new") + block("old", name="b"), f":{2 + len(block('new').splitlines())}: "),
+        "deep/b.html": (f'<pre>"{line}"</pre>'.encode(), ":1: "),
+        "bare.adoc": (b"\n" + sealed("old"), ":2: "),
+    }
+    others = {"c.md": block("dev"), "d.md": block("new"), "e.md": block("prod", label="prod")}
+    others["f.md"] = b"As $ANSIBLE_VAULT;1.1\n"
+    for name, (content, place_in_it) in prose.items():
+        with cases.place() as place:
+            place.put("a.yml", sealed("old"))
+            place.put("vault.md", sealed("old"))
+            for other, text in {name: content, **others}.items():
+                place.put(other, text)
+            counts = f"{summary(2)}, 1 left in documents\n"
+            done = place.run(ROTATE, *to_new(place), ".")
+            cases.ended(name, done, 1, f"./{name}{place_in_it}{left}", counts)
+            cases.check(f"{name}: no other is named", done.stderr.count(left), 1)
+            cases.check(f"{name}: it stays", place.get(name), content)
+            cases.check("a document that is a vault is rotated", decrypted("new", place.get("vault.md")), TEXT)
+            again = place.run(ROTATE, "--dry-run", *to_new(place), ".")
+            cases.ended(f"{name}: again", again, 1, left, ", 1 left in documents\n")
+            done = place.run(ROTATE, "--skip-documents", *to_new(place), ".")
+            cases.check(f"{name}: ignored", (done.returncode, done.stdout, done.stderr), (0, f"{summary(0, 2)}\n", ""))
+
+
 def changed_meanwhile(cases: Companions) -> None:
     with cases.place() as place:
         place.put("a.yml", block("old"))
@@ -241,4 +271,4 @@ def command_line(cases: Companions) -> None:
 
 
 TESTS = [by_label, default_is_a_label, again, nothing, failures, wrong_passwords, unreadable, owners_and_modes]
-TESTS += [dry_run, changed_meanwhile, closed_output, command_line]
+TESTS += [dry_run, documents, changed_meanwhile, closed_output, command_line]

@@ -13,16 +13,13 @@ from pathlib import Path
 
 from companion_cases import CHECK, EDIT, MERGE, ROTATE, SECONDS, TEXT, TEXTCONV, WITH
 from companion_cases import Companions, Place, block, decrypted, sealed
+from companion_cases.editing import ABOVE_EDITOR, CHANGE, CHANGED
 from companion_cases.merging import versions
 from companion_cases.rotating import summary, to_new
 
-CHANGE = 'sed -i s/correct/wrong/ "$1"'
-CHANGED = TEXT.replace(b"correct", b"wrong")
 # The copy of what was saved, and the message that names it.
 COPY = ".ansible-vault-saved-a.yml-"
 TOLD = re.compile(r"a\.yml: ended by signal (\d+); what you saved is encrypted in (.+)\n\Z")
-# The companion that runs an editor, which stands below a shell.
-ABOVE_EDITOR = "$(cut -d ' ' -f 4 /proc/$PPID/stat)"
 # Signals the companion before the run of the program of this number, which then dies by it or goes on.
 AT_RUN = """
 count=1; mkdir -p ../counted; until mkdir ../counted/$count 2>/dev/null; do count=$((count + 1)); done

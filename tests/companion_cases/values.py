@@ -86,6 +86,8 @@ def what_changes(cases: Companions) -> None:
         done = edit(place, add, *words)
         cases.ended("a new one", done, 1, "new is new; choose its secret with --encrypt-vault-id", "is encrypted in")
         cases.check("nothing is written", place.get("vars.yml"), after)
+        [copy] = [name for name in place.names() if name != "vars.yml"]
+        (place.tree / copy).unlink()
         cases.silent("a chosen one", edit(place, add, *words, "--encrypt-vault-id", "prod"))
         cases.check("it is encrypted", texts(place.get("vars.yml"), "prod"), [b"uno", None, b"word"])
         cases.check("nothing is left", place.left(), [])
