@@ -158,7 +158,7 @@ _ansible_vault_companion_options() {
     case $1 in
     ansible-vault-edit) echo "$common --encrypt-vault-id" ;;
     ansible-vault-rotate)
-        echo "$common --new-vault-id --new-vault-password-file --dry-run --jobs"
+        echo "$common --new-vault-id --new-vault-password-file --dry-run --skip-documents --jobs"
         ;;
     ansible-vault-check) echo "$common --label" ;;
     ansible-vault-hook) echo "--all --since --install --help -h --version -V" ;;

@@ -104,6 +104,7 @@ complete -c ansible-vault-rotate -l new-vault-id -x -a '(__ansible_vault_ids)' \
 complete -c ansible-vault-rotate -l new-vault-password-file -x -a '(__ansible_vault_files)' \
     -d 'The password file of a new secret for the label default'
 complete -c ansible-vault-rotate -l dry-run -d 'Write nothing, and report what would be done'
+complete -c ansible-vault-rotate -l skip-documents -d 'Do not look for envelopes in documents'
 complete -c ansible-vault-rotate -l jobs -x -d 'How many vaults and blocks at once'
 complete -c ansible-vault-check -l label -x -d 'Decrypt only what has this label, and just count the rest'
 complete -c ansible-vault-hook -l all -d 'Look at every file of the commit that is checked out'

@@ -77,6 +77,7 @@ _ansible_vault_arguments() {
     )
     local -a rotation=(
         '--dry-run[write nothing, and report what would be done]'
+        '--skip-documents[do not look for envelopes in documents]'
         '--jobs=[how many vaults and blocks at once]:number: '
     )
 

@@ -127,7 +127,7 @@ def ignored_interrupts(cases: Companions) -> None:
 
 
 def all_ending_signals(cases: Companions) -> None:
-    """Every signal that would end a program is noted, so that the plaintext goes."""
+    """Every signal that would end a program is noted, so that the plaintext goes and what was saved is kept."""
     not_ending = {"KILL", "STOP", "CHLD", "CONT", "URG", "WINCH", "TSTP", "TTIN", "TTOU"}
     # A fault of Python itself would come again at once; what Python ignores stays ignored.
     others = {"SEGV", "BUS", "FPE", "ILL", "PIPE", "XFSZ"}
@@ -144,6 +144,11 @@ def all_ending_signals(cases: Companions) -> None:
             editor = place.script(f"{CHANGE}; kill -{int(number)} {companion}; exec sleep 5", "editor")
             done = place.run(EDIT, *place.by_file("old"), "a.yml", EDITOR=editor)
             cases.check(f"signal {int(number)}: the status", done.returncode, -number)
+            copies = [place.tree / name for name in place.names() if name.startswith(".ansible-vault-saved-a.yml-")]
+            texts = [decrypted("old", copy.read_bytes()) for copy in copies]
+            cases.check(f"signal {int(number)}: what was saved is kept", texts, [CHANGED])
+            for copy in copies:
+                copy.unlink()
             cases.check(f"signal {int(number)}: nothing is left", (place.names(), place.left()), (["a.yml"], []))
 
 
