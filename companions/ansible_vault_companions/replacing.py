@@ -13,9 +13,12 @@ from ansible_vault_companions import files
 from ansible_vault_companions.program import Refused
 
 PREFIX = ".ansible-vault-"
-# What the name of a copy of what was saved begins with, and how many bytes of the target's name follow.
+# What the name of a copy of what was saved begins with, and how many bytes of other names it has.
 SAVED = f"{PREFIX}saved-"
-LONGEST_NAME = 200
+LONGEST_NAME = 150
+LONGEST_END = 60
+# What `mkstemp` puts into it.
+RANDOM = "[a-z0-9_]{8}"
 # The mode of what its owner alone may read.
 PRIVATE = 0o600
 # What says that a file system has no hard links.
@@ -48,31 +51,35 @@ def check_replaceable(target: str) -> None:
     os.unlink(_write_beside(target, b""))
 
 
-def save_copy(target: str, content: bytes) -> str:
-    """The path of a new file with this content, for its owner alone: beside the target, or in $TMPDIR."""
+def save_copy(target: str, content: bytes, name: str = "") -> str:
+    """The path of a new file with this content, for its owner alone: beside the target, or in $TMPDIR. The name of
+    what else an editor left may end its own."""
+    suffix = f"-{_end_of(name, LONGEST_END)}" if name else ""
     (folder, prefix), (other_folder, other_prefix) = _places_of_copies(target)
     try:
-        return _write_new(folder, content, prefix=prefix)
+        return _write_new(folder, content, prefix=prefix, suffix=suffix)
     except OSError:
-        return _write_new(other_folder, content, prefix=other_prefix)
+        return _write_new(other_folder, content, prefix=other_prefix, suffix=suffix)
 
 
 def copies(target: str) -> list[str]:
-    """The copies of what was saved that there are."""
+    """The copies that there are."""
     found = []
     for folder, prefix in _places_of_copies(target):
+        is_copy = re.compile(rf"{re.escape(prefix)}{RANDOM}(?:-|\Z)").match
         with suppress(OSError):
-            names = [name for name in os.listdir(folder) if name.startswith(prefix)]
-            found += [os.path.join(folder, name) for name in sorted(names) if "-" not in name[len(prefix) :]]
+            found += [os.path.join(folder, name) for name in sorted(os.listdir(folder)) if is_copy(name)]
     return found
 
 
 def _places_of_copies(target: str) -> list[tuple[str, str]]:
-    """Folders, with what the names of copies begin with there: the target's name, or in $TMPDIR its whole path. Of a
-    long one it is the end."""
-    places = [(os.path.dirname(target), os.path.basename(target)), (tempfile.gettempdir(), target.replace("/", "%"))]
-    shortened = lambda name: os.fsencode(name)[-LONGEST_NAME:].decode(errors="ignore")
-    return [(folder, f"{SAVED}{shortened(name)}-") for folder, name in places]
+    """Folders, with what the names of copies begin with there: the target's name, or in $TMPDIR its whole path."""
+    names = [(os.path.dirname(target), os.path.basename(target)), (tempfile.gettempdir(), target.replace("/", "%"))]
+    return [(folder, f"{SAVED}{_end_of(name, LONGEST_NAME)}-") for folder, name in names]
+
+
+def _end_of(name: str, length: int) -> str:
+    return os.fsencode(name)[-length:].decode(errors="ignore")
 
 
 def _create(beside: str, target: str) -> None:
@@ -98,9 +105,14 @@ def _write_beside(target: str, content: bytes, is_private: bool = False) -> str:
 
 
 def _write_new(
-    folder: str, content: bytes, like: str | None = None, is_private: bool = False, prefix: str = PREFIX
+    folder: str,
+    content: bytes,
+    like: str | None = None,
+    is_private: bool = False,
+    prefix: str = PREFIX,
+    suffix: str = "",
 ) -> str:
-    descriptor, path = tempfile.mkstemp(prefix=prefix, dir=folder)
+    descriptor, path = tempfile.mkstemp(suffix, prefix, folder)
     try:
         with open(descriptor, "wb") as file:
             file.write(content)

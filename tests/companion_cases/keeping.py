@@ -189,7 +189,8 @@ def what_the_editor_left(cases: Companions) -> None:
             texts = sorted(decrypted("old", place.get(name)) for name in names)
             wanted = [b"typed"] if text == TEXT else [CHANGED, b"typed"]
             cases.check(f"{what}: the copies", texts, wanted)
-            [swap] = [name for name in names if name.startswith(".ansible-vault-saved-.all.yml.swp-")]
+            of_swap = re.compile(r"\.ansible-vault-saved-all\.yml-\w{8}-\.all\.yml\.swp")
+            [swap] = filter(of_swap.fullmatch, names)
             cases.check(f"{what}: it is named", found and found[1], str(place.tree / swap))
             cases.check(f"{what}: the vault stays", place.get("all.yml"), sealed("old"))
             cases.check(f"{what}: no plaintext is left", place.left(), [])
@@ -207,14 +208,20 @@ def earlier_copies(cases: Companions) -> None:
         place.environment["TMPDIR"] = str(temporary)
         for name in ("all.yml", "all.yml-more"):
             place.put(name, sealed("old"))
-            cases.ended(name, edit(place, f"{CHANGE}; exit 3", *place.by_file("old"), name), 1)
-        [copy, _] = sorted((name for name in place.names() if name.startswith(".")), key=len)
+            left = 'printf typed > "$1.save"; exit 3'
+            cases.ended(name, edit(place, f"{CHANGE}; {left}", *place.by_file("old"), name), 1)
+        copies = [place.tree / name for name in place.names() if name.startswith(".ansible-vault-saved-all.yml-")]
+        copies = sorted(copy for copy in copies if "more" not in copy.name)
+        cases.check("there are two of the first", len(copies), 2)
         elsewhere = temporary / f".ansible-vault-saved-{str(place.tree).replace('/', '%')}%all.yml-abcd1234"
         elsewhere.write_bytes(sealed("old"))
         done = edit(place, "true", *place.by_file("old"), "all.yml")
-        lines = [f"an earlier edit is encrypted in {each}" for each in (place.tree / copy, elsewhere)]
+        lines = [f"an earlier edit is encrypted in {each}" for each in (*copies, elsewhere)]
         found = [line.removeprefix("ansible-vault-edit: all.yml: ") for line in done.stderr.splitlines()]
         cases.check("they are named", (done.returncode, found[:-1]), (0, lines))
+        place.environment["TMPDIR"] = str(place.tree)
+        done = edit(place, f"{CHANGE}; exit 3", *place.by_file("old"), "all.yml")
+        cases.ended("a vault in $TMPDIR", done, 1, "what you saved is encrypted in ")
 
 
 def no_other_place(cases: Companions) -> None:
@@ -259,11 +266,14 @@ layers.encrypted = broken
 
 
 def long_names(cases: Companions) -> None:
-    """The copy of a file whose name is as long as can be has the end of it."""
+    """The copies of files whose names are as long as can be have the ends of them."""
     name = "ö" * 120 + "all.yml"
     with cases.place() as place:
         place.put(name, sealed("old"))
-        done = edit(place, f"{CHANGE}; exit 3", *place.by_file("old"), name)
+        left = 'printf typed > "${1%/*}/' + "ä" * 120 + '.save"'
+        done = edit(place, f"{CHANGE}; {left}; exit 3", *place.by_file("old"), name)
+        [copy] = [each for each in place.names() if each.endswith("ä.save")]
+        cases.check("what the editor left", decrypted("old", place.get(copy)), b"typed")
         check_encrypted(cases, "a long name", place, done, "the editor failed", place.tree)
 
 
