@@ -85,7 +85,7 @@ def check_edit(cases: Companions, what: str, place: Place, is_vault: bool, statu
     left = plain + place.left() + os.listdir(place.path / "temporary")
     cases.check(f"{what}: no plaintext is left", left, [])
     cases.holds(f"{what}: the status", status in (0, -signal.SIGTERM, -signal.SIGHUP), str(status))
-    known = re.compile(r"a\.yml|\.ansible-vault-saved-a\.yml-\w{8}(-sed\w+)?")
+    known = re.compile(r"a\.yml|\.ansible-vault-saved-a\.yml-\w{8}(-sed\w+|-before)?")
     names = [name for name in files if not known.fullmatch(name)]
     cases.check(f"{what}: no other file is left", names, [])
     return "replaced" if vault else "a copy" if copies else "nothing was saved"

@@ -19,7 +19,9 @@ from companion_cases.rotating import summary, to_new
 
 # The copy of what was saved, and the message that names it.
 COPY = ".ansible-vault-saved-a.yml-"
-TOLD = re.compile(r"a\.yml: ended by signal (\d+); what you saved is encrypted in (.+)\n\Z")
+TOLD = re.compile(
+    r"a\.yml: ended by signal (\d+);(?: what the editor left .*-before;)? what you saved is encrypted in (.+)\n\Z"
+)
 # Signals the companion before the run of the program of this number, which then dies by it or goes on.
 AT_RUN = """
 count=1; mkdir -p ../counted; until mkdir ../counted/$count 2>/dev/null; do count=$((count + 1)); done
@@ -95,6 +97,8 @@ def check_whole(cases: Companions, what: str, place: Place) -> None:
 
 def check_saved(cases: Companions, what: str, place: Place, errors: str | None, wanted: bytes = CHANGED) -> None:
     """What an editor saved is in the vault or, encrypted, in a copy that the message names; which is then removed."""
+    for before in place.tree.glob(f"{COPY}*-before"):
+        before.unlink()
     copies = [place.tree / name for name in place.names() if name.startswith(COPY)]
     is_saved = (place.path / "saved").exists()
     texts = [decrypted("old", each.read_bytes()) for each in copies]
@@ -205,6 +209,30 @@ def last_words(cases: Companions) -> None:
             cases.check(f"by {who}: the status", done.returncode, -signal.SIGTERM)
             check_saved(cases, f"by {who}", place, done.stderr, b"last")
             check_whole(cases, f"by {who}", place)
+
+
+def half_a_save(cases: Companions) -> None:
+    """If the editor is ended while it saves, the save before is kept, too."""
+    words = "text = open(sys.argv[1], 'w'); text.write('{}'); text.flush(); "
+    first = f'import sys, time; {words.format("the first of two")}'
+    second = f"time.sleep(3); {words.format('half')}open('../saved', 'w'); time.sleep({SECONDS})"
+    for send in (os.kill, os.killpg):
+        with cases.place() as place:
+            tree(place)
+            place.environment["EDITOR"] = place.script(f"{first}\n{second}", "editor", "/usr/bin/env python3")
+            streams = {"stdin": subprocess.DEVNULL, "stdout": subprocess.DEVNULL, "stderr": subprocess.PIPE}
+            options = {"cwd": place.tree, "env": place.environment, "start_new_session": True, "text": True}
+            with subprocess.Popen([EDIT, *place.by_file("old"), "a.yml"], **streams, **options) as process:
+                wait_until((place.path / "saved").exists, "the second save")
+                send(process.pid, signal.SIGTERM)
+                errors = process.communicate(timeout=SECONDS)[1]
+            cases.check(f"{send.__name__}: the status", process.returncode, -signal.SIGTERM)
+            befores = list(place.tree.glob(f"{COPY}*-before"))
+            texts = [decrypted("old", each.read_bytes()) for each in befores]
+            cases.check(f"{send.__name__}: the save before", texts, [b"the first of two"])
+            cases.holds(f"{send.__name__}: it is named", befores and str(befores[0]) in errors, errors)
+            check_saved(cases, send.__name__, place, errors, b"half")
+            check_whole(cases, send.__name__, place)
 
 
 def signals_to_all(cases: Companions) -> None:
@@ -318,5 +346,5 @@ def ignored_signals(cases: Companions) -> None:
         cases.ended("an ignored signal", done, 0, summary(3))
 
 
-TESTS = [at_each_run, at_each_call, interrupted_then_finished, while_the_editor_runs, last_words, signals_to_all]
-TESTS += [closed_terminals, stubborn_programs, signals_at_the_start, ignored_signals]
+TESTS = [at_each_run, at_each_call, interrupted_then_finished, while_the_editor_runs, last_words, half_a_save]
+TESTS += [signals_to_all, closed_terminals, stubborn_programs, signals_at_the_start, ignored_signals]
