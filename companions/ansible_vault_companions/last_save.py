@@ -3,6 +3,7 @@
 from __future__ import annotations
 
 import os
+import signal
 import threading
 
 from ansible_vault_companions import files
@@ -26,7 +27,12 @@ class LastSave:
         self._thread = threading.Thread(target=self._watch, daemon=True)
 
     def __enter__(self) -> LastSave:
-        self._thread.start()
+        # Signals are for the main thread, which waits for the editor.
+        mask = signal.pthread_sigmask(signal.SIG_BLOCK, signal.valid_signals())
+        try:
+            self._thread.start()
+        finally:
+            signal.pthread_sigmask(signal.SIG_SETMASK, mask)
         return self
 
     def __exit__(self, *_) -> None:

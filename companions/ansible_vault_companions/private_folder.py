@@ -52,12 +52,13 @@ class PrivateFolder:
         return path
 
     def others(self, name: str) -> list[tuple[str, bytes]]:
-        """The files here but for this one, with what they hold."""
+        """The files here but for this one, with what they hold, as far as they can be read."""
         found = []
-        for entry in os.scandir(self.path):
-            if entry.name != name and entry.is_file(follow_symlinks=False):
-                with suppress(Refused, OSError):
-                    found.append((entry.name, files.read(entry.path) or b""))
+        with suppress(OSError):
+            for entry in os.scandir(self.path):
+                if entry.name != name and entry.is_file(follow_symlinks=False):
+                    with suppress(Refused, OSError):
+                        found.append((entry.name, files.read(entry.path) or b""))
         return found
 
     def remove(self) -> None:
