@@ -68,6 +68,8 @@ class PrivateFolder:
                 shutil.rmtree(self.path)
                 return
             except OSError as fault:
+                if not os.path.lexists(self.path):
+                    return
                 last = fault
                 if fault.errno not in (errno.ENOTEMPTY, errno.ENOENT):
                     break

@@ -200,6 +200,20 @@ def what_the_editor_left(cases: Companions) -> None:
         cases.check("no copy is made", place.names(), ["all.yml"])
 
 
+def folders_that_go(cases: Companions) -> None:
+    """What was saved before the folder of the plaintext went, as logging out may remove it, is not lost."""
+    for name, editor in {"at once": ":", "after a while": f"{CHANGE}; sleep 3"}.items():
+        with cases.place() as place:
+            place.put("all.yml", sealed("old"))
+            done = edit(place, f'{editor}; rm -r "${{1%/*}}"', *place.by_file("old"), "all.yml")
+            if name == "at once":
+                cases.ended(name, done, 1, "all.yml: the editor left no file; nothing was changed\n")
+            else:
+                check_encrypted(cases, name, place, done, "the editor left no file", place.tree)
+            cases.check(f"{name}: nothing is said of plaintext", "plaintext" in done.stderr, False)
+            cases.check(f"{name}: the vault stays, and nothing is left", place.files(), {"all.yml": sealed("old")})
+
+
 def earlier_copies(cases: Companions) -> None:
     """The next edit names the copies that there are of the same vault."""
     with cases.place() as place:
@@ -310,5 +324,5 @@ def warnings(cases: Companions) -> None:
 
 
 TESTS = [replacing_fails, made_meanwhile, full_and_read_only_folders, mounted_vaults, sealing_fails]
-TESTS += [what_the_editor_left, earlier_copies, no_other_place, faults_of_its_own, long_names, lost_passwords]
-TESTS += [busy_helpers, warnings]
+TESTS += [what_the_editor_left, folders_that_go, earlier_copies, no_other_place, faults_of_its_own, long_names]
+TESTS += [lost_passwords, busy_helpers, warnings]
