@@ -76,19 +76,25 @@ class PrivateFolder:
                 time.sleep(PAUSE)
         raise Refused(f"plaintext is left in {self.path}: {last}")
 
-    def keep(self, why: Exception) -> Refused:
+    def keep(self, why: Exception, name: str, text: bytes | None) -> Refused:
         """The plaintext stays, since there is no other copy of what was typed: in $TMPDIR, if it can be moved there,
         since what is in memory may go when the user logs out."""
-        copy = self._copied() if self.is_in_memory else None
+        is_there = os.path.lexists(self.path)
+        copy = self._copied(name, text) if self.is_in_memory or not is_there else None
         self.is_kept = copy is None
         return Refused(f"{program.reason(why)}; what you saved is left in plaintext in {copy or self.path}")
 
-    def _copied(self) -> str | None:
-        """The path of a copy of this folder in $TMPDIR, if one can be made."""
+    def _copied(self, name: str, text: bytes | None) -> str | None:
+        """The path of a copy of this folder in $TMPDIR, if one can be made, with this text even if the folder has
+        gone."""
         copy = None
         try:
             copy = tempfile.mkdtemp(prefix=PREFIX)
-            shutil.copytree(self.path, copy, symlinks=True, dirs_exist_ok=True)
+            if os.path.lexists(self.path):
+                shutil.copytree(self.path, copy, symlinks=True, dirs_exist_ok=True)
+            if text is not None:
+                with open(os.path.join(copy, name), "wb", opener=_private_opener) as file:
+                    file.write(text)
         except OSError:
             if copy:
                 shutil.rmtree(copy, ignore_errors=True)

@@ -214,6 +214,15 @@ def folders_that_go(cases: Companions) -> None:
             cases.check(f"{name}: the vault stays, and nothing is left", place.files(), {"all.yml": sealed("old")})
 
 
+def folder_and_tool_that_go(cases: Companions) -> None:
+    """If no encrypted copy can be made either, what was saved is written to $TMPDIR."""
+    with cases.place() as place:
+        place.put("all.yml", sealed("old"))
+        place.wrap_tool('[ "$1" != encrypt ] || { echo "ERROR! out of memory" >&2; exit 4; }')
+        done = edit(place, f'{CHANGE}; sleep 3; rm -r "${{1%/*}}"', *place.by_file("old"), "all.yml")
+        check_plain(cases, "the folder and the tool", place, done, "out of memory", CHANGED)
+
+
 def earlier_copies(cases: Companions) -> None:
     """The next edit names the copies that there are of the same vault."""
     with cases.place() as place:
@@ -324,5 +333,5 @@ def warnings(cases: Companions) -> None:
 
 
 TESTS = [replacing_fails, made_meanwhile, full_and_read_only_folders, mounted_vaults, sealing_fails]
-TESTS += [what_the_editor_left, folders_that_go, earlier_copies, no_other_place, faults_of_its_own, long_names]
-TESTS += [lost_passwords, busy_helpers, warnings]
+TESTS += [what_the_editor_left, folders_that_go, folder_and_tool_that_go, earlier_copies, no_other_place]
+TESTS += [faults_of_its_own, long_names, lost_passwords, busy_helpers, warnings]
