@@ -16,8 +16,9 @@ returns g c =
           err = c.drive_over.new.err;
         },
         record {
-          answered = λ parses. rw (new_files, new_src, new_out, new_err) at (driven.answered parses);
-          memory = λ none_left. rw (new_files, new_src) at (driven.memory none_left);
+          answered = λ parses.
+              rw (new_files, new_src, new_out, new_err) at (driven.answered parses);
+          memory = λ out_of_memory. rw (new_files, new_src) at (driven.memory out_of_memory);
           explained = λ wrong. rw (new_out, new_err) at (driven.explained wrong);
           untouched = λ wrong. rw (new_files, new_src) at (driven.untouched wrong);
         },

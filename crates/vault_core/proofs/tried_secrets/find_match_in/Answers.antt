@@ -15,8 +15,9 @@ returns-then-is_some-clause-tried c =
     let next = rw (rw is_in at c.if-is_in.true) at
     (tried_part-drop c.args.part payload.label c.args.secrets.now c.loop-secret.secret-index secret
     c.loop-secret-test.true c.secret-item.is) in
-    let holds : matches payload secret ≡ true = sym (found-if _ _ _ c.keys_if_match-keys.ensures.keys)
-    ∙ sym c.is_some.ensures ∙ c.if-is_some.true in
+    let holds : matches payload secret ≡ true =
+    sym (found-if _ _ _ c.keys_if_match-keys.ensures.keys) ∙ sym c.is_some.ensures
+    ∙ c.if-is_some.true in
     omega (
       arith,
       c.loop-secret.invariant.tried,
@@ -42,8 +43,9 @@ loop-secret-preserved c =
           }
       | then-is_in+else-is_some w ↦
           let next = rw (rw is_in at w.if-is_in.true) at step in
-          let fails : matches payload secret ≡ false = sym (found-if _ _ _ w.keys_if_match-keys.ensures.keys)
-          ∙ sym w.is_some.ensures ∙ w.if-is_some.false in
+          let fails : matches payload secret ≡ false =
+          sym (found-if _ _ _ w.keys_if_match-keys.ensures.keys) ∙ sym w.is_some.ensures
+          ∙ w.if-is_some.false in
           record {
             found = sym (rw fails at (ap (find (matches payload)) next)) ∙ kept.found;
             tried = omega (
