@@ -1,5 +1,5 @@
 #!/usr/bin/env -S python3 -B
-"""Times the commands of the built program and those of Ansible's own tool, in alternation.
+"""Times the commands of the built program and those of Ansible's own tool, in alternation, and `view` by the alias.
 
 Usage: commands.py PROGRAM [--runs N] [--time clock|processor] [--only START] [--chart FILE.svg]
 
@@ -32,7 +32,10 @@ CHART_SIZES = {"4 KiB": 1 << 12, "16 KiB": 1 << 14, "256 KiB": 1 << 18, "4 MiB":
 # The default, and the fewest whose median is shown.
 RUNS = 5
 RIGHT = b"the right password"
-OURS, THEIRS = "ours", "theirs"
+OURS, THEIRS, ALIAS = "ours", "theirs", "the alias"
+# How many times as long as the tool the alias takes at most.
+ALIAS_GOAL = 2.5
+PYTHON = "/usr/bin/python3"
 # How many times faster the rows of these names shall be.
 GOALS = {
     "view, 1 KiB": 23,
@@ -111,6 +114,20 @@ class Rows:
         theirs = self.both(task, ["rekey", *options, path], stdin=b"", accepts=lambda _: True, prepare=prepare)
         return Row(f"rekey, {name}", size, theirs)
 
+    def alias(self) -> Row:
+        """`view` by the tool, and by ansible-vault-with beside it."""
+        text = plaintext(1 << 10)
+        path = self.file("vault", seal(RIGHT, text))
+        companion = self.folder / "ansible-vault-with"
+        companion.symlink_to(HERE.parent / "companions" / companion.name)
+        (self.folder / "ansible-vault").symlink_to(self.program)
+        accepts = lambda output: output == text
+        tasks = {
+            OURS: Task([self.program, "view", *self.alone, path], b"", accepts),
+            ALIAS: Task([PYTHON, "-ESB", str(companion), "view", *self.alone, path], b"", accepts),
+        }
+        return Row("view, 1 KiB, by the alias", 1 << 10, tasks)
+
     def every(self) -> list[Row]:
         rows = [self.view(name, size, self.alone) for name, size in SIZES.items()]
         rows.append(self.view("1 KiB, the last of 16 secrets", 1 << 10, self.last))
@@ -163,6 +180,13 @@ def print_table(measured: dict[str, dict[str, Times]], runs: int, kind: str) -> 
             print(f"| {title} | {ours.shown(' ms')} | {theirs.shown(' ms')} | {ratio_of(measured[name], kind)} |")
 
 
+def print_alias(row: Row, runs: int, kind: str) -> None:
+    times = measure_in_turn(row.tasks, runs)
+    ours, alias = (spread(times[tool].of(kind)) for tool in (OURS, ALIAS))
+    ratio = f"{alias.median / ours.median:.2f} times (goal: {ALIAS_GOAL})"
+    print(f"{row.name}: {alias.shown(' ms')}, the tool {ours.shown(' ms')}, {ratio}")
+
+
 def draw(points: list[dict], path: str) -> None:
     done = subprocess.run([str(HERE / "chart.py"), path], input=json.dumps(points).encode())
     if done.returncode != 0:
@@ -206,6 +230,8 @@ def main() -> None:
             if row.name.startswith(args.only):
                 measured[row.name] = measure_in_turn(row.tasks, args.runs)
                 print(line_of(row.name, measured[row.name], args.time), flush=True)
+        if rows.alias.__name__.startswith(args.only):
+            print_alias(rows.alias(), args.runs, args.time)
         if args.chart:
             draw(chart_points(rows, args.runs, args.time, measured), args.chart)
     print_table(measured, args.runs, args.time)

@@ -69,8 +69,8 @@ _ansible_vault_arguments() {
     )
     local -a output=('--output=[the file to write]:file:_ansible_vault_files')
     local -a file=('1:file:_ansible_vault_files')
-    # What is changed in place may be several.
-    [[ $service == ansible-vault-with && $1 != (create|edit) ]] && file=('*:file:_ansible_vault_files')
+    # These take several.
+    [[ $service == ansible-vault-with && $1 != create || $1 == edit ]] && file=('*:file:_ansible_vault_files')
     local -a new_secrets=(
         '*--new-vault-id=[a new password file, with its label]:[label@]file:_ansible_vault_id'
         '*--new-vault-password-file=[a new password file for the label default]:file:_ansible_vault_files'

@@ -31,6 +31,8 @@ def pytest_addoption(parser: pytest.Parser) -> None:
     group.addoption("--program", type=Path, default=PROGRAM, help="the program; by default bin/ansible-vault")
     required = os.environ.get("REQUIRE_ALL") == "1"
     group.addoption("--require-all", action="store_true", default=required, help="a skipped check is a failure")
+    help_text = "how many random command lines are compared with Ansible's tool; by default as many as take 20 seconds"
+    group.addoption("--comparisons", type=int, default=0, metavar="N", help=help_text)
     group.addoption("--vaults", type=int, default=200, metavar="N", help="how many are rotated for the time")
 
 
@@ -142,5 +144,6 @@ def outcome() -> Outcome:
 def cases(request: pytest.FixtureRequest, program: str, tmp_path: Path) -> Cases | Companions:
     """Runs the program; for the tests in companion_cases, the companions beside it."""
     if request.path.parent == COMPANION_CASES:
-        return Companions(program, tmp_path, request.config.getoption("--vaults"))
+        option = request.config.getoption
+        return Companions(program, tmp_path, option("--vaults"), option("--comparisons"))
     return Cases(program, tmp_path)

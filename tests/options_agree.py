@@ -3,9 +3,11 @@ shell, the model, the stored texts and the program's own help, and says what is 
 options of each companion in its page and its help. `mandoc` and `groff` check the pages.
 """
 
+import json
 import re
 import shutil
 import subprocess
+import sys
 from pathlib import Path
 
 import pytest
@@ -195,7 +197,7 @@ def test_variables(outcome: Outcome) -> None:
     """What the companions read of the environment is named by a page."""
     code = "".join(path.read_text() for path in (ROOT / "companions").rglob("ansible*") if path.is_file())
     code += "".join(path.read_text() for path in (ROOT / "companions").rglob("*.py"))
-    read = set(re.findall(r'(?:environ(?:\.get\(|\[)|Setting\()"([A-Z_]+)"', code))
+    read = set(re.findall(r'environ(?:\.get\(|\[)"([A-Z_]+)"', code) + re.findall(r'"(ANSIBLE_[A-Z_]+)", "', code))
     named = set().union(*(re.findall(r"\bEv ([A-Z_]+)", companion_page(name)["ENVIRONMENT"]) for name in COMPANIONS))
     outcome.holds("variables are read", len(read) > 5, sorted(read))
     outcome.check("each is named", sorted(read - named), [])
@@ -228,12 +230,29 @@ def test_page_as_it_is_shown(outcome: Outcome, tool: str, page: Path) -> None:
 
 # Documents with commands of the companions.
 DOCUMENTS = [*PAGES, ROOT / "README.md", *sorted((ROOT / "docs").glob("*.md"))]
+# Options of Ansible's tool that ansible-vault-with has for a command, beyond those of the tool.
+OF_ANSIBLE = {"encrypt_string": {"--prompt", "-p", "--show-input"}, "rekey": {"--encrypt-vault-id"}}
 COMMAND = re.compile(r"\b(ansible-vault-\w+)((?: +[^\s`|;&'\"<>()]+)*)")
 
 
 def shell_of(text: str) -> str:
     """A document's text with its shell in single lines, and without the marks of a manual page."""
     return re.sub(r" (?:\\e|\\)\n +", " ", text)
+
+
+def test_abbreviations(outcome: Outcome) -> None:
+    """ansible-vault-with abbreviates the long options of each command."""
+    program = f"import sys; sys.path.insert(0, {str(ROOT / 'companions')!r})\n" + (
+        "from ansible_vault_companions.tool_words import HELP, OPTIONS, SECRETS\n"
+        "import json; print(json.dumps({name: [*HELP, *SECRETS, *each] for name, each in OPTIONS.items()}))"
+    )
+    done = subprocess.run([sys.executable, "-B", "-c", program], capture_output=True, check=True)
+    known = json.loads(done.stdout)
+    sets = page_sets()
+    for command in filter(None, sets):
+        of_ansible = {"--vault-pass-file", "--ask-vault-password", "--ask-vault-pass", *OF_ANSIBLE.get(command, ())}
+        wanted = {each for each in sets[command] | of_ansible if each.startswith("--")}
+        outcome.check(command, {each for each in known[command] if each.startswith("--")}, wanted)
 
 
 @pytest.mark.parametrize("document", DOCUMENTS, ids=lambda path: path.name)
@@ -246,6 +265,7 @@ def test_commands(outcome: Outcome, document: Path) -> None:
         known = set(flat(companion_options(name)))
         if name == "ansible-vault-with":
             known |= set().union(*(sets[word] for word in words.split() if word in sets))
+            known |= set().union(*(OF_ANSIBLE[word] for word in words.split() if word in OF_ANSIBLE))
         given = {word.partition("=")[0] for word in words.split() if re.match(r"--?[A-Za-z]", word)}
         unknown += [f"{name}{words}: {option}" for option in sorted(given - known - {"-v"})]
     outcome.check("the options that no command has", unknown, [])

@@ -6,6 +6,7 @@ which secret it gets, it is refused.
 
 from __future__ import annotations
 
+import os
 from typing import NamedTuple
 
 from ansible_vault_companions.blocks import Decrypted, named
@@ -49,8 +50,18 @@ class Choice(NamedTuple):
         if not fitting:
             raise unclear(value, NO_SUCH_LABEL)
         if self.label is None and len(fitting) > 1:
-            raise unclear(value, NEW)
+            fitting = self._asked(value, fitting)
         return fitting[0], fitting[0].label
+
+    def _asked(self, value: Value, secrets: list[Secret]) -> list[Secret]:
+        """Those of the label that is typed, if somebody is there to ask."""
+        labels = [*dict.fromkeys(secret.label for secret in secrets)]
+        if len(labels) == 1 or not os.isatty(0):
+            raise unclear(value, NEW)
+        from ansible_vault_companions import prompts
+
+        label = prompts.choice(f"Label to encrypt {named(value)} with", labels)
+        return [secret for secret in secrets if secret.label == label]
 
     def keys(self) -> list[Key]:
         """It alone, where it is clear."""

@@ -2,15 +2,20 @@
 
 from __future__ import annotations
 
-import argparse
+# The module `signal` imports `enum`, which takes half as long as Python's own start.
+import _signal
 import os
 import resource
-import signal
 import sys
-from contextlib import suppress
-from typing import Callable
 
-from ansible_vault_companions import VERSION, stopping
+from ansible_vault_companions import VERSION
+
+# True only for type checkers. A short run of a companion is mostly imports, so what takes long to import is imported
+# where it is needed.
+TYPE_CHECKING = False
+if TYPE_CHECKING:
+    import argparse
+    from typing import Callable
 
 NOTE = """\
 This program is tested, not proved. It leaves all encryption and decryption to
@@ -27,6 +32,8 @@ class Refused(Exception):
 
 def parser(name: str, summary: str, statuses: str, example: str = "", **options) -> argparse.ArgumentParser:
     """A command line whose faults end the program with status 2."""
+    import argparse
+
     shown_example = f"Example:\n  {example}\n\n" if example else ""
     made = argparse.ArgumentParser(
         prog=name,
@@ -84,13 +91,10 @@ def run(name: str, main: Callable[[list[str]], int]) -> None:
     resource.setrlimit(resource.RLIMIT_CORE, (0, resource.getrlimit(resource.RLIMIT_CORE)[1]))
     try:
         status = _status_of(main)
-        write(b"")
-    except stopping.Stopped:
-        status = 1
-    except (Refused, OSError) as fault:
-        with suppress(OSError):
-            write_error(f"{name}: {shown(str(fault))}")
-        status = 1
+    except Exception as fault:
+        status = _status_of_fault(name, fault)
+    from ansible_vault_companions import stopping
+
     stopping.end_by_signal()
     for stream in (sys.stdout, sys.stderr):
         try:
@@ -101,12 +105,34 @@ def run(name: str, main: Callable[[list[str]], int]) -> None:
     sys.exit(status)
 
 
+def restore_signals() -> None:
+    """Signals are those of the program that takes the place of this one; Python ignores some."""
+    for number in (_signal.SIGPIPE, _signal.SIGXFSZ):
+        _signal.signal(number, _signal.SIG_DFL)
+
+
 def _status_of(main: Callable[[list[str]], int]) -> int:
     try:
-        return main(sys.argv[1:])
+        status = main(sys.argv[1:])
     except SystemExit as end:
         # After the help, or a fault of the command line.
-        return end.code
+        status = end.code
+    write(b"")
+    return status
+
+
+def _status_of_fault(name: str, fault: Exception) -> int:
+    from ansible_vault_companions import stopping
+
+    if isinstance(fault, stopping.Stopped):
+        return 1
+    if not isinstance(fault, (Refused, OSError)):
+        raise fault
+    try:
+        write_error(f"{name}: {shown(str(fault))}")
+    except OSError:
+        pass
+    return 1
 
 
 def _prepare_streams() -> None:
@@ -125,9 +151,9 @@ def _prepare_streams() -> None:
 
 def _prepare_signals() -> None:
     # Where it is ignored the system keeps no status of what was started.
-    signal.signal(signal.SIGCHLD, signal.SIG_DFL)
-    if signal.getsignal(signal.SIGINT) == signal.default_int_handler:
-        signal.signal(signal.SIGINT, signal.SIG_DFL)
+    _signal.signal(_signal.SIGCHLD, _signal.SIG_DFL)
+    if _signal.getsignal(_signal.SIGINT) == _signal.default_int_handler:
+        _signal.signal(_signal.SIGINT, _signal.SIG_DFL)
 
 
 def _discard(stream) -> None:

@@ -7,11 +7,10 @@ import os
 
 from ansible_vault_companions import stopping
 from ansible_vault_companions.program import Refused, shown
+from ansible_vault_companions.settings import ASK, PROMPT
 
 TERMINAL = "/dev/tty"
 NO_TERMINAL = "there is no terminal to ask for the password"
-# What stands for a path in Ansible's options.
-PROMPT, ASK = "prompt", "prompt_ask_vault_pass"
 # The prompts for decrypting, and those for encrypting.
 TO_DECRYPT = {PROMPT: ["Vault password ({}): "], ASK: ["Vault password: "]}
 TO_ENCRYPT = {
@@ -29,7 +28,41 @@ def password(kind: str, label: str, encrypts: bool) -> bytes:
     return typed[0]
 
 
+def string(is_hidden: bool) -> bytes:
+    """The string to encrypt that is typed."""
+    text = _hidden("String to encrypt (hidden): ") if is_hidden else line("String to encrypt:")
+    if not text:
+        raise Refused("an empty string was typed")
+    return text
+
+
+def line(question: str) -> bytes:
+    """A line that is typed and shown."""
+    _require_terminal()
+    with stopping.interruptible(), open(TERMINAL, "r+b", buffering=0) as terminal:
+        terminal.write(question.encode())
+        text = terminal.readline()
+    if not text:
+        raise Refused("nothing was typed")
+    return text.removesuffix(b"\n")
+
+
+def choice(question: str, answers: list[str]) -> str:
+    """One of these answers; it is asked for until it is typed."""
+    listed = ", ".join(map(shown, answers))
+    while (typed := line(f"{question} ({listed}): ").decode(errors="replace").strip()) not in answers:
+        pass
+    return typed
+
+
 def _answer(question: str) -> bytes:
+    typed = _hidden(question).strip()
+    if not typed:
+        raise Refused("an empty password was typed")
+    return typed
+
+
+def _hidden(question: str) -> bytes:
     _require_terminal()
     try:
         with stopping.interruptible():
@@ -38,10 +71,7 @@ def _answer(question: str) -> bytes:
         raise Refused("nothing was typed") from None
     except UnicodeError:
         raise Refused("what was typed is not valid text") from None
-    typed = text.encode(errors="surrogateescape").strip()
-    if not typed:
-        raise Refused("an empty password was typed")
-    return typed
+    return text.encode(errors="surrogateescape")
 
 
 def _require_terminal() -> None:

@@ -3,7 +3,6 @@
 from __future__ import annotations
 
 import os
-import stat
 import subprocess
 
 from ansible_vault_companions import stopping
@@ -13,15 +12,6 @@ from ansible_vault_companions.program import Refused, reason, shown
 CLIENT = "-client"
 # The status by which such a script says that it has no secret for the label.
 UNKNOWN_LABEL = 2
-
-
-def is_script(path: str) -> bool:
-    """Whether it is a file that anybody may execute."""
-    try:
-        mode = os.stat(path).st_mode
-    except OSError:
-        return False
-    return stat.S_ISREG(mode) and mode & 0o111 != 0
 
 
 def password(path: str, label: str) -> bytes:

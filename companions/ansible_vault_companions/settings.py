@@ -2,13 +2,14 @@
 
 from __future__ import annotations
 
-import configparser
 import os
 import stat
-from typing import Callable, NamedTuple
 
-from ansible_vault_companions import files
 from ansible_vault_companions.program import Refused, reason, shown
+
+TYPE_CHECKING = False
+if TYPE_CHECKING:
+    from typing import Callable
 
 NAME = "ansible.cfg"
 HOME = "~/.ansible.cfg"
@@ -17,18 +18,16 @@ SECTION = "defaults"
 SUFFIXES = (".cfg", ".ini")
 # Stands for the current folder in a path of the settings.
 CURRENT = "{{CWD}}"
-
-
-class Setting(NamedTuple):
-    """The names of a setting."""
-
-    variable: str
-    key: str
-
-
-IDENTITIES = Setting("ANSIBLE_VAULT_IDENTITY_LIST", "vault_identity_list")
-PASSWORD_FILE = Setting("ANSIBLE_VAULT_PASSWORD_FILE", "vault_password_file")
-ENCRYPT_IDENTITY = Setting("ANSIBLE_VAULT_ENCRYPT_IDENTITY", "vault_encrypt_identity")
+# The variable of the environment, and the key in the file.
+IDENTITIES = "ANSIBLE_VAULT_IDENTITY_LIST", "vault_identity_list"
+PASSWORD_FILE = "ANSIBLE_VAULT_PASSWORD_FILE", "vault_password_file"
+ASKS = "ANSIBLE_ASK_VAULT_PASS", "ask_vault_pass"
+ENCRYPT_IDENTITY = "ANSIBLE_VAULT_ENCRYPT_IDENTITY", "vault_encrypt_identity"
+ID_MATCH = "ANSIBLE_VAULT_ID_MATCH", "vault_id_match"
+# What stands for a path where a password is to be asked for.
+PROMPT, ASK = "prompt", "prompt_ask_vault_pass"
+# What Ansible reads as true.
+TRUE = ("1", "on", "t", "true", "y", "yes")
 
 
 def expanded(path: str, folder: str = "") -> str:
@@ -37,32 +36,50 @@ def expanded(path: str, folder: str = "") -> str:
 
 
 class Settings:
-    """What they say. A variable counts before the file, also one that is empty."""
+    """What they say. A variable counts before the file, also one that is empty.
 
-    def __init__(self, warn: Callable[[str], None] = lambda _: None) -> None:
-        self.path = _configuration(warn)
-        self.parser = _parsed(self.path) if self.path else configparser.ConfigParser()
+    Beside options that name secrets nothing leads into the current folder, which may be a stranger's: neither its
+    ansible.cfg nor a relative path. Only if ANSIBLE_CONFIG names a file by a relative path, that folder is trusted."""
+
+    def __init__(self, beside_options: bool = False, warn: Callable[[str], None] = lambda _: None) -> None:
+        named = _named_configuration()
+        self.trusts_folder = not beside_options or (named is not None and not os.path.isabs(named))
+        self.path = named or _configuration(self.trusts_folder, warn)
+        self.found = _section(self.path) if self.path else {}
 
     def identities(self) -> list[str]:
         """Each as [LABEL@]SOURCE, with paths from the current folder, as Ansible has them."""
         items = [_unquoted(item.strip()) for item in self._value(IDENTITIES).split(",")]
-        return [item for item in items if item]
+        return [item for item in items if item and self._is_trusted(item.partition("@")[2] or item)]
 
     def password_file(self) -> str:
         """The path of the password file; empty where there is none."""
         path = self._value(PASSWORD_FILE)
-        folder = "" if PASSWORD_FILE.variable in os.environ or not self.path else os.path.dirname(self.path)
-        if CURRENT in path:
-            path = path.replace(CURRENT, os.getcwd())
-        return path and expanded(path, folder)
+        folder = "" if PASSWORD_FILE[0] in os.environ or not self.path else os.path.dirname(self.path)
+        if not path or not (folder or self._is_trusted(path)) or (CURRENT in path and not self.trusts_folder):
+            return ""
+        return expanded(path.replace(CURRENT, os.getcwd()) if CURRENT in path else path, folder)
+
+    def asks(self) -> bool:
+        """Whether a password is to be asked for."""
+        return _unquoted(self._value(ASKS)).lower() in TRUE
 
     def encrypt_label(self) -> str | None:
         """The label of the secret to encrypt with."""
         return _unquoted(self._value(ENCRYPT_IDENTITY)) or None
 
-    def _value(self, setting: Setting) -> str:
-        value = os.environ.get(setting.variable)
-        return self.parser.get(SECTION, setting.key, raw=True, fallback="") if value is None else value
+    def requires_match(self) -> bool:
+        """Whether a secret decrypts only what has its label: by any value, as with Ansible, which reads no
+        `false` here."""
+        return bool(_unquoted(self._value(ID_MATCH)))
+
+    def _is_trusted(self, place: str) -> bool:
+        # $PWD leads to the current folder, too.
+        return self.trusts_folder or "PWD" not in place and (os.path.isabs(expanded(place)) or place in (PROMPT, ASK))
+
+    def _value(self, setting: tuple[str, str]) -> str:
+        variable, key = setting
+        return os.environ.get(variable, self.found.get(key, ""))
 
 
 def _unquoted(text: str) -> str:
@@ -70,15 +87,20 @@ def _unquoted(text: str) -> str:
     return text[1:-1] if is_quoted else text
 
 
-def _configuration(warn: Callable[[str], None]) -> str | None:
-    """The first file, in Ansible's order of places."""
+def _named_configuration() -> str | None:
+    """The file that ANSIBLE_CONFIG names, if it is there."""
     named = expanded(os.environ.get("ANSIBLE_CONFIG", ""))
     if os.path.isdir(named):
         named = os.path.join(named, NAME)
-    if _is_readable(named):
-        return named
+    return named if _is_readable(named) else None
+
+
+def _configuration(trusts_folder: bool, warn: Callable[[str], None]) -> str | None:
+    """The first file, in Ansible's order of places."""
     places = [os.path.expanduser(HOME), SYSTEM]
-    if not _is_world_writable("."):
+    if not trusts_folder:
+        pass
+    elif not _is_world_writable("."):
         places.insert(0, NAME)
     elif os.path.exists(NAME):
         warn(f"{shown(os.path.abspath(NAME))} is ignored, since its folder is world-writable")
@@ -97,14 +119,50 @@ def _is_world_writable(folder: str) -> bool:
         return True
 
 
-def _parsed(path: str) -> configparser.ConfigParser:
-    parser = configparser.ConfigParser(inline_comment_prefixes=(";",))
+def _section(path: str) -> dict[str, str]:
+    """The keys and values of the section of a file."""
     try:
         if not path.endswith(SUFFIXES):
             raise Refused("its name does not end in .cfg or .ini")
-        parser.read_string((files.read(path) or b"").decode())
+        if not os.path.isfile(path):
+            raise Refused("it is not a regular file")
+        with open(path, "rb") as file:
+            text = file.read().decode()
+        found = _simple_section(text)
+        return _parsed_section(text) if found is None else found
     except UnicodeDecodeError:
         raise Refused(f"{shown(path)}: it is not UTF-8") from None
-    except (Refused, OSError, configparser.Error) as fault:
+    except (Refused, OSError) as fault:
         raise Refused(f"{shown(path)}: {' '.join(reason(fault).split())}") from None
-    return parser
+
+
+def _simple_section(text: str) -> dict[str, str] | None:
+    """What configparser reads in a text whose lines have the simplest forms; None for any other text. To import that
+    module takes longer than all else here."""
+    if not (text.isascii() and text.replace("\n", "").isprintable()):
+        return None
+    sections: dict[str, dict[str, str]] = {}
+    keys = None
+    for line in text.split("\n"):
+        key, equals, value = line.partition("=")
+        key = key.rstrip().lower()
+        if not line.strip(" ") or line.startswith(("#", ";")):
+            continue
+        if line.startswith("[") and line.find("]") == len(line) - 1 > 1 and line[1:-1] not in (*sections, "DEFAULT"):
+            keys = sections[line[1:-1]] = {}
+        elif keys is None or not key.replace("_", "").isalnum() or key in keys or not equals or ";" in value:
+            return None
+        else:
+            keys[key] = value.strip(" ")
+    return sections.get(SECTION, {})
+
+
+def _parsed_section(text: str) -> dict[str, str]:
+    import configparser
+
+    parser = configparser.ConfigParser(inline_comment_prefixes=(";",))
+    try:
+        parser.read_string(text)
+    except configparser.Error as fault:
+        raise Refused(str(fault)) from None
+    return dict(parser.items(SECTION, raw=True)) if SECTION in parser else {}

@@ -156,12 +156,6 @@ def interruptible() -> Iterator[None]:
         _is_interruptible = False
 
 
-def restore_signals() -> None:
-    """Signals are those of the program that takes the place of this one; Python ignores some."""
-    for number in (signal.SIGPIPE, signal.SIGXFSZ):
-        signal.signal(number, signal.SIG_DFL)
-
-
 def end_by_signal() -> None:
     """Ends as a signal would have ended it, if one asks for it, so that a shell sees why."""
     if _noted:

@@ -3,15 +3,16 @@
 from __future__ import annotations
 
 import os
-import re
-import shutil
-import subprocess
-from typing import Iterator, NoReturn
 
-from ansible_vault_companions import stopping
-from ansible_vault_companions.envelopes import label_of
+from ansible_vault_companions import program
 from ansible_vault_companions.program import Refused
-from ansible_vault_companions.secret_files import Secret
+
+TYPE_CHECKING = False
+if TYPE_CHECKING:
+    import subprocess
+    from typing import Iterator, NoReturn
+
+    from ansible_vault_companions.sources import Secret
 
 NAME = "ansible-vault"
 NOT_DECRYPTED = "no secret decrypts this vault"
@@ -30,7 +31,7 @@ class Tool:
     """The ansible-vault beside a companion, else the one on PATH."""
 
     def __init__(self, companion: str) -> None:
-        path = beside(companion, NAME) or shutil.which(NAME)
+        path = beside(companion, NAME) or _on_path()
         if path is None:
             raise Refused(f"there is no {NAME} beside this program or on PATH")
         if not (_has_messages(path) or _says_its_name(path)):
@@ -39,6 +40,10 @@ class Tool:
 
     def run(self, words: list[str], data: bytes, secrets: list[Secret]) -> bytes:
         """What the tool writes; what it refuses is refused here, in its words."""
+        import subprocess
+
+        from ansible_vault_companions import stopping
+
         pipes = {"stdin": subprocess.PIPE, "stdout": subprocess.PIPE, "stderr": subprocess.PIPE}
         kept = [secret.descriptor for secret in secrets if secret.descriptor is not None]
         done = stopping.run([self.path, *words], data, pass_fds=kept, **pipes)
@@ -51,8 +56,7 @@ class Tool:
         for secret in secrets:
             if secret.descriptor is not None:
                 os.set_inheritable(secret.descriptor, True)
-        stopping.check()
-        stopping.restore_signals()
+        program.restore_signals()
         os.execv(self.path, [self.path, *words])
 
     def view(self, envelope: bytes, secret: Secret) -> bytes:
@@ -77,8 +81,10 @@ class Tool:
 
     def decrypt(self, envelope: bytes, secrets: list[Secret]) -> tuple[Secret, bytes]:
         """The secret that decrypts it, and the plaintext; secrets with its label are tried first."""
-        label = label_of(envelope)
-        for secret in sorted(secrets, key=lambda each: each.label != label):
+        from ansible_vault_companions import secret_files
+        from ansible_vault_companions.envelopes import label_of
+
+        for secret in secret_files.in_order(secrets, label_of(envelope)):
             try:
                 return secret, self.view(envelope, secret)
             except Refused as fault:
@@ -110,9 +116,20 @@ def _has_messages(path: str) -> bool:
 
 
 def _says_its_name(path: str) -> bool:
+    import re
+    import subprocess
+
+    from ansible_vault_companions import stopping
+
     silent = {"stdin": subprocess.DEVNULL, "stderr": subprocess.DEVNULL}
     output = stopping.run([path, "--version"], stdout=subprocess.PIPE, **silent).stdout
     return re.match(rb"ansible-vault \d", output) is not None
+
+
+def _on_path() -> str | None:
+    import shutil
+
+    return shutil.which(NAME)
 
 
 def beside(companion: str, name: str) -> str | None:

@@ -2,40 +2,76 @@
 
 from __future__ import annotations
 
-from dataclasses import dataclass, field
-
-from ansible_vault_companions.secret_files import ASKED, ASKING
+from ansible_vault_companions.sources import ASKED, ASKING
 
 STANDARD_INPUT = "-"
 # What ends the options.
 END = "--"
 HELP = ("-h", "--help")
 VERSION = ("-V", "--version")
-# The options for verbosity of Ansible's tool, which ansible-vault does not have.
-VERBOSE = ("-v", "-vv", "-vvv", "-vvvv", "-vvvvv", "-vvvvvv", "--verbose")
+# The option for verbosity of Ansible's tool, which ansible-vault does not have.
+VERBOSE = "--verbose"
 # Options that have a value, but for those that name secrets.
-ENCRYPT_ID, OUTPUT, SALT = "--encrypt-vault-id", "--output", "--salt"
-VALUED = (ENCRYPT_ID, OUTPUT, SALT, "--salt-file", "--name", "-n", "--stdin-name")
+ENCRYPT_ID, OUTPUT, SALT, VARIABLE, STDIN_NAME = "--encrypt-vault-id", "--output", "--salt", "--name", "--stdin-name"
+VALUED = (ENCRYPT_ID, OUTPUT, SALT, "--salt-file", VARIABLE, "-n", STDIN_NAME)
+# Options of Ansible's tool for a string that is typed.
+PROMPT, SHOW_INPUT = "--prompt", "--show-input"
+MATCH = "--require-id-match"
+SECRETS = ("--vault-id", "--vault-password-file", "--vault-pass-file", *ASKING[1:])
+NEW_SECRETS = ("--new-vault-id", "--new-vault-password-file")
+SALTS = (SALT, "--salt-file")
+# The options of each command that can be abbreviated.
+OPTIONS = {
+    "view": (MATCH,),
+    "decrypt": (MATCH, OUTPUT),
+    "encrypt": (ENCRYPT_ID, OUTPUT, *SALTS),
+    "encrypt_string": (ENCRYPT_ID, OUTPUT, *SALTS, VARIABLE, STDIN_NAME, PROMPT, SHOW_INPUT),
+    "rekey": (ENCRYPT_ID, OUTPUT, *SALTS, MATCH, *NEW_SECRETS),
+    "create": (ENCRYPT_ID,),
+    "edit": (ENCRYPT_ID,),
+}
+# Names of the same option.
+SAME = {"--vault-pass-file": "--vault-password-file", "--ask-vault-pass": "--ask-vault-password"}
 
 
-@dataclass
 class Words:
     """The command, what names secrets, and all else in its order."""
 
-    command: str = ""
-    ids: list[str] = field(default_factory=list)
-    paths: list[str] = field(default_factory=list)
-    new_ids: list[str] = field(default_factory=list)
-    new_paths: list[str] = field(default_factory=list)
-    # Options with their values, and arguments.
-    others: list[str] = field(default_factory=list)
-    # The first alone, and the second alone.
-    options: list[str] = field(default_factory=list)
-    arguments: list[str] = field(default_factory=list)
+    def __init__(self) -> None:
+        self.command = ""
+        self.ids: list[str] = []
+        self.paths: list[str] = []
+        self.new_ids: list[str] = []
+        self.new_paths: list[str] = []
+        self.arguments: list[str] = []
+        # Options with their values, and arguments, each by the name of the option.
+        self.parts: list[tuple[str, list[str]]] = []
+        # The values of each option.
+        self.values: dict[str, list[str]] = {}
+        # Why an option is refused.
+        self.fault = ""
+
+    @property
+    def others(self) -> list[str]:
+        """All that does not name secrets."""
+        return [word for _, words in self.parts for word in words]
+
+    @property
+    def options(self) -> list[str]:
+        """The same without arguments."""
+        return self.without()
 
     def has(self, *names: str) -> bool:
         """Whether one of these options is given."""
-        return any(word.partition("=")[0] in names for word in self.options)
+        return any(name in names for name, _ in self.parts)
+
+    def without(self, *names: str) -> list[str]:
+        """The options without some."""
+        return [word for name, words in self.parts for word in words if name and name not in names]
+
+    def value(self, name: str) -> str | None:
+        """The last value of an option."""
+        return self.values.get(name, [None])[-1]
 
     def has_files(self) -> bool:
         """Whether all arguments are files, and there are some."""
@@ -53,30 +89,54 @@ class Words:
             *(f"--new-vault-password-file={each}" for each in self.new_paths),
         ]
 
+    def leave_out(self, *names: str) -> None:
+        """Takes options away that the tool is not to have."""
+        self.parts = [part for part in self.parts if part[0] not in names]
+
     def take(self, word: str, following: list[str]) -> None:
         """One word, with its value where that follows. What has no value is left to the tool to refuse."""
-        name, equals, value = word.partition("=")
+        if not word.startswith("-") or word == STANDARD_INPUT:
+            self._argument(word)
+            return
+        name, equals, value = self._split(word)
         named = self._secrets(name)
         has_value = bool(following) and (following[0] == STANDARD_INPUT or not following[0].startswith("-"))
-        if word in ASKING:
+        if name in ASKING:
             self.ids.append(ASKED)
         elif named is not None and equals:
             named.append(value)
         elif named is not None and has_value:
             named.append(following.pop(0))
-        elif word in VALUED and has_value:
-            self._option(word, following.pop(0))
-        elif word.startswith("-") and word != STANDARD_INPUT:
-            self._option(*([] if word in VERBOSE else [word]))
-        elif self.command:
-            self._argument(word)
-        else:
-            self.command = word
+        elif name in VALUED and has_value and not equals:
+            self._option(name, following[0], [name, following.pop(0)])
+        elif name != VERBOSE:
+            self._option(name, value, [f"{name}{equals}{value}"])
 
     def end(self, words: list[str]) -> None:
         """The words after the end of the options."""
         self.arguments += words
-        self.others += [END, *words]
+        self.parts.append(("", [END, *words]))
+
+    def _split(self, word: str) -> tuple[str, str, str]:
+        """The name of an option, an equals sign where a value follows, and the value."""
+        if word.startswith("--"):
+            name, equals, value = word.partition("=")
+            return self._whole(name), equals, value
+        if {*word[1:]} <= {"v", "p"}:
+            return PROMPT if "p" in word else VERBOSE, "", ""
+        if word.startswith("-n") and word != "-n":
+            return VARIABLE, "=", word[2:].removeprefix("=")
+        return word, "", ""
+
+    def _whole(self, name: str) -> str:
+        """The name of an abbreviated option, where it is clear."""
+        known = (*HELP, VERBOSE, *SECRETS, *OPTIONS.get(self.command, (VERSION[1], *NEW_SECRETS)))
+        found = [option for option in known if option.startswith(name)]
+        if name in known or not found:
+            return name
+        if len({SAME.get(option, option) for option in found}) > 1:
+            self.fault = self.fault or f"ambiguous option: {name} could match {', '.join(found)}"
+        return found[0]
 
     def _secrets(self, name: str) -> list[str] | None:
         """Those that an option names."""
@@ -88,13 +148,16 @@ class Words:
             "--new-vault-password-file": self.new_paths,
         }.get(name)
 
-    def _option(self, *words: str) -> None:
-        self.options += words
-        self.others += words
+    def _option(self, name: str, value: str, words: list[str]) -> None:
+        self.values.setdefault(VARIABLE if name == "-n" else name, []).append(value)
+        self.parts.append((name, words))
 
     def _argument(self, word: str) -> None:
-        self.arguments.append(word)
-        self.others.append(word)
+        if self.command:
+            self.arguments.append(word)
+            self.parts.append(("", [word]))
+        else:
+            self.command = word
 
 
 def read(words: list[str]) -> Words:

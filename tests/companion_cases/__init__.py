@@ -166,10 +166,11 @@ class Place:
 class Companions(Outcome):
     """Runs copies of the companions and of the program, which everybody may read wherever the repository is."""
 
-    def __init__(self, program: str, folder: Path, vaults: int) -> None:
+    def __init__(self, program: str, folder: Path, vaults: int, comparisons: int) -> None:
         super().__init__()
         self.folder = folder
         self.vaults = vaults
+        self.comparisons = comparisons
         self.places = 0
         self.companions = folder / "companions"
         self.program = folder / "ansible-vault"

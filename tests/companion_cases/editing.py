@@ -258,7 +258,7 @@ def conflict_markers(cases: Companions) -> None:
 def command_line(cases: Companions) -> None:
     with cases.place() as place:
         secret = place.by_file("old")
-        lines = [[], ["all.yml"], secret, [*secret, "a", "b"], [*secret, "--loud", "a"]]
+        lines = [[], ["all.yml"], secret, [*secret, "--new-vault-id", "x@y", "a"], [*secret, "--loud", "a"]]
         lines.append([*secret, "--vault-i", "x", "a"])
         for words in lines:
             cases.ended(f"{words}", place.run(EDIT, *words), 2, "usage: ansible-vault-edit")

@@ -2,7 +2,20 @@
 
 import shutil
 
-from companion_cases import CHECK, EDIT, PASSWORDS, ROTATE, TEXT, TEXTCONV, WITH, Companions, Place, decrypted, sealed
+from companion_cases import (
+    CHECK,
+    EDIT,
+    PASSWORDS,
+    ROTATE,
+    TEXT,
+    TEXTCONV,
+    WITH,
+    Companions,
+    Place,
+    block,
+    decrypted,
+    sealed,
+)
 from companion_cases.both import ours, theirs_at_terminal
 from companion_cases.secrecy import NOTE
 from companion_cases.terminal import Session, at_terminal
@@ -140,6 +153,25 @@ def by_settings(cases: Companions) -> None:
         cases.check("by an option", (done.returncode, done.stdout), (0, TEXT.decode()))
 
 
+def asked_by_settings(cases: Companions) -> None:
+    """By the setting ask_vault_pass it is as with the option, after all other secrets."""
+    with cases.place() as place:
+        place.put("a.yml", sealed("dev"))
+        place.put("ansible.cfg", b"[defaults]\nask_vault_pass = yes\nvault_password_file = ../secrets/old\n")
+        session = ask(place, WITH, "view", "a.yml", answers=typed("dev", ASKED))
+        cases.check("view", (session.returncode, session.stdout, session.stderr), (0, TEXT.decode(), ""))
+        check_session(cases, "view", session, ASKED)
+        if ansible := ansible_vault():
+            other = theirs_at_terminal(place, ansible, ["view", "a.yml"], *typed("dev", ASKED))
+            wanted = session.shown, TEXT.decode().strip()
+            cases.check("Ansible's tool asks, too", (other.shown, other.stdout.strip()), wanted)
+        else:
+            cases.skip("what Ansible's tool asks", "it is not installed")
+        for value in ("no", "false", ""):
+            done = ours(place, "view", "a.yml", ANSIBLE_ASK_VAULT_PASS=value)
+            cases.ended(f"the value {value!r}", done, 1, "no secret decrypts this vault")
+
+
 def what_is_typed(cases: Companions) -> None:
     """What is no password is refused by the name of the secret, and nothing is changed."""
     pair = lambda first, second: [(NEW_OF_DEV, first), (AGAIN_OF_DEV, second)]
@@ -174,11 +206,58 @@ def no_terminal(cases: Companions) -> None:
                 done = place.run(*away, *words, option, "a.yml")
                 expected = (1, "", f"{words[0]}: {given}: {why}\n")
                 cases.check(f"{words[0]} {option}", (done.returncode, done.stdout, done.stderr), expected)
-        done = place.run(*away, TEXTCONV, "-J", *place.by_file("dev"), "a.yml")
-        expected = (0, TEXT.decode(), f"{TEXTCONV}: --ask-vault-password: {why}\n")
+        done = place.run(*away, TEXTCONV, "--vault-id", "prompt", *place.by_file("dev"), "a.yml")
+        expected = (0, TEXT.decode(), f"{TEXTCONV}: prompt: {why}\n")
         cases.check("textconv uses the other secret", (done.returncode, done.stdout, done.stderr), expected)
         done = ours(place, "view", "a.yml")
         cases.ended("no secret", done, 1, f"{WITH}: no secret is given: name one by --vault-id", "ansible.cfg")
+
+
+def standard_input(cases: Companions) -> None:
+    """Where the terminal is read, it is said so; and not where a file is, or a pipe."""
+    reading = "Reading standard input. Ctrl-D ends it"
+    with cases.place() as place:
+        place.put("a.yml", sealed("dev"))
+        lines = {
+            "encrypt_string --stdin-name word": "word: !vault |",
+            "encrypt_string -": "!vault |",
+            "encrypt": "$ANSIBLE_VAULT;1.2;AES256;dev",
+        }
+        for line, written in lines.items():
+            words = ["sh", "-c", f"exec {WITH} {line} --vault-id dev@../secrets/dev < /dev/tty 2> /dev/tty"]
+            session = ask(place, *words, answers=[("if the last line is not empty.\r\n", b"x\n\x04")])
+            cases.check(f"{line}: the status", session.returncode, 0)
+            cases.holds(f"{line}: what is said", session.shown.startswith(f"{WITH}: {reading}"), session.shown)
+            cases.holds(f"{line}: what is written", session.stdout.startswith(written), session.stdout)
+        for line in ("view a.yml", "encrypt_string word", "view < a.yml"):
+            words = ["sh", "-c", f"{WITH} --vault-id dev@../secrets/dev {line}"]
+            session = ask(place, *words, answers=[])
+            found = session.returncode, session.stderr, session.shown
+            cases.check(f"{line}: nothing is said", found, (0, "", ""))
+
+
+def labels(cases: Companions) -> None:
+    """The label of a new value is asked for at the terminal, where several secrets could encrypt it."""
+    question = "Label to encrypt new with (dev, prod): "
+    with cases.place() as place:
+        editor = place.script('printf "new: !vault word\\n" >> "$1"', "editor")
+        secrets = [*place.by_id("dev", "dev"), *place.by_id("prod", "prod")]
+        before = block("dev", b"one", "dev", "a")
+        words = ["sh", "-c", 'exec "$@" < /dev/tty', "sh", EDIT, *secrets, "vars.yml"]
+        place.put("vars.yml", before)
+        answers = [(question, b"stage\n"), (question, b" prod \n")]
+        session = ask(place, *words, answers=answers, EDITOR=editor)
+        cases.check("the status", (session.returncode, session.stderr), (0, ""))
+        after = place.get("vars.yml")
+        cases.holds("the other value stays", after.startswith(before), repr(after))
+        envelope = b"".join(line.strip() + b"\n" for line in after.removeprefix(before).splitlines()[1:])
+        cases.check("under its label", envelope.partition(b"\n")[0], b"$ANSIBLE_VAULT;1.2;AES256;prod")
+        cases.check("it is encrypted", decrypted("prod", envelope), b"word")
+        place.put("vars.yml", before)
+        session = ask(place, *words, answers=[(question, b"\x04")], EDITOR=editor)
+        cases.check("no label: the status", session.returncode, 1)
+        cases.holds("no label: it is kept", "what you saved is encrypted in" in session.stderr, session.stderr)
+        cases.check("no label: the file stays", place.get("vars.yml"), before)
 
 
 def keys(cases: Companions) -> None:
@@ -216,8 +295,11 @@ TESTS = [
     rekeyed,
     every_companion,
     by_settings,
+    asked_by_settings,
     what_is_typed,
     no_terminal,
+    standard_input,
+    labels,
     keys,
     secrecy,
 ]

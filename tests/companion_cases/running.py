@@ -28,8 +28,7 @@ SAME = [
     (["view", "--require-id-match", "a.yml"], b""),
     (["view", "plain.yml"], b""),
     (["view", "new.yml"], b""),
-    (["view", "missing.yml"], b""),
-    (["view", "a.yml", "plain.yml"], b""),
+    (["decrypt", "--output", "out.yml", "a.yml", "plain.yml"], b""),
     (["view", "--output", "x", "a.yml"], b""),
     (["view", "--loud"], b""),
     (["view", "--new-vault-id", "prod@../secrets/prod", "a.yml"], b""),
@@ -96,9 +95,20 @@ def command_lines(cases: Companions) -> None:
             done = place.run(WITH, "decrypt", *place.by_file("old"), option, "a.yml")
             expected = (status, "", f"{WITH}: {part}\n")
             cases.check(option, (done.returncode, done.stdout, done.stderr), expected)
+        unreadable = {
+            "missing.yml": "missing.yml: No such file or directory",
+            "nowhere/a.yml": "nowhere/a.yml: No such file or directory",
+            "a\nline.yml": "'a\\nline.yml': No such file or directory",
+            ".": ".: Is a directory",
+        }
+        for name, part in unreadable.items():
+            for words in (["view"], ["decrypt", "--output", "out.yml"]):
+                done = place.run(WITH, *words, *place.by_file("old"), name)
+                expected = (3, "", f"{WITH}: {part}\n")
+                cases.check(f"{words} {name}", (done.returncode, done.stdout, done.stderr), expected)
         salted = [*place.by_file("old"), "--salt", "salt"]
         done = place.run(WITH, "encrypt", *salted, "plain.yml", "plain.yml")
-        cases.ended("one salt for two", done, 2, "--salt is for one FILE")
+        cases.ended("one salt for two", done, 2, "--salt is for one FILE or STRING")
         cases.check("all files stay", place.files(), before)
 
 
@@ -196,6 +206,100 @@ def changed_meanwhile(cases: Companions) -> None:
         cases.check("nothing is left", place.names(), ["a.yml", "new.yml", "plain.yml"])
 
 
+def several_views(cases: Companions) -> None:
+    """Each begins on a line of its own, and those that are refused do not stop the others."""
+    with cases.place() as place:
+        prepare(place)
+        place.put("b.yml", sealed("old", b"no line end"))
+        place.put("-c.yml", sealed("old", b""))
+        done = place.run(WITH, "view", *place.by_file("old"), "--", "b.yml", "-c.yml", "a.yml", "b.yml")
+        text = f"no line end\n{TEXT.decode()}no line end"
+        cases.check("all", (done.returncode, done.stdout, done.stderr), (0, text, ""))
+        done = place.run(WITH, "view", *place.by_file("old"), "new.yml", "a.yml", "missing.yml", "plain.yml")
+        messages = [
+            f"{WITH}: new.yml: no secret decrypts this vault",
+            f"{WITH}: missing.yml: No such file or directory",
+            f"{WITH}: plain.yml: input is not vault encrypted data",
+        ]
+        found = done.returncode, done.stdout, done.stderr.splitlines()
+        cases.check("some", found, (1, TEXT.decode(), messages))
+        place.script('echo run >> ../runs; cat ../secrets/old')
+        done = place.run(WITH, "view", "--vault-id", "../script", "a.yml", "a.yml")
+        cases.check("a script", (done.returncode, done.stdout), (0, TEXT.decode() * 2))
+        cases.check("is run once", (place.path / "runs").read_text(), "run\n")
+
+
+def several_edits(cases: Companions) -> None:
+    with cases.place() as place:
+        prepare(place)
+        place.put("b.yml", sealed("old", b"b\n"))
+        place.script('echo run >> ../runs; cat ../secrets/old')
+        editor = place.script('echo more >> "$1"', "editor")
+        names = ["a.yml", "new.yml", "b.yml", "c.yml"]
+        done = place.run(WITH, "edit", "--vault-id", "../script", *names, EDITOR=editor)
+        cases.ended("edit", done, 1, f"{EDIT}: new.yml: no secret decrypts this vault")
+        texts = [decrypted("old", place.get(name)) for name in names if name != "new.yml"]
+        cases.check("the others are edited", texts, [TEXT + b"more\n", b"b\nmore\n", b"more\n"])
+        cases.check("the script is run once", (place.path / "runs").read_text(), "run\n")
+        done = place.run(WITH, "create", *place.by_file("old"), "x.yml", "y.yml", EDITOR=editor)
+        cases.ended("create", done, 2, "create takes one FILE")
+
+
+def several_strings(cases: Companions) -> None:
+    """What is refused is refused before anything is written."""
+    with cases.place() as place:
+        secret = place.by_id("dev", "dev")
+        encrypt = [WITH, "encrypt_string", *secret]
+        lines = {
+            ("a", "b", "-n", "x", "-n", "y", "-n", "z"): (2, "there are more names than strings: x, y, z"),
+            ("a", ""): (1, "the string to encrypt is empty"),
+            ("a", "b", "-n", "x\ny"): (1, "a variable name holds a control byte"),
+            ("a", "b", "--loud"): (2, "error: unexpected argument '--loud' found"),
+            ("a", "b", "--salt", "salt"): (2, "--salt is for one FILE or STRING"),
+            ("a", "b", "--encrypt-vault-id", "prod"): (1, "no secret has the label of --encrypt-vault-id"),
+            ("a", "b", "--output", "nowhere/c.yml"): (1, "No such file or directory"),
+        }
+        for words, (status, part) in lines.items():
+            done = place.run(*encrypt, *words)
+            cases.ended(f"{words}", done, status, part)
+            cases.check(f"{words}: nothing is written", (done.stdout, place.names()), ("", []))
+        place.wrap_tool('echo "$@" >> ../seen')
+        done = place.run(*encrypt, "a word", "another", "--name", "x", "--output", "blocks.yml")
+        notes = [
+            "# There are fewer names than strings: those after x have none.",
+            "# Block 1 is the variable x, from the command line.",
+            "# Block 2 is a string without a name, from the command line.",
+        ]
+        cases.check("names", (done.returncode, done.stdout, done.stderr.splitlines()), (0, "", notes))
+        cases.check("the mode of the file", place.mode("blocks.yml"), "0o600")
+        blocks = place.get("blocks.yml").split(b"!vault |\n")[1:]
+        texts = [described(each.removesuffix(b"x: "))[1] for each in blocks]
+        cases.check("the strings", texts, [[("dev", b"a word")], [("dev", b"another")]])
+        seen = (place.path / "seen").read_text()
+        cases.check("strings are no arguments of the tool", ("word" in seen, "encrypt_string" in seen), (False, True))
+
+
+def abbreviations(cases: Companions) -> None:
+    with cases.place() as place:
+        prepare(place)
+        wanted = place.run(WITH, "encrypt", *place.by_file("old"), "--salt=salt", "--output", "-", "plain.yml").stdout
+        lines = [
+            ["encrypt", "--vault-pass", place.secret("old"), "--salt=salt", "--ou", "-", "plain.yml"],
+            ["--vault-p", place.secret("old"), "encrypt", "--salt", "salt", "--out=-", "plain.yml"],
+            ["encrypt", f"--vault-i={place.secret('old')}", "--salt=salt", "--encrypt=default", "--o=-", "plain.yml"],
+        ]
+        for words in lines:
+            done = place.run(WITH, *words)
+            cases.check(f"{words}", (done.returncode, done.stdout, done.stderr), (0, wanted, ""))
+        done = place.run(WITH, "view", "--req", *place.by_file("old"), "a.yml")
+        cases.check("view --req", (done.returncode, done.stdout), (0, TEXT.decode()))
+        for word, others in {"--vault": "--vault-id, --vault-password-file", "--sa": "--salt, --salt-file"}.items():
+            done = place.run(WITH, "encrypt", word, "x", "plain.yml")
+            cases.ended(word, done, 2, f"{WITH}: error: ambiguous option: {word} could match {others}")
+        cases.ended("no option", place.run(WITH, "view", "--out", "x", "a.yml"), 2, "unexpected argument '--out'")
+        cases.check("the file stays", place.get("plain.yml"), TEXT)
+
+
 def without_rights(cases: Companions) -> None:
     with cases.place() as place:
         place.put("a.yml", sealed("old"))
@@ -272,9 +376,15 @@ def contents(place: Place) -> dict[str, tuple]:
     return {name: described(content) for name, content in place.files().items()}
 
 
-def described(content: bytes) -> tuple:
+def envelope_of(content: bytes) -> bytes | None:
+    """That of a vault, or of a single block."""
     envelope = b"".join(line.strip() + b"\n" for line in content.splitlines() if b"!vault" not in line)
-    if not envelope.startswith(b"$ANSIBLE_VAULT"):
+    return envelope if envelope.startswith(b"$ANSIBLE_VAULT") else None
+
+
+def described(content: bytes) -> tuple:
+    envelope = envelope_of(content)
+    if envelope is None:
         return (content,)
     texts = {name: decrypted(name, envelope) for name in PASSWORDS}
     return (envelope.partition(b"\n")[0], [(name, text) for name, text in texts.items() if text is not None])
@@ -325,6 +435,10 @@ TESTS = [
     links_and_acls,
     those_that_fail,
     changed_meanwhile,
+    several_views,
+    several_edits,
+    several_strings,
+    abbreviations,
     without_rights,
     editing,
     habits,

@@ -1,6 +1,24 @@
 """Secrets that Ansible's settings name, beside Ansible's own tool."""
 
-from companion_cases import CHECK, EDIT, ROTATE, TEXT, TEXTCONV, WITH, Companions, Place, block, decrypted, sealed
+import json
+import subprocess
+from random import Random
+
+from companion_cases import (
+    CHECK,
+    EDIT,
+    MERGE,
+    ROTATE,
+    SECONDS,
+    TEXT,
+    TEXTCONV,
+    WITH,
+    Companions,
+    Place,
+    block,
+    decrypted,
+    sealed,
+)
 from companion_cases.both import ours, theirs
 from lib.ansible import ansible_vault
 
@@ -98,13 +116,185 @@ def every_companion(cases: Companions) -> None:
 
 
 def options_come_first(cases: Companions) -> None:
-    """Where an option names a secret, no setting is looked at, and no fault of them counts."""
+    """Where an option names a secret, the settings of the folder are not looked at, and no fault of them counts."""
     with cases.place() as place:
         by_settings(place)
         done = place.run(CHECK, *place.by_file("dev"), "a.yml")
         cases.ended("another secret", done, 1, "a.yml: default: no secret decrypts this vault")
         place.put("ansible.cfg", b"no section\n")
         cases.ended("settings with a fault", place.run(CHECK, *place.by_file("old"), "a.yml"), 0, "1 decrypted")
+
+
+# The files of a clone that is not trusted, and variables, which name its script; and whether it runs beside options.
+STRANGE = {
+    "a password file": (FILE.format("./script"), {}, False),
+    "a list": (LIST.format("old@./script, ./script"), {}, False),
+    "a variable with a relative path": ("", {"ANSIBLE_VAULT_PASSWORD_FILE": "script"}, False),
+    "a list with a relative path": ("", {"ANSIBLE_VAULT_IDENTITY_LIST": "old@../tree/script"}, False),
+    "$PWD": ("", {"ANSIBLE_VAULT_IDENTITY_LIST": "$PWD/script"}, False),
+    "{{CWD}}": ("", {"ANSIBLE_VAULT_PASSWORD_FILE": "{{CWD}}/script"}, False),
+    "a folder that is trusted": (FILE.format("./script"), {"ANSIBLE_CONFIG": "ansible.cfg"}, True),
+    "a list of such a folder": (LIST.format("old@./script"), {"ANSIBLE_CONFIG": "./ansible.cfg"}, True),
+}
+
+
+def what_is_not_trusted(cases: Companions) -> None:
+    """Beside options, no companion runs a script of the current folder or encrypts with a secret that it names, unless
+    ANSIBLE_CONFIG names its file."""
+    for what, (file, variables, runs) in STRANGE.items():
+        with cases.place() as place:
+            place.environment["EDITOR"] = place.script('echo more >> "$1"', "editor")
+            secret = place.by_file("old")
+            lines = [
+                [WITH, "view", *secret, "a.yml"],
+                [WITH, "encrypt", *secret, "--encrypt-vault-id", "default", "plain.yml"],
+                [WITH, "edit", *secret, "--encrypt-vault-id", "default", "a.yml"],
+                [EDIT, *secret, "--encrypt-vault-id", "default", "new.yml"],
+                [CHECK, *secret, "a.yml"],
+                [TEXTCONV, *secret, "a.yml"],
+                [MERGE, *secret, "a.yml", "a.yml", "a.yml", "a.yml"],
+                [ROTATE, *secret, *place.by_file("new", "new-"), "a.yml"],
+            ]
+            for line in lines:
+                place.put("a.yml", sealed("old"))
+                place.put("plain.yml", TEXT)
+                (place.tree / "new.yml").unlink(missing_ok=True)
+                (place.path / "ran").unlink(missing_ok=True)
+                place.put("ansible.cfg", file.encode())
+                place.script("touch ../ran; cat ../secrets/prod", "tree/script")
+                done = place.run(*line, **variables)
+                name = f"{what}: {' '.join(line[:2])} ({done.stderr})"
+                cases.check(f"{name}: the status", done.returncode, 0)
+                cases.check(f"{name}: whether the script is run", (place.path / "ran").exists(), runs)
+            if not runs:
+                cases.ended("without options", place.run(CHECK, "a.yml", **variables), 1)
+                cases.check(f"{what}: without options it is run", (place.path / "ran").exists(), True)
+
+
+def beside_options(cases: Companions) -> None:
+    """One's own settings count beside options, as with Ansible; so does a file of the folder that is named."""
+    label = "vault_encrypt_identity = prod\n"
+    settings = LIST.format("dev@~/secrets/dev, prod@~/secrets/prod")
+    with cases.place() as place:
+        (place.path / ".ansible.cfg").write_text(settings + label)
+        place.put("a.yml", sealed("dev"))
+        done = ours(place, "view", *place.by_file("old"), "a.yml")
+        cases.check("a secret of the settings", (done.returncode, done.stdout), (0, TEXT.decode()))
+        place.put("b.yml", TEXT)
+        cases.silent("their label", ours(place, "encrypt", *place.by_id("old", "old"), "b.yml"))
+        cases.check("is the one to encrypt with", decrypted("prod", place.get("b.yml")), TEXT)
+        (place.path / ".ansible.cfg").unlink()
+        ids = [*place.by_id("dev", "dev"), *place.by_id("prod", "prod")]
+        for number, line in enumerate(([WITH, "encrypt", "c.yml"], [EDIT, "new.yml"])):
+            place.put("c.yml", TEXT)
+            words = [*line[:-1], *ids, line[-1]]
+            editor = place.script('echo new > "$1"', "editor")
+            cases.silent(f"{words}", place.run(*words, EDITOR=editor, ANSIBLE_VAULT_ENCRYPT_IDENTITY="prod"))
+            text = decrypted("prod", place.get(words[-1]))
+            cases.check(f"{words}: by the variable's label", text, [TEXT, b"new\n"][number])
+        place.put("ansible.cfg", settings.encode())
+        done = ours(place, "view", *place.by_file("old"), "a.yml")
+        cases.ended("the folder's file", done, 1, "no secret decrypts this vault")
+        done = ours(place, "view", *place.by_file("old"), "a.yml", ANSIBLE_CONFIG="ansible.cfg")
+        cases.check("the folder's file, if it is named", (done.returncode, done.stdout), (0, TEXT.decode()))
+
+
+def matching_labels(cases: Companions) -> None:
+    """By vault_id_match a secret decrypts only what has its label."""
+    with cases.place() as place:
+        place.put("a.yml", sealed("dev", label="prod"))
+        place.put("b.yml", sealed("dev", label="dev"))
+        secret = place.by_id("dev", "dev")
+        for variables in ({"ANSIBLE_VAULT_ID_MATCH": "True"}, {"ANSIBLE_VAULT_ID_MATCH": "False"}, {}):
+            status = 1 if variables else 0
+            for words in ([WITH, "view"], [WITH, "decrypt", "--output", "-"], [CHECK], [EDIT]):
+                done = place.run(*words, *secret, "a.yml", EDITOR="true", **variables)
+                cases.ended(f"{variables} {words}", done, status, *(["no secret decrypts"] if status else []))
+                done = place.run(*words, *secret, "b.yml", EDITOR="true", **variables)
+                cases.check(f"{variables} {words}: its label", done.returncode, 0)
+            done = place.run(TEXTCONV, *secret, "a.yml", **variables)
+            cases.check(f"{variables}: textconv", done.stdout == TEXT.decode(), not status)
+        place.put("ansible.cfg", (LIST.format("dev@../secrets/dev") + "vault_id_match = True\n").encode())
+        cases.ended("by the file", ours(place, "view", "a.yml"), 1, "no secret decrypts this vault")
+
+
+def many_secrets(cases: Companions) -> None:
+    """More than the tool takes at once are tried one after the other."""
+    with cases.place() as place:
+        (place.secrets / "wrong").write_text("no password\n")
+        wrong = ", ".join(f"w{number}@../secrets/wrong" for number in range(40))
+        variables = {"ANSIBLE_VAULT_IDENTITY_LIST": f"{wrong}, dev@../secrets/dev"}
+        place.put("a.yml", sealed("dev"))
+        done = ours(place, "view", "a.yml", **variables)
+        cases.check("view", (done.returncode, done.stdout, done.stderr), (0, TEXT.decode(), ""))
+        done = place.shell(f"{WITH} view < a.yml; echo $?", **variables)
+        cases.check("of standard input", (done.stdout, done.stderr), (f"{TEXT.decode()}0\n", ""))
+        done = ours(place, "view", "a.yml", ANSIBLE_VAULT_IDENTITY_LIST=wrong)
+        cases.ended("without the right one", done, 1, "ERROR! no secret decrypts this vault")
+        done = ours(place, "rekey", "--new-vault-id", "prod@../secrets/prod", "a.yml", **variables)
+        cases.check("rekey", (done.returncode, decrypted("prod", place.get("a.yml"))), (0, TEXT))
+        place.put("b.yml", TEXT)
+        cases.silent("encrypt", ours(place, "encrypt", "--encrypt-vault-id", "dev", "b.yml", **variables))
+        cases.check("by the last", decrypted("dev", place.get("b.yml")), TEXT)
+        done = ours(place, "encrypt", "b.yml", **variables)
+        cases.ended("without a label", done, 1, "several secrets were given; choose one with --encrypt-vault-id")
+
+
+# Lines of a file of settings, by which some are simple enough to be read without configparser, and others are not.
+LINES = [
+    "[defaults]",
+    "[other]",
+    "[DEFAULT]",
+    "[a]b]",
+    "[]",
+    " [x]",
+    "vault_identity_list = dev@~/dev, prod@x",
+    "vault_password_file=~/p",
+    "Vault_Password_File  =  p ; not q",
+    "vault_password_file: p",
+    "key = a = b",
+    "key",
+    "= x",
+    "key =",
+    "  more",
+    "",
+    "  ",
+    "# a comment",
+    "; a comment",
+    "key = a # b",
+    "größe = 1",
+    "tab\t= 1",
+    "%(x)s = %(y)s",
+]
+
+
+def simple_files(cases: Companions) -> None:
+    """What is read without configparser is what that module reads."""
+    program = (
+        "import json, sys\n"
+        "sys.path.insert(0, sys.argv[1])\n"
+        "from ansible_vault_companions import settings\n"
+        "from ansible_vault_companions.program import Refused\n"
+        "def parsed(text):\n"
+        "    try:\n"
+        "        return settings._parsed_section(text)\n"
+        "    except Refused:\n"
+        "        return 'refused'\n"
+        "texts = json.load(sys.stdin)\n"
+        "print(json.dumps([(settings._simple_section(text), parsed(text)) for text in texts]))\n"
+    )
+    random = Random(1)
+    texts = ["\n".join(random.choices(LINES, k=random.randint(0, 5))) for _ in range(5000)]
+    begins = ("[defaults]", "[other]", "vault_", "key =", "#", ";")
+    simple = [line for line in LINES if line.startswith(begins) or not line]
+    texts += ["[x]\n" + "\n".join(random.sample(simple, k=random.randint(1, 8))) + "\n" for _ in range(1000)]
+    words = ["/usr/bin/env", "python3", "-B", "-c", program, str(cases.companions)]
+    done = subprocess.run(words, input=json.dumps(texts), capture_output=True, text=True, timeout=SECONDS)
+    pairs = json.loads(done.stdout)
+    read = [(text, found, parsed) for text, (found, parsed) in zip(texts, pairs) if found is not None]
+    wrong = [row for row in read if row[1] != row[2]]
+    cases.check(f"{len(read)} of {len(texts)} are simple", wrong, [])
+    cases.holds("some are simple, and some are not", 500 < len(read) < len(texts) - 500, str(len(read)))
 
 
 def faults(cases: Companions) -> None:
@@ -132,21 +322,37 @@ def faults(cases: Companions) -> None:
 
 
 def missing_secrets(cases: Companions) -> None:
-    """To decrypt, a missing secret is skipped with a warning; to encrypt, it is refused: another would be chosen."""
-    variables = {"ANSIBLE_VAULT_IDENTITY_LIST": "dev@../secrets/dev, prod@../secrets/none, old@../secrets/failing"}
+    """A secret of the settings that cannot be had is skipped with a warning, if there is another one."""
+    listed = "dev@../secrets/dev, prod@../secrets/none, old@../secrets/failing, new@../secrets/empty"
     with cases.place() as place:
         place.put("a.yml", sealed("dev", label="dev"))
         place.put("plain.yml", TEXT)
         place.script("exit 4", "secrets/failing")
-        done = place.run(CHECK, "a.yml", **variables)
-        warnings = [
-            f"{CHECK}: prod@../secrets/none: this password file cannot be read; it is ignored",
-            f"{CHECK}: old@../secrets/failing: this script ended with status 4; it is ignored",
-        ]
+        (place.path / "secrets/empty").touch()
+        ignored = {
+            "prod@../secrets/none": "this password file cannot be read",
+            "old@../secrets/failing": "this script ended with status 4",
+            "new@../secrets/empty": "the password is empty",
+        }
+        warnings = lambda name: [f"{name}: {given}: {why}; it is ignored" for given, why in ignored.items()]
+        done = place.run(CHECK, "a.yml", ANSIBLE_VAULT_IDENTITY_LIST=listed)
         cases.ended("to decrypt", done, 0, "a.yml: dev: decrypted by dev@../secrets/dev")
-        cases.check("what is ignored", done.stderr.splitlines(), warnings)
-        done = ours(place, "encrypt", "plain.yml", **variables)
-        cases.ended("to encrypt", done, 3, "prod@../secrets/none: a password file cannot be opened")
+        cases.check("what is ignored", done.stderr.splitlines(), warnings(CHECK))
+        for words in (["--encrypt-vault-id", "dev"], []):
+            place.put("plain.yml", TEXT)
+            done = ours(place, "encrypt", *words, "plain.yml", ANSIBLE_VAULT_IDENTITY_LIST=listed)
+            cases.check(f"to encrypt {words}", (done.returncode, done.stderr.splitlines()), (0, warnings(WITH)))
+            cases.check(f"{words}: it is encrypted", decrypted("dev", place.get("plain.yml")), TEXT)
+            header = place.get("plain.yml").partition(b"\n")[0]
+            cases.check(f"{words}: under its label", header, b"$ANSIBLE_VAULT;1.2;AES256;dev")
+        place.put("plain.yml", TEXT)
+        done = ours(place, "encrypt", "--encrypt-vault-id", "prod", "plain.yml", ANSIBLE_VAULT_IDENTITY_LIST=listed)
+        cases.ended("under a missing one", done, 1, *warnings(WITH), "no secret has the label of --encrypt-vault-id")
+        done = ours(place, "encrypt", "plain.yml", ANSIBLE_VAULT_IDENTITY_LIST="prod@../secrets/none")
+        cases.ended("none at all", done, 3, "prod@../secrets/none: a password file cannot be opened")
+        named = ["--vault-id", "prod@../secrets/none", *place.by_id("dev", "dev")]
+        done = ours(place, "encrypt", *named, "--encrypt-vault-id", "dev", "plain.yml")
+        cases.ended("one that an option names", done, 3, "prod@../secrets/none: a password file cannot be opened")
         cases.check("nothing is encrypted", place.get("plain.yml"), TEXT)
 
 
@@ -195,6 +401,11 @@ TESTS = [
     files,
     every_companion,
     options_come_first,
+    what_is_not_trusted,
+    beside_options,
+    matching_labels,
+    many_secrets,
+    simple_files,
     faults,
     missing_secrets,
     the_label_to_encrypt_with,

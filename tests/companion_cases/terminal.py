@@ -3,6 +3,7 @@
 import fcntl
 import os
 import select
+import signal
 import subprocess
 import termios
 import time
@@ -39,9 +40,14 @@ def at_terminal(place: Place, words: list[str], *answers: tuple[str, bytes], **v
     with subprocess.Popen(["sh", "-c", LEADER, "sh", *words], pass_fds=[terminal], **pipes, **options) as program:
         os.close(terminal)
         shown = b""
-        for question, answer in answers:
-            shown = _shown_until(controller, shown, question.encode())
-            os.write(controller, answer)
+        try:
+            for question, answer in answers:
+                shown = _shown_until(controller, shown, question.encode())
+                os.write(controller, answer)
+        except AssertionError:
+            # It would wait for an answer for ever.
+            os.killpg(program.pid, signal.SIGKILL)
+            raise
         output, errors = program.communicate(timeout=SECONDS)
     shown += _rest(controller)
     os.close(controller)

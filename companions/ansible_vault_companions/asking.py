@@ -1,0 +1,27 @@
+"""Secrets that a command line of ansible-vault-with need not name: what is asked for, and the new one of rekey."""
+
+from __future__ import annotations
+
+from ansible_vault_companions import program, prompts, secret_files
+from ansible_vault_companions.program import Refused
+from ansible_vault_companions.sources import ASKED, Secret
+from ansible_vault_companions.tool_run import Run
+from ansible_vault_companions.tool_words import ENCRYPT_ID
+
+
+def secrets(encrypts: bool) -> list[Secret]:
+    """What is asked for where nothing names a secret."""
+    [secret] = secret_files.of_options([ASKED], [], encrypts)
+    if secret.fault == prompts.NO_TERMINAL:
+        raise Refused(secret_files.NONE)
+    return [secret]
+
+
+def new_secrets(run: Run, old: list[Secret]) -> list[Secret]:
+    """Those of the options, else that of the settings with the label to encrypt with, else what is asked for."""
+    words = run.words
+    new = secret_files.of_options(words.new_ids, words.new_paths, encrypts=True)
+    fitting = [secret for secret in new or old if secret.label == run.label and (new or secret.is_setting)]
+    if not fitting and (words.value(ENCRYPT_ID) or run.label and not new):
+        raise Refused(f"no new secret has the label {program.shown(run.label)} to encrypt with")
+    return new or fitting[:1] or secrets(encrypts=True)

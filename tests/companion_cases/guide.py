@@ -1,0 +1,184 @@
+"""The command lines of the Ansible Vault guide, by Ansible's tool and by the alias for ansible-vault-with.
+
+Each row of a table says what both do. Where they differ, as a row says then, Ansible's tool refuses the line.
+"""
+
+import re
+from typing import NamedTuple
+
+from companion_cases import PASSWORDS, TEXT, WITH, Companions, Place, sealed
+from companion_cases.both import for_ansible
+from companion_cases.running import described
+from companion_cases.terminal import Session, at_terminal
+from lib.ansible import ansible_vault
+
+# Password files of the guide.
+FILES = {"a_password_file": "dev", "multi_password_file": "prod", "ppold": "old", "dev-password": "dev", "new": "new"}
+NAMES = ["foo.yml", "bar.yml", "baz.yml"]
+OLD, NEW, AGAIN = "Vault password: ", "New Vault password: ", "Confirm New Vault password: "
+NEW_OF, AGAIN_OF = "New vault password ({}): ", "Confirm new vault password ({}): "
+LIST = "ANSIBLE_VAULT_IDENTITY_LIST='dev@dev-password, prod@multi_password_file'"
+DEV = "--vault-id dev@a_password_file"
+# Ansible's tool asks for strings by its standard streams.
+AT_TERMINAL = "--output new.yml < /dev/tty > /dev/tty 2>&1"
+VARIABLE = "Variable name (enter for no name): "
+STRING, SHOWN_STRING = "String to encrypt (hidden): ", "String to encrypt:"
+
+
+class Row(NamedTuple):
+    """A line after `ansible-vault`, what is typed, and what it does."""
+
+    line: str
+    does: str
+    # The password of the three files, which are plaintext without one.
+    password: str = ""
+    # Questions, and what is typed: a password by its name, or a text.
+    typed: list[tuple[str, str]] = []
+    # What Ansible's tool says to a line that it refuses.
+    refused: str = ""
+    before: str = ""
+
+
+ROWS = [
+    Row("create --vault-id test@multi_password_file new.yml", "makes a file in an editor"),
+    Row(
+        "create --vault-id my_new_password@prompt new.yml",
+        "asks twice, and makes a file in an editor",
+        typed=[(NEW_OF.format("my_new_password"), "new"), (AGAIN_OF.format("my_new_password"), "new")],
+    ),
+    Row("create --ask-vault-pass new.yml", "asks twice", typed=[(NEW, "new"), (AGAIN, "new")]),
+    Row("create new.yml", "asks twice without an option", typed=[(NEW, "new"), (AGAIN, "new")]),
+    Row("encrypt foo.yml bar.yml baz.yml", "encrypts all in place", typed=[(NEW, "new"), (AGAIN, "new")]),
+    Row(
+        "encrypt --vault-id project@prompt foo.yml bar.yml baz.yml",
+        "encrypts all under the label",
+        typed=[(NEW_OF.format("project"), "new"), (AGAIN_OF.format("project"), "new")],
+    ),
+    Row("encrypt --vault-password-file a_password_file foo.yml", "encrypts in place"),
+    Row(
+        "encrypt --vault-id dev@dev-password --vault-id prod@multi_password_file --encrypt-vault-id prod foo.yml",
+        "encrypts with one of two secrets",
+    ),
+    Row("encrypt --encrypt-vault-id prod foo.yml", "encrypts with one of the settings", before=LIST),
+    Row("encrypt --vault-id dev@dev-password --output new.yml foo.yml", "writes a new file"),
+    Row("view foo.yml bar.yml baz.yml", "asks once, and shows all", "old", [(OLD, "old")]),
+    Row("view --ask-vault-pass foo.yml", "asks", "old", [(OLD, "old")]),
+    Row("view --vault-password-file ppold foo.yml bar.yml", "shows both", "old"),
+    Row("view foo.yml", "takes the password file of a variable", "old", before="ANSIBLE_VAULT_PASSWORD_FILE=./ppold"),
+    Row("view foo.yml", "takes the secrets of a variable", "prod", before=LIST),
+    Row("view --vault-id dev@vault-keyring-client.py foo.yml", "asks a client script", "dev"),
+    Row("edit foo.yml", "asks, and edits", "old", [(OLD, "old")]),
+    Row("edit --vault-id vault2@prompt foo.yml", "asks, and edits", "old", [("Vault password (vault2): ", "old")]),
+    Row("edit --vault-password-file ppold foo.yml bar.yml baz.yml", "edits one after the other", "old"),
+    Row(
+        "rekey foo.yml bar.yml baz.yml",
+        "asks for the old password and the new one",
+        "old",
+        [(OLD, "old"), (NEW, "new"), (AGAIN, "new")],
+    ),
+    Row(
+        "rekey --vault-id preprod1@ppold --new-vault-id preprod2@prompt foo.yml bar.yml baz.yml",
+        "asks for the new password",
+        "old",
+        [(NEW_OF.format("preprod2"), "new"), (AGAIN_OF.format("preprod2"), "new")],
+    ),
+    Row("rekey --vault-id ppold --new-vault-id dev@dev-password foo.yml", "gives another label", "old"),
+    Row("rekey --vault-password-file ppold --new-vault-password-file new foo.yml", "gives another secret", "old"),
+    Row("rekey --encrypt-vault-id prod foo.yml", "takes the new secret of the settings", "dev", before=LIST),
+    Row("decrypt foo.yml bar.yml baz.yml", "asks once, and decrypts all in place", "old", [(OLD, "old")]),
+    Row("decrypt --vault-id dev@a_password_file --output - foo.yml", "writes to standard output", "dev"),
+    Row(
+        "encrypt_string --vault-password-file a_password_file 'foobar' --name 'the_secret'",
+        "makes a block",
+    ),
+    Row(f"encrypt_string {DEV} 'foooodev' --name 'the_dev_secret'", "makes a block with a label"),
+    Row(f"encrypt_string {DEV} --stdin-name 'db_password' <<< letmein", "reads standard input"),
+    Row(f"encrypt_string {DEV} 'first' 'second' --name one --name two", "makes two blocks"),
+    Row(f"encrypt_string {DEV} 'first' 'second' 'third' -n one", "names the first of three blocks"),
+    Row(f"encrypt_string {DEV} 'first' --name one --stdin-name two <<< second", "takes both"),
+    Row(
+        f"encrypt_string {DEV} 'first' 'second' --output new.yml",
+        "writes the blocks to a file",
+        refused="At most one input file may be used with the --output option",
+    ),
+    Row(f"encrypt_string {DEV} 'first' --output new.yml", "writes the block to a file"),
+    Row(
+        f"encrypt_string {DEV} -p 'second' --name two {AT_TERMINAL}",
+        "asks for one more string and its name",
+        typed=[(VARIABLE, "one"), (STRING, "first")],
+    ),
+    Row(
+        f"encrypt_string {DEV} --prompt --show-input 'second' {AT_TERMINAL}",
+        "shows what is typed",
+        typed=[(VARIABLE, ""), (SHOWN_STRING, "first")],
+    ),
+    Row(
+        f"encrypt_string {DEV} --prompt",
+        "asks for the string and its name",
+        typed=[(VARIABLE, "one"), (STRING, "first")],
+        refused="The --prompt option is not supported if also reading input from stdin",
+    ),
+    Row(
+        f"encrypt_string {DEV} --prompt --name one",
+        "asks for the string",
+        typed=[(STRING, "first")],
+        refused="The --prompt option is not supported if also reading input from stdin",
+    ),
+    Row("encrypt_string --ask-vault-pass 'a' --name b", "asks twice", typed=[(NEW, "new"), (AGAIN, "new")]),
+    Row("encrypt --vault-passw a_password_file foo.yml", "takes an abbreviated option"),
+    Row("encrypt --vault-i dev@a_password_file --encrypt dev --out=new.yml foo.yml", "takes three of them"),
+    Row("view --ask-vault-passw foo.yml", "takes an abbreviated option", "old", [(OLD, "old")]),
+    Row("rekey --vault-i ppold --new-vault-p new foo.yml", "takes two of them", "old"),
+    Row(f"encrypt_string {DEV} -nname 'a string'", "takes a value without a space"),
+    Row("view --vault-pass ppold foo.yml", "takes --vault-pass", "old", refused="ambiguous option: --vault-pass"),
+]
+
+
+def run(place: Place, tool: str, row: Row) -> Session:
+    for name, password in FILES.items():
+        place.put(name, PASSWORDS[password] + b"\n", 0o600)
+    place.put("vault-keyring-client.py", b'#!/bin/sh\necho "the password $2"\n', 0o755)
+    for number, name in enumerate(NAMES):
+        place.put(name, sealed(row.password, TEXT * number) if row.password else TEXT * number)
+    text = f"shopt -s expand_aliases\nalias ansible-vault={tool}\n{row.before} ansible-vault {row.line}\n"
+    answers = [(question, PASSWORDS.get(typed, typed.encode()) + b"\n") for question, typed in row.typed]
+    editor = place.script('echo more >> "$1"', "editor")
+    return at_terminal(place, ["bash", "-c", text], *answers, EDITOR=editor)
+
+
+def outcome(place: Place, session: Session) -> tuple:
+    """Success, what is written by its blocks, and each file that is no password file."""
+    files = {name: blocks(data) for name, data in place.files().items() if not (name in FILES or "client" in name)}
+    return session.returncode == 0, blocks(session.stdout.strip().encode()), files
+
+
+def blocks(data: bytes) -> list[tuple]:
+    """The first line and the plaintext of each block; of other text all of it."""
+    parts = re.split(rb"(?m)^(?=[^ \n]*:? ?!vault)", data) if b"!vault" in data else [data]
+    return [(part.partition(b"\n")[0] if b"!vault" in part else b"", described(part)) for part in parts if part]
+
+
+def lines(cases: Companions) -> None:
+    ansible = ansible_vault()
+    if not ansible:
+        cases.skip("what Ansible's tool does", "it is not installed")
+    if not cases.needs("an alias", "bash"):
+        return
+    for row in ROWS:
+        what = f"{row.line}: {row.does}"
+        with cases.place() as place:
+            session = run(place, WITH, row)
+            ours = outcome(place, session)
+            cases.check(f"{what}: status ({session.stderr} {session.shown})", ours[0], True)
+        if not ansible:
+            continue
+        with cases.place() as place, for_ansible(place):
+            session = run(place, ansible, row._replace(typed=[]) if row.refused else row)
+            theirs = outcome(place, session)
+        if row.refused:
+            cases.holds(f"{row.line}: Ansible's tool refuses it", row.refused in session.stderr, session.stderr)
+        else:
+            cases.check(f"{what}: as Ansible's tool ({session.stderr})", ours, theirs)
+
+
+TESTS = [lines]

@@ -1,0 +1,313 @@
+"""Random settings, options, labels and vaults: ansible-vault-with chooses the secrets that Ansible's tool chooses.
+
+Where a page says that it does not, Ansible's tool is run without what does not count, or a refusal is expected.
+"""
+
+import shutil
+import subprocess
+import time
+from pathlib import Path
+from random import Random
+from typing import NamedTuple
+
+from companion_cases import PASSWORDS, SECONDS, TEXT, WITH, Companions, Place, decrypted, sealed
+from companion_cases.running import envelope_of
+from lib.ansible import ansible_vault
+from lib.ansible_runs import AnsibleRuns
+
+SEED = 62
+# How long command lines are compared, in seconds, where their number is not given.
+SHARE = 20
+LABELS = ["default", "dev", "prod", "stage"]
+# Names of password files, of which two are not usable, and of scripts.
+FILES = [*PASSWORDS, *PASSWORDS]
+UNUSABLE = ["none", "empty"]
+SCRIPTS = ["script-dev", "keys-client"]
+COMMANDS = ["view", "view", "decrypt", "decrypt -", "encrypt", "encrypt", "encrypt_string", "rekey"]
+# Where settings are: in variables, or in a file that is found in these ways.
+PLACES = ["variables", "folder", "home", "named", "named by a relative path", "variables and folder"]
+ABBREVIATED = {
+    "--vault-id": "--vault-i",
+    "--vault-password-file": "--vault-password",
+    "--encrypt-vault-id": "--encrypt",
+    "--new-vault-id": "--new-vault-i",
+    "--output": "--out",
+}
+
+
+class Named(NamedTuple):
+    """A secret, as settings or options name it."""
+
+    # Empty where none is given.
+    label: str
+    folder: str
+    name: str
+
+    def is_usable(self) -> bool:
+        """Whether there is a password; the client has some labels."""
+        return self.name not in UNUSABLE and (self.name != "keys-client" or self.label in PASSWORDS)
+
+    def is_relative(self) -> bool:
+        return self.folder.startswith("..")
+
+    def text(self) -> str:
+        return f"{self.label}@{self.path()}" if self.label else self.path()
+
+    def path(self) -> str:
+        return f"{self.folder}/{self.name}"
+
+
+class Settings(NamedTuple):
+    """Ansible's settings."""
+
+    identities: list[Named]
+    password_file: Named | None
+    encrypt: str
+    match: str
+
+    def without_relative_paths(self) -> "Settings":
+        is_left = self.password_file and not self.password_file.is_relative()
+        kept = [each for each in self.identities if not each.is_relative()]
+        return self._replace(identities=kept, password_file=self.password_file if is_left else None)
+
+    def values(self) -> dict[str, str]:
+        return {
+            "vault_identity_list": ", ".join(each.text() for each in self.identities),
+            "vault_password_file": self.password_file.path() if self.password_file else "",
+            "vault_encrypt_identity": self.encrypt,
+            "vault_id_match": self.match,
+        }
+
+    def variables(self) -> dict[str, str]:
+        return {f"ANSIBLE_{name.upper()}": value for name, value in self.values().items() if value}
+
+    def file(self) -> bytes:
+        lines = [f"{name} = {value}\n" for name, value in self.values().items() if value]
+        return "".join(["[defaults]\n", *lines]).encode()
+
+
+class Line(NamedTuple):
+    """A command line."""
+
+    command: str
+    ids: list[Named]
+    paths: list[Named]
+    new: list[str]
+    new_label: str
+    # Of --encrypt-vault-id.
+    label: str
+    arguments: list[str]
+
+    def words(self, abbreviate: bool) -> list[str]:
+        pairs = [
+            *(("--vault-id", each.text()) for each in self.ids),
+            *(("--vault-password-file", each.path()) for each in self.paths),
+            *([("--encrypt-vault-id", self.label)] if self.label else []),
+        ]
+        short = lambda name: ABBREVIATED[name] if abbreviate else name
+        options = [word for name, value in pairs for word in (short(name), value)]
+        return [self.command.split()[0], *options, *self.new, *self.arguments]
+
+
+class Case(NamedTuple):
+    """All that is made at random."""
+
+    line: Line
+    place: str
+    variables: Settings
+    file: Settings
+    vault: bytes
+    abbreviate: bool
+
+
+NOTHING = Settings([], None, "", "")
+
+
+def random_secret(random: Random, secrets: Path, is_setting: bool) -> Named:
+    unusable = random.random() < (0.15 if is_setting else 0.04)
+    names = UNUSABLE if unusable else SCRIPTS if random.random() < 0.15 else FILES
+    folder = random.choice([str(secrets), "~/secrets", "$HOME/secrets", "../secrets"])
+    return Named(random.choice(["", *LABELS]), folder, random.choice(names))
+
+
+def random_settings(random: Random, secrets: Path) -> Settings:
+    identities = [random_secret(random, secrets, True) for _ in range(random.choice([0, 1, 2, 2, 3]))]
+    if random.random() < 0.08:
+        # More than the tool takes at once.
+        wrong = [Named(random.choice(LABELS), str(secrets), "wrong") for _ in range(random.randint(15, 20))]
+        identities = [*wrong, *identities]
+    password_file = random_secret(random, secrets, True) if random.random() < 0.3 else None
+    label = random.choice(LABELS) if random.random() < 0.35 else ""
+    return Settings(identities, password_file, label, random.choice(["", "", "", "True", "False"]))
+
+
+def random_line(random: Random, secrets: Path) -> Line:
+    command = random.choice(COMMANDS)
+    some = lambda counts: [random_secret(random, secrets, False) for _ in range(random.choice(counts))]
+    ids, paths = some([0, 0, 1, 1, 2]), some([0, 0, 0, 1])
+    new, new_label, label = [], "", ""
+    if command == "rekey" and random.random() < 0.8:
+        new_label = random.choice(LABELS)
+        by_id = ["--new-vault-id", f"{new_label}@{secrets}/new"]
+        new = random.choice([by_id, ["--new-vault-password-file", f"{secrets}/new"]])
+        new_label = new_label if new == by_id else "default"
+    if command in ("encrypt", "encrypt_string", "rekey") and random.random() < 0.4:
+        label = random.choice(LABELS)
+    arguments = {
+        "view": ["a.yml"],
+        "decrypt": ["a.yml"],
+        "decrypt -": ["--output", "-", "a.yml"],
+        "encrypt": random.choice([["plain.yml"], ["plain.yml", "more.yml"], ["--output", "new.yml", "plain.yml"]]),
+        "encrypt_string": ["a string", "--name", "name"],
+        "rekey": ["a.yml"],
+    }[command]
+    return Line(command, ids, paths, new, new_label, label, arguments)
+
+
+def random_case(random: Random, secrets: Path) -> Case:
+    line = random_line(random, secrets)
+    place = random.choice(PLACES)
+    variables = random_settings(random, secrets) if "variables" in place else NOTHING
+    file = random_settings(random, secrets) if place != "variables" else NOTHING
+    named = [*file.identities, *variables.identities, *line.ids, *line.paths]
+    usable = [each.name for each in named if each.name in PASSWORDS]
+    # Most can be decrypted.
+    password = random.choice(usable if usable and random.random() < 0.8 else list(PASSWORDS))
+    label = random.choice([each.label for each in named if each.name == password] + LABELS)
+    vault = sealed(password, TEXT, "" if label == "default" else label)
+    return Case(line, place, variables, file, vault, random.random() < 0.3)
+
+
+def with_settings(case: Case, home: Path, tree: Path) -> dict[str, str]:
+    """Makes the file of settings, and returns the variables."""
+    variables = case.variables.variables()
+    path = tree / "ansible.cfg"
+    if case.place == "home":
+        path = home / ".ansible.cfg"
+    elif case.place == "named":
+        path = home / "far" / "my.cfg"
+        variables["ANSIBLE_CONFIG"] = str(path)
+    elif case.place == "named by a relative path":
+        variables["ANSIBLE_CONFIG"] = "ansible.cfg"
+    if case.place != "variables":
+        path.parent.mkdir(exist_ok=True)
+        file = case.file
+        if file.password_file and file.password_file.is_relative():
+            # It begins in the folder of the file.
+            folder = "secrets" if case.place == "home" else "../secrets"
+            file = file._replace(password_file=file.password_file._replace(folder=folder))
+        path.write_bytes(file.file())
+    return variables
+
+
+def what_counts(case: Case) -> Case | None:
+    """The case without what does not count here but counts for Ansible's tool; None where it is refused here."""
+    line = case.line
+    if not all(each.is_usable() for each in (*line.ids, *(path._replace(label="default") for path in line.paths))):
+        return None
+    if (line.ids or line.paths) and case.place != "named by a relative path":
+        # Nothing in the current folder names a secret.
+        variables = case.variables.without_relative_paths()
+        case = case._replace(variables=variables, file=without_folder(case))
+    if line.command != "rekey":
+        return case
+    label = line.label or case.variables.encrypt or case.file.encrypt
+    if not line.new:
+        # Here it is asked for; Ansible's tool takes the password file of the settings.
+        return case if label else None
+    if line.label not in ("", line.new_label):
+        return None
+    # The new secret of the options counts before the label of the settings.
+    remove = lambda settings: settings._replace(encrypt="")
+    return case._replace(
+        line=line._replace(label=""), variables=remove(case.variables), file=remove(case.file)
+    )
+
+
+def without_folder(case: Case) -> Settings:
+    """The settings of the file, if it is not that of the folder, without relative paths, except for the password file,
+    whose path begins in the folder of the file."""
+    if "folder" in case.place:
+        return NOTHING
+    return case.file.without_relative_paths()._replace(password_file=case.file.password_file)
+
+
+class Both:
+    """Two equal trees, in which both tools run."""
+
+    def __init__(self, place: Place, ansible: AnsibleRuns) -> None:
+        self.place = place
+        self.ansible = ansible
+        self.other = place.path / "other"
+        place.script("cat ~/secrets/dev", "secrets/script-dev")
+        place.script('cat ~/secrets/"$2"', "secrets/keys-client")
+        (place.secrets / "empty").write_bytes(b"\n")
+        (place.secrets / "wrong").write_bytes(b"no password\n")
+
+    def outcome(self, case: Case) -> tuple[tuple, tuple | None, str]:
+        """What ours did, what theirs did if it is to be the same, and the messages."""
+        counted = what_counts(case)
+        if counted:
+            variables = self.prepare(counted, self.other)
+            self.ansible.begin(counted.line.words(case.abbreviate), self.other, self.place.environment | variables)
+            status, output, errors = self.ansible.end()
+            theirs = self.described(counted, self.other, status, output)
+        variables = self.prepare(case, self.place.tree)
+        words = [WITH, *case.line.words(case.abbreviate)]
+        environment = self.place.environment | variables
+        options = {"cwd": self.place.tree, "env": environment, "stdin": subprocess.DEVNULL, "capture_output": True}
+        done = subprocess.run(words, start_new_session=True, timeout=SECONDS, **options)
+        ours = self.described(case, self.place.tree, done.returncode, done.stdout)
+        if counted:
+            return ours, theirs, f"{done.stderr.decode()}\n{errors}"
+        return ours, None, done.stderr.decode()
+
+    def prepare(self, case: Case, tree: Path) -> dict[str, str]:
+        shutil.rmtree(tree, ignore_errors=True)
+        tree.mkdir()
+        (self.place.path / ".ansible.cfg").unlink(missing_ok=True)
+        (tree / "a.yml").write_bytes(case.vault)
+        (tree / "plain.yml").write_bytes(TEXT)
+        (tree / "more.yml").write_bytes(TEXT)
+        return with_settings(case, self.place.path, tree)
+
+    def described(self, case: Case, tree: Path, status: int, output: bytes) -> tuple:
+        """Whether it succeeds, what it writes, and the files that are not as they were."""
+        before = {"a.yml": case.vault, "plain.yml": TEXT, "more.yml": TEXT}
+        files = {path.name: path.read_bytes() for path in tree.iterdir() if path.name != "ansible.cfg"}
+        named = [each.name for each in (*case.line.ids, *case.file.identities, *case.variables.identities)]
+        likely = sorted(PASSWORDS, key=lambda name: (name != "new" or not case.line.new, name not in named))
+        changed = {name: opened(data, likely) for name, data in files.items() if before.get(name) != data}
+        return status == 0, opened(output, likely) if status == 0 else None, changed
+
+
+def opened(content: bytes, passwords: list[str]) -> tuple:
+    """The header of an envelope, the password that decrypts it and the plaintext; other content as it is."""
+    envelope = envelope_of(content)
+    if envelope is None:
+        return (content,)
+    texts = ((name, decrypted(name, envelope)) for name in passwords)
+    return envelope.partition(b"\n")[0], next(((name, text) for name, text in texts if text is not None), None)
+
+
+def command_lines(cases: Companions) -> None:
+    """Prints how many were compared."""
+    ansible = ansible_vault()
+    if not ansible:
+        cases.skip("random command lines", "Ansible's tool is not installed")
+        return
+    random, counts = Random(SEED), {"succeed in both": 0, "refused by both": 0, "refused only here, as documented": 0}
+    end = time.monotonic() + SHARE
+    with cases.place() as place, AnsibleRuns(ansible, place.runtime) as runs:
+        both = Both(place, runs)
+        while sum(counts.values()) < cases.comparisons or not cases.comparisons and time.monotonic() < end:
+            case = random_case(random, place.secrets)
+            ours, theirs, messages = both.outcome(case)
+            what = f"{sum(counts.values())}: {case.line.words(case.abbreviate)} {case}: {messages}"
+            cases.check(what, ours, theirs or (False, None, {}))
+            kind = 2 if theirs is None else 0 if theirs[0] else 1
+            counts[[*counts][kind]] += 1
+    print(f"random command lines: {', '.join(f'{count} {what}' for what, count in counts.items())}")
+
+
+TESTS = [command_lines]

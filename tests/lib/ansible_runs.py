@@ -1,0 +1,113 @@
+"""Runs Ansible's ansible-vault again and again: it is imported once, and each run is a fork.
+
+Run by Ansible's own Python, it reads requests as lines of JSON and writes what became of them. `AnsibleRuns` is the
+other side.
+"""
+
+import importlib
+import json
+import os
+import subprocess
+import sys
+import tempfile
+from pathlib import Path
+
+SETTINGS = [
+    "DEFAULT_ASK_VAULT_PASS",
+    "DEFAULT_VAULT_ENCRYPT_IDENTITY",
+    "DEFAULT_VAULT_IDENTITY_LIST",
+    "DEFAULT_VAULT_ID_MATCH",
+    "DEFAULT_VAULT_PASSWORD_FILE",
+]
+
+
+class AnsibleRuns:
+    """Ansible's tool in a process that waits for command lines."""
+
+    def __init__(self, ansible: str, home: Path) -> None:
+        """The home is an empty folder, so that no settings are found."""
+        interpreter = Path(ansible).resolve().read_bytes().partition(b"\n")[0].decode().removeprefix("#!").split()
+        environment = {"HOME": str(home), "PATH": os.environ["PATH"], "LC_ALL": "C.UTF-8"}
+        words = [*interpreter, "-B", __file__]
+        pipes = {"stdin": subprocess.PIPE, "stdout": subprocess.PIPE}
+        self.process = subprocess.Popen(words, env=environment, cwd=home, text=True, **pipes)
+
+    def __enter__(self) -> "AnsibleRuns":
+        return self
+
+    def __exit__(self, *_fault) -> None:
+        self.process.stdin.close()
+        self.process.wait()
+
+    def begin(self, words: list[str], folder: Path, environment: dict[str, str]) -> None:
+        self.process.stdin.write(json.dumps([words, str(folder), environment]) + "\n")
+        self.process.stdin.flush()
+
+    def end(self) -> tuple[int, bytes, str]:
+        """Status, standard output and standard error of the run that was begun."""
+        status, output, errors = json.loads(self.process.stdout.readline())
+        return status, output.encode("latin-1"), errors
+
+
+def use_settings(environment: dict[str, str]) -> None:
+    """Ansible reads its settings when it is imported; here it reads those of its tool again."""
+    from ansible import constants
+    from ansible.config.manager import find_ini_config_file
+
+    os.environ.clear()
+    os.environ.update(environment)
+    config = constants.config
+    config._config_file = find_ini_config_file(config.WARNINGS)
+    config._parsers = {}
+    if config._config_file:
+        config._parse_config_file()
+    for name in SETTINGS:
+        constants.set_constant(name, config.get_config_value(name, variables=vars(constants)))
+
+
+def run(words: list[str], folder: str, environment: dict[str, str], output: int, errors: int) -> int:
+    from ansible.cli.vault import VaultCLI
+
+    os.setsid()
+    os.chdir(folder)
+    for target, source in ((0, os.open(os.devnull, os.O_RDONLY)), (1, output), (2, errors)):
+        os.dup2(source, target)
+    sys.stdin, sys.stdout = open(0), open(1, "w")
+    use_settings(environment)
+    try:
+        VaultCLI.cli_executor(["ansible-vault", *words])
+    except SystemExit as end:
+        return end.code or 0
+    finally:
+        sys.stdout.flush()
+        sys.stderr.flush()
+    return 0
+
+
+def forked(request: list) -> list:
+    with tempfile.TemporaryFile() as output, tempfile.TemporaryFile() as errors:
+        child = os.fork()
+        if not child:
+            status = 250
+            try:
+                status = run(*request, output.fileno(), errors.fileno())
+            finally:
+                os._exit(status)
+        status = os.waitstatus_to_exitcode(os.waitpid(child, 0)[1])
+        output.seek(0)
+        errors.seek(0)
+        return [status, output.read().decode("latin-1"), errors.read().decode(errors="replace")]
+
+
+def main() -> None:
+    replies = os.fdopen(os.dup(1), "w")
+    # The folder of this file, which has another `ansible`.
+    sys.path.pop(0)
+    importlib.import_module("ansible.cli.vault")
+    for line in sys.stdin:
+        replies.write(json.dumps(forked(json.loads(line))) + "\n")
+        replies.flush()
+
+
+if __name__ == "__main__":
+    main()
