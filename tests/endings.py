@@ -43,6 +43,7 @@ SAMPLES = {
         "0 passed, 1 failed, 0 skipped",
     ),
     "an assertion": ("assert False", [], 1, "0 passed, 1 failed, 0 skipped"),
+    "a test without end": ("import time; time.sleep(600)", ["--timeout=1"], 1, "0 passed, 1 failed, 0 skipped"),
     "no test of that name": ("pass", ["-k", "another"], 5, "0 passed, 0 failed, 0 skipped"),
 }
 
@@ -55,6 +56,10 @@ def run_sample(folder: Path, program: str, body: str, options: list[str]) -> sub
     kept = {name: value for name, value in os.environ.items() if not name.startswith(("PYTEST_", "REQUIRE_ALL"))}
     words = ["pytest", f"--program={program}", *options, "tests/sample.py"]
     return subprocess.run([sys.executable, "-B", "-m", *words], capture_output=True, text=True, cwd=folder, env=kept)
+
+
+def test_time_limit(pytestconfig: pytest.Config) -> None:
+    assert 0 < float(pytestconfig.getini("timeout")) <= 900
 
 
 @pytest.mark.parametrize("what", SAMPLES)

@@ -14,6 +14,7 @@ from pathlib import Path
 from cases import SECONDS, Cases, by_file
 from cases.samples import SALT_WORDS
 from lib.preloaded import build_library
+from lib.processes import started
 from model.answers import HostFiles, answer
 from model.vaults import seal
 
@@ -52,16 +53,16 @@ def changed_run(cases: Cases, library: str, words: list[str], content: bytes, is
     pipes = {"stdout": subprocess.PIPE, "stderr": subprocess.PIPE, "env": environment}
     with open(path, "rb") as stdin:
         stream = subprocess.DEVNULL if is_named else stdin
-        child = subprocess.Popen([cases.program, *words, *given], stdin=stream, **pipes)
-    _, status = os.waitpid(child.pid, os.WUNTRACED)
-    if not os.WIFSTOPPED(status):
-        child.returncode = os.waitstatus_to_exitcode(status)
-        return (child.returncode, *child.communicate()), None
-    place = place_in(child.pid, path)
-    later = changed(content, place)
-    change(path, content, later)
-    child.send_signal(signal.SIGCONT)
-    output, message = child.communicate(timeout=SECONDS)
+        with started([cases.program, *words, *given], stdin=stream, **pipes) as child:
+            _, status = os.waitpid(child.pid, os.WUNTRACED)
+            if not os.WIFSTOPPED(status):
+                child.returncode = os.waitstatus_to_exitcode(status)
+                return (child.returncode, *child.communicate(timeout=SECONDS)), None
+            place = place_in(child.pid, path)
+            later = changed(content, place)
+            change(path, content, later)
+            child.send_signal(signal.SIGCONT)
+            output, message = child.communicate(timeout=SECONDS)
     os.unlink(path)
     return (child.returncode, output, message), content[:place] + later[place:]
 

@@ -2,12 +2,12 @@
 
 import os
 import subprocess
-import threading
 from pathlib import Path
 
-from cases import NOBODY, TEXT, Cases, answer_of, by_file, refusal, run_captured
+from cases import NOBODY, SECONDS, TEXT, Cases, answer_of, by_file, refusal, run_captured
 from cases.modes import OLD, mode, wanted_mode, with_output
 from cases.samples import SALT_WORDS, Sample, samples
+from lib.processes import open_to_read, open_to_write, read_to_end, started
 from model.faults import Fault
 from model.vaults import ENVELOPE_LIMIT, MAGIC, seal
 
@@ -49,16 +49,21 @@ def test_input_pipes(cases: Cases) -> None:
     for sample in with_files(cases):
         path = cases.path()
         os.mkfifo(path)
-        writer = threading.Thread(target=write_singly, args=(path, sample.stdin))
-        writer.start()
-        cases.run(f"{sample.command} of a pipe", [*sample.words, path, *to_output(sample)], NOT_ASKED, 0, sample.output)
-        writer.join()
+        words = [cases.program, *sample.words, path, *to_output(sample)]
+        with open(cases.file(NOT_ASKED), "rb") as stdin:
+            pipes = {"stdin": stdin, "stdout": subprocess.PIPE, "stderr": subprocess.PIPE}
+            with started(words, **pipes) as child:
+                write_singly(open_to_write(path, child), sample.stdin)
+                output, message = child.communicate(timeout=SECONDS)
+        cases.check(f"{sample.command} of a pipe", (child.returncode, output, message), (0, sample.output, b""))
 
 
-def write_singly(path: str, content: bytes) -> None:
-    with open(path, "wb", buffering=0) as pipe:
-        for byte in content:
-            pipe.write(bytes([byte]))
+def write_singly(writer: int | None, content: bytes) -> None:
+    """Into a pipe that holds all of it; None stands for one that nobody reads."""
+    if writer is not None:
+        with open(writer, "wb", buffering=0) as pipe:
+            for byte in content:
+                pipe.write(bytes([byte]))
 
 
 def test_output_needed(cases: Cases) -> None:
@@ -105,9 +110,9 @@ def test_output_pipes(cases: Cases) -> None:
     for sample in with_output(cases):
         path = cases.path()
         os.mkfifo(path)
-        with subprocess.Popen(["cat", path], stdout=subprocess.PIPE) as reader:
-            cases.run(f"{sample.command} to a pipe", [*sample.words, "--output", path], sample.stdin)
-            cases.check(f"{sample.command}: what the pipe gave", reader.stdout.read(), sample.output)
+        reader = open_to_read(path)
+        cases.run(f"{sample.command} to a pipe", [*sample.words, "--output", path], sample.stdin)
+        cases.check(f"{sample.command}: what the pipe gave", read_to_end(reader), sample.output)
 
 
 def test_unwritable(cases: Cases) -> None:

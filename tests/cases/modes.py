@@ -9,6 +9,7 @@ from pathlib import Path
 from cases import NOBODY, Cases, answer_of, by_file, run_captured
 from cases.samples import Sample, samples
 from lib.file_events import IN_ATTRIB, IN_CLOSE_WRITE, IN_MODIFY, FileEvents
+from lib.processes import open_to_read, read_to_end
 from model.faults import Fault
 from model.vaults import MAGIC
 
@@ -98,9 +99,9 @@ def test_pipes(cases: Cases) -> None:
             path = cases.path()
             os.mkfifo(path)
             os.chmod(path, 0o644)
-            with subprocess.Popen(["cat", path], stdout=subprocess.PIPE) as reader:
-                done = under(cases, umask, sample, path)
-                output = reader.stdout.read()
+            reader = open_to_read(path)
+            done = under(cases, umask, sample, path)
+            output = read_to_end(reader)
             name = f"{sample.command} to a pipe under umask {umask}"
             cases.check(name, (done.returncode, output, done.stderr), (0, sample.output, b""))
             cases.check(f"{name}: mode", mode(path), oct(0o644))

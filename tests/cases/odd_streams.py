@@ -11,6 +11,7 @@ from pathlib import Path
 from cases import SECONDS, Cases, answer_of, by_file
 from cases.modes import OLD
 from cases.samples import Sample, samples
+from lib.processes import started
 from model.faults import Fault
 
 LARGE = 1 << 20
@@ -160,12 +161,13 @@ def test_terminal(cases: Cases) -> None:
         settings[3] &= ~termios.ECHO
         termios.tcsetattr(terminal, termios.TCSANOW, settings)
         os.write(controller, sample.stdin + END_OF_INPUT)
-        child = subprocess.Popen([cases.program, *sample.words], stdin=terminal, stdout=terminal, stderr=terminal)
-        os.close(terminal)
-        shown = all_shown(controller)
-        name = f"{sample.command} {sample.words[-1]} on a terminal"
-        status, text = (0, sample.output) if sample.output else (REFUSED.status, REFUSED.line)
-        cases.check(name, (child.wait(SECONDS), shown), (status, text.replace(b"\n", b"\r\n")))
+        streams = {"stdin": terminal, "stdout": terminal, "stderr": terminal}
+        with started([cases.program, *sample.words], **streams) as child:
+            os.close(terminal)
+            shown = all_shown(controller)
+            name = f"{sample.command} {sample.words[-1]} on a terminal"
+            status, text = (0, sample.output) if sample.output else (REFUSED.status, REFUSED.line)
+            cases.check(name, (child.wait(SECONDS), shown), (status, text.replace(b"\n", b"\r\n")))
 
 
 def all_shown(terminal: int) -> bytes:

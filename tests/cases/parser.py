@@ -5,6 +5,7 @@ import subprocess
 from cases import SECONDS, Cases
 from cases.texts import MISTAKES, PROGRAM, help_path, mistakes_path, stored_mistakes
 from lib.paths import version
+from lib.processes import started
 from model.faults import Fault
 from model.options import COMMON, OPTIONS
 
@@ -47,6 +48,6 @@ def test_not_utf8(cases: Cases) -> None:
 
 def test_endless_pipe(cases: Cases) -> None:
     """An invalid command line reads no input."""
-    child = subprocess.Popen([cases.program, "view", "--loud"], stdin=subprocess.PIPE, stderr=subprocess.DEVNULL)
-    cases.check("no input is asked for", child.wait(SECONDS), 2)
-    child.stdin.close()
+    streams = {"stdin": subprocess.PIPE, "stderr": subprocess.DEVNULL}
+    with started([cases.program, "view", "--loud"], **streams) as child:
+        cases.check("no input is asked for", child.wait(SECONDS), 2)

@@ -1,11 +1,13 @@
 """Standard streams that fail, end early or are without end."""
 
 import os
+import select
 import subprocess
 import tempfile
 
 from cases import SECONDS, TEXT, Cases, by_file, run_captured
 from cases.samples import Sample, samples
+from lib.processes import started
 from model.faults import Fault
 from model.vaults import ENVELOPE_LIMIT, HEADER, PLAINTEXT_LIMIT, seal
 
@@ -92,15 +94,12 @@ def test_full_standard_error(cases: Cases) -> None:
 def test_single_bytes(cases: Cases) -> None:
     """Input from a pipe into which each byte is written alone."""
     for sample in samples(cases):
-        child = subprocess.Popen(
-            [cases.program, *sample.words], stdin=subprocess.PIPE, stdout=subprocess.PIPE, bufsize=0
-        )
-        for byte in sample.stdin:
-            child.stdin.write(bytes([byte]))
-        child.stdin.close()
-        output = child.stdout.read()
-        child.stdout.close()
-        cases.check(f"{sample.command}, single bytes", (child.wait(SECONDS), output), (0, sample.output))
+        pipes = {"stdin": subprocess.PIPE, "stdout": subprocess.PIPE}
+        with started([cases.program, *sample.words], **pipes, bufsize=0) as child:
+            for byte in sample.stdin:
+                child.stdin.write(bytes([byte]))
+            output, _ = child.communicate(timeout=SECONDS)
+        cases.check(f"{sample.command}, single bytes", (child.returncode, output), (0, sample.output))
 
 
 def test_leaving_reader(cases: Cases) -> None:
@@ -109,13 +108,13 @@ def test_leaving_reader(cases: Cases) -> None:
         with tempfile.TemporaryFile() as stdin:
             stdin.write(sample.stdin)
             stdin.seek(0)
-            child = subprocess.Popen(
-                [cases.program, *sample.words], stdin=stdin, stdout=subprocess.PIPE, stderr=subprocess.PIPE, bufsize=0
-            )
-            cases.check(f"{sample.command}, a reader that leaves: first byte", child.stdout.read(1), sample.output[:1])
-            child.stdout.close()
-            message = child.stderr.read()
-            child.stderr.close()
+            pipes = {"stdin": stdin, "stdout": subprocess.PIPE, "stderr": subprocess.PIPE}
+            with started([cases.program, *sample.words], **pipes, bufsize=0) as child:
+                has_begun, _, _ = select.select([child.stdout], [], [], SECONDS)
+                first = child.stdout.read(1) if has_begun else b""
+                cases.check(f"{sample.command}, a reader that leaves: first byte", first, sample.output[:1])
+                child.stdout.close()
+                _, message = child.communicate(timeout=SECONDS)
             cases.check(
-                f"{sample.command}, a reader that leaves", (child.wait(SECONDS), message), (3, Fault.NOT_WRITTEN.line)
+                f"{sample.command}, a reader that leaves", (child.returncode, message), (3, Fault.NOT_WRITTEN.line)
             )

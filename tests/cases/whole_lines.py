@@ -3,12 +3,14 @@
 A pipe of packets keeps what each write gave apart.
 """
 
+import contextlib
 import fcntl
 import os
 import subprocess
 
 from cases import SECONDS, TEXT, Cases, answer_of, by_file, by_id, run_captured
 from cases.samples import samples
+from lib.processes import read_to_end, started
 from lib.resident import wait_for_sleep
 from model.faults import Fault
 from model.vaults import seal
@@ -60,15 +62,16 @@ def test_refused_beside(cases: Cases) -> None:
     for number in range(ROUNDS):
         stdin, to_end = os.pipe()
         reader, stderr = os.pipe()
-        children = [subprocess.Popen([cases.program, "view"], stdin=stdin, stderr=stderr) for _ in range(BESIDE)]
-        os.close(stdin)
-        os.close(stderr)
-        for child in children:
-            wait_for_sleep(child.pid)
-        os.close(to_end)
-        with open(reader, "rb") as pipe:
-            lines = pipe.read().splitlines(keepends=True)
-        statuses = [child.wait(SECONDS) for child in children]
+        with contextlib.ExitStack() as running:
+            runs = [started([cases.program, "view"], stdin=stdin, stderr=stderr) for _ in range(BESIDE)]
+            children = [running.enter_context(run) for run in runs]
+            os.close(stdin)
+            os.close(stderr)
+            for child in children:
+                wait_for_sleep(child.pid)
+            os.close(to_end)
+            statuses = [child.wait(SECONDS) for child in children]
+        lines = read_to_end(reader).splitlines(keepends=True)
         wanted = [fault.status] * BESIDE, [fault.line] * BESIDE
         cases.check(f"runs beside each other, round {number}", (statuses, lines), wanted)
 

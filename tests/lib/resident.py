@@ -13,11 +13,10 @@ from pathlib import Path
 from typing import NamedTuple
 
 from lib.limits import SECONDS
+from lib.processes import PAUSE, started
 
 PIPE_SIZE = 4096
 CHUNK_SIZE = 1 << 16
-# The polling interval in seconds.
-PAUSE = 0.001
 
 
 class Run(NamedTuple):
@@ -67,13 +66,13 @@ def run(command: list[str], text: bytes, path: str | None) -> Run:
     """The run with the file at the path as its standard input, or with the text through a pipe."""
     reader, writer, filler_length = full_pipe()
     stdin = open(path, "rb") if path else subprocess.PIPE
-    child = subprocess.Popen(command, stdin=stdin, stdout=writer, stderr=subprocess.DEVNULL)
-    os.close(writer)
-    if path:
-        stdin.close()
-    else:
-        child.stdin.write(text)
-        child.stdin.close()
-    wait_for_sleep(child.pid)
-    output, resident = drain(reader, child.pid)
-    return Run(child.wait(), output[filler_length:], resident)
+    with started(command, stdin=stdin, stdout=writer, stderr=subprocess.DEVNULL) as child:
+        os.close(writer)
+        if path:
+            stdin.close()
+        else:
+            child.stdin.write(text)
+            child.stdin.close()
+        wait_for_sleep(child.pid)
+        output, resident = drain(reader, child.pid)
+        return Run(child.wait(SECONDS), output[filler_length:], resident)

@@ -1,0 +1,54 @@
+"""Processes that do not outlive their test, and named pipes that wait for nobody."""
+
+import contextlib
+import errno
+import os
+import subprocess
+import time
+from collections.abc import Iterator
+
+from lib.limits import SECONDS
+
+# The polling interval in seconds.
+PAUSE = 0.001
+
+
+@contextlib.contextmanager
+def started(words, **options) -> Iterator[subprocess.Popen]:
+    """A process that is killed at the end, if it still runs."""
+    process = subprocess.Popen(words, **options)
+    try:
+        yield process
+    finally:
+        process.kill()
+        process.wait(SECONDS)
+        for stream in filter(None, (process.stdin, process.stdout, process.stderr)):
+            with contextlib.suppress(BrokenPipeError):
+                stream.close()
+
+
+def open_to_read(path: str) -> int:
+    """The reading end of a named pipe, which needs no writer."""
+    return os.open(path, os.O_RDONLY | os.O_NONBLOCK)
+
+
+def read_to_end(reader: int) -> bytes:
+    """What is in a pipe into which nobody writes any more; closes it."""
+    with open(reader, "rb") as pipe:
+        return pipe.read()
+
+
+def open_to_write(path: str, process: subprocess.Popen) -> int | None:
+    """The writing end of a named pipe, once the process has opened it to read; None if the process ends before."""
+    end = time.monotonic() + SECONDS
+    while time.monotonic() < end:
+        has_ended = process.poll() is not None
+        try:
+            return os.open(path, os.O_WRONLY | os.O_NONBLOCK)
+        except OSError as error:
+            if error.errno != errno.ENXIO:
+                raise
+        if has_ended:
+            return None
+        time.sleep(PAUSE)
+    raise TimeoutError(f"process {process.pid} does not open {path}")
