@@ -18,6 +18,7 @@ import pytest
 
 from cases import Cases
 from companion_cases import Companions
+from lib.locales import use_plain_locale
 from lib.outcome import Outcome
 from lib.paths import ROOT
 from lib.signals import heed_signals
@@ -38,6 +39,7 @@ def pytest_addoption(parser: pytest.Parser) -> None:
 
 def pytest_sessionstart(session: pytest.Session) -> None:
     heed_signals()
+    use_plain_locale()
     # The files of a test are read by everybody, whatever the caller's own are.
     os.umask(0o022)
     program = session.config.getoption("--program")

@@ -1,6 +1,5 @@
-"""Shows that tests name what they leave out where a tool is missing, and that they fail where all is required.
-
-Each runs with all programs of PATH but some.
+"""Shows that tests name what they leave out where a tool is missing, and that they fail where all is required; that
+Ansible's tool is found in each locale and under each of its names, and that one that fails is not taken for missing.
 """
 
 import os
@@ -12,6 +11,7 @@ from typing import NamedTuple
 
 import pytest
 
+from lib.ansible import ansible_vault
 from lib.outcome import Outcome
 from lib.paths import ROOT
 
@@ -51,11 +51,12 @@ RUNS = [
 
 def link_programs(folder: Path, without: list[str]) -> None:
     """Links to all programs of PATH but these; `python3` is that which runs this test."""
+    hidden = {*without, *(f"{tool}-original" for tool in without)}
     (folder / "python3").symlink_to(sys.executable)
     for place in os.environ["PATH"].split(os.pathsep):
         for program in Path(place).iterdir() if os.path.isdir(place) else []:
             link = folder / program.name
-            if program.name not in without and not link.is_symlink():
+            if program.name not in hidden and not link.is_symlink():
                 link.symlink_to(program)
 
 
@@ -90,3 +91,66 @@ def test_missing_tools(outcome: Outcome, tmp_path: Path, program: str, run: Limi
     command = command_of(run, program)
     check_run(outcome, command, tmp_path, False)
     check_run(outcome, command, tmp_path, True)
+
+
+# As Ansible's tool does in a locale that is not UTF-8, and as it says what it is.
+STRICT = "case $LC_ALL in *UTF-8) ;; *) echo 'the locale encoding has to be UTF-8' >&2; exit 1 ;; esac; "
+THEIRS = "echo 'ansible-vault [core 2.14.18]'"
+OURS = "echo 'ansible-vault 0.3.0'"
+
+
+@pytest.fixture
+def only_tools(tmp_path: Path, monkeypatch: pytest.MonkeyPatch):
+    """Makes scripts of these names and lines the only tools on PATH."""
+
+    def make(**scripts: str) -> dict[str, Path]:
+        paths = {name: tmp_path / name.replace("_", "-") for name in scripts}
+        for name, path in paths.items():
+            path.write_text(f"#!/bin/sh\n{scripts[name]}\n")
+            path.chmod(0o755)
+        return paths
+
+    monkeypatch.setenv("PATH", str(tmp_path))
+    monkeypatch.delenv("ANSIBLE_VAULT", raising=False)
+    return make
+
+
+def test_ansible_in_another_locale(only_tools, monkeypatch: pytest.MonkeyPatch) -> None:
+    monkeypatch.setenv("LC_ALL", "C")
+    tools = only_tools(ansible_vault=STRICT + THEIRS)
+    assert ansible_vault() == str(tools["ansible_vault"])
+
+
+def test_ansible_behind_our_package(only_tools) -> None:
+    tools = only_tools(ansible_vault=OURS, ansible_vault_original=THEIRS)
+    assert ansible_vault() == str(tools["ansible_vault_original"])
+
+
+def test_no_ansible(only_tools) -> None:
+    only_tools(ansible_vault=OURS)
+    assert ansible_vault() is None
+
+
+def test_ansible_that_fails(only_tools, monkeypatch: pytest.MonkeyPatch) -> None:
+    only_tools(ansible_vault="echo 'no module named ansible' >&2; exit 1")
+    with pytest.raises(RuntimeError, match="no module named ansible"):
+        ansible_vault()
+
+
+def test_another_tool_named_as_ansible(only_tools, monkeypatch: pytest.MonkeyPatch) -> None:
+    tools = only_tools(ansible_vault=OURS)
+    monkeypatch.setenv("ANSIBLE_VAULT", str(tools["ansible_vault"]))
+    with pytest.raises(RuntimeError, match="not of Ansible's core"):
+        ansible_vault()
+
+
+@pytest.mark.skipif(ansible_vault() is None, reason="Ansible's own ansible-vault is not installed")
+def test_nothing_is_left_out_in_another_locale(program: str) -> None:
+    run = LimitedRun(["with_ansible.py"], [], "fixed_salt")
+    environment = os.environ | {"LC_ALL": "C", "LANG": "C", "REQUIRE_ALL": ""}
+    for variable in ("PYTEST_ADDOPTS", "PYTEST_XDIST_WORKER"):
+        environment.pop(variable, None)
+    command = command_of(run, program)
+    command[1:1] = ["-X", "utf8"]
+    done = subprocess.run(command, capture_output=True, text=True, env=environment, cwd=ROOT)
+    assert re.search(r"^pytest: [1-9]\d* passed, 0 failed, 0 skipped$", done.stdout, re.MULTILINE), done.stdout

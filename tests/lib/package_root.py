@@ -43,9 +43,11 @@ def later(package: Path, folder: Path, version: str) -> Path:
 def build_package(top: Path, folder: Path, control: str) -> Path:
     (top / "DEBIAN").mkdir(exist_ok=True)
     (top / "DEBIAN/control").write_text(control)
-    command = ["dpkg-deb", "--root-owner-group", "-b", str(top), str(folder)]
-    output = subprocess.run(command, check=True, capture_output=True, text=True).stdout
-    return Path(re.search(r"'([^']+\.deb)'", output)[1])
+    fields = dict(re.findall(r"^(Package|Version): (.*)$", control, re.MULTILINE))
+    package = folder / f"{fields['Package']}_{fields['Version']}.deb"
+    command = ["dpkg-deb", "--root-owner-group", "-b", str(top), str(package)]
+    subprocess.run(command, check=True, capture_output=True)
+    return package
 
 
 class Root:
