@@ -4,6 +4,7 @@ import ctypes
 import itertools
 import os
 import resource
+import shutil
 import subprocess
 from pathlib import Path
 
@@ -12,7 +13,7 @@ from cases.files import to_output, with_files
 from cases.modes import with_output
 from cases.samples import Sample, samples
 from model.faults import Fault
-from model.vaults import seal
+from model.vaults import seal, yaml_block
 
 KIB = 1 << 10
 NOT_UTF8 = b"error: an argument is not UTF-8\n"
@@ -20,10 +21,6 @@ LOCALES = ["", "C", "POSIX", "C.UTF-8", "tr_TR.UTF-8", "xx_YY.no-such", "/", "\u
 LOCALE_NAMES = ["LANG", "LC_ALL", "LC_CTYPE", "LC_MESSAGES", "LANGUAGE"]
 # What other programs read: this one's answers are the same.
 NOT_READ = {
-    "ANSIBLE_VAULT_PASSWORD_FILE": "/dev/null",
-    "ANSIBLE_VAULT_IDENTITY_LIST": "dev@/dev/null",
-    "ANSIBLE_VAULT_ENCRYPT_IDENTITY": "dev",
-    "ANSIBLE_CONFIG": "/dev/null",
     "CLICOLOR_FORCE": "1",
     "COLORTERM": "truecolor",
     "TERM": "xterm-256color",
@@ -31,6 +28,19 @@ NOT_READ = {
     "RUST_BACKTRACE": "full",
     "TZ": "Nowhere/Never",
 }
+# What Ansible's tool takes where the command line has no secret, choice or salt; `{right}` is a password file.
+OF_ANSIBLE = {
+    "ANSIBLE_VAULT_PASSWORD_FILE": "{right}",
+    "ANSIBLE_VAULT_IDENTITY": "dev",
+    "ANSIBLE_VAULT_IDENTITY_LIST": "dev@{right}",
+    "ANSIBLE_VAULT_ENCRYPT_IDENTITY": "dev",
+    "ANSIBLE_VAULT_ENCRYPT_SALT": "a salt of the environment",
+    "ANSIBLE_VAULT_ID_MATCH": "True",
+    "ANSIBLE_CONFIG": "{config}",
+}
+CONFIG = "[defaults]\nvault_password_file = {right}\nvault_id_match = True\n"
+# The calls of the C library by which a program reads its environment.
+READERS = {"getenv", "secure_getenv", "environ", "__environ", "_environ"}
 # Files that may be open at once, standard streams too: the fewest under which a program starts, and the
 # fewest under which every run ends well.
 STARTS, ENOUGH = 4, 5
@@ -86,13 +96,36 @@ def test_names_of_files(cases: Cases) -> None:
         cases.check(f"{sample.command}: no file of that name", os.path.exists(path), False)
 
 
+def variables_of_ansible(cases: Cases) -> dict[str, str]:
+    right = cases.file(b"right\n")
+    config = cases.file(CONFIG.format(right=right).encode())
+    return {name: value.format(right=right, config=config) for name, value in OF_ANSIBLE.items()}
+
+
+def runs_that_lack_something(cases: Cases) -> list[tuple]:
+    """Runs for which Ansible's tool would take a secret, a choice or a setting from its variables."""
+    right, vault = cases.file(b"right\n"), seal(b"right", TEXT, b"dev")
+    no_new = ["rekey", *by_file(right)]
+    return [
+        (["view"], vault, refusal(Fault.NO_SECRET_FITS)),
+        (["decrypt"], vault, refusal(Fault.NO_SECRET_FITS)),
+        (["rekey", "--new-vault-password-file", right], vault, refusal(Fault.NO_SECRET_FITS)),
+        (no_new, vault, refusal(Fault.NEED_NEW_SECRET)),
+        (["encrypt"], TEXT, refusal(Fault.NO_ENCRYPT_SECRET)),
+        (["encrypt_string"], TEXT, refusal(Fault.NO_ENCRYPT_SECRET)),
+        (["encrypt", *by_id(right, "dev"), *by_id(right, "prod")], TEXT, refusal(Fault.MANY_ENCRYPT_SECRETS)),
+        (["view", *by_id(right, "prod")], vault, (0, TEXT, b"")),
+    ]
+
+
 def test_environments(cases: Cases) -> None:
     """No variable is read."""
-    settings = [{}, dict.fromkeys(LOCALE_NAMES, ""), NOT_READ]
+    settings = [{}, dict.fromkeys(LOCALE_NAMES, ""), NOT_READ | variables_of_ansible(cases)]
     settings += [dict.fromkeys(LOCALE_NAMES, locale) for locale in LOCALES]
     runs = [(sample.words, sample.stdin, (0, sample.output, b"")) for sample in samples(cases)]
     fault = Fault.NO_SECRET_FITS
     runs.append((["view", *by_file(cases.file(b"wrong\n"))], seal(b"right", TEXT), refusal(fault)))
+    runs += runs_that_lack_something(cases)
     for words in (["--help"], ["rekey", "--help"], ["view", "--loud"], ["größe"], []):
         usual = cases.done(words)
         runs.append((words, b"", (usual.returncode, usual.stdout, usual.stderr)))
@@ -100,6 +133,29 @@ def test_environments(cases: Cases) -> None:
         done = cases.done(words, stdin, env=given)
         name = f"{words[:1]} with {' '.join(f'{name}={value}' for name, value in given.items())!r:.100}"
         cases.check(name, answer_of(done), wanted)
+
+
+def test_salt_in_the_environment(cases: Cases) -> None:
+    variables, right = variables_of_ansible(cases), cases.file(b"right\n")
+    taken = seal(b"right", TEXT, salt=variables["ANSIBLE_VAULT_ENCRYPT_SALT"].encode())
+    runs = [
+        (["encrypt", *by_file(right)], TEXT, taken),
+        (["encrypt_string", *by_file(right)], TEXT, yaml_block(taken)),
+        (["rekey", *by_file(right), "--new-vault-password-file", right], seal(b"right", TEXT), taken),
+    ]
+    for words, stdin, wrong in runs:
+        done = cases.done(words, stdin, env=variables)
+        cases.check(f"{words[0]}: the end", (done.returncode, done.stderr), (0, b""))
+        cases.holds(f"{words[0]}: another salt", done.stdout != wrong)
+
+
+def test_calls_that_read_variables(cases: Cases) -> None:
+    if shutil.which("nm") is None:
+        return cases.skip("the calls that read variables", "nm is not installed (Debian's package binutils)")
+    listed = run_captured(["nm", "--dynamic", "--format=posix", cases.program], check=True).stdout.decode()
+    names = {line.split()[0].partition("@")[0] for line in listed.splitlines()}
+    cases.holds("the program's calls are listed", "open" in names, sorted(names))
+    cases.check("none of them reads a variable", names & READERS, set())
 
 
 def run_under(cases: Cases, limit: int, amount: int, words: list[str], stdin: bytes) -> tuple:
