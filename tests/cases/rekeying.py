@@ -14,6 +14,7 @@ def test_rekeyed(cases: Cases) -> None:
     right, new = cases.file(b"right\n"), cases.file(b" new one\n")
     runs = [
         ("a new vault id", ["--new-vault-id", f"prod@{new}"], b"new one", b"prod"),
+        ("a new label with capitals", ["--new-vault-id", f"Prod@{new}"], b"new one", b"Prod"),
         ("a new vault id without a label", ["--new-vault-id", new], b"new one", b""),
         ("a new vault id with nothing before @", ["--new-vault-id", f"@{new}"], b"new one", b""),
         ("a new password file", ["--new-vault-password-file", new], b"new one", b""),

@@ -1,8 +1,10 @@
-"""`encrypt` and `encrypt_string`: sizes, salts, labels, and what both refuse."""
+"""`encrypt` and `encrypt_string`: sizes, salts, also that of `rekey`, labels, and what both refuse."""
 
 import os
+import shutil
 
-from cases import TEXT, Cases, by_file, by_id
+from cases import TEXT, Cases, answer_of, by_file, by_id
+from lib.preloaded import build_library
 from model.faults import Fault
 from model.vaults import ENVELOPE, HEADER, MAGIC, PLAINTEXT_LIMIT, SALT, seal, yaml_block
 
@@ -112,6 +114,24 @@ def test_two_runs(cases: Cases) -> None:
         cases.decrypts("a vault with a salt of its own", right, vault, TEXT)
 
 
+def test_bytes_of_the_salt(cases: Cases) -> None:
+    """All 32 are those of /dev/urandom, for which a library that is loaded before the program's opens a file."""
+    if shutil.which("cc") is None:
+        return cases.skip("the bytes of a salt", "no C compiler is installed (Debian's package gcc)")
+    library = build_library(str(cases.folder), "known_random")
+    right, known = cases.file(b"right\n"), bytes(range(200, 232))
+    variables = {"LD_PRELOAD": library, "KNOWN_RANDOM": cases.file(known + b"more")}
+    vault = seal(RIGHT, TEXT, salt=known)
+    runs = [
+        (["encrypt", *by_file(right)], TEXT, vault),
+        (["encrypt_string", *by_file(right)], TEXT, yaml_block(vault)),
+        (["rekey", *by_file(right), "--new-vault-password-file", right], seal(RIGHT, TEXT), vault),
+    ]
+    for words, stdin, wanted in runs:
+        done = cases.done(words, stdin, env=variables)
+        cases.check(f"{words[0]}: the bytes of the salt", answer_of(done), (0, wanted, b""))
+
+
 def test_choices(cases: Cases) -> None:
     one, two = cases.file(b"right\n"), cases.file(b"two\n")
     both = by_id(one, "dev") + by_id(two, "prod")
@@ -124,6 +144,11 @@ def test_choices(cases: Cases) -> None:
         ("the default label", [*both, *by_file(two), "--encrypt-vault-id", "default"], b"two", b""),
         ("default as a label", by_id(one, "default"), RIGHT, b""),
         ("a label with signs", by_id(one, "a b~!#"), RIGHT, b"a b~!#"),
+        ("a label with capitals", by_id(one, "Prod"), RIGHT, b"Prod"),
+        (
+            "labels that differ in a capital", [*by_id(two, "prod"), *by_id(one, "Prod"), "--encrypt-vault-id", "Prod"],
+            RIGHT, b"Prod",
+        ),
         ("a label of 128 bytes", by_id(one, "a" * 128), RIGHT, b"a" * 128),
     ]
     refused = [
