@@ -397,6 +397,38 @@ class Beside:
         self.outcome.check("purged: unknown to dpkg", self.root.dpkg("-s", "ansible-vault").returncode, 1)
         self.do("removal of Ansible", "-P", "ansible-core")
 
+    def check_failed_unpacking(self):
+        """A package has a file that ours has, too: ours cannot be unpacked, and leaves all as it was."""
+        self.do("Ansible", "-i", self.theirs("2.14"))
+        taken = "usr/lib/ansible-vault/ansible-vault-check"
+        self.do("a package in the way", "-i", str(stand_in(self.folder, "in-the-way", "1", {taken: "taken\n"})))
+        done = self.root.dpkg("-i", str(self.package))
+        outcome = self.outcome
+        outcome.holds("a package with a file that is taken is refused", done.returncode != 0)
+        outcome.holds("and dpkg says why", f"trying to overwrite '/{taken}'" in done.stderr, done.stderr)
+        self.check_theirs("unpacking failed")
+        outcome.check("unpacking failed: the file stays", self.root.read(taken), "taken\n")
+        status = self.root.dpkg("-s", "ansible-vault").stdout
+        outcome.holds("unpacking failed: dpkg says so", " not-installed\n" in status, status)
+        self.do("removal of what was in the way", "-P", "in-the-way")
+        self.do("our package", "-i", str(self.package))
+        self.check_both("installed after a failure")
+        self.check_failed_upgrade()
+        self.do("purge", "-P", "ansible-vault")
+        self.check_theirs("purged after failures")
+        self.do("removal of Ansible", "-P", "ansible-core")
+
+    def check_failed_upgrade(self):
+        """A later version of ours has a file of a third package: the version that is installed stays as it was."""
+        taken = "usr/share/in-the-way"
+        self.do("a package in the way", "-i", str(stand_in(self.folder, "in-the-way", "2", {taken: "taken\n"})))
+        upgrade = later(self.package, self.folder, VERSION + "+in-the-way", {taken: "ours\n"})
+        done = self.root.dpkg("-i", str(upgrade))
+        self.outcome.holds("an upgrade with a file that is taken fails", done.returncode != 0)
+        self.check_both("upgrade failed")
+        self.outcome.check("upgrade failed: the file stays", self.root.read(taken), "taken\n")
+        self.do("removal of what was in the way", "-P", "in-the-way")
+
     def check_theirs_behind_ours(self):
         self.do("our package", "-i", str(self.package))
         self.do("Ansible", "-i", self.theirs("2.14"))
@@ -434,4 +466,5 @@ def test_package(outcome: Outcome, tmp_path: pathlib.Path, package: pathlib.Path
         return outcome.skip("the package beside Ansible's", "a root of its own takes the rights of root")
     beside = Beside(outcome, package, tmp_path)
     beside.check_ours_behind_theirs()
+    beside.check_failed_unpacking()
     beside.check_theirs_behind_ours()

@@ -24,18 +24,23 @@ def stand_in(folder: Path, name: str, version: str, files: dict[str, str]) -> Pa
     with tempfile.TemporaryDirectory() as path:
         top = Path(path)
         top.chmod(0o755)
-        for file, content in files.items():
-            (top / file).parent.mkdir(parents=True, exist_ok=True)
-            (top / file).write_text(content)
-            (top / file).chmod(0o755)
+        write_files(top, files)
         return build_package(top, folder, CONTROL.format(name=name, version=version))
 
 
-def later(package: Path, folder: Path, version: str) -> Path:
-    """The same package in another version."""
+def write_files(top: Path, files: dict[str, str]) -> None:
+    for file, content in files.items():
+        (top / file).parent.mkdir(parents=True, exist_ok=True)
+        (top / file).write_text(content)
+        (top / file).chmod(0o755)
+
+
+def later(package: Path, folder: Path, version: str, files: dict[str, str] | None = None) -> Path:
+    """The same package in another version, with these files, too."""
     with tempfile.TemporaryDirectory() as path:
         top = Path(path) / "package"
         subprocess.run(["dpkg-deb", "-R", str(package), str(top)], check=True)
+        write_files(top, files or {})
         control = (top / "DEBIAN/control").read_text()
         return build_package(top, folder, re.sub(r"^Version: .*$", f"Version: {version}", control, flags=re.MULTILINE))
 
