@@ -5,9 +5,11 @@ The options of the program are compared in `options_agree`.
 """
 
 import pathlib
+import shutil
 
 import pytest
 
+import shells
 from lib.option_sets import companion_options, page_sets
 from lib.outcome import Outcome
 from lib.paths import COMPANIONS
@@ -56,6 +58,25 @@ def test_program(outcome: Outcome, name: str, folder: pathlib.Path) -> None:
         outcome.check(f"{name} offers files for `{words}`", ask(words), {wanted})
     for words in NO_FILES:
         outcome.check(f"{name} offers nothing for `{words}`", ask(words), set())
+
+
+@pytest.fixture
+def spaced(tmp_path: pathlib.Path, monkeypatch: pytest.MonkeyPatch) -> None:
+    """The completions, and what asks the shells, lie below a path with a space."""
+    for name in ("HERE", "COMPLETIONS"):
+        copy = tmp_path / "a checkout" / name.lower()
+        shutil.copytree(getattr(shells, name), copy)
+        monkeypatch.setattr(shells, name, copy)
+
+
+@pytest.mark.parametrize("name", SHELLS)
+def test_checkout_with_a_space(outcome: Outcome, name: str, folder: pathlib.Path, spaced: None) -> None:
+    needs_shell(name)
+    outcome.check(f"{name} offers files", SHELLS[name]("ansible-vault view on", folder), {"one.pass", "one.yml"})
+
+
+def test_typed_with_a_space(outcome: Outcome, folder: pathlib.Path, spaced: None) -> None:
+    outcome.check("bash on a terminal completes a command", typed_in_bash("encrypt_s", folder), ["encrypt_string"])
 
 
 # The same for the companions.

@@ -4,6 +4,7 @@ import os
 import pathlib
 import pty
 import select
+import shlex
 import shutil
 import subprocess
 import tempfile
@@ -82,7 +83,7 @@ def typed_in_bash(line: str, folder: pathlib.Path, alias: str = ":") -> list[str
     )
     body = "{ printf 'got'; printf '<%s>' \"$@\"; echo .; }"
     definitions = f"{NAME}() {body}; {NAME}-with() {body}; {alias}"
-    setup = f"bind 'set bell-style none'; source {COMPLETIONS / NAME}.bash; {definitions}"
+    setup = f"bind 'set bell-style none'; source {shlex.quote(f'{COMPLETIONS / NAME}.bash')}; {definitions}"
     os.close(terminal)
     os.write(controller, f"{setup}\n{NAME} {line}\t\nexit\n".encode())
     shown = all_shown(controller).decode()
