@@ -1,5 +1,7 @@
 PREFIX ?= /usr/local
 DESTDIR ?=
+# The program that is tested and installed; one that is named is not built.
+PROGRAM := bin/ansible-vault
 # The processor that the program is built for, as x86-64-v3; by default that of the last build, at first x86-64-v2.
 CPU ?= $(shell cat bin/processor 2> /dev/null)
 # What `make install` may replace besides its own files, where this is yes: whatever stands at their paths.
@@ -17,13 +19,21 @@ LIBRARY := lib/ansible-vault
 PAGES := share/man/man1
 BASH_FOLDER := share/bash-completion/completions
 FISH_FOLDER := share/fish/vendor_completions.d
-ZSH_FOLDER := share/zsh/$(if $(filter /usr,$(PREFIX)),vendor-completions,site-functions)
+ifeq ($(PREFIX),/usr)
+ZSH_FOLDER := share/zsh/vendor-completions
+else
+ZSH_FOLDER := share/zsh/site-functions
+endif
 DOCUMENTS := share/doc/ansible-vault
-INSTALLED := bin/ansible-vault $(MANUALS:man/%=$(PAGES)/%) $(BASH_FOLDER)/ansible-vault \
-	$(FISH_FOLDER)/ansible-vault.fish $(ZSH_FOLDER)/_ansible-vault \
-	$(DOCUMENTS)/README.md $(DOCUMENTS)/coming-from-ansible.md $(DOCUMENTS)/workflows.md \
-	$(COMPANIONS:%=$(LIBRARY)/ansible-vault-%) \
-	$(patsubst companions/%,$(LIBRARY)/%,$(wildcard companions/ansible_vault_companions/*.py))
+# Each with its source, after the colon. The documents lie as they do here, for their links.
+INSTALLED := bin/ansible-vault:$(PROGRAM) $(foreach page,$(MANUALS),$(page:man/%=$(PAGES)/%):$(page)) \
+	$(BASH_FOLDER)/ansible-vault:completions/ansible-vault.bash \
+	$(FISH_FOLDER)/ansible-vault.fish:completions/ansible-vault.fish \
+	$(ZSH_FOLDER)/_ansible-vault:completions/ansible-vault.zsh \
+	$(foreach page,README.md CHANGELOG.md CONTRIBUTING.md LICENSE tests/README.md $(sort $(wildcard docs/*)),\
+		$(DOCUMENTS)/$(page):$(page)) \
+	$(foreach name,$(COMPANIONS),$(LIBRARY)/ansible-vault-$(name):companions/ansible-vault-$(name)) \
+	$(foreach file,$(wildcard companions/ansible_vault_companions/*.py),$(file:companions/%=$(LIBRARY)/%):$(file))
 # Each with what it leads to, after the colon.
 LINKS := $(foreach name,$(COMPANIONS),\
 	bin/ansible-vault-$(name):../$(LIBRARY)/ansible-vault-$(name) \
@@ -40,9 +50,9 @@ PYTEST_PROCESSES ?= 4
 TESTS := failed_allocations_in_memory outcomes fuzz with_valgrind faults failed_allocations lint
 
 .DELETE_ON_ERROR:
-.PHONY: all check mutants test fuzz faults bench install replaceable uninstall package lint clean FORCE $(TESTS:%=test-%)
+.PHONY: all check mutants test fuzz faults bench install uninstall portable package lint clean FORCE $(TESTS:%=test-%)
 
-all: bin/ansible-vault
+all: $(PROGRAM)
 
 # Proves the program and the crates that it stands on, and builds it.
 bin/ansible-vault: $(SOURCES) bin/processor
@@ -117,33 +127,25 @@ bench: all
 	bench/counter_mode.py
 	bench/key_derivation.py
 
-install: all replaceable
-	install -D -m 0755 bin/ansible-vault $(TOP)/bin/ansible-vault
-	install -D -m 0644 completions/ansible-vault.bash $(TOP)/$(BASH_FOLDER)/ansible-vault
-	install -D -m 0644 completions/ansible-vault.zsh $(TOP)/$(ZSH_FOLDER)/_ansible-vault
-	install -D -m 0644 completions/ansible-vault.fish $(TOP)/$(FISH_FOLDER)/ansible-vault.fish
-	install -d $(TOP)/$(PAGES) $(TOP)/$(DOCUMENTS) $(TOP)/$(LIBRARY)/ansible_vault_companions
-	install -m 0644 $(MANUALS) $(TOP)/$(PAGES)
-	install -m 0644 README.md docs/coming-from-ansible.md docs/workflows.md $(TOP)/$(DOCUMENTS)
-	install -m 0644 companions/ansible_vault_companions/*.py $(TOP)/$(LIBRARY)/ansible_vault_companions
-	install -m 0755 $(COMPANIONS:%=companions/ansible-vault-%) $(TOP)/$(LIBRARY)
-	@for link in $(LINKS); do ln -sf $${link#*:} $(TOP)/$${link%:*} || exit 1; done
-	@cd $(TOP) && sha256sum $(INSTALLED) >> $(SUMS)
+# Refuses to overwrite a file of another program.
+install: all
+	@tools/installed install "$(TOP)" $(SUMS) "$(FORMER_LINKS)" $(REPLACE) $(INSTALLED) -- $(LINKS)
 	@$(if $(DESTDIR),,echo "Type next: hash -r; ansible-vault --version")
-
-# Refuses to install where a file of another program would be overwritten.
-replaceable:
-	@tools/installed replaceable $(TOP) $(SUMS) "$(FORMER_LINKS)" $(REPLACE) $(INSTALLED) -- $(LINKS)
 
 # Removes what is as it was installed, and lists the rest.
 uninstall:
-	@tools/installed uninstall $(TOP) $(SUMS) "$(FORMER_LINKS)" $(LINKS)
-	@rmdir --ignore-fail-on-non-empty \
-		$(TOP)/$(DOCUMENTS) $(TOP)/$(LIBRARY)/ansible_vault_companions $(TOP)/$(LIBRARY)
+	@tools/installed uninstall "$(TOP)" $(SUMS) "$(FORMER_LINKS)" $(LINKS)
+
+# Fails where the program is built for a newer processor than a package may need.
+portable:
+	@[ -z "$(CPU)" ] || { \
+		echo "bin/ansible-vault is built for $(CPU), and a package is for all processors: make CPU= package" >&2; \
+		exit 1; \
+	}
 
 # The Debian package of the program and its companions, in bin/. It is built in a copy,
 # so that what debhelper writes does not lie among the sources.
-package: all
+package: portable all
 	@rm -rf bin/package && mkdir -p bin/package/source
 	@tar --create --exclude=.git --exclude=out --exclude=./bin/package --exclude='*.deb' . \
 		| tar --extract --directory=bin/package/source

@@ -1,0 +1,67 @@
+"""What is installed: the files, and whether they work where they lie."""
+
+import os
+import pathlib
+import subprocess
+
+from lib.outcome import Outcome
+from lib.paths import FIXTURES, ROOT, version
+
+VERSION = version()
+
+COMPANIONS = {each.name for each in (ROOT / "companions").glob("ansible-vault-*")}
+SHARED = {each.name for each in (ROOT / "companions/ansible_vault_companions").glob("*.py")}
+NAMES = {"ansible-vault", *COMPANIONS}
+DOCUMENTS = {"README.md", "CHANGELOG.md", "CONTRIBUTING.md", "LICENSE", "tests/README.md"}
+DOCUMENTS |= {f"docs/{each.name}" for each in (ROOT / "docs").iterdir()}
+# Where Debian's tools look, below the prefix.
+FILES = {
+    *(f"bin/{name}" for name in NAMES),
+    *(f"share/bash-completion/completions/{name}" for name in NAMES),
+    *(f"share/fish/vendor_completions.d/{name}.fish" for name in NAMES),
+    *(f"lib/ansible-vault/{name}" for name in COMPANIONS),
+    *(f"lib/ansible-vault/ansible_vault_companions/{name}" for name in SHARED),
+    *(f"share/doc/ansible-vault/{name}" for name in DOCUMENTS),
+}
+
+
+def run_make(
+    program: str, *words: str, at: pathlib.Path = ROOT, env: dict | None = None, **options
+) -> subprocess.CompletedProcess:
+    """Runs make as a shell would, though this test may itself be run by make; it installs this program."""
+    environment = dict(os.environ if env is None else env)
+    environment.pop("MAKEFLAGS", None)
+    named = [] if program == str(ROOT / "bin" / "ansible-vault") else [f"PROGRAM={program}"]
+    command = ["make", "-s", "-C", str(at), *named, *words]
+    return subprocess.run(command, capture_output=True, text=True, env=environment, **options)
+
+
+def printed(*words: str, cwd: pathlib.Path | None = None, **variables: str) -> str:
+    environment = os.environ | variables
+    return subprocess.run(words, capture_output=True, text=True, env=environment, cwd=cwd).stdout
+
+
+def files_below(folder: pathlib.Path) -> set[str]:
+    return {str(each.relative_to(folder)) for each in folder.rglob("*") if not each.is_dir()}
+
+
+def check_program(outcome: Outcome, program: pathlib.Path, where: str):
+    output = printed(str(program), "--version").strip()
+    outcome.check(f"{where} prints its version", output, f"ansible-vault {VERSION}")
+    password = str(FIXTURES / "one.password")
+    with open(FIXTURES / "format-1.1.vault") as vault:
+        command = [str(program), "view", "--vault-password-file", password]
+        shown = subprocess.run(command, stdin=vault, capture_output=True, text=True)
+    outcome.check(f"{where} shows a vault", (shown.stdout, shown.stderr), ("a" * 16, ""))
+    check_companions(outcome, program, where, ["--vault-password-file", password])
+
+
+def check_companions(outcome: Outcome, program: pathlib.Path, where: str, secret: list[str]):
+    """Each runs and says what it is; and one calls the program beside it."""
+    for name in sorted(COMPANIONS):
+        output = printed(str(program.with_name(name)), "--help", PATH=os.defpath)
+        outcome.holds(f"{name} beside {where} has a help", output.startswith(f"usage: {name}"), output)
+    vault = str(FIXTURES / "format-1.1.vault")
+    output = printed(str(program.with_name("ansible-vault-check")), *secret, vault, PATH=os.defpath)
+    wanted = f"{vault}: default: decrypted by {secret[-1]}\n1 decrypted, 0 not\n"
+    outcome.check(f"the companions beside {where} call it", output, wanted)
