@@ -72,6 +72,7 @@ def conclude(item: pytest.Function, report: pytest.TestReport, outcome: Outcome)
     if item.config.getoption("--require-all"):
         failures += [f"{each}: it is skipped, and --require-all is set" for each in skipped]
         skipped = []
+    skipped += outcome.for_root
     if not (outcome.passed or failures or skipped or report.failed):
         failures = ["nothing is checked"]
     if report.failed:

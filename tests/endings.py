@@ -35,6 +35,18 @@ SAMPLES = {
         "1 passed, 0 failed, 1 skipped",
     ),
     "a part is required": ("outcome.skip('b', 'why')", ["--require-all"], 1, "0 passed, 1 failed, 0 skipped"),
+    "only root can do it": (
+        "outcome.check('a', 1, 1); import os; os.geteuid = lambda: 1; outcome.skip('b', 'why', takes_root=True)",
+        ["--require-all"],
+        0,
+        "1 passed, 0 failed, 1 skipped",
+    ),
+    "root cannot do it": (
+        "import os; os.geteuid = lambda: 0; outcome.skip('b', 'why', takes_root=True)",
+        ["--require-all"],
+        1,
+        "0 passed, 1 failed, 0 skipped",
+    ),
     "a skip": ("import pytest; pytest.skip('why')", [], 0, "0 passed, 0 failed, 1 skipped"),
     "a skip that is required": (
         "import pytest; pytest.skip('why')",

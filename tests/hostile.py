@@ -139,7 +139,7 @@ def test_full_file_system(cases: Cases) -> None:
     folder = Path(cases.path())
     with tmpfs(folder, FILE_SYSTEM_SIZE) as is_mounted:
         if not is_mounted:
-            return cases.skip("a full file system", "none can be mounted here")
+            return cases.skip("a full file system", "none can be mounted here", takes_root=True)
         for sample in samples(cases, TEXT * FILE_SYSTEM_SIZE):
             fill_file_system(cases, sample, folder / sample.command)
 

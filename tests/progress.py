@@ -124,8 +124,8 @@ def test_counts(outcome: Outcome, what: str) -> None:
     outcome.check(f"{what}: the output", done.stdout, f"{text}{last}\n")
 
 
-def run_ci(folder: pathlib.Path, check: str, status: int, installs: bool) -> subprocess.CompletedProcess:
-    """.ci/run where these stand for `make` and `apt-get`."""
+def run_ci(folder: pathlib.Path, check: str, status: int, installs: bool, installed: bool):
+    """.ci/run where these stand for `make`, `apt-get` and `dpkg-query`."""
     tools = folder / "stand-ins"
     for path in (".ci/run", "tools/counts"):
         (folder / path).parent.mkdir()
@@ -133,7 +133,8 @@ def run_ci(folder: pathlib.Path, check: str, status: int, installs: bool) -> sub
     tools.mkdir()
     (folder / "check").write_text(check)
     shells = {
-        "make": f"printf 'REQUIRE_ALL is %s\\n' \"${{REQUIRE_ALL-}}\"; cat '{folder}/check'; exit {status}",
+        "make": f"echo \"REQUIRE_ALL is ${{REQUIRE_ALL-}}, and the words $*\"; cat '{folder}/check'; exit {status}",
+        "dpkg-query": "shift 2; for each; do echo installed; done" if installed else "echo installed; exit 1",
         "apt-get": f"echo 'E: no package'; exit {0 if installs else 100}",
     }
     for name, shell in shells.items():
@@ -145,7 +146,7 @@ def run_ci(folder: pathlib.Path, check: str, status: int, installs: bool) -> sub
     return subprocess.run(done, stdin=subprocess.DEVNULL, capture_output=True, text=True, env=environment)
 
 
-# What `make check` prints, its status, whether the packages are installed, and how .ci/run ends.
+# What `make check` prints, its status, whether the packages are installed by it, and how .ci/run ends.
 RUNS = {
     "all pass": (CHECK.format(failed=0), 0, True, (0, "20 passed, 0 failed, 1 skipped")),
     "a test fails": (CHECK.format(failed=2), 2, True, (2, "20 passed, 2 failed, 1 skipped")),
@@ -162,7 +163,15 @@ RUNS = {
 @pytest.mark.parametrize("what", RUNS)
 def test_ci(outcome: Outcome, tmp_path: pathlib.Path, what: str) -> None:
     check, status, installs, end = RUNS[what]
-    done = run_ci(tmp_path, check, status, installs)
-    outcome.check(f"{what}: all is required", done.stdout.splitlines()[0], "REQUIRE_ALL is 1")
+    done = run_ci(tmp_path, check, status, installs, installed=False)
+    first = "REQUIRE_ALL is 1, and the words check CPU="
+    outcome.check(f"{what}: all is required, of every processor", done.stdout.splitlines()[0], first)
     outcome.check(f"{what}: the end", (done.returncode, done.stdout.splitlines()[-1]), end)
     outcome.check(f"{what}: the reason is printed", "E: no package" in done.stdout, not installs)
+
+
+def test_ci_with_all_installed(outcome: Outcome, tmp_path: pathlib.Path) -> None:
+    """Nothing is installed then: that takes root, and a network."""
+    done = run_ci(tmp_path, CHECK.format(failed=0), 0, installs=False, installed=True)
+    wanted = (0, "20 passed, 0 failed, 1 skipped")
+    outcome.check("the end", (done.returncode, done.stdout.splitlines()[-1]), wanted)

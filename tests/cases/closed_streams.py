@@ -227,7 +227,7 @@ def test_full_file_system(cases: Cases) -> None:
     folder = Path(cases.path())
     with tmpfs(folder, PAGE) as is_mounted:
         if not is_mounted:
-            return cases.skip("closed streams and a full file system", "none can be mounted here")
+            return cases.skip("closed streams and a full file system", "none can be mounted here", takes_root=True)
         for command, closed in itertools.product(writing, COMBINATIONS):
             path = folder / NEW_FILE
             check_write_fault(cases, "a full file system", command, closed, str(path))

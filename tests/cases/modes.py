@@ -148,7 +148,7 @@ def test_refused(cases: Cases) -> None:
 def test_of_another_owner(cases: Cases) -> None:
     """A file whose mode cannot be changed is as it was; to test this, another user runs the program."""
     if os.geteuid() != 0:
-        return cases.skip("a file of another owner", "that takes the rights of root")
+        return cases.skip("a file of another owner", "that takes the rights of root", takes_root=True)
     program = cases.program_for_all()
     if program is None:
         return cases.skip("a file of another owner", "nobody else may run the program where it lies")

@@ -144,7 +144,7 @@ def test_read_only(cases: Cases) -> None:
             old.write_bytes(OLD)
             old.chmod(0o644)
         if not is_mounted or not remount_read_only(folder):
-            return cases.skip("a file system that is read only", "none can be mounted here")
+            return cases.skip("a file system that is read only", "none can be mounted here", takes_root=True)
         for sample in with_output(cases):
             for path in (old, new):
                 cases.refused(

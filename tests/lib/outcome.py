@@ -37,6 +37,8 @@ class Outcome:
         self.passed = 0
         self.failures: list[str] = []
         self.skipped: list[str] = []
+        # What only root can check, and this user is not.
+        self.for_root: list[str] = []
 
     def report(self, line: str) -> None:
         if self.prints:
@@ -55,9 +57,11 @@ class Outcome:
         is_equal = found == wanted
         self.holds(what, is_equal, "" if is_equal else f"got {shown(found)}, want {shown(wanted)}")
 
-    def skip(self, what: str, why: str) -> None:
-        self.skipped.append(f"{what}: {why}")
-        self.report(f"skipped: {self.skipped[-1]}")
+    def skip(self, what: str, why: str, takes_root: bool = False) -> None:
+        """Where all is required, only what takes root may be left out, by another user."""
+        kept = self.for_root if takes_root and os.geteuid() != 0 else self.skipped
+        kept.append(f"{what}: {why}")
+        self.report(f"skipped: {kept[-1]}")
 
     def finish(self) -> None:
         """Prints the counts and exits: with status 1 if a check failed, or none was made. With REQUIRE_ALL=1 in the
@@ -66,8 +70,9 @@ class Outcome:
             for each in self.skipped:
                 self.holds(each, False, "it is skipped, and --require-all is set")
             self.skipped = []
-        if not (self.passed or self.failures or self.skipped):
+        skipped = self.skipped + self.for_root
+        if not (self.passed or self.failures or skipped):
             self.holds("something is run", False)
         name = Path(sys.argv[0]).name
-        print(f"{name}: {self.passed} passed, {len(self.failures)} failed, {len(self.skipped)} skipped")
+        print(f"{name}: {self.passed} passed, {len(self.failures)} failed, {len(skipped)} skipped")
         sys.exit(1 if self.failures else 0)
