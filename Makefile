@@ -41,6 +41,13 @@ LINKS := $(foreach name,$(COMPANIONS),\
 	$(FISH_FOLDER)/ansible-vault-$(name).fish:ansible-vault.fish)
 # Links of version 0.2.0 where files are now.
 FORMER_LINKS := $(foreach name,edit rotate check textconv hook,$(PAGES)/ansible-vault-$(name).1:ansible-vault.1)
+# Where `make dist` puts its archives, their names, and how they are made. The time is that of the newest version.
+DIST := bin/dist
+SOURCE_NAME := ansible-vault-$(VERSION)
+PROGRAM_NAME := ansible-vault-$(VERSION)-linux-x86_64
+SOURCE_DATE_EPOCH ?= $(shell date -u -d "$$(sed -n 's/^\#\# .*, \(.*\)/\1/p' CHANGELOG.md | head -n 1)" +%s)
+ARCHIVE = tar --create --format=gnu --sort=name --mtime=@$(SOURCE_DATE_EPOCH) --mode=u+rw,a+rX,go-w \
+	--owner=0 --group=0 --numeric-owner
 # The sums of the files that were installed, so that no other is uninstalled.
 SUMS := $(LIBRARY)/installed.sha256
 
@@ -50,7 +57,7 @@ PYTEST_PROCESSES ?= 4
 TESTS := failed_allocations_in_memory outcomes fuzz with_valgrind faults failed_allocations lint
 
 .DELETE_ON_ERROR:
-.PHONY: all check mutants test fuzz faults bench install uninstall portable package lint clean FORCE $(TESTS:%=test-%)
+.PHONY: all check mutants test fuzz faults bench install uninstall portable dist package lint clean FORCE $(TESTS:%=test-%)
 
 all: $(PROGRAM)
 
@@ -139,9 +146,21 @@ uninstall:
 # Fails where the program is built for a newer processor than a package may need.
 portable:
 	@[ -z "$(CPU)" ] || { \
-		echo "bin/ansible-vault is built for $(CPU), and a package is for all processors: make CPU= package" >&2; \
+		echo "bin/ansible-vault is built for $(CPU), and what is given to others is for all: make CPU=" >&2; \
 		exit 1; \
 	}
+
+# The archives of a version, with their sums: its sources, as git lists them, and what `make install` puts below a
+# prefix. They have the same bytes wherever and whenever they are made of the same sources and program.
+dist: portable all
+	@rm -rf $(DIST) && mkdir -p $(DIST)
+	@git ls-files -z | $(ARCHIVE) --null --files-from=- --transform='flags=r;s,^,$(SOURCE_NAME)/,' \
+		| gzip --no-name > $(DIST)/$(SOURCE_NAME).tar.gz
+	@$(MAKE) --no-print-directory install PREFIX= DESTDIR=$(abspath $(DIST))/$(PROGRAM_NAME)
+	@rm $(DIST)/$(PROGRAM_NAME)/$(SUMS)
+	@$(ARCHIVE) --directory=$(DIST) $(PROGRAM_NAME) | gzip --no-name > $(DIST)/$(PROGRAM_NAME).tar.gz
+	@rm -r $(DIST)/$(PROGRAM_NAME)
+	@cd $(DIST) && sha256sum *.tar.gz > SHA256SUMS
 
 # The Debian package of the program and its companions, in bin/. It is built in a copy,
 # so that what debhelper writes does not lie among the sources.

@@ -9,16 +9,12 @@ from functools import partial
 
 import pytest
 
-from lib.installed import COMPANIONS, FILES, NAMES, check_program, files_below, printed, run_make
+from lib.installed import COMPANIONS, PREFIX_FILES, check_program, files_below, printed, run_make
 from lib.outcome import Outcome
 from lib.paths import ROOT
 
 EDIT_PAGE = ROOT / "man" / "ansible-vault-edit.1"
-LOCAL_FILES = FILES | {
-    *(f"share/man/man1/{name}.1" for name in NAMES),
-    "share/zsh/site-functions/_ansible-vault",
-    "lib/ansible-vault/installed.sha256",
-}
+LOCAL_FILES = PREFIX_FILES | {"lib/ansible-vault/installed.sha256"}
 
 # Loads what bash-completion finds for the command.
 BASH = "source {} && _completion_loader ansible-vault; complete -p ansible-vault"

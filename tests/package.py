@@ -82,7 +82,7 @@ def check_processor(outcome: Outcome, copy: pathlib.Path, environment: dict):
     (copy / "bin/ansible-vault").touch()
     for package in copy.glob("bin/*.deb"):
         package.unlink()
-    wanted = "bin/ansible-vault is built for x86-64-v3, and a package is for all processors: make CPU= package\n"
+    wanted = "bin/ansible-vault is built for x86-64-v3, and what is given to others is for all: make CPU=\n"
     for command in (["make", "-s", "package"], ["debian/rules", "override_dh_auto_install"]):
         variables = {name: value for name, value in environment.items() if name != "MAKEFLAGS"}
         done = subprocess.run(command, cwd=copy, env=variables, capture_output=True, text=True)
@@ -232,7 +232,8 @@ def test_package(outcome: Outcome, tmp_path: pathlib.Path, package: pathlib.Path
     check_package(outcome, package, tmp_path / "package")
     check_same(outcome, tmp_path, package.name, program)
     if os.geteuid() != 0:
-        return outcome.skip("the package beside Ansible's", "a root of its own takes the rights of root", takes_root=True)
+        why = "a root of its own takes the rights of root"
+        return outcome.skip("the package beside Ansible's", why, takes_root=True)
     beside = Beside(outcome, package, tmp_path, program)
     beside.check_ours_behind_theirs()
     beside.check_failed_unpacking()

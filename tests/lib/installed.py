@@ -23,6 +23,11 @@ FILES = {
     *(f"lib/ansible-vault/ansible_vault_companions/{name}" for name in SHARED),
     *(f"share/doc/ansible-vault/{name}" for name in DOCUMENTS),
 }
+# What `make install` puts below a prefix, but for its sums.
+PREFIX_FILES = FILES | {
+    *(f"share/man/man1/{name}.1" for name in NAMES),
+    "share/zsh/site-functions/_ansible-vault",
+}
 
 
 def run_make(

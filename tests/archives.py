@@ -1,0 +1,75 @@
+"""`make dist`: an archive of the sources and one of the built program, the same wherever they are made."""
+
+import os
+import pathlib
+import shutil
+import subprocess
+import tarfile
+
+import pytest
+
+from lib.installed import PREFIX_FILES, VERSION, check_program, files_below, run_make
+from lib.outcome import Outcome
+from lib.paths import ROOT
+
+SOURCE = f"ansible-vault-{VERSION}"
+PROGRAM = f"ansible-vault-{VERSION}-linux-x86_64"
+ARCHIVES = [f"{SOURCE}.tar.gz", f"{PROGRAM}.tar.gz"]
+
+
+def made(program: str, folder: pathlib.Path, at: pathlib.Path = ROOT, **options) -> list[bytes]:
+    """The archives and their sums, as `make dist` of a checkout makes them."""
+    done = run_make(program, "dist", f"DIST={folder}", "CPU=", at=at, **options)
+    assert done.returncode == 0, done.stderr
+    assert sorted(path.name for path in folder.iterdir()) == sorted([*ARCHIVES, "SHA256SUMS"])
+    return [(folder / name).read_bytes() for name in [*ARCHIVES, "SHA256SUMS"]]
+
+
+def unpacked(archive: pathlib.Path, folder: pathlib.Path) -> None:
+    folder.mkdir()
+    with tarfile.open(archive) as opened:
+        opened.extractall(folder)
+
+
+def tracked_files() -> set[str]:
+    listed = subprocess.run(["git", "ls-files", "-z"], cwd=ROOT, capture_output=True, text=True, check=True).stdout
+    return {name for name in listed.split("\0") if name}
+
+
+@pytest.fixture
+def archives(program: str, tmp_path: pathlib.Path) -> pathlib.Path:
+    if not shutil.which("git"):
+        pytest.skip("git is not installed")
+    made(program, tmp_path / "dist")
+    return tmp_path / "dist"
+
+
+def test_contents(outcome: Outcome, archives: pathlib.Path, tmp_path: pathlib.Path) -> None:
+    for name in ARCHIVES:
+        with tarfile.open(archives / name) as archive:
+            members = archive.getmembers()
+        outcome.check(f"{name}: sorted", [each.name for each in members], sorted(each.name for each in members))
+        owners = {(each.uid, each.gid, each.uname, each.gname) for each in members}
+        outcome.check(f"{name}: nobody's", owners, {(0, 0, "", "")})
+        outcome.check(f"{name}: of one time", len({each.mtime for each in members}), 1)
+        unpacked(archives / name, tmp_path / name)
+    outcome.check("the sources are those of git", files_below(tmp_path / ARCHIVES[0] / SOURCE), tracked_files())
+    top = tmp_path / ARCHIVES[1] / PROGRAM
+    outcome.check("the program and what belongs to it", files_below(top), PREFIX_FILES)
+    check_program(outcome, top / "bin/ansible-vault", "the program of the archive")
+    done = subprocess.run(["sha256sum", "--check", "--quiet", "SHA256SUMS"], cwd=archives, capture_output=True)
+    outcome.check("the sums", (done.returncode, done.stdout), (0, b""))
+
+
+def test_made_again(program: str, archives: pathlib.Path, tmp_path: pathlib.Path) -> None:
+    """Of the unpacked sources, in another folder, zone and umask, the same archives are made."""
+    unpacked(archives / ARCHIVES[0], tmp_path / "unpacked")
+    checkout = tmp_path / "unpacked" / SOURCE
+    for words in (["init", "--quiet"], ["add", "--all"]):
+        subprocess.run(["git", *words], cwd=checkout, check=True)
+    subprocess.run(["chmod", "-R", "go-rwx", str(checkout)], check=True)
+    own = tmp_path / "program"
+    shutil.copy(program, own)
+    environment = os.environ | {"TZ": "Asia/Tokyo", "LC_ALL": "C"}
+    again = made(str(own), tmp_path / "again", checkout, umask=0o077, env=environment)
+    assert again == [(archives / name).read_bytes() for name in [*ARCHIVES, "SHA256SUMS"]]
