@@ -54,6 +54,8 @@ SUMS := $(LIBRARY)/installed.sha256
 # pytest, in this number of processes, runs what compares outcomes; the others are commands in tests/.
 PYTEST ?= /usr/bin/python3 -B -X utf8 -m pytest
 PYTEST_PROCESSES ?= 4
+# How many checks each makes at least, so that none vanishes unseen; of the outcomes, how many tests (`--at-least`).
+FLOORS := failed_allocations=1200 failed_allocations_in_memory=1 pytest=4000 fuzz=200 with_valgrind=50 faults=1 lint=5
 TESTS := failed_allocations_in_memory outcomes fuzz with_valgrind faults failed_allocations lint
 
 .DELETE_ON_ERROR:
@@ -101,11 +103,11 @@ mutants: all
 # All of them, whichever fails, that first for which a program is built; each prints what it has to say when it is
 # through. The last line counts all checks.
 test: all
-	@tools/counts '[a-z_]+: ' $(MAKE) --no-print-directory --keep-going --jobs=4 --output-sync=target \
+	@tools/counts '[a-z_]+: ' $(FLOORS:%=--floor %) $(MAKE) --no-print-directory --keep-going --jobs=4 --output-sync=target \
 		$(TESTS:%=test-%)
 
 test-outcomes: all
-	$(PYTEST) --quiet --numprocesses=$(PYTEST_PROCESSES)
+	$(PYTEST) --quiet --numprocesses=$(PYTEST_PROCESSES) --at-least=500
 
 test-fuzz: all
 	tests/fuzz bin/ansible-vault --seed 1 --runs 6000 --seconds 120 --minimum 200

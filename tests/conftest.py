@@ -34,6 +34,7 @@ def pytest_addoption(parser: pytest.Parser) -> None:
     group.addoption("--require-all", action="store_true", default=required, help="a skipped check is a failure")
     help_text = "how many random command lines are compared with Ansible's tool; by default as many as take 20 seconds"
     group.addoption("--comparisons", type=int, default=0, metavar="N", help=help_text)
+    group.addoption("--at-least", type=int, default=0, metavar="N", help="how many tests have to be run")
     group.addoption("--vaults", type=int, default=200, metavar="N", help="how many are rotated for the time")
 
 
@@ -110,16 +111,35 @@ def counted(report: pytest.TestReport | pytest.CollectReport, what: str) -> int:
     return counts.get(what, int(report.outcome == what))
 
 
+def ends_of_tests(config: pytest.Config) -> list[pytest.TestReport | pytest.CollectReport]:
+    terminal = config.pluginmanager.get_plugin("terminalreporter")
+    reports = [each for kind in ("passed", "failed", "error", "skipped") for each in terminal.getreports(kind)]
+    return [each for each in reports if each.when == "call" or not each.passed]
+
+
+def are_too_few(config: pytest.Config) -> bool:
+    return len(ends_of_tests(config)) < config.getoption("--at-least")
+
+
+@pytest.hookimpl(tryfirst=True)
+def pytest_sessionfinish(session: pytest.Session) -> None:
+    is_worker = hasattr(session.config, "workerinput")
+    if not is_worker and are_too_few(session.config):
+        session.exitstatus = pytest.ExitCode.TESTS_FAILED
+
+
 def pytest_terminal_summary(terminalreporter, config: pytest.Config) -> None:
     if config.option.collectonly:
         return
-    reports = [each for kind in ("passed", "failed", "error", "skipped") for each in terminalreporter.getreports(kind)]
-    ends = [each for each in reports if each.when == "call" or not each.passed]
+    ends = ends_of_tests(config)
     for each in ends:
         if each.skipped:
             terminalreporter.write_line(f"skipped: {each.nodeid}: {each.longrepr[2].removeprefix('Skipped: ')}")
-    counts = [f"{sum(counted(each, what) for each in ends)} {what}" for what in ("passed", "failed", "skipped")]
-    terminalreporter.write_line(f"pytest: {', '.join(counts)}")
+    counts = {what: sum(counted(each, what) for each in ends) for what in ("passed", "failed", "skipped")}
+    if are_too_few(config):
+        counts["failed"] += 1
+        terminalreporter.write_line(f"FAILED {len(ends)} tests are run, of at least {config.getoption('--at-least')}")
+    terminalreporter.write_line(f"pytest: {', '.join(f'{count} {what}' for what, count in counts.items())}")
 
 
 @pytest.fixture(scope="session")

@@ -56,6 +56,14 @@ SAMPLES = {
     ),
     "an assertion": ("assert False", [], 1, "0 passed, 1 failed, 0 skipped"),
     "a test without end": ("import time; time.sleep(600)", ["--timeout=1"], 1, "0 passed, 1 failed, 0 skipped"),
+    "as many tests as wanted": ("outcome.check('a', 1, 1)", ["--at-least=1"], 0, "1 passed, 0 failed, 0 skipped"),
+    "fewer tests than wanted": ("outcome.check('a', 1, 1)", ["--at-least=2"], 1, "1 passed, 1 failed, 0 skipped"),
+    "fewer in two processes": (
+        "outcome.check('a', 1, 1)",
+        ["--at-least=2", "--numprocesses=2"],
+        1,
+        "1 passed, 1 failed, 0 skipped",
+    ),
     "no test of that name": ("pass", ["-k", "another"], 5, "0 passed, 0 failed, 0 skipped"),
 }
 
@@ -80,7 +88,8 @@ def test_ending(outcome: Outcome, program: str, tmp_path: Path, what: str) -> No
     done = run_sample(tmp_path, program, body, options)
     outcome.check("the status", done.returncode, status)
     outcome.check("the counts", re.findall(r"^pytest: (.*)$", done.stdout, re.MULTILINE), [counts])
+    does_fail = status == 1 and "fewer" not in what
     kept = re.findall(r"^kept in (.*)$", done.stdout, re.MULTILINE)
-    outcome.check("a folder is kept where it fails", [Path(each).is_dir() for each in kept], [True] * (status == 1))
+    outcome.check("a folder is kept where it fails", [Path(each).is_dir() for each in kept], [True] * does_fail)
     for each in kept:
         shutil.rmtree(each)

@@ -175,3 +175,21 @@ def test_ci_with_all_installed(outcome: Outcome, tmp_path: pathlib.Path) -> None
     done = run_ci(tmp_path, CHECK.format(failed=0), 0, installs=False, installed=True)
     wanted = (0, "20 passed, 0 failed, 1 skipped")
     outcome.check("the end", (done.returncode, done.stdout.splitlines()[-1]), wanted)
+
+
+FLOORS = {
+    "enough of each": (["one=4", "two=5"], [], 0, "8 passed, 0 failed, 1 skipped"),
+    "too few of one": (["one=5", "two=5"], ["FAILED one: 4 checks, of at least 5"], 1, "8 passed, 1 failed, 1 skipped"),
+    "one is not run": (["three=1"], ["FAILED three: 0 checks, of at least 1"], 1, "8 passed, 1 failed, 1 skipped"),
+}
+
+
+@pytest.mark.parametrize("what", FLOORS)
+def test_floors(outcome: Outcome, what: str) -> None:
+    floors, said, status, last = FLOORS[what]
+    options = [word for floor in floors for word in ("--floor", floor)]
+    text = TESTS.format(failed=0)
+    command = [str(ROOT / "tools" / "counts"), "[a-z]+: ", *options, "printf", "%s", text]
+    done = subprocess.run(command, capture_output=True, text=True)
+    wanted = [*text.splitlines(), *said, last]
+    outcome.check(f"{what}: the end", (done.returncode, done.stdout.splitlines()), (status, wanted))
