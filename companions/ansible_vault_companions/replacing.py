@@ -55,11 +55,11 @@ def save_copy(target: str, content: bytes, name: str = "") -> str:
     """The path of a new file with this content, for its owner alone: beside the target, or in $TMPDIR. The name of
     what else an editor left may end its own."""
     suffix = f"-{_end_of(name, LONGEST_END)}" if name else ""
-    (folder, prefix), (other_folder, other_prefix) = _places_of_copies(target)
+    (folder, prefix), (_, other_prefix) = _places_of_copies(target)
     try:
         return _write_new(folder, content, prefix=prefix, suffix=suffix)
     except OSError:
-        return _write_new(other_folder, content, prefix=other_prefix, suffix=suffix)
+        return _write_new(tempfile.gettempdir(), content, prefix=other_prefix, suffix=suffix)
 
 
 def copies(target: str) -> list[str]:
@@ -74,7 +74,9 @@ def copies(target: str) -> list[str]:
 
 def _places_of_copies(target: str) -> list[tuple[str, str]]:
     """Folders, with what the names of copies begin with there: the target's name, or in $TMPDIR its whole path."""
-    names = [(os.path.dirname(target), os.path.basename(target)), (tempfile.gettempdir(), target.replace("/", "%"))]
+    # `tempfile` would write a file there to see whether it can.
+    temporary = os.environ.get("TMPDIR") or "/tmp"
+    names = [(os.path.dirname(target), os.path.basename(target)), (temporary, target.replace("/", "%"))]
     return [(folder, f"{SAVED}{_end_of(name, LONGEST_NAME)}-") for folder, name in names]
 
 
