@@ -55,7 +55,7 @@ SUMS := $(LIBRARY)/installed.sha256
 PYTEST ?= /usr/bin/python3 -B -X utf8 -m pytest
 PYTEST_PROCESSES ?= 4
 # How many checks each makes at least, so that none vanishes unseen; of the outcomes, how many tests (`--at-least`).
-FLOORS := failed_allocations=1200 failed_allocations_in_memory=1 pytest=4000 fuzz=200 with_valgrind=50 faults=1 lint=5
+FLOORS := failed_allocations=1200 failed_allocations_in_memory=1 pytest=4000 fuzz=200 with_valgrind=50 faults=3000 lint=5
 TESTS := failed_allocations_in_memory outcomes fuzz with_valgrind faults failed_allocations lint
 
 .DELETE_ON_ERROR:
