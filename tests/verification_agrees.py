@@ -39,6 +39,7 @@ HEADLINE = PROGRAM | {
     "crates/vault_cli/src/in_memory.rt": "drive_in_memory",
     "crates/vault_cli/src/laws.rt": r"\w+",
     "crates/vault_request/src/laws.rt": r"\w+",
+    "crates/vault_fault/src/laws.rt": r"\w+",
     "crates/vault_core/src/laws.rt": r"\w+",
     "crates/vault_text/src/laws.rt": r"\w+",
     "crates/vault_aes/src/laws.rt": r"\w+",
