@@ -139,7 +139,7 @@ replacing._write_beside, replacing.check_replaceable = full, lambda target: None
 def mounted_vaults(cases: Companions) -> None:
     """No file can take the place of one that is mounted by itself, as containers have it."""
     if os.geteuid() != 0 or subprocess.run(["unshare", "-m", "true"], capture_output=True).returncode != 0:
-        cases.skip("mounted vaults", "the user may mount nothing")
+        cases.skip("mounted vaults", "the user may mount nothing", takes_root=True)
         return
     with cases.place() as place:
         place.put("all.yml", sealed("old"))
