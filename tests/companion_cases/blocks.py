@@ -136,12 +136,16 @@ def at_once(cases: Companions) -> None:
     if len(os.sched_getaffinity(0)) < 2:
         cases.skip("textconv at once", "there is one processor")
         return
+    shown = "".join(f"n{number}: !vault |-\n  text\n" for number in range(8))
     with cases.place() as place:
         place.put("vars.yml", content)
         place.wrap_tool(MEET.format("view"))
-        done = place.run(TEXTCONV, *place.by_file("missing"), *place.by_file("old"), "vars.yml")
-        shown = "".join(f"n{number}: !vault |-\n  text\n" for number in range(8))
+        done = place.run(TEXTCONV, *place.by_file("old"), "vars.yml")
         cases.check("textconv", (done.returncode, done.stdout), (0, shown))
+    with cases.place() as place:
+        place.put("vars.yml", content)
+        done = place.run(TEXTCONV, *place.by_file("missing"), *place.by_file("old"), "vars.yml")
+        cases.check("textconv with a secret that is missing", (done.returncode, done.stdout), (0, shown))
         cases.check("what is refused", done.stderr.count("missing: a password file cannot be opened"), 1)
 
 

@@ -102,7 +102,7 @@ def ignored_children(cases: Companions) -> None:
         done = ignoring(WITH, "decrypt", *wrong, "a.yml")
         cases.ended("in place", done, 1, "no secret decrypts this vault")
         words = versions(place, "b.yml", sealed("old", b"a\n"), sealed("old", b"b\n"), sealed("old", b"c\n"))
-        cases.ended("a merge", ignoring(MERGE, *wrong, *words), 1, "no secret decrypts this vault")
+        cases.ended("a merge", ignoring(MERGE, *wrong, *words), 1, "no secret decrypts ours, with the label default")
         cases.check("both stay", (place.get("a.yml"), place.get("b.yml")), (sealed("old"), sealed("old", b"b\n")))
         cases.ended("a conflict", ignoring(MERGE, *place.by_file("old"), *words), 1, "b.yml: 1 conflict")
         (place.tree / "b.yml").unlink()

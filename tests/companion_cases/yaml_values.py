@@ -14,13 +14,13 @@ from ansible_vault_companions import inline, yaml_nodes  # noqa: E402
 from ansible_vault_companions.blocks import Change, changed  # noqa: E402
 from ansible_vault_companions.matching import Choice  # noqa: E402
 from ansible_vault_companions.program import Refused  # noqa: E402
-from ansible_vault_companions.secret_files import Secret  # noqa: E402
+from ansible_vault_companions.sources import Secret, Source  # noqa: E402
 from ansible_vault_companions.yaml_values import Scan, Value  # noqa: E402
 
 SEED = 62
 STRUCTURED, UNSTRUCTURED = 700, 20_000
 HEADER = b"$ANSIBLE_VAULT;1.1;AES256\n"
-SECRET = Secret("default", "", "")
+SECRET = Secret(Source("default", "", ""))
 LINE_ENDS = ["\n"] * 3 + ["\r\n", "\r", "\x85"]
 KEYS = ["a", "b c", "'q: ''x'", '"\\u00e9\\t"', "größe", "&k c", "!!str 1", "? d\n{}", "<<"]
 SCALARS = ["", "word", "'it''s'", '"a\\tb"', "two\n{}  words", "|\n{}  text\n\n{}   more", "{{a: 'x', b: [1, 2]}}"]
