@@ -7,7 +7,7 @@ CPU ?= $(shell cat bin/processor 2> /dev/null)
 # What `make install` may replace besides its own files, where this is yes: whatever stands at their paths.
 REPLACE ?= no
 
-VERSION := $(shell sed -n 's/^const VERSION: &str = "\(.*\)";$$/\1/p' crates/vault_command_line/src/command_line.rt)
+VERSION := $(shell sed -n 's/^const VERSION: &str = "\(.*\)";$$/\1/p' crates/vault_request/src/command_line.rt)
 SOURCES := $(shell find crates/*/src crates/*/specs crates/*/proofs) crates.txt
 
 # What is installed, below the prefix, where Debian's tools look. Python finds what the companions share

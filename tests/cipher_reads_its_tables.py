@@ -16,7 +16,7 @@ from lib.paths import ROOT
 
 CRATE = Path("crates") / "vault_aes"
 TABLES = CRATE / "src" / "tables.rt"
-TESTS = Path("crates") / "vault_aes_tests"
+TESTS = Path("crates") / "vault_format_tests"
 VECTORS = TESTS / "src" / "vectors.rt"
 TEST = "vectors::enciphers_zeros_under_the_zero_key"
 TABLE = re.compile(r"^const (\w+): \[u(?:8|32); 256\] = \[\s*0x(\w+)", re.MULTILINE)
@@ -29,7 +29,7 @@ def copy_of_cipher(folder: Path) -> None:
     (folder / VECTORS).parent.mkdir(parents=True)
     shutil.copy(ROOT / VECTORS, folder / VECTORS)
     (folder / VECTORS).with_name("lib.rt").write_text("#![tactic(auto)]\n#[cfg(test)]\nmod vectors;\n")
-    (folder / "crates.txt").write_text("vault_aes:\nvault_aes_tests: vault_aes\n")
+    (folder / "crates.txt").write_text("vault_aes:\nvault_format_tests: vault_aes\n")
     shutil.copy(ROOT / "HANDLES", folder)
 
 

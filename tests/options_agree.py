@@ -27,9 +27,9 @@ REQUIRED = {
     "--salt": "used twice",
 }
 
-# The definitions and the crates that name each option.
-SPECS = ["vault_command_line/specs/CommandLine.antt", "vault_request/specs/Options.antt"]
-CODE = ["vault_command_line", "vault_request"]
+# What describes each option and what reads it: the definitions and the code.
+SPECS = ["CommandLine.antt", "Options.antt"]
+CODE = [("command_line.rt", "arguments.rt"), ("options.rt", "settling.rt")]
 
 # The tools that check a page and render it.
 CHECKERS = {
@@ -75,12 +75,12 @@ def test_code(outcome: Outcome) -> None:
     """The code and the definitions name what the table has, and the code has no name of its own."""
     names = {entry.name for entry in entries()}
     outcome.holds("the table is read", len(names) > 10, sorted(names))
-    for crate in CODE:
-        used = {entry.name for entry in entries() if entry.constant in constants_in(crate)}
-        outcome.check(f"crates/{crate}/src uses each name of the table", sorted(names - used), [])
-        outcome.check(f"crates/{crate}/src has no name beside the table", literals_in(code_in(crate)) & names, set())
+    for files in CODE:
+        used = {entry.name for entry in entries() if entry.constant in constants_in(files)}
+        outcome.check(f"{files} use each name of the table", sorted(names - used), [])
+        outcome.check(f"{files} have no name beside the table", literals_in(code_in(files)) & names, set())
     for specs in SPECS:
-        outcome.check(f"crates/{specs} names each entry of the table", sorted(names - named_in(specs)), [])
+        outcome.check(f"{specs} names each entry of the table", sorted(names - named_in(specs)), [])
 
 
 def page_values(text: str, name: str) -> set[str]:

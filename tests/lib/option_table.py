@@ -1,11 +1,13 @@
 """The table of options in the code, and the other places of the code that name options."""
 
 import re
+from collections.abc import Iterable
 from dataclasses import dataclass
 
 from lib.paths import ROOT
 
-TABLE = ROOT / "crates" / "vault_command_line" / "src" / "option_table.rt"
+CRATE = ROOT / "crates" / "vault_request"
+TABLE = CRATE / "src" / "option_table.rt"
 ENTRY = re.compile(
     r'^pub const (\w+): OptionEntry = OptionEntry \{\n    name: "(.*)",\n    value_name: "(.*)",\n'
     r'    help: "((?:.|\n)*?)",\n\};$',
@@ -46,15 +48,14 @@ def helps_of(name: str) -> set[str]:
     return {entry.help for entry in entries() if entry.name == name}
 
 
-def code_in(crate: str) -> str:
-    """The code of a crate without comments, but for the table."""
-    files = sorted((ROOT / "crates" / crate / "src").rglob("*.rt"))
-    return "".join(re.sub("//.*", "", file.read_text()) for file in files if file != TABLE)
+def code_in(files: Iterable[str]) -> str:
+    """The code of files of the crate without comments."""
+    return "".join(re.sub("//.*", "", (CRATE / "src" / file).read_text()) for file in files)
 
 
-def constants_in(crate: str) -> set[str]:
-    """The constants that the code of a crate names."""
-    return set(re.findall(r"\b[A-Z][A-Z_]+\b", code_in(crate)))
+def constants_in(files: Iterable[str]) -> set[str]:
+    """The constants that the code of these files names."""
+    return set(re.findall(r"\b[A-Z][A-Z_]+\b", code_in(files)))
 
 
 def literals_in(text: str) -> set[str]:
@@ -63,4 +64,4 @@ def literals_in(text: str) -> set[str]:
 
 def named_in(specs: str) -> set[str]:
     """The names that definitions have as literals."""
-    return literals_in((ROOT / "crates" / specs).read_text())
+    return literals_in((CRATE / "specs" / specs).read_text())

@@ -8,7 +8,7 @@ FIXTURES = ROOT / "tests" / "fixtures"
 PAGE = ROOT / "man" / "ansible-vault.1"
 README = ROOT / "README.md"
 COMPANIONS = {path.name: path for path in sorted((ROOT / "companions").glob("ansible-vault-*"))}
-COMMAND_LINE = ROOT / "crates" / "vault_command_line" / "src" / "command_line.rt"
+COMMAND_LINE = ROOT / "crates" / "vault_request" / "src" / "command_line.rt"
 
 
 def version() -> str:

@@ -6,7 +6,7 @@ use Rattle.vault_text.specs.Source.{SourceState}
 use Rattle.vault_text.specs.declared.sink.Sink.{Ghosts as SinkTerms}
 use Rattle.vault_text.specs.declared.sink.Stage.TheVariants.{Unbegun}
 use Rattle.vault_text.specs.declared.source.Source.{Ghosts as SourceTerms}
-use Rattle.vault_command_line.specs.CommandLine.{vault_app}
+use Rattle.vault_request.specs.CommandLine.{vault_app}
 use Rattle.vault_cli.specs.Call.{StoreMembers, sink, source, store}
 use Rattle.vault_cli.specs.Drive.{Drives}
 use Rattle.vault_cli.specs.Explained.{ExplainsOneOf}

@@ -4,7 +4,7 @@ ghost use Rattle.std.specs.String.{string_bytes};
 ghost use Rattle.clap.specs.Words.{fault_of};
 ghost use Rattle.vault_files.specs.PathLog.{logged};
 ghost use Rattle.vault_cli.specs.Call.{sink};
-ghost use Rattle.vault_command_line.specs.CommandLine.{vault_app};
+ghost use Rattle.vault_request.specs.CommandLine.{vault_app};
 ghost use Rattle.vault_cli.specs.InMemory.{EndsInMemory, Taken, change, found_by};
 ghost use Rattle.vault_cli.specs.Explained.{ExplainsOneOf};
 ghost use Rattle.vault_cli.specs.OpenedPaths.{opened_paths};

@@ -5,7 +5,7 @@ ghost use Rattle.std.specs.String.{string_bytes};
 ghost use Rattle.clap.specs.Words.{fault_of, subcommand_rows_of};
 ghost use Rattle.vault_text.specs.declared.limits.TheConstants.{CIPHERTEXT_LIMIT, PLAINTEXT_LIMIT};
 ghost use Rattle.vault_cli.specs.Call.{sink, source, store};
-ghost use Rattle.vault_command_line.specs.CommandLine.{vault_app};
+ghost use Rattle.vault_request.specs.CommandLine.{vault_app};
 ghost use Rattle.vault_cli.specs.Drive.{Drives};
 ghost use Rattle.vault_cli.specs.runs.Ending.{Ends, to_path};
 ghost use Rattle.vault_cli.specs.Explained.{ExplainsOneOf};

@@ -1,4 +1,5 @@
 //! Devices that fail.
+use crate::NarrowWriter;
 use crate::calls::{WORK_LENGTH, one_secret};
 use crate::envelopes::sealed;
 use std::alloc::Global;
@@ -10,7 +11,6 @@ use vault_core::{
     Fault, Form, Role, Secrets, WriteFault, prepare_decrypt, prepare_encrypt, prepare_rekey,
 };
 use vault_kdf::Meter;
-use vault_test_data::NarrowWriter;
 use vault_text::{Label, MemSource, ReadSource, Salt, WriteSink};
 
 /// A reader that fails at every call.

@@ -2,11 +2,11 @@
 ghost use Rattle.std.specs.Prelude.{◌≡◌, IfOk, vec_len};
 ghost use Rattle.vault_text.specs.declared.limits.TheConstants.{CIPHERTEXT_LIMIT};
 
+use crate::CountingReader;
 use std::alloc::{AllocError, Global};
 use std::test::Fail;
 use vault_core::{Fault, Secrets, prepare_decrypt};
 use vault_kdf::Meter;
-use vault_test_data::CountingReader;
 use vault_text::{CIPHERTEXT_LIMIT, ReadSource};
 
 const HEADER_LINE: &[u8] = b"$ANSIBLE_VAULT;1.1;AES256\n";

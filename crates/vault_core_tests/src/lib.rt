@@ -1,10 +1,12 @@
-//! Tests of the library's calls on vaults, and of files.
+//! Tests of the calls on vaults, of requests and of files, with what tests of whole runs need,
+//! too: command lines, a reader that counts and a writer that fails.
 #![tactic(auto)]
 
 #[cfg(test)]
 mod binding_labels;
 #[cfg(test)]
 mod calls;
+mod counting_reader;
 #[cfg(test)]
 mod decrypting;
 #[cfg(test)]
@@ -23,9 +25,17 @@ mod fault_texts;
 mod host_files;
 #[cfg(test)]
 mod memory_files;
+mod narrow_writer;
 #[cfg(test)]
 mod prefixes;
 #[cfg(test)]
 mod rekeying;
 #[cfg(test)]
+mod requests;
+#[cfg(test)]
 mod secrets;
+mod words;
+
+pub use counting_reader::CountingReader;
+pub use narrow_writer::NarrowWriter;
+pub use words::line_of;

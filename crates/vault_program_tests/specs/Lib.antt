@@ -1,3 +1,5 @@
 pub mod System
 pub mod SystemProofs
 pub mod OnDisk
+pub mod OnePassword
+pub mod OnePasswordProofs

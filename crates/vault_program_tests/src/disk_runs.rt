@@ -5,8 +5,8 @@ use std::alloc::{AllocError, Global};
 use std::process::Abort;
 use std::test::Fail;
 use vault_cli::{HostFiles, MemSink, MemSource, Status};
+use vault_core_tests::line_of;
 use vault_made::{block, envelope};
-use vault_test_data::line_of;
 
 const PLAINTEXT: &[u8] = b"key: value\n";
 

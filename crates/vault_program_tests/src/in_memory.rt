@@ -3,8 +3,8 @@ use std::alloc::Global;
 use std::process::Abort;
 use std::test::Fail;
 use vault_cli::{MemFile, MemFiles, MemSink, MemSource, Status, drive_in_memory};
+use vault_core_tests::line_of;
 use vault_made::envelope;
-use vault_test_data::line_of;
 
 const PLAINTEXT: &[u8] = b"key: value\n";
 

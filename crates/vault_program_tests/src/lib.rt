@@ -1,5 +1,5 @@
-//! Tests of the program, the program over a disk in memory, and the examples of the libraries'
-//! first pages.
+//! Tests of the program over disks and files in memory, the examples of the libraries' first pages,
+//! and the programs of docs/library.md.
 #![tactic(auto)]
 
 #[cfg(test)]
@@ -9,10 +9,8 @@ mod examples;
 #[cfg(test)]
 mod in_memory;
 #[cfg(test)]
+mod library;
+#[cfg(test)]
 mod mem_system;
 #[cfg(test)]
 mod on_disk;
-#[cfg(test)]
-mod program;
-#[cfg(test)]
-mod system;

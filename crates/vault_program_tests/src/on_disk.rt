@@ -2,7 +2,7 @@
 ghost use Rattle.std.specs.Prelude.{◌≡◌, ◌≢◌, ℕ, List, [], map};
 ghost use Rattle.std.specs.String.{string_bytes};
 ghost use Rattle.clap.specs.Words.{fault_of};
-ghost use Rattle.vault_command_line.specs.CommandLine.{vault_app};
+ghost use Rattle.vault_request.specs.CommandLine.{vault_app};
 ghost use Rattle.vault_request.specs.Settled.{requested_by};
 ghost use Rattle.vault_text.specs.Source.{MemoryGives};
 ghost use Rattle.vault_cli.specs.Drive.{AllFound};

@@ -1,3 +1,5 @@
+pub mod BuiltLemmas
+pub mod CommandLineLemmas
 pub mod RefusalLemmas
 pub mod SettledLemmas
 pub mod theorems

@@ -2,7 +2,7 @@
 use Rattle.std.specs.Prelude.{ℕ, if◌then◌else◌, List, codes, Option, Some, None}
 use Rattle.std.specs.Str.{bytes_eq}
 
--- None where the word is `-`, which stands for a standard stream
+-- None if the word is `-`, which stands for a standard stream
 abbrev pub unless_dash : Option (List ℕ) → Option (List ℕ)
 unless_dash None = None
 unless_dash (Some word) = if bytes_eq word (codes "-") then None else Some word

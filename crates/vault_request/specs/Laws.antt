@@ -4,7 +4,7 @@ use Rattle.std.specs.List.{AllByRecursion}
 use Rattle.clap.specs.Walk.{Row}
 use Rattle.clap.specs.Words.{Text, fault_of}
 use Rattle.vault_text.specs.Label.{is_label}
-use Rattle.vault_command_line.specs.CommandLine.{vault_app}
+use Rattle.vault_request.specs.CommandLine.{vault_app}
 use Rattle.vault_request.specs.Request.{IsSettled, Request, files_of}
 use Rattle.vault_request.specs.Settled.{requested_by, settled}
 use Rattle.vault_request.specs.declared.command_name.CommandName.{CommandName}

@@ -1,3 +1,5 @@
+pub mod Built
+pub mod CommandLine
 pub mod CommandName
 pub mod Dash
 pub mod Options

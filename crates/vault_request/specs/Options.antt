@@ -9,7 +9,7 @@ use Rattle.vault_request.specs.CommandName.{encrypts, has_output, rekeys, seals,
 use Rattle.vault_request.specs.Dash.{unless_dash}
 use Rattle.vault_request.specs.declared.command_name.CommandName.{CommandName}
 
--- what a command was given, where it has the option
+-- what a command was given under the options that it has
 pub record Options : Type 0 where
   pub command : CommandName
   pub vault_ids : List (List ℕ)
@@ -30,7 +30,7 @@ pub record Options : Type 0 where
 abbrev pub values_of : List ℕ → List Row → List (List ℕ)
 values_of option rows = unwrap_or (all_of option rows) []
 
--- the value under an option, where the command has it
+-- the value under an option, if the command has it
 abbrev pub value_if : Bool → List ℕ → List Row → Option (List ℕ)
 value_if has option rows = if has then first_of option rows else None
 

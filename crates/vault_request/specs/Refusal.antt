@@ -37,7 +37,7 @@ new_secret_fault None (Some path) = None
 new_secret_fault (Some id) None = fault_of_id id
 new_secret_fault (Some id) (Some path) = Some NeedNewSecret
 
--- which is asked of `rekey` alone
+-- which only `rekey` asks for
 abbrev pub rekey_fault : Options → Option Fault
 rekey_fault given =
     if rekeys given.command then new_secret_fault given.new_vault_id given.new_password_file
@@ -71,7 +71,7 @@ salt_fault (Some text) None =
     refused_if (length text == 0 || nat_lt SALT_TEXT_LIMIT (length text)) BadSalt
 salt_fault (Some text) (Some path) = Some SaltChoice
 
--- the first fault, where there is one
+-- the first fault, if there is one
 abbrev pub first_some : List (Option Fault) → Option Fault
 first_some [] = None
 first_some (fault ∷ faults) = option_or fault (first_some faults)

@@ -7,7 +7,7 @@ use Rattle.clap.specs.Words.{subcommand_of}
 use Rattle.vault_text.specs.Label.{default_label}
 use Rattle.vault_fault.specs.declared.fault.Fault.{Fault}
 use Rattle.vault_fault.specs.declared.fault.Fault.TheVariants.{Memory}
-use Rattle.vault_command_line.specs.CommandLine.{vault_app}
+use Rattle.vault_request.specs.CommandLine.{vault_app}
 use Rattle.vault_request.specs.CommandName.{command_of, rekeys, seals}
 use Rattle.vault_request.specs.Dash.{unless_dash}
 use Rattle.vault_request.specs.Options.{Options, options_of}
@@ -32,8 +32,7 @@ new_secret_of given =
     (option_map file_of_path given.new_password_file)
     else None
 
--- the salt file, `/dev/urandom` where none is given; none beside a salt text, nor where no salt is
--- used
+-- the salt file, `/dev/urandom` if none is given; none beside a salt text, nor if no salt is used
 abbrev pub salt_path_of : Options → Option (List ℕ)
 salt_path_of given =
     if is_some given.salt_text then None
@@ -56,7 +55,7 @@ request_of given = record {
   output = unless_dash given.output;
 }
 
--- a fault where there is one, else the request
+-- a fault if there is one, else the request
 abbrev pub refused_or : Option Fault → Request → Result Request Fault
 refused_or (Some fault) request = Err fault
 refused_or None request = Ok request
@@ -69,21 +68,21 @@ settled_by given = refused_or (refusal given) (request_of given)
 abbrev pub settled : CommandName → List Row → Result Request Fault
 settled command rows = settled_by (options_of command rows)
 
--- the command of a parse, where it names one, and the values under its options
+-- the command of a parse, if it names one, and the values under its options
 abbrev pub command_in : Option (Text × List Row) → Option (CommandName × List Row)
 command_in parse =
     option_and_then
     (λ given. option_map (λ command. (command, given.1)) (command_of given.0)) parse
 
--- what a parse asks for, where it names a command
+-- what a parse asks for, if it names a command
 abbrev pub requested : Option (Text × List Row) → Option (Result Request Fault)
 requested parse = option_map (λ found. settled found.0 found.1) (command_in parse)
 
--- the request of arguments, or the fault of their options, where they name a command
+-- the request of arguments, or the fault of their options, if they name a command
 abbrev pub requested_by : List Text → Option (Result Request Fault)
 requested_by words = requested (subcommand_of vault_app words)
 
--- what `settle` answers: what is settled, or Memory where that is a request
+-- what `settle` returns: what is settled, or Memory if that is a request
 abbrev pub Settles : Result Request Fault → Result Request Fault → Type 0
 Settles (Ok request) answer = (answer ≡ Ok request) ⊎ (answer ≡ Err Memory)
 Settles (Err fault) answer = answer ≡ Err fault

@@ -21,11 +21,11 @@ has_at_sign id = nat_lt (position_or_len is_at_sign id) (length id)
 abbrev pub label_part : List ℕ → List ℕ
 label_part id = if has_at_sign id then before_first is_at_sign id else []
 
--- what comes after it, or all where there is none
+-- what comes after it, or all if there is none
 abbrev pub source_of_id : List ℕ → List ℕ
 source_of_id id = if has_at_sign id then after_first is_at_sign id else id
 
--- the label `default` where nothing comes before an `@`, or where there is none
+-- the label `default` if nothing comes before an `@`, or if there is none
 abbrev pub label_of_id : List ℕ → List ℕ
 label_of_id id = label_or_default (label_part id)
 

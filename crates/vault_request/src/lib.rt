@@ -12,19 +12,21 @@
 //! ```
 #![tactic(auto)]
 
+mod arguments;
+mod command_line;
 mod command_name;
 mod dash;
 pub mod laws;
 mod limits;
+mod option_table;
 mod options;
-mod parsing;
 mod refusals;
 mod request;
 mod settling;
 mod vault_id;
 
+pub use command_line::{command, parse};
 pub use command_name::CommandName;
 pub use limits::SALT_TEXT_LIMIT;
-pub use parsing::{command, parse};
 pub use request::Request;
 pub use settling::settle;

@@ -6,12 +6,12 @@ ghost use Rattle.vault_request.specs.Options.{is_given, options_of, rule_of, val
 
 use crate::command_name::CommandName;
 use crate::dash::unless_dash;
+use crate::option_table as table;
 use clap::ArgMatches;
 use std::marker::Model;
-use vault_command_line::option_table as table;
 use vault_fault::LabelRule;
 
-/// What a command was given, where it has the option.
+/// What a command was given under the options that it has.
 #[derive(Drop)]
 pub(crate) struct Options<'m, 'a> {
     pub command: CommandName,
@@ -95,7 +95,7 @@ fn value<'a>(given: &ArgMatches<'a>, option: &str) -> Option<&'a str>
     given.get_str(option)
 }
 
-/// The value under an option, where the command has it.
+/// The value under an option, if the command has it.
 fn value_if<'a>(has: bool, given: &ArgMatches<'a>, option: &str) -> Option<&'a str>
     ensures { option_copied result
         ≡ value_if has option.now (rows_of (found_of given.now)) }

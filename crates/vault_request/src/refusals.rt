@@ -25,7 +25,7 @@ pub(crate) struct Checked<'a> {
     pub choice: Option<Label>,
 }
 
-/// Refuses the options where they have a fault: more secrets than the limit; each vault id in turn,
+/// Refuses the options if they have a fault: more secrets than the limit; each vault id in turn,
 /// its label first and then its source; the label to encrypt with; the new secret of `rekey`;
 /// the names of `encrypt_string`; a FILE without an output; the salt.
 #[tactic(auto, unfolding(crate::specs::Refusal::refusal))]
@@ -62,7 +62,7 @@ fn check_count(options: &Options<'_, '_>) -> Result<(), Fault>
     Ok(())
 }
 
-/// What `rekey` seals with; refused where not exactly one new secret is given.
+/// What `rekey` seals with; refused if not exactly one new secret is given.
 fn new_secret_of<'a>(options: &Options<'_, 'a>) -> Result<Option<SecretPath<'a>>, Fault>
     ensures file { IfOk result (λ file. file ≡ new_secret_of options.now) }
     ensures refused { result_err result ≡ rekey_fault options.now }
@@ -77,7 +77,7 @@ fn new_secret_of<'a>(options: &Options<'_, 'a>) -> Result<Option<SecretPath<'a>>
     }
 }
 
-/// Refuses `--name` where standard input is read, and `--stdin-name` where it is not.
+/// Refuses `--name` if standard input is read, and `--stdin-name` if it is not.
 fn check_mismatch(options: &Options<'_, '_>) -> Result<(), Fault>
     ensures { result_err result ≡ mismatch_fault options.now }
 {

@@ -27,7 +27,7 @@ impl Model for SecretFile {
 }
 
 /// A request that was settled from a command line. It has no more password files than the limit of
-/// secrets, and one more where the command is `rekey`.
+/// secrets, and one more if the command is `rekey`.
 #[derive(Drop)]
 pub struct Request {
     pub(crate) command: CommandName,
@@ -143,28 +143,28 @@ impl Request {
         }
     }
 
-    /// The label of the secret to encrypt with, where one was chosen.
+    /// The label of the secret to encrypt with, if one was chosen.
     pub fn choice(&self) -> Option<&Label>
         ensures { option_copied result ≡ self.now.choice }
     {
         self.choice.as_ref()
     }
 
-    /// The name of the variable that `encrypt_string` writes, where one was given.
+    /// The name of the variable that `encrypt_string` writes, if one was given.
     pub fn name(&self) -> Option<&str>
         ensures { option_copied result ≡ self.now.name }
     {
         self.name.as_deref()
     }
 
-    /// The STRING of `encrypt_string`; where it is given, no input is read.
+    /// The STRING of `encrypt_string`; if it is given, no input is read.
     pub fn string(&self) -> Option<&str>
         ensures { option_copied result ≡ self.now.string }
     {
         self.string.as_deref()
     }
 
-    /// The text of `--salt`, where it was given: neither empty nor longer than the limit.
+    /// The text of `--salt`, if it was given: neither empty nor longer than the limit.
     pub fn salt_text(&self) -> Option<&str>
         ensures text { option_copied result ≡ self.now.salt_text }
         ensures length { IfSome result (λ text. IsSaltText text.now) }
@@ -172,7 +172,7 @@ impl Request {
         self.salt_text.as_deref()
     }
 
-    /// The path of the salt file; `None` where no salt is used, and where there is a salt text.
+    /// The path of the salt file; `None` if no salt is used, or if there is a salt text.
     pub fn salt_path(&self) -> Option<&str>
         ensures { option_copied result ≡ self.now.salt_path }
     {
@@ -193,14 +193,14 @@ impl Request {
         self.rule
     }
 
-    /// The path of the input; `None` where it is standard input or a STRING.
+    /// The path of the input; `None` if it is standard input or a STRING.
     pub fn input(&self) -> Option<&str>
         ensures { option_copied result ≡ self.now.input }
     {
         self.input.as_deref()
     }
 
-    /// The path of the output; `None` where it is standard output.
+    /// The path of the output; `None` if it is standard output.
     pub fn output(&self) -> Option<&str>
         ensures { option_copied result ≡ self.now.output }
     {

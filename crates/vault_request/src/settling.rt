@@ -12,13 +12,13 @@ ghost use Rattle.vault_fault.specs.declared.fault.Fault.TheVariants.{Memory};
 
 use crate::command_name::CommandName;
 use crate::dash::unless_dash;
+use crate::option_table::{VAULT_ID, VAULT_PASSWORD_FILE};
 use crate::options::Options;
 use crate::refusals::{Checked, check};
 use crate::request::{Request, SecretFile};
 use crate::vault_id::SecretPath;
 use clap::ArgMatches;
 use std::alloc::{AllocError, Global};
-use vault_command_line::option_table::{VAULT_ID, VAULT_PASSWORD_FILE};
 use vault_fault::Fault;
 
 const DEFAULT_SALT_FILE: &str = "/dev/urandom";
@@ -69,7 +69,7 @@ fn add_unlabelled(alloc: Global, files: &mut Vec<SecretFile>, paths: &[&str]) ->
     Ok(())
 }
 
-/// A copy of a text, where there is one.
+/// A copy of a text, if there is one.
 fn copied(alloc: Global, text: Option<&str>) -> Result<Option<String>, AllocError>
     ensures { IfOk result (λ copy.
         option_map string_bytes copy ≡ option_copied text.entry) }
@@ -108,7 +108,7 @@ fn new_file_of(
     }
 }
 
-/// The path of the salt file, where one is used.
+/// The path of the salt file, if one is used.
 fn salt_path_of<'a>(options: &Options<'_, 'a>) -> Option<&'a str>
     ensures { option_copied result ≡ salt_path_of options.now }
 {

@@ -26,7 +26,7 @@ impl<'a> Model for SecretPath<'a> {
 }
 
 impl<'a> SecretPath<'a> {
-    /// That of `--vault-password-file`, with the label `default`.
+    /// A password file of `--vault-password-file`, with the label `default`.
     pub(crate) fn with_default_label(path: &'a str) -> Self
         ensures { result ≡ file_of_path path.now }
     {
@@ -44,10 +44,10 @@ impl<'a> Default for SecretPath<'a> {
     }
 }
 
-/// Those of the vault ids of a command line.
+/// The password files of the vault ids of a command line.
 pub(crate) type SecretPaths<'a> = ArrayVec<SecretPath<'a>, SECRET_COUNT_LIMIT>;
 
-/// The parts before and after the first `@`; all is source where there is none.
+/// The parts before and after the first `@`; all is source if there is none.
 fn split(id: &str) -> (&str, &str)
     ensures label { result.0.now ≡ label_part id.now }
     ensures source { result.1.now ≡ source_of_id id.now }
@@ -58,7 +58,7 @@ fn split(id: &str) -> (&str, &str)
     }
 }
 
-/// Reads a vault id; refused where the label is not allowed, and where the source is `prompt`.
+/// Reads a vault id; refused if the label is not allowed, or if the source is `prompt`.
 pub(crate) fn parse(id: &str) -> Result<SecretPath<'_>, Fault>
     ensures file { IfOk result (λ file. file ≡ file_of_id id.now) }
     ensures refused { result_err result ≡ fault_of_id id.now }

@@ -11,7 +11,7 @@ use Rattle.vault_files.specs.File.{FileState}
 use Rattle.vault_files.specs.File.FileState.{Whole}
 use Rattle.vault_fault.specs.declared.fault.Fault.{Fault}
 use Rattle.vault_core.proofs.theorems.SealedUnseals.{bytes_eq-same}
-use Rattle.vault_command_line.specs.CommandLine.{vault_app}
+use Rattle.vault_request.specs.CommandLine.{vault_app}
 use Rattle.vault_cli.specs.InMemory.{stands_after}
 use Rattle.vault_cli.specs.Laws as run_answers
 use Rattle.vault_request.specs.Laws.{IsRequest, SettledRequests}

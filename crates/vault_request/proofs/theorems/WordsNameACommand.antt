@@ -16,7 +16,7 @@ use Rattle.clap.specs.Words.{FailsBy, fault_of, subcommand_of, subcommand_rows_o
 use Rattle.clap.specs.declared.error.Error.{Error}
 use Rattle.clap.specs.declared.parser.matches.ArgMatches.{ArgMatches}
 use Rattle.clap.proofs.OnLiterals.{clap_on_literals}
-use Rattle.vault_command_line.specs.CommandLine.{vault_app}
+use Rattle.vault_request.specs.CommandLine.{vault_app}
 use Rattle.vault_request.specs.CommandName.{command_of}
 use Rattle.vault_request.specs.Laws.{WordsNameACommand}
 use Rattle.vault_request.specs.Settled.{requested, requested_by, command_in}

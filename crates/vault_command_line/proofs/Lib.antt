@@ -1,2 +1,0 @@
-pub mod BuiltLemmas
-pub mod CommandLineLemmas

@@ -1,7 +1,0 @@
-use Rattle.vault_command_line.proofs.BuiltLemmas.{last-more, one-more}
-use Rattle.vault_command_line.proofs.command_line.view.Goals as goal
-
-pub returns : goal.returns
-returns c =
-    last-more c.arg-2.result (one-more c.in_ok-with_secrets.ensures c.in_ok-arg.ensures
-    c.flag.ensures) c.arg-2.ensures c.positional.ensures

@@ -1,5 +1,0 @@
-//! Tests of the derivation of keys.
-#![tactic(auto)]
-
-#[cfg(test)]
-mod keys;

@@ -1,2 +1,0 @@
-pub mod OnePassword
-pub mod OnePasswordProofs

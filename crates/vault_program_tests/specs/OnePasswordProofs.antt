@@ -1,0 +1,61 @@
+-- What readers of the password and its output keep.
+use Rattle.std.specs.Prelude.{◌≡◌, ℕ, ◌≤◌, ◌⊎◌, List, [], ◌++◌, length, take, Ok, refl}
+use Rattle.std.specs.Prelude.{IsTrue, false}
+use Rattle.std.proofs.Common.{inl, inr, arith, sym, ap, ◌∙◌}
+use Rattle.std.proofs.lemmas.List.{append-nil, take_all, take-append-le}
+use Rattle.std.proofs.lemmas.Bool.{false≢true}
+use Rattle.vault_files.specs.File.{Answers}
+use Rattle.vault_files.specs.File.FileState.{Whole}
+use Rattle.vault_text.specs.Failures.{HasRisen}
+use Rattle.vault_text.specs.SinkProofs.{MemoryTakes-none, MemoryTakes-more}
+use Rattle.vault_text.specs.Source.{MemSourceState, MemoryGives}
+use Rattle.vault_program_tests.specs.OnePassword.{OnePassword, Takes, new_reader}
+
+-- two calls that changed nothing
+pub same : {T : Type 0} {s t u : T} → t ≡ s → u ≡ t → u ≡ s
+same first then = then ∙ first
+
+-- what the output took in no call, and in two
+pub Takes-none : (s : OnePassword) → Takes s [] s
+Takes-none s = record { output = MemoryTakes-none s.output; password = refl }
+
+pub Takes-more : (s t u : OnePassword) (xs ys : List ℕ)
+    → Takes s xs t → Takes t ys u → Takes s (xs ++ ys) u
+Takes-more s t u xs ys p q = record {
+  output = MemoryTakes-more s.output t.output u.output xs ys p.output q.output;
+  password = q.password ∙ p.password;
+}
+
+-- the first bytes of a text that begins with those that were given
+take-given : (bytes xs rest : List ℕ) (n : ℕ) → bytes ≡ xs ++ rest → length xs ≤ n
+    → (rest ≡ []) ⊎ (length xs ≡ n) → take n bytes ≡ xs
+take-given bytes xs rest n e fits (inl none) =
+    rw (e, none, append-nil xs) (take_all n xs fits)
+take-given bytes xs rest n e fits (inr exact) =
+    rw e (take-append-le n xs rest (omega (arith, exact)) ∙ take_all n xs fits)
+
+-- whether all of the password was given, or as much as was asked for
+all-given : (bytes xs : List ℕ) (r t : MemSourceState) (n : ℕ)
+    → r ≡ new_reader bytes → MemoryGives r xs t
+    → IsTrue t.ended ⊎ (length xs ≡ n) → (t.left ≡ []) ⊎ (length xs ≡ n)
+all-given bytes xs r t n e g (inr exact) = inr exact
+all-given bytes xs r t n e g (inl ended) =
+    inl (g.0.end_is_real
+    (λ first. let never : IsTrue false = rw e at first in absurd (false≢true never)) ended)
+
+-- what a reader gave to its end, or up to a limit, is a prefix of the password
+pub prefix-found : (bytes : List ℕ) (r t : MemSourceState) (xs : List ℕ) (n : ℕ)
+    → r ≡ new_reader bytes → MemoryGives r xs t → length xs ≤ n
+    → IsTrue t.ended ⊎ (length xs ≡ n) → Answers (λ found. found ≡ Whole bytes) n (Ok xs)
+prefix-found bytes r t xs n e g fits end =
+    let given : bytes ≡ xs ++ t.left = sym (ap (λ s. s.left) e) ∙ g.0.consumed in
+    let all = all-given bytes xs r t n e g end in
+    record {
+      file = Whole bytes;
+      found = refl;
+      same = ap Ok (take-given bytes xs t.left n given fits all);
+    }
+
+-- a reader of memory never fails
+pub break-found : {T : Type 0} → HasRisen 0 0 → T
+break-found risen = absurd (omega (arith, risen))

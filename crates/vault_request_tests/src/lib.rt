@@ -1,5 +1,0 @@
-//! Tests of requests.
-#![tactic(auto)]
-
-#[cfg(test)]
-mod requests;

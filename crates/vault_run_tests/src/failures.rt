@@ -1,0 +1,203 @@
+//! Runs whose devices fail.
+use crate::program::LINUX_FILE;
+use crate::ran::Left;
+use crate::sinks::{Calls, assert_leaves, assert_output_leaves, output_failed};
+use crate::sources::assert_read_reported;
+use crate::trial::Trial;
+use std::alloc::{AllocError, Global};
+use std::fs::Files;
+use std::process::Abort;
+use std::test::Fail;
+use vault_cli::{Status, drive};
+use vault_core_tests::{CountingReader, NarrowWriter, line_of};
+use vault_made::{EMPTY_ENVELOPE, envelope};
+
+const DECRYPT: &[&str] = &["decrypt", "--vault-password-file", "one"];
+
+const FIRST: &[&[u8]] = &[b"first\n"];
+
+const PLAINTEXT: &[u8; 200] = &[b'p'; 200];
+
+const WRITE_FAILED: &[u8] = b"ERROR! the output cannot be written\n";
+
+const NO_VAULT: &str = "ERROR! input is not vault encrypted data\n";
+
+/// The source fails at its first call, in the middle, and where its end would come.
+#[test]
+fn writes_nothing_where_the_source_fails(rt: HostRuntime) -> Result<(), Fail> {
+    let alloc = rt.alloc();
+    let trial = Trial::new(DECRYPT, FIRST, &[]);
+    assert_read_reported(&rt, alloc, &trial, EMPTY_ENVELOPE, 0)?;
+    assert_read_reported(&rt, alloc, &trial, EMPTY_ENVELOPE, 1)?;
+    assert_read_reported(&rt, alloc, &trial, EMPTY_ENVELOPE, 3)?;
+    assert_read_reported(&rt, alloc, &trial, EMPTY_ENVELOPE, 160)
+}
+
+/// A vault of the plaintext.
+fn vault_of_first(alloc: Global) -> Result<Vec<u8>, AllocError> {
+    envelope(alloc, "default", b"first", &[7; 32], PLAINTEXT)
+}
+
+/// The sink takes one byte a call and fails after `calls` of them, and has taken this.
+fn assert_prefix_left(
+    rt: &impl Abort,
+    alloc: Global,
+    vault: &[u8],
+    calls: usize,
+    output: &[u8],
+) -> Result<(), Fail> {
+    let trial = Trial::new(DECRYPT, FIRST, &[]);
+    let expected = output_failed(calls > 0, output);
+    assert_output_leaves(rt, alloc, &trial, vault, calls, expected)
+}
+
+/// The sink fails at `begin`, in the middle of the bytes, and at `finish`.
+#[test]
+fn leaves_a_prefix_where_the_sink_fails(rt: HostRuntime) -> Result<(), Fail> {
+    let alloc = rt.alloc();
+    let vault = vault_of_first(alloc)?;
+    assert_prefix_left(&rt, alloc, vault.as_slice(), 0, b"")?;
+    assert_prefix_left(&rt, alloc, vault.as_slice(), 101, &PLAINTEXT[..100])?;
+    assert_prefix_left(&rt, alloc, vault.as_slice(), 201, PLAINTEXT)
+}
+
+/// How many bytes the writer of the output takes, and that of the message.
+#[derive(Clone, Copy, Debug)]
+struct Room {
+    output: usize,
+    message: usize,
+}
+
+/// The program, run on these words between these bytes and two narrow writers, ends with this
+/// status, output and message.
+fn assert_writes(
+    rt: &(impl Abort + Files),
+    alloc: Global,
+    words: &[&str],
+    input: &[u8],
+    room: Room,
+    expected: (Status, &[u8], &[u8]),
+) -> Result<(), Fail> {
+    let line = line_of(alloc, words)?;
+    let stdin = CountingReader::new(input, 1_000);
+    let mut out = NarrowWriter::new(alloc, room.output);
+    let mut err = NarrowWriter::new(alloc, room.message);
+    let status = drive(rt, alloc, line.as_slice(), stdin, &mut out, &mut err);
+    let written = (status, out.taken.as_slice(), err.taken.as_slice());
+    assert_eq!(rt; written, expected, "{words:?} {room:?}");
+    Ok(())
+}
+
+/// The writer of the output takes this and no more, which the message says.
+fn assert_writer_fails(
+    rt: &(impl Abort + Files),
+    alloc: Global,
+    words: &[&str],
+    input: &[u8],
+    output: &[u8],
+) -> Result<(), Fail> {
+    let room = Room {
+        output: output.len(),
+        message: 100,
+    };
+    let expected = (Status::DeviceFailed, output, WRITE_FAILED);
+    assert_writes(rt, alloc, words, input, room, expected)
+}
+
+/// A writer that is full before the end, and one whose flush fails.
+#[test]
+fn reports_a_writer_that_fails(rt: HostRuntime) -> Result<(), Fail> {
+    let alloc = rt.alloc();
+    let vault = envelope(alloc, "default", b"Linux", &[7; 32], PLAINTEXT)?;
+    let (vault, view) = (vault.as_slice(), ["view", "--vault-id", LINUX_FILE]);
+    assert_writer_fails(&rt, alloc, &view, vault, b"")?;
+    assert_writer_fails(&rt, alloc, &view, vault, &PLAINTEXT[..100])?;
+    assert_writer_fails(&rt, alloc, &view, vault, PLAINTEXT)
+}
+
+#[test]
+fn reports_help_that_cannot_be_written(rt: HostRuntime) -> Result<(), Fail> {
+    let alloc = rt.alloc();
+    assert_writer_fails(&rt, alloc, &["--help"], b"", b"Encrypts a")?;
+    assert_writer_fails(&rt, alloc, &["--version"], b"", b"ansible-va")
+}
+
+/// The writer of the message takes this and no more, and the status stays.
+fn assert_message_lost(
+    rt: &(impl Abort + Files),
+    alloc: Global,
+    message: &[u8],
+) -> Result<(), Fail> {
+    let room = Room {
+        output: 100,
+        message: message.len(),
+    };
+    let expected = (Status::Refused, b"".as_slice(), message);
+    assert_writes(rt, alloc, &["view"], b"", room, expected)
+}
+
+/// A message is lost where its writer is full, and the status stays.
+#[test]
+fn keeps_the_status_where_the_writer_of_the_message_fails(rt: HostRuntime) -> Result<(), Fail> {
+    assert_message_lost(&rt, rt.alloc(), b"")?;
+    assert_message_lost(&rt, rt.alloc(), b"ERROR! input is not ")
+}
+
+/// The sink of the message fails after `calls` calls, and has taken this.
+fn assert_message_fails(
+    rt: &impl Abort,
+    alloc: Global,
+    calls: usize,
+    message: &str,
+) -> Result<(), Fail> {
+    let calls = Calls {
+        output: usize::MAX,
+        message: calls,
+    };
+    let trial = Trial::new(&["view"], &[], &[]);
+    assert_leaves(rt, alloc, &trial, b"", calls, Left::refused(message))?;
+    Ok(())
+}
+
+/// The error sink fails at `begin`, at a byte and at `finish`, or, with many calls, not at all.
+/// Where it failed it is not called again.
+#[test]
+fn keeps_the_status_where_the_message_fails(rt: HostRuntime) -> Result<(), Fail> {
+    let alloc = rt.alloc();
+    assert_message_fails(&rt, alloc, 0, "")?;
+    assert_message_fails(&rt, alloc, 1, "")?;
+    assert_message_fails(&rt, alloc, 8, "ERROR! ")?;
+    assert_message_fails(&rt, alloc, 20, "ERROR! input is not")?;
+    assert_message_fails(&rt, alloc, 42, NO_VAULT)?;
+    assert_message_fails(&rt, alloc, 100, NO_VAULT)
+}
+
+/// The sink of the message fails at once, that of the output after `calls` calls.
+fn assert_ends_silently(
+    rt: &impl Abort,
+    alloc: Global,
+    vault: &[u8],
+    calls: usize,
+    expected: Left<'_>,
+) -> Result<(), Fail> {
+    let calls = Calls {
+        output: calls,
+        message: 0,
+    };
+    let trial = Trial::new(DECRYPT, FIRST, &[]);
+    let has_reported = assert_leaves(rt, alloc, &trial, vault, calls, expected)?;
+    assert!(rt; !has_reported, "{calls:?}");
+    Ok(())
+}
+
+#[test]
+fn a_failing_error_sink_changes_nothing_else(rt: HostRuntime) -> Result<(), Fail> {
+    let alloc = rt.alloc();
+    let vault = vault_of_first(alloc)?;
+    let failed = Left {
+        message: "",
+        ..output_failed(true, &PLAINTEXT[..99])
+    };
+    assert_ends_silently(&rt, alloc, vault.as_slice(), 100, failed)?;
+    assert_ends_silently(&rt, alloc, vault.as_slice(), 202, Left::success(PLAINTEXT))
+}

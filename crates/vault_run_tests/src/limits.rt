@@ -1,0 +1,255 @@
+//! Inputs at the limits of length: what is answered, and how many bytes are read.
+use crate::leaving::{assert_leaves, assert_leaves_in_steps, assert_left};
+use crate::program::run_on_system;
+use crate::ran::Left;
+use crate::trial::Trial;
+use std::alloc::{AllocError, Global};
+use std::process::Abort;
+use std::test::Fail;
+use vault_cli::Status;
+use vault_core_tests::CountingReader;
+use vault_made::envelope;
+use vault_text::{CIPHERTEXT_LIMIT, ENVELOPE_LIMIT, PLAINTEXT_LIMIT};
+
+const ENCRYPT: &[&str] = &["encrypt", "--vault-password-file", "one"];
+
+const DECRYPT: &[&str] = &["decrypt", "--vault-password-file", "one"];
+
+const REKEY: &[&str] = &["rekey", "--vault-id=one", "--new-vault-id=prod@two"];
+
+const ONE: &[&[u8]] = &[b"one\n"];
+
+const TWO: &[&[u8]] = &[b"one\n", b"two\n"];
+
+const HEADER_LINE: &[u8] = b"$ANSIBLE_VAULT;1.1;AES256\n";
+
+/// The beginning of an envelope whose body is no hexadecimal text.
+const DAMAGED: &[u8] = b"$ANSIBLE_VAULT;1.1;AES256\nzz";
+
+/// The line of an input that is too long.
+const TOO_LONG: &str = "ERROR! input is longer than the limit\n";
+
+/// The line of a body that is no hexadecimal text.
+const NOT_HEXADECIMAL: &str = "ERROR! vault body is not hexadecimal\n";
+
+#[test]
+fn have_their_sizes(rt: HostRuntime) {
+    let limits = (PLAINTEXT_LIMIT, CIPHERTEXT_LIMIT, ENVELOPE_LIMIT);
+    assert_eq!(rt; limits, (16_777_216, 16_777_232, 100_671_488));
+}
+
+/// A plaintext of this byte alone.
+fn repeated(alloc: Global, byte: u8, length: usize) -> Result<Vec<u8>, AllocError> {
+    vec![in alloc; byte; length]
+}
+
+/// The vault of a plaintext under the label `default` and the password `one`.
+fn vault_of(alloc: Global, plaintext: &[u8]) -> Result<Vec<u8>, AllocError> {
+    envelope(alloc, "default", b"one", &[7; 32], plaintext)
+}
+
+fn count_lines(text: &[u8]) -> usize {
+    text.iter().filter(|byte| **byte == b'\n').count()
+}
+
+/// Behind the header line there are 67,109,188 digits.
+#[test]
+fn take_the_longest_plaintext(rt: HostRuntime) -> Result<(), Fail> {
+    let alloc = rt.alloc();
+    let plaintext = repeated(alloc, b'a', 16_777_216)?;
+    let ran = Trial::new(ENCRYPT, ONE, &[0; 32])
+        .at_the_limit()
+        .run_on(alloc, plaintext.as_slice())?;
+    let output = ran.output.as_slice();
+    let left = (ran.status, output.len(), count_lines(output));
+    assert_eq!(rt; left, (Status::Success, 67_948_079, 1 + 838_865));
+    Ok(())
+}
+
+/// The vault, read in steps, is decrypted to this plaintext.
+fn assert_decrypts_in_steps(
+    rt: &impl Abort,
+    alloc: Global,
+    vault: &[u8],
+    step: usize,
+    plaintext: &[u8],
+) -> Result<(), Fail> {
+    let mut reader = CountingReader::new(vault, step);
+    let ran = Trial::new(DECRYPT, ONE, &[])
+        .at_the_limit()
+        .run_on_reader(alloc, &mut reader)?;
+    assert!(rt;
+        ran.left() == Left::success(plaintext),
+        "in steps of {step}"
+    );
+    Ok(())
+}
+
+/// A plaintext of 15 bytes more than `encrypt` takes fills the longest ciphertext with its padding.
+/// The step of the source changes nothing.
+#[test]
+fn take_the_longest_envelope(rt: HostRuntime) -> Result<(), Fail> {
+    let alloc = rt.alloc();
+    let plaintext = repeated(alloc, b'p', 16_777_231)?;
+    let plaintext = plaintext.as_slice();
+    let vault = vault_of(alloc, plaintext)?;
+    let vault = vault.as_slice();
+    assert_decrypts_in_steps(&rt, alloc, vault, 1, plaintext)?;
+    assert_decrypts_in_steps(&rt, alloc, vault, 7, plaintext)?;
+    assert_decrypts_in_steps(&rt, alloc, vault, 4_096, plaintext)
+}
+
+/// The same vault under another password, label and salt: more than `encrypt` takes is sealed anew.
+#[test]
+fn rekey_the_longest_envelope(rt: HostRuntime) -> Result<(), Fail> {
+    let alloc = rt.alloc();
+    let plaintext = repeated(alloc, b'p', 16_777_231)?;
+    let plaintext = plaintext.as_slice();
+    let vault = vault_of(alloc, plaintext)?;
+    let rekeyed = envelope(alloc, "prod", b"two", &[1; 32], plaintext)?;
+    let left = Left::success(rekeyed.as_slice());
+    let trial = Trial::new(REKEY, TWO, &[1; 32]).at_the_limit();
+    assert_leaves_in_steps(&rt, alloc, &trial, vault.as_slice(), 4_096, left)
+}
+
+/// A limit of one MiB would end before it.
+#[test]
+fn take_more_than_a_mib(rt: HostRuntime) -> Result<(), Fail> {
+    let alloc = rt.alloc();
+    let plaintext = repeated(alloc, b'a', 1_048_592)?;
+    let vault = vault_of(alloc, plaintext.as_slice())?;
+    let left = Left::success(plaintext.as_slice());
+    let trial = Trial::new(DECRYPT, ONE, &[]).at_the_limit();
+    assert_leaves_in_steps(&rt, alloc, &trial, vault.as_slice(), 4_096, left)
+}
+
+/// An input: some bytes, and line feeds after them up to a length.
+#[derive(Clone, Copy)]
+struct Long<'a> {
+    words: &'a [&'a str],
+    prefix: &'a [u8],
+    length: usize,
+    /// How many bytes of it are read.
+    read: usize,
+    /// What is written on standard error.
+    line: &'a str,
+}
+
+/// A text without end that is no vault.
+const ENDLESS: Long<'static> = Long {
+    words: DECRYPT,
+    prefix: b"",
+    length: usize::MAX,
+    read: 100_671_489,
+    line: TOO_LONG,
+};
+
+/// A plaintext without end.
+const ENDLESS_PLAINTEXT: Long<'static> = Long {
+    words: ENCRYPT,
+    read: 16_777_217,
+    ..ENDLESS
+};
+
+/// A vault without end that is damaged at its beginning.
+const ENDLESS_DAMAGED: Long<'static> = Long {
+    prefix: DAMAGED,
+    ..ENDLESS
+};
+
+/// The input is refused with its line, after `long.read` bytes of it.
+fn assert_refused(rt: &impl Abort, alloc: Global, long: &Long<'_>) -> Result<(), Fail> {
+    let length = long.length;
+    let mut reader = CountingReader::with_line_feeds(long.prefix, length, 65_536);
+    let ran = Trial::new(long.words, ONE, &[0; 32])
+        .at_the_limit()
+        .run_on_reader(alloc, &mut reader)?;
+    assert_left(rt, long.words, &ran, Left::refused(long.line));
+    assert_eq!(rt; reader.given, long.read, "{length}");
+    Ok(())
+}
+
+/// Inputs that are too long by one byte or without end, where damage to the body comes after that;
+/// and damaged ones up to the limit, of which the shorter is longer than a limit of one MiB allows.
+#[test]
+fn are_refused(rt: HostRuntime) -> Result<(), Fail> {
+    let alloc = rt.alloc();
+    let too_long = Long {
+        length: 16_777_217,
+        ..ENDLESS_PLAINTEXT
+    };
+    assert_refused(&rt, alloc, &too_long)?;
+    assert_refused(&rt, alloc, &ENDLESS_PLAINTEXT)?;
+    assert_refused(&rt, alloc, &ENDLESS)?;
+    let header_alone = Long {
+        prefix: HEADER_LINE,
+        ..ENDLESS
+    };
+    assert_refused(&rt, alloc, &header_alone)?;
+    let too_long = Long {
+        length: 100_671_489,
+        ..ENDLESS_DAMAGED
+    };
+    assert_refused(&rt, alloc, &too_long)?;
+    assert_refused(&rt, alloc, &ENDLESS_DAMAGED)?;
+    assert_damage_reported(&rt, alloc, 6_299_649)?;
+    assert_damage_reported(&rt, alloc, 100_671_488)
+}
+
+/// A damaged vault of this length is read as a whole, and refused for its damage.
+fn assert_damage_reported(rt: &impl Abort, alloc: Global, length: usize) -> Result<(), Fail> {
+    let damaged = Long {
+        length,
+        read: length,
+        line: NOT_HEXADECIMAL,
+        ..ENDLESS_DAMAGED
+    };
+    assert_refused(rt, alloc, &damaged)
+}
+
+/// At the limit itself the input is read, and what it holds is reported.
+#[test]
+fn tell_the_damage_of_the_longest_input(rt: HostRuntime) -> Result<(), Fail> {
+    let mut stdin = CountingReader::with_line_feeds(DAMAGED, 100_671_488, 65_536);
+    let alloc = rt.alloc();
+    let refused = run_on_system(&rt, alloc, &["decrypt"], &mut stdin)?;
+    let left = (
+        refused.status,
+        refused.message.as_str(),
+        refused.output.len(),
+    );
+    assert_eq!(rt; left, (Status::Refused, NOT_HEXADECIMAL, 0));
+    assert_eq!(rt; stdin.given, 100_671_488);
+    Ok(())
+}
+
+/// A vault under a label of this many letters.
+fn vault_under(alloc: Global, length: usize) -> Result<Vec<u8>, Fail> {
+    let letters = vec![in alloc; b'x'; length]?;
+    let label = String::from_utf8(letters)?;
+    Ok(envelope(alloc, label.as_str(), b"one", &[7; 32], b"text")?)
+}
+
+/// Decrypting a vault under a label of this many letters leaves this.
+fn assert_label_leaves(
+    rt: &impl Abort,
+    alloc: Global,
+    length: usize,
+    left: Left<'_>,
+) -> Result<(), Fail> {
+    let vault = vault_under(alloc, length)?;
+    let trial = Trial::new(DECRYPT, ONE, &[]).at_the_limit();
+    assert_leaves(rt, alloc, &trial, vault.as_slice(), left)
+}
+
+/// With 26 bytes before it, a label of 231 bytes makes a header line of 257.
+#[test]
+fn take_the_longest_label(rt: HostRuntime) -> Result<(), Fail> {
+    let alloc = rt.alloc();
+    assert_label_leaves(&rt, alloc, 128, Left::success(b"text"))?;
+    let malformed = Left::refused("ERROR! vault header line is malformed\n");
+    assert_label_leaves(&rt, alloc, 129, malformed)?;
+    assert_label_leaves(&rt, alloc, 230, malformed)?;
+    let too_long = Left::refused("ERROR! vault header line is longer than 256 bytes\n");
+    assert_label_leaves(&rt, alloc, 231, too_long)
+}

@@ -1,0 +1,113 @@
+//! Runs of the program over files in memory, and over those of the system.
+ghost use Rattle.std.specs.Prelude.{◌≡◌};
+
+use crate::leaving::assert_left;
+use crate::ran::{Ended, Left, Ran, left_by, text_of};
+use std::alloc::Global;
+use std::fs::Files;
+use std::io::Read;
+use std::process::Abort;
+use std::test::Fail;
+use vault_cli::{FileSystem, MemFile, MemFiles, MemSink, ReadSource, WriteSink, drive, drive_over};
+use vault_core_tests::{CountingReader, line_of};
+use vault_text::{Source, Stage};
+
+/// A file of every Linux system, which holds "Linux" and a line end. It serves as a password file
+/// where a test has no files of its own.
+pub const LINUX_FILE: &str = "/proc/sys/kernel/ostype";
+
+/// Runs the program on these words after its name, over these files. Its messages go to a writer.
+pub fn run_program<F: FileSystem, S: Source>(
+    alloc: Global,
+    files: &mut F,
+    words: &[&str],
+    src: &mut S,
+) -> Result<Ran, Fail>
+    requires unbegun { F.stage files.old ≡ Stage.Unbegun }
+{
+    let line = line_of(alloc, words)?;
+    let mut out = MemSink::new(alloc, 4_096);
+    let mut err = WriteSink::new(Vec::new(alloc));
+    let status = drive_over(files, alloc, line.as_slice(), src, &mut out, &mut err);
+    left_by(alloc, status, &out, err.into_inner())
+}
+
+/// Runs the program on these words after its name, over the files of the system.
+pub fn run_on_system<F: Files, R: Read + Drop>(
+    rt: &F,
+    alloc: Global,
+    words: &[&str],
+    stdin: R,
+) -> Result<Ended, Fail> {
+    let line = line_of(alloc, words)?;
+    let mut output = Vec::new(alloc);
+    let mut message = Vec::new(alloc);
+    let status = drive(rt, alloc, line.as_slice(), stdin, &mut output, &mut message);
+    Ok(Ended {
+        status,
+        output,
+        message: text_of(message)?,
+    })
+}
+
+/// At least as many files as a run here opens.
+const OPENS: usize = 20;
+
+/// The length of the longest path of a run here.
+const LONGEST_PATH: usize = 12;
+
+/// What a run left, and the paths that it opened, each with a space after it.
+#[derive(Drop)]
+pub struct Opened {
+    pub ran: Ran,
+    pub paths: String,
+}
+
+/// Runs the program on these words over these files.
+pub fn run_over<'a, S: Source>(
+    alloc: Global,
+    entries: &'a [MemFile<'a>],
+    words: &[&str],
+    src: &mut S,
+) -> Result<Opened, Fail> {
+    let mut files = MemFiles::new(alloc, entries);
+    files.keep_log(alloc, OPENS, LONGEST_PATH)?;
+    let ran = run_program(alloc, &mut files, words, src)?;
+    let log = files.log().ok_or("an open was not logged")?;
+    let mut paths = String::new(alloc);
+    for path in log {
+        paths.push_str(path.as_str())?;
+        paths.push_str(" ")?;
+    }
+    Ok(Opened { ran, paths })
+}
+
+/// The program, run on these words over these files, leaves this.
+pub fn assert_program_leaves<'a, S: Source>(
+    rt: &impl Abort,
+    alloc: Global,
+    entries: &'a [MemFile<'a>],
+    words: &[&str],
+    src: &mut S,
+    left: Left<'_>,
+) -> Result<(), Fail> {
+    let opened = run_over(alloc, entries, words, src)?;
+    assert_left(rt, words, &opened.ran, left);
+    Ok(())
+}
+
+/// The same where it reads `read` bytes of its input.
+pub fn assert_program_reads<'a>(
+    rt: &impl Abort,
+    alloc: Global,
+    entries: &'a [MemFile<'a>],
+    words: &[&str],
+    stdin: &mut CountingReader,
+    read: usize,
+    left: Left<'_>,
+) -> Result<(), Fail> {
+    let mut src = ReadSource::new(&mut *stdin);
+    assert_program_leaves(rt, alloc, entries, words, &mut src, left)?;
+    assert_eq!(rt; stdin.given, read, "{words:?}");
+    Ok(())
+}

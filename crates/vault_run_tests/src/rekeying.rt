@@ -1,0 +1,122 @@
+//! Runs of `rekey`, and of commands with a label that is required.
+use crate::leaving::assert_leaves;
+use crate::ran::Left;
+use crate::trial::Trial;
+use std::alloc::Global;
+use std::process::Abort;
+use std::test::Fail;
+use vault_made::envelope;
+
+/// How a vault under the label `prod` and a salt of 20 bytes 01 and more begins.
+const REKEYED: &[u8] = b"$ANSIBLE_VAULT;1.2;AES256;prod\n\
+    30313031303130313031303130313031303130313031303130313031303130313031303130313031\n";
+
+const NO_SECRET_FITS: &str = "ERROR! no secret decrypts this vault\n";
+
+const FILES: &[&[u8]] = &[b"one\n", b"two\n"];
+
+const REKEY: &[&str] = &[
+    "rekey",
+    "--vault-password-file",
+    "f1",
+    "--new-vault-id",
+    "prod@f2",
+];
+
+const REKEY_REQUIRED: &[&str] = &[
+    "rekey",
+    "--vault-password-file",
+    "f1",
+    "--new-vault-id",
+    "prod@f2",
+    "--require-id-match",
+];
+
+/// The request of these words, with one password file, leaves this of the vault.
+fn assert_answers<'a>(
+    rt: &impl Abort,
+    alloc: Global,
+    words: &'a [&'a str],
+    file: &'a [u8],
+    vault: &[u8],
+    left: Left<'_>,
+) -> Result<(), Fail> {
+    let files = [file];
+    let trial = Trial::new(words, &files, &[1; 32]);
+    assert_leaves(rt, alloc, &trial, vault, left)
+}
+
+/// A vault of nothing, rekeyed to the label `prod`, the password `two` and a salt of ones, is
+/// opened by that password alone.
+fn assert_rekeyed(rt: &impl Abort, alloc: Global, vault: &[u8]) -> Result<(), Fail> {
+    let nothing = Left::success(b"");
+    let refused = Left::refused(NO_SECRET_FITS);
+    let words = ["decrypt", "--vault-id", "f2"];
+    assert_answers(rt, alloc, &words, b"two\n", vault, nothing)?;
+    let words = ["decrypt", "--vault-id", "f1"];
+    assert_answers(rt, alloc, &words, b"one\n", vault, refused)?;
+    // The new secret is not tried.
+    let words = ["rekey", "--new-vault-id", "x@f2"];
+    assert_answers(rt, alloc, &words, b"two\n", vault, refused)?;
+    let words = ["decrypt", "--vault-id", "prod@f2", "--require-id-match"];
+    assert_answers(rt, alloc, &words, b"two\n", vault, nothing)?;
+    let words = ["decrypt", "--vault-id", "f2", "--require-id-match"];
+    assert_answers(rt, alloc, &words, b"two\n", vault, refused)
+}
+
+/// The old secret has the label of the vault, so that it is tried where the label is required too.
+#[test]
+fn rekeys(rt: HostRuntime) -> Result<(), Fail> {
+    let alloc = rt.alloc();
+    let vault = envelope(alloc, "default", b"one", &[0; 32], b"")?;
+    let rekeyed = envelope(alloc, "prod", b"two", &[1; 32], b"")?;
+    assert!(rt; rekeyed.as_slice().starts_with(REKEYED));
+    let left = Left::success(rekeyed.as_slice());
+    let trial = Trial::new(REKEY, FILES, &[1; 32]);
+    assert_leaves(&rt, alloc, &trial, vault.as_slice(), left)?;
+    let trial = Trial::new(REKEY_REQUIRED, FILES, &[1; 32]);
+    assert_leaves(&rt, alloc, &trial, vault.as_slice(), left)?;
+    assert_rekeyed(&rt, alloc, rekeyed.as_slice())
+}
+
+/// Of two secrets that have the labels `a` and `b`, one opens a vault under this label, with its
+/// password; where the label is required, none does.
+fn assert_label_required(
+    rt: &impl Abort,
+    alloc: Global,
+    label: &str,
+    password: &[u8],
+) -> Result<(), Fail> {
+    let vault = envelope(alloc, label, password, &[7; 32], b"text")?;
+    let vault = vault.as_slice();
+    let words = ["view", "--vault-id=a@f1", "--vault-id=b@f2"];
+    let hint = Trial::new(&words, FILES, b"");
+    assert_leaves(rt, alloc, &hint, vault, Left::success(b"text"))?;
+    let words = [
+        "view",
+        "--vault-id=a@f1",
+        "--vault-id=b@f2",
+        "--require-id-match",
+    ];
+    let required = Trial::new(&words, FILES, b"");
+    assert_leaves(rt, alloc, &required, vault, Left::refused(NO_SECRET_FITS))
+}
+
+#[test]
+fn requires_a_label(rt: HostRuntime) -> Result<(), Fail> {
+    let alloc = rt.alloc();
+    assert_label_required(&rt, alloc, "a", b"two")?;
+    assert_label_required(&rt, alloc, "c", b"one")
+}
+
+#[test]
+fn requires_the_default_label(rt: HostRuntime) -> Result<(), Fail> {
+    let alloc = rt.alloc();
+    let vault = envelope(alloc, "default", b"one", &[0; 32], b"")?;
+    let vault = vault.as_slice();
+    let words = ["decrypt", "--vault-password-file=f1", "--require-id-match"];
+    assert_answers(&rt, alloc, &words, b"one\n", vault, Left::success(b""))?;
+    let words = ["decrypt", "--vault-id=x@f1", "--require-id-match"];
+    let refused = Left::refused(NO_SECRET_FITS);
+    assert_answers(&rt, alloc, &words, b"one\n", vault, refused)
+}
