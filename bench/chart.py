@@ -1,5 +1,5 @@
 #!/usr/bin/python3
-"""Draws time and memory of `view` against the size of the vault, from what `commands.py` measured.
+"""Draws processor time and memory of `view` against the size of the plaintext, from what `commands.py` measured.
 
 Usage: chart.py FILE.svg, with the points as JSON on standard input.
 """
@@ -59,7 +59,7 @@ def draw(axes, points, quantity, title, unit):
 def main():
     points = json.load(sys.stdin)
     figure, (times, memory) = pyplot.subplots(1, 2, figsize=(10, 4.8))
-    draw(times, points, "milliseconds", "Time of view", "milliseconds")
+    draw(times, points, "milliseconds", "Processor time of view", "milliseconds")
     draw(memory, points, "memory", "Memory of view, at most", "MiB")
     figure.tight_layout()
     figure.savefig(sys.argv[1], metadata={"Date": None})
