@@ -1,33 +1,43 @@
-"""Compares the listings of docs/library.md with the files that they are from, whose tests run them, its table of
-calls with the crates, and the picture and the table of the crates with crates.txt. `python3 tests/library_agrees.py`
-puts the files into the page.
+"""Compares the programs in docs/library.md with the files that they are from, whose tests run them, its table of
+calls with the crates, docs/crates.svg and the table of the crates with crates.txt, and the paths that
+docs/architecture.md and CONTRIBUTING.md name with the files.
 """
 
 import re
+import subprocess
+from pathlib import Path
 
+from lib.contracts import crates
 from lib.outcome import Outcome
 from lib.paths import ROOT
 
 DOCUMENT = ROOT / "docs" / "library.md"
-SOURCES = ROOT / "crates" / "vault_library_tests" / "src"
-# The file that a listing is from, and the listing.
-LISTING = re.compile(r"(\bFrom `(crates/\S+)`:\n\n```rust\n)((?:.*\n)*?)```$", re.MULTILINE)
+PICTURE = ROOT / "docs" / "crates.svg"
+SOURCES = "crates/vault_program_tests/src/library"
+# Where a program is from, and the program.
+LISTING = re.compile(r"(?<=\bFrom `)crates/\S+/(\w+\.rt)`:\n\n```rust\n(?:.*\n)*?```$", re.MULTILINE)
 # A row of the table: the job, the calls, their crate.
 ROW = re.compile(r"^\| [^|]+ \| ([^|]*`[^|]*) \| `(vault_\w+)` \|$", re.MULTILINE)
 CRATE_LINE = re.compile(r"^(\w+):(.*)$", re.MULTILINE)
 
 
+def listing(found: re.Match) -> str:
+    path = f"{SOURCES}/{found[1]}"
+    return f"{path}`:\n\n```rust\n{(ROOT / path).read_text()}```"
+
+
 def written(document: str) -> str:
-    """The document with the files as they are."""
-    return LISTING.sub(lambda found: found[1] + (ROOT / found[2]).read_text() + "```", document)
+    """The document with the programs as they are."""
+    return LISTING.sub(listing, document)
 
 
-def test_listings(outcome: Outcome) -> None:
-    listings = {path: text for _, path, text in LISTING.findall(DOCUMENT.read_text())}
-    programs = {file for file in SOURCES.glob("*.rt") if file.stem not in ("lib", "tests")}
-    outcome.check("docs/library.md has every program", {ROOT / path for path in listings}, programs)
-    for path, text in listings.items():
-        outcome.check(f"docs/library.md has {path} as it is", text, (ROOT / path).read_text())
+def test_programs(outcome: Outcome) -> None:
+    """Each program is shown or named, and those shown are as they are."""
+    document = DOCUMENT.read_text()
+    outcome.holds("tools/write_documents changes nothing in docs/library.md", document == written(document))
+    programs = {file.name for file in (ROOT / SOURCES).glob("*.rt")} - {"tests.rt"}
+    named = set(re.findall(r"\b(\w+\.rt)`", document))
+    outcome.check("the programs that docs/library.md does not name", programs - named, set())
 
 
 def test_calls(outcome: Outcome) -> None:
@@ -44,24 +54,30 @@ def test_crate_lines(outcome: Outcome) -> None:
     """The lines to be copied are those of crates.txt."""
     ours = dict(CRATE_LINE.findall((ROOT / "crates.txt").read_text()))
     shown = dict(re.findall(r"^    (vault_\w+):(.*)$", DOCUMENT.read_text(), re.MULTILINE))
-    outcome.holds("lines are shown", len(shown) > 4)
+    outcome.holds("lines are shown", len(shown) > 3)
     for crate, needed in shown.items():
         outcome.check(f"the line of {crate}", needed, ours.get(crate))
         for name in needed.split():
             outcome.holds(f"{name}, which {crate} needs, is shown", not name.startswith("vault_") or name in shown)
 
 
-def test_picture(outcome: Outcome) -> None:
-    """The picture and the table of the libraries list those that crates.txt has before its tests."""
-    libraries, _, _ = (ROOT / "crates.txt").read_text().partition("\n# tests")
-    crates = sorted(name for name, _ in CRATE_LINE.findall(libraries))
-    picture = re.findall(r'class="name"[^>]*>(\w+)<', (ROOT / "docs" / "crates.svg").read_text())
-    outcome.check("docs/crates.svg has every crate", sorted(picture), crates)
+def test_crates(outcome: Outcome) -> None:
+    """The picture and the table of the crates are those of crates.txt."""
+    drawn = subprocess.run([ROOT / "tools" / "crates_picture.py"], capture_output=True, text=True).stdout
+    outcome.holds("tools/write_documents does not change docs/crates.svg", PICTURE.read_text() == drawn)
     page = (ROOT / "docs" / "architecture.md").read_text()
     table = page.partition("\n| Crate | What it does |")[2].partition("\n\n")[0]
     listed = re.findall(r"^\| `(\w+)` \|", table, re.MULTILINE)
-    outcome.check("docs/architecture.md lists every crate", sorted(listed), crates)
+    outcome.check("docs/architecture.md lists every crate", sorted(listed), sorted(crates()))
 
 
-if __name__ == "__main__":
-    DOCUMENT.write_text(written(DOCUMENT.read_text()))
+def test_paths(outcome: Outcome) -> None:
+    """Each path of a file is one of the crate that is named last before it, or of the repository."""
+    for name in ("docs/architecture.md", "CONTRIBUTING.md"):
+        crate = ""
+        for word in re.findall(r"`([\w/.-]+)`", (ROOT / name).read_text()):
+            if word.startswith("vault_") and "/" not in word:
+                crate = word
+            elif "/" in word and re.search(r"\.(rt|antt|py|md|1)$", word):
+                places = (ROOT / word, ROOT / "crates" / crate / word)
+                outcome.holds(f"there is {word} of {crate}, which {name} names", any(map(Path.is_file, places)))

@@ -1,0 +1,113 @@
+"""Which files the contracts of the program need: those that declare its calls and types, and the definitions that
+their contracts name, directly or through what these import.
+"""
+
+import re
+from collections.abc import Iterator
+from functools import cache
+from pathlib import Path
+
+from lib.paths import ROOT
+
+CRATES = ROOT / "crates"
+
+# The calls whose contracts are the theorem, and the other calls and types whose contracts the pages name. Of a module
+# `laws` each call counts.
+THEOREM = ["fn drive_over", "fn reject_words"]
+OTHERS = [
+    *("fn drive", "fn drive_in_memory", "fn run", "fn run_to_output", "fn load"),
+    *("fn prepare_encrypt_in", "fn prepare_decrypt_in", "fn prepare_rekey_in"),
+    *("trait System", "struct HostFiles", "struct ReadSource", "struct WriteSink", "struct TextMemory", "enum Access"),
+]
+# Some names of a module, or the module under another name.
+IMPORT = re.compile(r"\buse Rattle\.(\w+)\.specs\.([\w.]+?)(?:\.\{([^}]*)\}| as (\w+))")
+
+
+@cache
+def code() -> dict[str, str]:
+    """The code of the program and its libraries, by its path below crates/."""
+    files = (file for file in sorted(CRATES.glob("*/src/**/*.rt")) if file.relative_to(CRATES).parts[0] in crates())
+    return {str(file.relative_to(CRATES)): file.read_text() for file in files}
+
+
+@cache
+def crates() -> list[str]:
+    """The program and its libraries, each before those that it uses."""
+    libraries, _, _ = (ROOT / "crates.txt").read_text().partition("\n# tests")
+    return re.findall(r"^(\w+):", libraries, re.MULTILINE)[::-1]
+
+
+def declared_in(path: str) -> dict[str, int]:
+    """The lines of the functions and the definitions of a file."""
+    declared = r"(?:fn|abbrev|unfoldable|record|data)(?: pub)? (\w+)"
+    lines = enumerate((CRATES / path).read_text().splitlines(), 1)
+    return {found[1]: number for number, line in lines if (found := re.match(rf"\s*(?:pub\S* )*{declared}", line))}
+
+
+def file_with(item: str) -> str:
+    """The file that declares a function or a type."""
+    declared = re.compile(rf"^(?:pub(?:\(crate\))? )?{item}\b", re.MULTILINE)
+    found = [path for path, text in code().items() if declared.search(text)]
+    assert len(found) == 1, f"{item} stands in {found}"
+    return found[0]
+
+
+def definitions_of(crate: str, module: str, names: str) -> Path | None:
+    """The file of this repository that an import takes its names from. What the prover makes of the code stands under
+    `declared`: constants and traits are read in the code; names of cases, which speak for themselves, are not.
+    """
+    folder = CRATES / crate
+    if not folder.is_dir():
+        return None
+    parts = module.split(".")
+    if parts[0] == "declared":
+        if parts[-1] != "TheConstants" and "Ghosts" not in names:
+            return None
+        modules = [part for part in parts[1:] if part[0].islower()]
+        return folder.joinpath("src", *modules).with_suffix(".rt")
+    # A type's cases are imported by the type's name after the module's.
+    while not folder.joinpath("specs", *parts).with_suffix(".antt").is_file():
+        parts.pop()
+    return folder.joinpath("specs", *parts).with_suffix(".antt")
+
+
+def imported(text: str, used: str | None = None) -> Iterator[Path]:
+    """The files whose names a text imports; of code only those that its contracts use."""
+    for crate, module, names, other_name in IMPORT.findall(text):
+        # Lemmas, which only proofs need, have a hyphen.
+        if names and all("-" in name for name in names.split(",")):
+            continue
+        words = set(re.findall(r"\w+", names or other_name))
+        if used is None or words & set(re.findall(r"\w+", used)):
+            if file := definitions_of(crate, module, names):
+                yield file
+
+
+def named_by(item: str) -> Iterator[Path]:
+    """The files that the contract of a call names, or all contracts in the file of a type."""
+    text = code()[file_with(item)]
+    contract = re.search(rf"^(?:pub(?:\(crate\))? )?{item}\b.*?^\{{", text, re.MULTILINE | re.DOTALL)
+    yield from imported(text, contract[0] if item.startswith("fn ") else None)
+
+
+def reached(items: list[str], laws: list[Path]) -> list[Path]:
+    """The files of these calls and types, and what their contracts name, directly or not: each after one that names
+    it. Of code a list holds the contracts of a trait or some constants, and not what these name.
+    """
+    found = dict.fromkeys([*(CRATES / file_with(item) for item in items), *laws])
+    waiting = [file for item in items for file in named_by(item)]
+    waiting += [file for law in laws for file in imported(law.read_text())]
+    while waiting:
+        file = waiting.pop(0)
+        if file not in found:
+            found[file] = None
+            waiting += imported(file.read_text()) if file.suffix == ".antt" else []
+    return list(found)
+
+
+@cache
+def needed() -> tuple[list[Path], list[Path]]:
+    """The files that the theorem needs, and those that the other contracts need besides."""
+    theorem = reached(THEOREM, [])
+    laws = sorted(CRATES.glob("*/src/laws.rt"))
+    return theorem, [file for file in reached(OTHERS, laws) if file not in theorem]
