@@ -85,7 +85,7 @@ module _ {K E : Type 0} (out : SinkCall K) (err : SinkCall E) (result : Status) 
       ends-text (Err fault) None (input, given, fits, inr ((other, stay), (whole, is))) done =
           (input, (given, fits, inr ((stay, whole), subst FinishesBy is done)))
 
-    -- a run whose steps 1 to 3 answer so
+    -- a run whose steps 9 to 11 answer so
     module _ (limit : ℕ) (request : Request) (contents : List (List ℕ)) (salt : List ℕ) where
       abbrev EndsAfter : Result Task Fault → Type 0
       EndsAfter plans =
@@ -111,7 +111,7 @@ module _ {K E : Type 0} (out : SinkCall K) (err : SinkCall E) (result : Status) 
           (rw (← (rw found at (keeps-planned request salt contents)).0 limit)
           (ends-text limit task answer request.string performs done))
 
-      -- steps 1 to 3 refused
+      -- steps 9 to 11 refused
       pub ends-unplanned : (fault : Fault) → planned request contents salt ≡ Err fault
           → result ≡ status_of fault → src.new ≡ src.old → out.new ≡ out.old
           → Says err (line_of fault) → EndsWithin

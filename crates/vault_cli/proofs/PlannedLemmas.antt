@@ -1,4 +1,4 @@
--- What steps 1 to 3 prepare of a request: a sound task, which takes as much input as the command.
+-- What steps 9 to 11 prepare of a request: a sound task, which takes as much input as the command.
 use Rattle.std.proofs.Common.{◌≡◌, ℕ, ◌<◌, ◌≤◌, nat_lt, true, List, [], ◌∷◌, ◌++◌, length, All}
 use Rattle.std.proofs.Common.{length-take, Option, Some, None, Ok, refl, sym, arith}
 use Rattle.std.specs.Prelude.{IfSome, option_to_list, slice_index_or}
@@ -136,7 +136,7 @@ module _ (request : Request) (salt : List ℕ) where
         ),
       )))
 
-  -- steps 1 to 3
+  -- steps 9 to 11
   pub keeps-planned : (contents : List (List ℕ))
       → Keeps (IsTask request.command) (planned request contents salt)
   unfolding planned

@@ -31,7 +31,7 @@ opening Missing n opened = absurd (opened refl)
 opening (Whole bytes) n opened = refl
 opening (Broken bytes) n opened = refl
 
--- what steps 1 to 3 prepare, where the files can be read
+-- what steps 9 to 11 prepare, where the files can be read
 pub task-found : (request : Request) (files : Files) (contents : List (List ℕ)) (salt : List ℕ)
     → contents_of files.secrets ≡ Ok contents → salt_in files.salt ≡ Ok salt
     → can_open_input files.input ≡ Ok tt → task_over request files ≡ planned request contents salt

@@ -64,7 +64,7 @@ reads : (limit : ℕ) (input : List ℕ) → IsRefusedAlone (payload_of limit in
 reads limit input =
     named _ of_text (read_within limit input) (λ payload read. tt) (λ fault. grind arith)
 
--- steps 4 and 5
+-- steps 13 and 14
 pub alone-performed : (limit : ℕ) (task : Task) (input : List ℕ)
     → IsRefusedAlone (performed limit task input)
 unfolding encryption decryption rekeying rekeying_of_payload

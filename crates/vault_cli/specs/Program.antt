@@ -40,7 +40,7 @@ can_open_input (Some (Whole bytes)) = Ok tt
 can_open_input (Some (Broken bytes)) = Ok tt
 
 -- the task of a request, or the first fault: of its password files, of its salt file, of an input
--- file that cannot be opened, or of steps 1 to 3
+-- file that cannot be opened, or of steps 9 to 11
 unfoldable pub task_over : Request → Files → Result Task Fault
 task_over request files = do
   contents ← contents_of files.secrets
@@ -54,7 +54,7 @@ input_in limit None stdin = Ok stdin
 input_in limit (Some file) stdin = prefix_in Input limit file
 
 -- what is ready to be written, or the first fault: of the task, of its input, which counts up to
--- one byte more than is taken, or of steps 4 and 5
+-- one byte more than is taken, or of steps 13 and 14
 abbrev pub ready_of : Request → Files → List ℕ → Result Ready Fault
 ready_of request files stdin =
     ready_by PLAINTEXT_LIMIT (task_over request files) request.string

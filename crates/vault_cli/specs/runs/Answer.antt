@@ -1,7 +1,7 @@
--- What a run of a request answers, as a function of the request, the password files, the salt and
--- the input: five steps, of which the first that refuses decides. Steps 1 to 3, the passwords, the
--- index of the secret that seals and the salt, stand with the tasks; then the text is read; step 4
--- is its length, and step 5 what becomes of it.
+-- The answer to a request, as a function of the request, the password files, the salt and the
+-- input: steps 9 to 14 of docs/verification.md, of which the first that refuses decides. The task
+-- has steps 9 to 11: the passwords, the index of the secret that encrypts, and the salt. Then the
+-- text is read (12); its length is checked (13), and the command is carried out (14).
 use Rattle.std.specs.Prelude.{ℕ, ◌*◌, if◌then◌else◌, List, [], Option, Some, None, unwrap_or}
 use Rattle.std.specs.Prelude.{Result, Ok, Err}
 use Rattle.vault_text.specs.Limits.{envelope_limit}
@@ -63,28 +63,28 @@ abbrev pub text_or : Option (List ℕ) → Result (List ℕ) Fault → Result (L
 text_or (Some string) input = Ok string
 text_or None input = input
 
--- how much of the input is asked for beside one byte more: the limit, where steps 1 to 3 do not
+-- how much of the input is asked for beside one byte more: the limit, where steps 9 to 11 do not
 -- refuse and there is no STRING, and else none
 abbrev pub input_needed_by : Result Task Fault → Option (List ℕ) → ℕ → Option ℕ
 input_needed_by (Err fault) string limit = None
 input_needed_by (Ok task) (Some string) limit = None
 input_needed_by (Ok task) None limit = Some limit
 
--- steps 4 and 5 of each task
+-- steps 13 and 14 of each task
 abbrev pub performed : ℕ → Task → List ℕ → Result Ready Fault
 performed limit (task.Encrypt secrets index form salt) text =
     encryption limit secrets index form salt text
 performed limit (task.Decrypt secrets) text = decryption limit secrets text
 performed limit (task.Rekey secrets new salt) text = rekeying limit secrets new salt text
 
--- all five steps, where plaintext up to the limit is encrypted
+-- steps 9 to 14, where plaintext up to the limit is encrypted
 abbrev pub ready_by : ℕ → Result Task Fault → Option (List ℕ) → Result (List ℕ) Fault
     → Result Ready Fault
 ready_by limit plans string input = do
-  -- steps 1 to 3
+  -- steps 9 to 11
   task ← plans
   text ← text_or string input
-  -- steps 4 and 5
+  -- steps 13 and 14
   performed limit task text
 
 -- how much of the input a request asks for

@@ -1,5 +1,5 @@
--- The task of a request: the passwords, step 1, the index of the secret that encrypts, step 2, and
--- the salt, step 3.
+-- The task of a request, steps 9 to 11 of docs/verification.md: the passwords, the index of the
+-- secret that encrypts, and the salt.
 use Rattle.std.specs.Prelude.{ℕ, ◌<◌, nat_lt, if◌then◌else◌, List, [], ◌∷◌, length, take}
 use Rattle.std.specs.Prelude.{slice_index_or, Option, Some, None, Result, Ok, Err}
 use Rattle.std.specs.Result.{result_map_both}
@@ -41,7 +41,7 @@ secret_in file bytes = do
   password ← password_in bytes
   Ok (record { label = file.label; password = password })
 
--- step 1: the secrets of password files, in their order, or the first fault; a file without
+-- step 9: the secrets of password files, in their order, or the first fault; a file without
 -- contents, which no run has, gives no password
 unfoldable pub secrets_of : List SecretFile → List (List ℕ) → Result (List Secret) Fault
 secrets_of [] contents = Ok []
@@ -57,30 +57,30 @@ secret_list_of request contents = do
   secrets ← secrets_of request.secrets contents
   Ok (record { secrets = secrets; rule = request.rule })
 
--- step 1 of `rekey`: its new secret, which a settled request names
+-- step 9 of `rekey`: its new secret, which a settled request names
 abbrev pub new_secret_in : Option SecretFile → List ℕ → Result Secret Fault
 new_secret_in None bytes = Err NeedNewSecret
 new_secret_in (Some file) bytes = secret_in file bytes
 
--- step 2: the index of the secret that encrypts
+-- step 10: the index of the secret that encrypts
 abbrev pub index_of : List Secret → Option (List ℕ) → Result ℕ Fault
 index_of secrets label = result_map_both (λ index. index) of_choice (chosen_index secrets label)
 
--- step 3: the bytes of the salt text where there is one, else the first 32 of the salt
+-- step 11: the bytes of the salt text where there is one, else the first 32 of the salt
 abbrev pub salt_of : Option (List ℕ) → List ℕ → Result (List ℕ) Fault
 salt_of (Some text) salt = Ok text
 salt_of None salt =
     if nat_lt (length salt) SEALING_SALT_LENGTH then Err SaltShort
     else Ok (take SEALING_SALT_LENGTH salt)
 
--- steps 2 and 3 of `encrypt` and `encrypt_string`
+-- steps 10 and 11 of `encrypt` and `encrypt_string`
 abbrev pub encrypt_task : Request → List Secret → Form → List ℕ → Result Task Fault
 encrypt_task request secrets form salt = do
   index ← index_of secrets request.choice
   used ← salt_of request.salt_text salt
   Ok (Encrypt secrets index form used)
 
--- the last of step 1, and step 3, of `rekey`, whose last password file holds these bytes
+-- the last of step 9, and step 11, of `rekey`, whose last password file holds these bytes
 abbrev pub rekey_task : Request → SecretList → List ℕ → List ℕ → Result Task Fault
 rekey_task request secrets last salt = do
   new ← new_secret_in request.new_secret last
@@ -97,12 +97,12 @@ task_of command.Decrypt request list last salt = Ok (Decrypt list)
 task_of command.View request list last salt = Ok (Decrypt list)
 task_of command.Rekey request list last salt = rekey_task request list last salt
 
--- steps 1 to 3: the task of a request, of the contents of its password files, of which that of the
+-- steps 9 to 11: the task of a request, of the contents of its password files, of which that of the
 -- new secret is the last, and of a salt, or the first fault
 unfoldable pub planned : Request → List (List ℕ) → List ℕ → Result Task Fault
 planned request contents salt = do
-  -- step 1
+  -- step 9
   list ← secret_list_of request contents
-  -- the new password of `rekey`, and steps 2 and 3
+  -- the new password of `rekey`, and steps 10 and 11
   let last = slice_index_or contents (length request.secrets) [] in
       task_of request.command request list last salt
