@@ -78,5 +78,5 @@ read_within-fits limit input =
       | inl long ↦ rw long tt
       | inr short ↦
           rw short (IfOk-steps (read_head input) _ (HasFittingCiphertext limit)
-          (λ header _. read_body-fits limit header.label (body input)))
+          (λ label _. read_body-fits limit label (body input)))
     ]

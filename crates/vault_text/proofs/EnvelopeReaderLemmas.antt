@@ -12,7 +12,7 @@ use Rattle.std.proofs.lemmas.List.Elements.{filter-append}
 use Rattle.vault_text.specs.Envelope.{body, read_body, read_head, read_within, without_line_ends}
 use Rattle.vault_text.specs.EnvelopeReader.{BodyHas, BodyState, IsKept, LineHas, LineState}
 use Rattle.vault_text.specs.EnvelopeReader.{ReaderState, HasRead}
-use Rattle.vault_text.specs.Header.{Header, header_line, is_line_end, marker, read_header}
+use Rattle.vault_text.specs.Header.{header_line, is_line_end, marker, read_header}
 use Rattle.vault_text.specs.Hexadecimal.{DecoderState, Decodes, new_decoder, unhex}
 use Rattle.vault_text.specs.InnerReader.{InnerHas, InnerState}
 use Rattle.vault_text.specs.Limits.{ciphertext_limit, envelope_limit}
@@ -108,7 +108,7 @@ LineHas-more old new input text line goes_on start ended taken has =
     )
 
 -- what a line says, where it begins as every vault does
-abbrev head_of : List ℕ → Result Header TextFault
+abbrev head_of : List ℕ → Result (List ℕ) TextFault
 head_of line = if not (starts_with nat_eq line marker) then Err NotVault else read_header line
 
 -- once a line is too long, the rest of it changes nothing
@@ -187,7 +187,7 @@ read-long reader input stands long =
 -- any other
 pub read-short : (reader : ReaderState) (input : List ℕ) → HasRead reader input
     → reader.bytes_read ≤ envelope_limit reader.limit
-    → (read_head input >>= (λ header. read_body reader.limit header.label (body input)))
+    → (read_head input >>= (λ label. read_body reader.limit label (body input)))
     ≡ read_within reader.limit input
 unfolding read_within
 read-short reader input stands short =

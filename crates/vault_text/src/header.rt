@@ -4,48 +4,15 @@ ghost use Rattle.std.specs.Prelude.{◌≡◌, ◌==◌, ◌≤◌, [], ◌∷�
 ghost use Rattle.std.specs.Prelude.{IfSome, IfNone};
 ghost use Rattle.std.specs.List.{before_first, list_all, position_or_len, slice_split};
 ghost use Rattle.vault_text.specs.Header.{field, header_line, is_ascii, is_cipher, is_line_end};
-ghost use Rattle.vault_text.specs.Header.{parts_of_line, read_header, version_of};
+ghost use Rattle.vault_text.specs.Header.{is_version, parts_of_line, read_header};
 
 use crate::fault::TextFault;
 use crate::label::Label;
 use crate::limits::HEADER_LIMIT;
 use crate::whitespace::strip;
-use std::marker::Model;
 
 /// What every vault begins with.
 pub const MARKER: &[u8; 14] = b"$ANSIBLE_VAULT";
-
-/// A version of the payload format.
-#[derive(Clone, Copy)]
-pub(crate) enum Version {
-    V1_1,
-    V1_2,
-}
-
-/// What a header line says.
-#[derive(Drop)]
-pub(crate) struct Header {
-    version: Version,
-    label: Label,
-}
-
-impl Model for Header {
-    ghost use Rattle.vault_text.specs.Header.{Header};
-
-    ghost Value = { Header };
-
-    ghost view = { λ h. record { version = h.version; label = h.label } };
-}
-
-impl Header {
-    /// The label that the line names, `default` where it names none.
-    pub(crate) fn into_label(self) -> Label
-        ensures { result ≡ self.label }
-    {
-        let Header { version: _, label } = self;
-        label
-    }
-}
 
 /// The fields of a header line that are read, without whitespace at their ends. The label is empty
 /// where the line has none.
@@ -133,17 +100,11 @@ fn is_ascii(line: &[u8]) -> bool
     line.iter().all(|byte| *byte < 128)
 }
 
-/// The version that a field names.
-fn version_of(field: &[u8]) -> Option<Version>
-    ensures { result ≡ version_of field.now }
+/// Whether a field names a version that is read: 1.1 or 1.2.
+fn is_version(field: &[u8]) -> bool
+    ensures { result ≡ is_version field.now }
 {
-    if field == b"1.1".as_slice() {
-        Some(Version::V1_1)
-    } else if field == b"1.2".as_slice() {
-        Some(Version::V1_2)
-    } else {
-        None
-    }
+    field == b"1.1".as_slice() || field == b"1.2".as_slice()
 }
 
 fn is_cipher(field: &[u8]) -> bool
@@ -152,9 +113,9 @@ fn is_cipher(field: &[u8]) -> bool
     field == b"AES256".as_slice()
 }
 
-/// What a header line says, given without its line end.
+/// The label that a header line names, given without its line end.
 #[tactic(auto, unfolding(crate::specs::Header::read_header))]
-pub(crate) fn read_header(line: &[u8]) -> Result<Header, TextFault>
+pub(crate) fn read_header(line: &[u8]) -> Result<Label, TextFault>
     ensures { result ≡ read_header line.now }
 {
     if line.len() > HEADER_LIMIT {
@@ -169,11 +130,11 @@ pub(crate) fn read_header(line: &[u8]) -> Result<Header, TextFault>
     let Some(label) = Label::from_bytes_or_default(fields.label) else {
         return Err(TextFault::BadHeader);
     };
-    let Some(version) = version_of(fields.version) else {
+    if !is_version(fields.version) {
         return Err(TextFault::BadVersion);
-    };
+    }
     if !is_cipher(fields.cipher) {
         return Err(TextFault::BadCipher);
     }
-    Ok(Header { version, label })
+    Ok(label)
 }

@@ -119,7 +119,7 @@ impl<'a> EnvelopeReader<'a> {
         if bytes_read > envelope_limit(limit) {
             return Err(TextFault::TooLong);
         }
-        let header = line.finish()?;
-        body.finish(header.into_label())
+        let label = line.finish()?;
+        body.finish(label)
     }
 }

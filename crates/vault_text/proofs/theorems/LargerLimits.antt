@@ -9,7 +9,7 @@ use Rattle.std.proofs.lemmas.Bool.{cases_Bool}
 use Rattle.std.proofs.lemmas.Bool.Decides.{nat_tests}
 use Rattle.std.proofs.lemmas.List.Sums.{count_by-le-length, length-filter}
 use Rattle.vault_text.specs.Envelope.{body, read_body, read_head, read_within}
-use Rattle.vault_text.specs.Header.{Header, header_line, is_line_end}
+use Rattle.vault_text.specs.Header.{header_line, is_line_end}
 use Rattle.vault_text.specs.Hexadecimal.{unhex}
 use Rattle.vault_text.specs.InnerText.{Parts, cut, is_line_feed, part_bytes, parts_of}
 use Rattle.vault_text.specs.Laws.{LargerLimits, ShortInputs}
@@ -50,8 +50,8 @@ read_body-same smaller larger label digits more fits =
 -- an envelope whose body has one answer
 read_within-same : (smaller larger : ℕ) (input : List ℕ)
     → nat_lt (envelope_limit smaller) (length input) ≡ false → smaller ≤ larger
-    → ((header : Header) → read_head input ≡ Ok header
-    → read_body larger header.label (body input) ≡ read_body smaller header.label (body input))
+    → ((label : List ℕ) → read_head input ≡ Ok label
+    → read_body larger label (body input) ≡ read_body smaller label (body input))
     → read_within larger input ≡ read_within smaller input
 unfolding read_within
 read_within-same smaller larger input short more same =
@@ -67,8 +67,8 @@ larger_limits smaller larger input more not_long fits =
     elim (cases_Bool (nat_lt (envelope_limit smaller) (length input))) [
       | inl long ↦ absurd (not_long (rw long refl))
       | inr short ↦
-          read_within-same smaller larger input short more (λ header names.
-          read_body-same smaller larger header.label (body input) more (λ inner parts spelled known.
+          read_within-same smaller larger input short more (λ label names.
+          read_body-same smaller larger label (body input) more (λ inner parts spelled known.
           elim (cases_Bool (nat_lt (ciphertext_limit smaller) (length parts.ciphertext))) [
             | inl long ↦ absurd (fits (rw (short, names, spelled, known, long) refl))
             | inr fitting ↦ fitting
@@ -130,8 +130,8 @@ pub short_inputs : ShortInputs
 short_inputs smaller larger input few more =
     let short : nat_lt (envelope_limit smaller) (length input) ≡ false = grind (arith, nat_tests) in
     let body_few = body-short input in
-    read_within-same smaller larger input short more (λ header names.
-    read_body-same smaller larger header.label (body input) more (λ inner parts spelled known.
+    read_within-same smaller larger input short more (λ label names.
+    read_body-same smaller larger label (body input) more (λ inner parts spelled known.
     let inner_short : 2 * length inner ≤ length (body input) = rw spelled
     at (unhex-short (body input)) in
     let parts_short : 2 * length parts.ciphertext ≤ length inner =

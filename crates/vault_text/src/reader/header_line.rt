@@ -5,7 +5,8 @@ ghost use Rattle.vault_text.specs.EnvelopeReader.{IsKept, LineHas};
 ghost use Rattle.vault_text.specs.Pieces.{TakesPiece};
 
 use crate::fault::TextFault;
-use crate::header::{Header, MARKER, before_line_end, read_header};
+use crate::header::{MARKER, before_line_end, read_header};
+use crate::label::Label;
 use crate::limits::HEADER_LIMIT;
 use arrayvec::ArrayVec;
 use std::marker::Model;
@@ -64,8 +65,8 @@ impl HeaderLine {
         let _ = self.kept.try_extend_from_slice(&bytes[..count]);
     }
 
-    /// What the line says, where nothing follows.
-    pub(super) fn finish(&self) -> Result<Header, TextFault>
+    /// The label that the line names, where nothing follows.
+    pub(super) fn finish(&self) -> Result<Label, TextFault>
         ensures { (input : List ℕ) → LineHas self.now input → result ≡ read_head input }
     {
         if !self.kept.as_slice().starts_with(MARKER) {
