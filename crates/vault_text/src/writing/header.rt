@@ -4,6 +4,7 @@ ghost use Rattle.arrayvec.specs.ArrayVec.{array_vec_len};
 ghost use Rattle.vault_text.specs.Written.{text_of_lines, written_header};
 
 use super::lines::{HEAD_ROOM, INDENTATION_LIMIT, TEXT_LIMIT, Text, append};
+use crate::header::MARKER;
 use crate::label::Label;
 
 /// What may come before the header line.
@@ -33,10 +34,11 @@ fn append_header(line: &mut Text, label: &str)
     ensures line { line.new.items ≡ line.old.items ++ written_header label.now }
     ensures length { array_vec_len line.new ≤ array_vec_len line.old + 26 + length label.now }
 {
+    append(line, MARKER);
     if label == "default" {
-        append(line, b"$ANSIBLE_VAULT;1.1;AES256");
+        append(line, b";1.1;AES256");
     } else {
-        append(line, b"$ANSIBLE_VAULT;1.2;AES256;");
+        append(line, b";1.2;AES256;");
         append(line, label.as_bytes());
     }
 }
