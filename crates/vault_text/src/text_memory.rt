@@ -79,7 +79,7 @@ impl<'a> TextMemory<'a> {
             }
             Place::Reserved(memory) => {
                 // It stays within the capacity.
-                let _ = memory.extend_from_slice(bytes);
+                memory.extend_from_slice(bytes).unwrap();
             }
         }
     }
@@ -107,7 +107,7 @@ impl<'a> TextMemory<'a> {
             Place::Borrowed(memory, filled) => &mut memory[..filled + spare],
             Place::Reserved(memory) => {
                 // It stays within the capacity.
-                let _ = memory.resize(memory.len() + spare, 0);
+                memory.resize(memory.len() + spare, 0).unwrap();
                 memory.as_mut_slice()
             }
         }

@@ -61,8 +61,7 @@ impl HeaderLine {
         ensures line { TakesPiece IsKept self.old.kept bytes.now self.new.kept }
     {
         let count = bytes.len().min(self.kept.remaining_capacity());
-        // This many always fit.
-        let _ = self.kept.try_extend_from_slice(&bytes[..count]);
+        self.kept.try_extend_from_slice(&bytes[..count]).unwrap();
     }
 
     /// The label that the line names, where nothing follows.

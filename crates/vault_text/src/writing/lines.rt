@@ -53,7 +53,7 @@ pub(super) fn append<const LIMIT: usize>(text: &mut ArrayVec<u8, LIMIT>, bytes: 
     ensures text { text.new.items ≡ text.old.items ++ bytes.now }
     ensures length { array_vec_len text.new ≡ array_vec_len text.old + length bytes.now }
 {
-    let _ = text.try_extend_from_slice(bytes);
+    text.try_extend_from_slice(bytes).unwrap();
 }
 
 /// Appends the digits of at most a line of bytes.
@@ -65,7 +65,7 @@ fn append_digits<const LIMIT: usize>(text: &mut ArrayVec<u8, LIMIT>, bytes: &[u8
 {
     let mut digits = [0; LINE_DIGITS];
     let digits = &mut digits[..2 * bytes.len()];
-    let _ = hex::encode_to_slice(bytes, digits);
+    hex::encode_to_slice(bytes, digits).unwrap();
     append(text, digits);
 }
 
@@ -127,7 +127,7 @@ fn append_ciphertext_line(text: &mut Text, indentation: &[u8], ciphertext: &[u8]
 {
     let mut digits = [0; LINE_BYTES];
     let digits = &mut digits[..2 * ciphertext.len()];
-    let _ = hex::encode_to_slice(ciphertext, digits);
+    hex::encode_to_slice(ciphertext, digits).unwrap();
     append_line(text, indentation, digits);
 }
 
