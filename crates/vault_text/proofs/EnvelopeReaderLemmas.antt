@@ -1,4 +1,4 @@
--- What is kept of an envelope, and what it answers at its end.
+-- What is kept of an envelope, and what it gives at its end.
 use Rattle.std.proofs.Common.{◌≡◌, ℕ, ◌+◌, ◌-◌, ◌^◌, ◌<◌, ◌≤◌, true, false, not, List, ◌++◌}
 use Rattle.std.proofs.Common.{length, take, drop, min, Some, Result, Ok, Err, refl, sym, ap}
 use Rattle.std.proofs.Common.{◌∙◌, arith, inl, inr, append_assoc, length-append, ◌==◌}
@@ -107,7 +107,7 @@ LineHas-more old new input text line goes_on start ended taken has =
       ) refl,
     )
 
--- what a line says, where it begins as every vault does
+-- the label of a line, if it begins as every vault does
 abbrev head_of : List ℕ → Result (List ℕ) TextFault
 head_of line = if not (starts_with nat_eq line marker) then Err NotVault else read_header line
 
@@ -124,7 +124,7 @@ head_of-long start more long =
     grind (arith, nat_tests) in
     rw (starts_alike, is_long, still_long) refl
 
--- what is kept of the line answers as the line
+-- what is kept of the line is read as the line
 pub read_head-kept : (line : LineState) (input : List ℕ) → LineHas line input
     → head_of line.kept ≡ read_head input
 read_head-kept line input has =
@@ -196,7 +196,7 @@ read-short reader input stands short =
     grind (arith, nat_tests) in
     rw test refl
 
--- what holds where a call succeeded
+-- what holds if a call succeeded
 pub on_ok : {T E P : Type 0} (r : Result T E) → IsOk r → OnOk r P → P
 on_ok (Ok x) ok holds = holds
 on_ok (Err e) ok holds = cc

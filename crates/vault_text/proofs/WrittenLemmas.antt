@@ -128,7 +128,7 @@ take-until bytes start end forward =
     let to : start + (end - start) ≡ end = omega arith in
     rw (← take-add start (end - start) bytes, to) refl
 
--- the lines of two texts, where the first fills whole lines unless the second is empty
+-- the lines of two texts, if the first fills whole lines or the second is empty
 body_text-parts : (indentation xs ys : List ℕ) → (length xs % 80 ≡ 0) ⊎ (ys ≡ [])
     → text_of_lines indentation (body_lines xs) ++ text_of_lines indentation (body_lines ys)
     ≡ text_of_lines indentation (body_lines (xs ++ ys))
@@ -219,7 +219,7 @@ pub ciphertext_lines-nil : (indentation : List ℕ)
     → hexadecimal_lines indentation (encode_lower []) ≡ []
 ciphertext_lines-nil indentation = rw (encode_lower-nil, encode_lower-nil, body_text-nil) refl
 
--- the lines of two texts, where the first fills whole lines unless the second is empty
+-- the lines of two texts, if the first fills whole lines or the second is empty
 pub ciphertext_lines-parts : (indentation xs ys : List ℕ) → (length xs % 20 ≡ 0) ⊎ (ys ≡ [])
     → hexadecimal_lines indentation (encode_lower xs)
     ++ hexadecimal_lines indentation (encode_lower ys)

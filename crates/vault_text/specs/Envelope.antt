@@ -59,7 +59,7 @@ read_body limit label digits = do
   -- 8 and 9
   read_inner limit label inner
 
--- the payload of an envelope, or the fault of the first of the nine steps that fails, where the
+-- the payload of an envelope, or the fault of the first of the nine steps that fails, if the
 -- plaintext has this limit
 unfoldable pub read_within : ℕ → List ℕ → Result Payload TextFault
 read_within limit input =

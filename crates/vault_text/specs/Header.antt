@@ -19,7 +19,7 @@ marker = codes "$ANSIBLE_VAULT"
 abbrev pub is_line_end : ℕ → Bool
 is_line_end b = b == 10 || b == 13
 
--- the bytes before the first line end, or all where there is none
+-- the bytes before the first line end, or all if there is none
 abbrev pub header_line : List ℕ → List ℕ
 header_line input = before_first is_line_end input
 
@@ -27,7 +27,7 @@ header_line input = before_first is_line_end input
 abbrev pub parts_of_line : List ℕ → List (List ℕ)
 parts_of_line line = slice_split (λ b. b == 59) line
 
--- the part at a place, from 0, without whitespace at its ends; empty where there is no such part
+-- the part at a place, from 0, without whitespace at its ends; empty if there is no such part
 abbrev pub field : ℕ → List ℕ → List ℕ
 field place line = strip (slice_index_or (parts_of_line line) place [])
 
@@ -35,7 +35,7 @@ field place line = strip (slice_index_or (parts_of_line line) place [])
 abbrev pub label_or_default : List ℕ → List ℕ
 label_or_default text = if length text == 0 then default_label else text
 
--- the fourth field, or `default` where it is absent or empty
+-- the fourth field, or `default` if it is absent or empty
 abbrev pub label_of : List ℕ → List ℕ
 label_of line = label_or_default (field 3 line)
 
@@ -43,7 +43,7 @@ label_of line = label_or_default (field 3 line)
 abbrev pub is_ascii : ℕ → Bool
 is_ascii b = nat_lt b 128
 
--- ASCII, three fields or more, and a label in the fourth, where that is not empty
+-- ASCII, three fields or more, and a label in the fourth, unless that is empty
 abbrev pub is_well_formed : List ℕ → Bool
 is_well_formed line =
     list_all is_ascii line && nat_le 3 (length (parts_of_line line)) && is_label (label_of line)

@@ -9,7 +9,7 @@ use Rattle.vault_text.specs.declared.reader.inner_text.Part.{Part}
 use Rattle.vault_text.specs.declared.reader.inner_text.Part.TheVariants.{Salt, Tag, Ciphertext}
 
 -- a part of the inner text: its bytes, the decoder of its digits, how many bytes it may have, and
--- whether it has more, where the bytes mean nothing
+-- whether it has more; then the bytes mean nothing
 pub record PartState : Type 0 where
   pub bytes : List ℕ
   pub decoder : DecoderState

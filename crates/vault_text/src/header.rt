@@ -15,7 +15,7 @@ use crate::whitespace::strip;
 pub const MARKER: &[u8; 14] = b"$ANSIBLE_VAULT";
 
 /// The fields of a header line that are read, without whitespace at their ends. The label is empty
-/// where the line has none.
+/// if the line has none.
 #[derive(Drop)]
 struct Fields<'a> {
     version: &'a [u8],
@@ -30,7 +30,7 @@ pub(crate) fn is_line_end(byte: u8) -> bool
     byte == b'\n' || byte == b'\r'
 }
 
-/// The bytes before the first line end, or all where there is none.
+/// The bytes before the first line end, or all if there is none.
 pub(crate) fn before_line_end(input: &[u8]) -> &[u8]
     ensures line { result.now ≡ header_line input.now }
     ensures inside { length result.now ≤ length input.now }
@@ -42,7 +42,7 @@ pub(crate) fn before_line_end(input: &[u8]) -> &[u8]
     &input[..end]
 }
 
-/// The first place of the byte, or the length where it does not occur.
+/// The first place of the byte, or the length if it does not occur.
 pub(crate) fn position_of(bytes: &[u8], byte: u8) -> usize
     ensures place { result ≡ position_or_len (λ b. b == byte) bytes.now }
     ensures inside { result ≤ length bytes.now }
@@ -54,7 +54,7 @@ pub(crate) fn position_of(bytes: &[u8], byte: u8) -> usize
     place
 }
 
-/// What comes before the first such byte, and after it where there is one.
+/// What comes before the first such byte, and what comes after it if there is one.
 pub(crate) fn split_at_byte(bytes: &[u8], byte: u8) -> (&[u8], Option<&[u8]>)
     ensures before { result.0.now ≡ before_first (λ b. b == byte) bytes.now }
     ensures found { IfSome result.1 (λ rest. bytes.now ≡ result.0.now ++ byte ∷ rest.now) }
@@ -73,7 +73,7 @@ pub(crate) fn split_at_byte(bytes: &[u8], byte: u8) -> (&[u8], Option<&[u8]>)
     }
 }
 
-/// The fields of a header line; None where it has fewer than three.
+/// The fields of a header line; None if it has fewer than three.
 fn fields_of(line: &[u8]) -> Option<Fields<'_>>
     ensures enough { is_some result ≡ nat_le 3 (length (parts_of_line line.now)) }
     ensures version { IfSome result (λ fields. fields.version.now ≡ field 1 line.now) }

@@ -50,7 +50,7 @@ impl<'a> Payload<'a> {
         }
     }
 
-    /// The label that the header line names, `default` where it names none.
+    /// The label that the header line names, `default` if it names none.
     pub fn label(&self) -> &Label
         ensures { result.now ≡ self.now.label }
     {
@@ -64,7 +64,7 @@ impl<'a> Payload<'a> {
         &self.salt
     }
 
-    /// The tag as it was read, of which nothing says that it fits the ciphertext.
+    /// The tag as it was read: nothing says that it fits the ciphertext.
     pub fn tag(&self) -> &[u8; TAG_LENGTH]
         ensures { result.now ≡ self.now.tag }
     {
@@ -78,7 +78,7 @@ impl<'a> Payload<'a> {
         self.ciphertext
     }
 
-    /// The ciphertext, where it lies in the memory that the reader borrowed.
+    /// The ciphertext, in place in the memory that the reader borrowed.
     pub fn into_body(self) -> &'a mut [u8]
         ensures { result.now ≡ self.entry.ciphertext }
     {

@@ -104,8 +104,8 @@ impl<'a> EnvelopeReader<'a> {
     }
 
     /// The payload of the input, or its first fault in the order of the nine steps: `TooLong` over
-    /// `input_limit`, then those of the header line, `BadHex`, `BadPayload`, and `CipherTooLong`
-    /// where the ciphertext does not fit in the memory.
+    /// `input_limit`, then those of the header line, `BadHex`, `BadPayload`, and `CipherTooLong` if
+    /// the ciphertext does not fit in the memory.
     pub fn finish(self) -> Result<Payload<'a>, TextFault>
         ensures { (input : List ℕ) →
             HasRead self.entry input → result ≡ read_within self.entry.limit input }

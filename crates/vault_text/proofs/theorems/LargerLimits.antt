@@ -1,4 +1,4 @@
--- What reading answers under two limits.
+-- What reading gives under two limits.
 use Rattle.std.proofs.Common.{◌≡◌, ℕ, ◌*◌, ◌≤◌, false, not, List, [], ◌∷◌}
 use Rattle.std.proofs.Common.{length, drop, suc, Option, Some, None, Result, Ok, Err, refl, ap}
 use Rattle.std.proofs.Common.{arith, inl, inr, length-drop}
@@ -21,7 +21,7 @@ use Rattle.vault_text.proofs.EnvelopeLemmas.{IfOk-if, IfOk-steps}
 use Rattle.vault_text.proofs.HexadecimalLemmas.{byte_of, cons_found, spelled_bytes}
 use Rattle.vault_text.proofs.HexadecimalLemmas.{unhex-spelled_bytes}
 
--- ---- two limits that give one answer
+-- ---- two limits that give one result
 
 ok_or-found : {A : Type 0} (o : Option A) (fault : TextFault) (x : A) → ok_or o fault ≡ Ok x
     → o ≡ Some x
@@ -47,7 +47,7 @@ read_body-same smaller larger label digits more fits =
     grind (arith, nat_tests) in
     rw (short, shorter) refl))
 
--- an envelope whose body has one answer
+-- an envelope whose body has one result
 read_within-same : (smaller larger : ℕ) (input : List ℕ)
     → nat_lt (envelope_limit smaller) (length input) ≡ false → smaller ≤ larger
     → ((label : List ℕ) → read_head input ≡ Ok label

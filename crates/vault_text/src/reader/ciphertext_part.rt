@@ -58,7 +58,7 @@ impl<'a> CiphertextPart<'a> {
         }
     }
 
-    /// The ciphertext, where no digit follows.
+    /// The ciphertext, if no digit follows.
     pub(super) fn finish(self) -> Result<&'a mut [u8], TextFault>
         ensures bytes { (limit : ℕ) (digits : List ℕ) → PartHas limit self.entry digits
             → IfOk result (λ bytes. ciphertext_of limit digits ≡ Ok bytes.now) }

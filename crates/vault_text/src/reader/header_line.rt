@@ -40,7 +40,7 @@ impl HeaderLine {
         }
     }
 
-    /// Takes what belongs to the header line, and answers what follows it.
+    /// Takes what belongs to the header line, and returns what follows it.
     pub(super) fn extend<'t>(&mut self, text: &'t [u8]) -> &'t [u8]
         ensures line { TakesPiece LineHas self.old text.now self.new }
         ensures body { (input : List ℕ) → LineHas self.old input →
@@ -64,7 +64,7 @@ impl HeaderLine {
         self.kept.try_extend_from_slice(&bytes[..count]).unwrap();
     }
 
-    /// The label that the line names, where nothing follows.
+    /// The label that the line names, if nothing follows.
     pub(super) fn finish(&self) -> Result<Label, TextFault>
         ensures { (input : List ℕ) → LineHas self.now input → result ≡ read_head input }
     {

@@ -28,7 +28,7 @@ pub(super) enum Part {
 }
 
 impl Part {
-    /// What a text gives to the part, and what follows the LF that ends it, where there is one.
+    /// What a text gives to the part, and what follows the LF that ends it, if there is one.
     fn split(self, text: &[u8]) -> (&[u8], Option<&[u8]>)
         ensures digits { MayHave self result.0.now }
         ensures whole { IfNone result.1 (text.now ≡ result.0.now) }
@@ -101,7 +101,7 @@ impl<'a> InnerReader<'a> {
         }
     }
 
-    /// Takes what the text gives to the part that comes next, and answers what follows.
+    /// Takes what the text gives to the part that comes next, and returns what follows.
     fn extend_part<'t>(&mut self, text: &'t [u8]) -> &'t [u8]
         requires some { 0 < length text.now }
         requires short { length text.now ≤ CHUNK_LIMIT }
@@ -132,7 +132,7 @@ impl<'a> InnerReader<'a> {
         }
     }
 
-    /// The payload under this label, where no text follows.
+    /// The payload under this label, if no text follows.
     pub(super) fn finish(self, label: Label) -> Result<Payload<'a>, TextFault>
         ensures { (limit : ℕ) (text : List ℕ) → InnerHas (ciphertext_limit limit) self.entry text
             → result ≡ read_inner limit label text }

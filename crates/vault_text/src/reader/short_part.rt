@@ -57,7 +57,7 @@ impl<const LIMIT: usize> ShortPart<LIMIT> {
         }
     }
 
-    /// The bytes of the part, where no digit follows.
+    /// The bytes of the part, if no digit follows.
     pub(super) fn finish(&self) -> Result<&[u8], TextFault>
         ensures bytes { (digits : List ℕ) → PartHas LIMIT self.now digits
             → IfOk result (λ bytes. unhex digits ≡ Some bytes.now) }
