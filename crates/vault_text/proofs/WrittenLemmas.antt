@@ -171,13 +171,6 @@ body_text-next indentation bytes line end inside until =
       take_min,
     ) refl
 
--- the digits of one more piece
-pub encode_lower-next : (bytes : List ℕ) (done end : ℕ) → done ≤ end
-    → encode_lower (take done bytes) ++ encode_lower (take (end - done) (drop done bytes))
-    ≡ encode_lower (take end bytes)
-encode_lower-next bytes done end forward =
-    rw (← encode_lower-append, take-until bytes done end forward) refl
-
 -- ---- the inner text
 
 pub length-inner_text : (salt tag ciphertext : List ℕ)

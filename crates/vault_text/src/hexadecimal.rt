@@ -29,8 +29,8 @@ fn digit_value(digit: u8) -> Option<u8>
     Some(value[0])
 }
 
-/// Decodes pairs of digits, each to a byte, and returns whether all were digits. If one was not, the
-/// bytes mean nothing. A bad digit does not end a loop early: that branch would be mispredicted.
+/// Decodes pairs of digits, each to a byte, and returns whether all were digits. If one was not,
+/// the bytes mean nothing. A bad digit does not end a loop early: that branch would be mispredicted.
 fn decode_pairs(pairs: &[u8], bytes: &mut [u8]) -> bool
     requires { length pairs.now ≡ 2 * length bytes.old }
     ensures { unhex pairs.now ≡ (if result then Some bytes.new else None) }

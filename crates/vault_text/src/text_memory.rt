@@ -43,7 +43,7 @@ impl<'a> TextMemory<'a> {
         }
     }
 
-    /// `limit` bytes of the vector's capacity, with no text in them: what the vector held is dropped.
+    /// `limit` bytes of the vector's capacity, with no text in them: what it held is dropped.
     pub fn reserved(memory: &'a mut Vec<u8>, limit: usize) -> Self
         requires { limit ≤ vec_capacity memory.old }
         ensures { result ≡ record { bytes = []; limit = limit } }
