@@ -10,11 +10,10 @@ use Rattle.std.proofs.lemmas.List.{append-nil, drop-append-le, drop-drop, drop_a
 use Rattle.std.proofs.lemmas.List.{take-append-le, take-append-drop, length-take}
 use Rattle.std.proofs.lemmas.List.Elements.{filter-append}
 use Rattle.vault_text.specs.Envelope.{body, read_body, read_head, read_within, without_line_ends}
-use Rattle.vault_text.specs.EnvelopeReader.{BodyHas, BodyState, IsKept, LineHas, LineState}
-use Rattle.vault_text.specs.EnvelopeReader.{ReaderState, HasRead}
+use Rattle.vault_text.specs.EnvelopeReader.{BodyHas, BodyState, HasRead, InnerHas, InnerState}
+use Rattle.vault_text.specs.EnvelopeReader.{IsKept, LineHas, LineState, ReaderState}
 use Rattle.vault_text.specs.Header.{header_line, is_line_end, marker, read_header}
 use Rattle.vault_text.specs.Hexadecimal.{DecoderState, Decodes, new_decoder, unhex}
-use Rattle.vault_text.specs.InnerReader.{InnerHas, InnerState}
 use Rattle.vault_text.specs.Limits.{ciphertext_limit, envelope_limit}
 use Rattle.vault_text.specs.Pieces.{TakesPiece, TakesUpTo}
 use Rattle.vault_text.specs.Steps.{◌>>=◌}
@@ -195,11 +194,6 @@ read-short reader input stands short =
     let test : nat_lt (envelope_limit reader.limit) (length input) ≡ false =
     grind (arith, nat_tests) in
     rw test refl
-
--- what holds if a call succeeded
-pub on_ok : {T E P : Type 0} (r : Result T E) → IsOk r → OnOk r P → P
-on_ok (Ok x) ok holds = holds
-on_ok (Err e) ok holds = cc
 
 -- ---- digits are no line ends
 

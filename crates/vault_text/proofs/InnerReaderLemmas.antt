@@ -7,8 +7,8 @@ use Rattle.std.specs.Option.{option_map}
 use Rattle.std.proofs.lemmas.Bool.{cases_Bool}
 use Rattle.std.proofs.lemmas.List.Folds.{list_all-append}
 use Rattle.vault_text.specs.Hexadecimal.{DecoderState, Decodes, new_decoder, unhex, unhex_on}
-use Rattle.vault_text.specs.InnerReader.{InnerHas, InnerState, IsCut, IsOneLine, PartHas, PartState}
-use Rattle.vault_text.specs.InnerReader.{next_part}
+use Rattle.vault_text.specs.EnvelopeReader.{InnerHas, InnerState, IsCut, IsOneLine, PartHas}
+use Rattle.vault_text.specs.EnvelopeReader.{PartState, next_part}
 use Rattle.vault_text.specs.InnerText.{Parts, is_line_feed}
 use Rattle.vault_text.specs.declared.reader.inner_text.Part.{Part}
 use Rattle.vault_text.specs.declared.reader.inner_text.Part.TheVariants.{Salt, Tag, Ciphertext}

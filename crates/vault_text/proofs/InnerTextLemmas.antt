@@ -11,7 +11,7 @@ use Rattle.std.proofs.lemmas.List.{append-nil}
 use Rattle.std.proofs.lemmas.List.Sums.{sum_by-cons}
 use Rattle.vault_text.specs.Envelope.{Payload, read_inner}
 use Rattle.vault_text.specs.Hexadecimal.{unhex}
-use Rattle.vault_text.specs.InnerReader.{InnerHas, InnerState, IsCut, IsOneLine}
+use Rattle.vault_text.specs.EnvelopeReader.{InnerHas, InnerState, IsCut, IsOneLine}
 use Rattle.vault_text.specs.InnerText.{Parts, cut, fitting, is_line_feed, parts_of}
 use Rattle.vault_text.specs.Limits.{ciphertext_limit}
 use Rattle.vault_text.specs.Steps.{◌>>=◌}

@@ -3,8 +3,8 @@
 ghost use Rattle.std.specs.Prelude.{◌≡◌, ◌==◌, ◌≤◌, [], ◌∷◌, ◌++◌, length, nat_le, is_some};
 ghost use Rattle.std.specs.Prelude.{IfSome, IfNone};
 ghost use Rattle.std.specs.List.{before_first, list_all, position_or_len, slice_split};
-ghost use Rattle.vault_text.specs.Header.{field, header_line, is_ascii, is_cipher, is_line_end};
-ghost use Rattle.vault_text.specs.Header.{is_version, parts_of_line, read_header};
+ghost use Rattle.vault_text.specs.Header.{field, header_line, is_ascii, is_line_end};
+ghost use Rattle.vault_text.specs.Header.{parts_of_line, read_header};
 
 use crate::fault::TextFault;
 use crate::label::Label;
@@ -100,19 +100,6 @@ fn is_ascii(line: &[u8]) -> bool
     line.iter().all(|byte| *byte < 128)
 }
 
-/// Whether a field names a version that is read: 1.1 or 1.2.
-fn is_version(field: &[u8]) -> bool
-    ensures { result ≡ is_version field.now }
-{
-    field == b"1.1".as_slice() || field == b"1.2".as_slice()
-}
-
-fn is_cipher(field: &[u8]) -> bool
-    ensures { result ≡ is_cipher field.now }
-{
-    field == b"AES256".as_slice()
-}
-
 /// The label that a header line names, given without its line end.
 #[tactic(auto, unfolding(crate::specs::Header::read_header))]
 pub(crate) fn read_header(line: &[u8]) -> Result<Label, TextFault>
@@ -130,10 +117,10 @@ pub(crate) fn read_header(line: &[u8]) -> Result<Label, TextFault>
     let Some(label) = Label::from_bytes_or_default(fields.label) else {
         return Err(TextFault::BadHeader);
     };
-    if !is_version(fields.version) {
+    if fields.version != b"1.1".as_slice() && fields.version != b"1.2".as_slice() {
         return Err(TextFault::BadVersion);
     }
-    if !is_cipher(fields.cipher) {
+    if fields.cipher != b"AES256".as_slice() {
         return Err(TextFault::BadCipher);
     }
     Ok(label)

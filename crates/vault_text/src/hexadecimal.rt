@@ -30,7 +30,7 @@ fn digit_value(digit: u8) -> Option<u8>
 }
 
 /// Decodes pairs of digits, each to a byte, and returns whether all were digits. If one was not,
-/// the bytes mean nothing. A bad digit does not end a loop early: that branch would be mispredicted.
+/// the bytes mean nothing. A bad digit ends no loop early: that branch would be mispredicted.
 fn decode_pairs(pairs: &[u8], bytes: &mut [u8]) -> bool
     requires { length pairs.now ≡ 2 * length bytes.old }
     ensures { unhex pairs.now ≡ (if result then Some bytes.new else None) }
@@ -148,7 +148,7 @@ impl HexDecoder {
     /// or if one waits for its second; then the bytes mean nothing.
     pub(crate) fn decode_whole(&self, pairs: &[u8], bytes: &mut [u8]) -> bool
         requires { length pairs.now ≡ 2 * length bytes.old }
-        ensures answer { unhex_on self.now pairs.now ≡ (if result then Some bytes.new else None) }
+        ensures value { unhex_on self.now pairs.now ≡ (if result then Some bytes.new else None) }
         ensures good { result ≡ true → unhex pairs.now ≡ Some bytes.new }
         ensures decoded { result ≡ true → Decodes self.now pairs.now bytes.new self.now }
     {

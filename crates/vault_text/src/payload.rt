@@ -9,10 +9,10 @@ use std::marker::Model;
 /// What an envelope holds. The tag and the ciphertext are not checked against each other.
 #[derive(Drop)]
 pub struct Payload<'a> {
-    label: Label,
-    salt: Salt,
-    tag: [u8; TAG_LENGTH],
-    ciphertext: &'a mut [u8],
+    pub(crate) label: Label,
+    pub(crate) salt: Salt,
+    pub(crate) tag: [u8; TAG_LENGTH],
+    pub(crate) ciphertext: &'a mut [u8],
 }
 
 impl<'a> Model for Payload<'a> {
@@ -29,27 +29,6 @@ impl<'a> Model for Payload<'a> {
 }
 
 impl<'a> Payload<'a> {
-    pub(crate) fn new(
-        label: Label,
-        salt: Salt,
-        tag: [u8; TAG_LENGTH],
-        ciphertext: &'a mut [u8],
-    ) -> Self
-        ensures { result ≡ record {
-          label = label;
-          salt = salt;
-          tag = tag;
-          ciphertext = ciphertext.old;
-        } }
-    {
-        Payload {
-            label,
-            salt,
-            tag,
-            ciphertext,
-        }
-    }
-
     /// The label that the header line names, `default` if it names none.
     pub fn label(&self) -> &Label
         ensures { result.now ≡ self.now.label }
@@ -82,12 +61,7 @@ impl<'a> Payload<'a> {
     pub fn into_body(self) -> &'a mut [u8]
         ensures { result.now ≡ self.entry.ciphertext }
     {
-        let Payload {
-            label: _,
-            salt: _,
-            tag: _,
-            ciphertext,
-        } = self;
+        let Payload { ciphertext, .. } = self;
         ciphertext
     }
 }

@@ -7,10 +7,9 @@ ghost use Rattle.vault_text.specs.Limits.{IsWorkLength, envelope_limit, limit_of
 ghost use Rattle.vault_text.specs.declared.limits.TheConstants.{ENVELOPE_LIMIT};
 
 mod body;
-mod ciphertext_part;
 mod header_line;
 mod inner_text;
-mod short_part;
+mod parts;
 
 use crate::fault::TextFault;
 use crate::limits::{PADDING_LIMIT, envelope_limit};

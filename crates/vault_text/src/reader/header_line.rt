@@ -1,7 +1,7 @@
 //! The header line of an envelope, as it comes in pieces.
 ghost use Rattle.std.specs.Prelude.{◌≡◌, ℕ, List, ◌++◌, []};
 ghost use Rattle.vault_text.specs.Envelope.{body, read_head, without_line_ends};
-ghost use Rattle.vault_text.specs.EnvelopeReader.{IsKept, LineHas};
+ghost use Rattle.vault_text.specs.EnvelopeReader.{LineHas};
 ghost use Rattle.vault_text.specs.Pieces.{TakesPiece};
 
 use crate::fault::TextFault;
@@ -51,17 +51,9 @@ impl HeaderLine {
         }
         let line = before_line_end(text);
         self.has_ended = line.len() < text.len();
-        self.keep(line);
+        let count = line.len().min(self.kept.remaining_capacity());
+        self.kept.try_extend_from_slice(&line[..count]).unwrap();
         &text[line.len()..]
-    }
-
-    /// Keeps as many of the bytes as fit.
-    fn keep(&mut self, bytes: &[u8])
-        ensures ended { self.new.has_ended ≡ self.old.has_ended }
-        ensures line { TakesPiece IsKept self.old.kept bytes.now self.new.kept }
-    {
-        let count = bytes.len().min(self.kept.remaining_capacity());
-        self.kept.try_extend_from_slice(&bytes[..count]).unwrap();
     }
 
     /// The label that the line names, if nothing follows.

@@ -3,13 +3,12 @@
 ghost use Rattle.std.specs.Prelude.{◌≡◌, ◌<◌, ◌≤◌, ◌++◌, ◌∷◌, ℕ, List, [], length};
 ghost use Rattle.std.specs.Prelude.{IfNone, IfSome};
 ghost use Rattle.vault_text.specs.Envelope.{read_inner};
-ghost use Rattle.vault_text.specs.InnerReader.{InnerHas, MayHave, next_part};
+ghost use Rattle.vault_text.specs.EnvelopeReader.{InnerHas, MayHave, next_part};
 ghost use Rattle.vault_text.specs.Limits.{ciphertext_limit};
 ghost use Rattle.vault_text.specs.Pieces.{TakesPiece, TakesUpTo};
 
 use super::CHUNK_LIMIT;
-use super::ciphertext_part::CiphertextPart;
-use super::short_part::ShortPart;
+use super::parts::{CiphertextPart, ShortPart};
 use crate::fault::TextFault;
 use crate::header::split_at_byte;
 use crate::label::Label;
@@ -65,7 +64,7 @@ pub(super) struct InnerReader<'a> {
 }
 
 impl<'a> Model for InnerReader<'a> {
-    ghost use Rattle.vault_text.specs.InnerReader.{InnerState};
+    ghost use Rattle.vault_text.specs.EnvelopeReader.{InnerState};
 
     ghost Value = { InnerState };
 
@@ -153,6 +152,11 @@ impl<'a> InnerReader<'a> {
             return Err(TextFault::BadPayload);
         };
         let ciphertext = ciphertext.finish()?;
-        Ok(Payload::new(label, salt, tag, ciphertext))
+        Ok(Payload {
+            label,
+            salt,
+            tag,
+            ciphertext,
+        })
     }
 }
