@@ -1,8 +1,8 @@
 -- What is kept of an envelope, and what it gives at its end.
 use Rattle.std.proofs.Common.{◌≡◌, ℕ, ◌+◌, ◌-◌, ◌^◌, ◌<◌, ◌≤◌, true, false, not, List, ◌++◌}
-use Rattle.std.proofs.Common.{length, take, drop, min, Some, Result, Ok, Err, refl, sym, ap}
+use Rattle.std.proofs.Common.{length, take, drop, min, Some, Result, Err, refl, sym, ap}
 use Rattle.std.proofs.Common.{◌∙◌, arith, inl, inr, append_assoc, length-append, ◌==◌}
-use Rattle.std.specs.Prelude.{if◌then◌else◌, nat_lt, nat_eq, IsOk, OnOk}
+use Rattle.std.specs.Prelude.{if◌then◌else◌, nat_lt, nat_eq}
 use Rattle.std.specs.List.{starts_with, list_all}
 use Rattle.std.proofs.lemmas.Bool.{cases_lt, cases_Bool, eqb-true}
 use Rattle.std.proofs.lemmas.Bool.Decides.{nat_tests}
