@@ -1,6 +1,5 @@
 //! Tests of whole runs: what each command writes; envelopes that are damaged, or spelled otherwise
-//! than they are written; inputs at the limits; password files that are none; and devices that fail,
-//! of which none is called again.
+//! than they are written; inputs at the limits; password files that are none; devices that fail.
 #![tactic(auto)]
 
 #[cfg(test)]

@@ -17,7 +17,7 @@ use Rattle.vault_text.specs.Steps.{◌>>=◌}
 use Rattle.vault_text.specs.declared.fault.TextFault.{TextFault}
 use Rattle.vault_text.specs.declared.fault.TextFault.TheVariants.{BadHex, BadPayload}
 
--- ---- what steps answer
+-- ---- what steps give
 
 pub IfOk-steps : {A B : Type 0} (r : Result A TextFault) (f : A → Result B TextFault)
     (P : B → Type 0)
@@ -78,5 +78,5 @@ read_within-fits limit input =
       | inl long ↦ rw long tt
       | inr short ↦
           rw short (IfOk-steps (read_head input) _ (HasFittingCiphertext limit)
-          (λ header _. read_body-fits limit header.label (body input)))
+          (λ label _. read_body-fits limit label (body input)))
     ]

@@ -1,8 +1,8 @@
--- What is kept of an envelope, and what it answers at its end.
+-- What is kept of an envelope, and what it gives at its end.
 use Rattle.std.proofs.Common.{◌≡◌, ℕ, ◌+◌, ◌-◌, ◌^◌, ◌<◌, ◌≤◌, true, false, not, List, ◌++◌}
-use Rattle.std.proofs.Common.{length, take, drop, min, Some, Result, Ok, Err, refl, sym, ap}
+use Rattle.std.proofs.Common.{length, take, drop, min, Some, Result, Err, refl, sym, ap}
 use Rattle.std.proofs.Common.{◌∙◌, arith, inl, inr, append_assoc, length-append, ◌==◌}
-use Rattle.std.specs.Prelude.{if◌then◌else◌, nat_lt, nat_eq, IsOk, OnOk}
+use Rattle.std.specs.Prelude.{if◌then◌else◌, nat_lt, nat_eq}
 use Rattle.std.specs.List.{starts_with, list_all}
 use Rattle.std.proofs.lemmas.Bool.{cases_lt, cases_Bool, eqb-true}
 use Rattle.std.proofs.lemmas.Bool.Decides.{nat_tests}
@@ -10,11 +10,10 @@ use Rattle.std.proofs.lemmas.List.{append-nil, drop-append-le, drop-drop, drop_a
 use Rattle.std.proofs.lemmas.List.{take-append-le, take-append-drop, length-take}
 use Rattle.std.proofs.lemmas.List.Elements.{filter-append}
 use Rattle.vault_text.specs.Envelope.{body, read_body, read_head, read_within, without_line_ends}
-use Rattle.vault_text.specs.EnvelopeReader.{BodyHas, BodyState, IsKept, LineHas, LineState}
-use Rattle.vault_text.specs.EnvelopeReader.{ReaderState, HasRead}
-use Rattle.vault_text.specs.Header.{Header, header_line, is_line_end, marker, read_header}
+use Rattle.vault_text.specs.EnvelopeReader.{BodyHas, BodyState, HasRead, InnerHas, InnerState}
+use Rattle.vault_text.specs.EnvelopeReader.{IsKept, LineHas, LineState, ReaderState}
+use Rattle.vault_text.specs.Header.{header_line, is_line_end, marker, read_header}
 use Rattle.vault_text.specs.Hexadecimal.{DecoderState, Decodes, new_decoder, unhex}
-use Rattle.vault_text.specs.InnerReader.{InnerHas, InnerState}
 use Rattle.vault_text.specs.Limits.{ciphertext_limit, envelope_limit}
 use Rattle.vault_text.specs.Pieces.{TakesPiece, TakesUpTo}
 use Rattle.vault_text.specs.Steps.{◌>>=◌}
@@ -107,8 +106,8 @@ LineHas-more old new input text line goes_on start ended taken has =
       ) refl,
     )
 
--- what a line says, where it begins as every vault does
-abbrev head_of : List ℕ → Result Header TextFault
+-- the label of a line, if it begins as every vault does
+abbrev head_of : List ℕ → Result (List ℕ) TextFault
 head_of line = if not (starts_with nat_eq line marker) then Err NotVault else read_header line
 
 -- once a line is too long, the rest of it changes nothing
@@ -124,7 +123,7 @@ head_of-long start more long =
     grind (arith, nat_tests) in
     rw (starts_alike, is_long, still_long) refl
 
--- what is kept of the line answers as the line
+-- what is kept of the line is read as the line
 pub read_head-kept : (line : LineState) (input : List ℕ) → LineHas line input
     → head_of line.kept ≡ read_head input
 read_head-kept line input has =
@@ -187,7 +186,7 @@ read-long reader input stands long =
 -- any other
 pub read-short : (reader : ReaderState) (input : List ℕ) → HasRead reader input
     → reader.bytes_read ≤ envelope_limit reader.limit
-    → (read_head input >>= (λ header. read_body reader.limit header.label (body input)))
+    → (read_head input >>= (λ label. read_body reader.limit label (body input)))
     ≡ read_within reader.limit input
 unfolding read_within
 read-short reader input stands short =
@@ -195,11 +194,6 @@ read-short reader input stands short =
     let test : nat_lt (envelope_limit reader.limit) (length input) ≡ false =
     grind (arith, nat_tests) in
     rw test refl
-
--- what holds where a call succeeded
-pub on_ok : {T E P : Type 0} (r : Result T E) → IsOk r → OnOk r P → P
-on_ok (Ok x) ok holds = holds
-on_ok (Err e) ok holds = cc
 
 -- ---- digits are no line ends
 

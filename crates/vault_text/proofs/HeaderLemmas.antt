@@ -74,7 +74,7 @@ without_line_ends-run (b ∷ text) (suc n) =
 
 -- ---- the prefix of a text
 
--- a text begins with bytes that are no line ends where its first line does
+-- a text begins with bytes that are no line ends if its first line does
 pub starts_with-header_line : (needle text : List ℕ)
     → list_all (λ b. not (is_line_end b)) needle ≡ true
     → starts_with nat_eq text needle ≡ starts_with nat_eq (header_line text) needle

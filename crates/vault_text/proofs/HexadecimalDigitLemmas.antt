@@ -25,7 +25,7 @@ found_value : (digit : ℕ) (value : Option ℕ) (out : List ℕ) (r : Result (U
 found_value digit (Some v) out r answered = rw (answered.0, answered.1) (ap Some (sym (zero-add v)))
 found_value digit None out r answered = rw answered refl
 
--- what decoding of a digit after a zero answers, and leaves in its room
+-- what decoding of a digit after a zero returns, and leaves in its room
 pub digit-answered : (digit : ℕ) (out : List ℕ) (r : Result (Unit {0}) FromHexError)
     → MatchResult (decode_sized (48 ∷ digit ∷ []) 1) (λ bytes. (r ≡ Ok tt) × (out ≡ bytes))
     (λ e. r ≡ Err e)
@@ -52,7 +52,7 @@ hex_digit_value-small digit =
 
 -- ---- pairs of digits
 
--- the bytes so far, where all digits were good
+-- the bytes so far, if all digits were good
 abbrev pub found_if : Bool → List ℕ → Option (List ℕ)
 found_if is_good bytes = if is_good then Some bytes else None
 

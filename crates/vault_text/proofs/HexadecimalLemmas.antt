@@ -75,7 +75,7 @@ unhex-spelled_bytes text =
       | inr even ↦ rw even (decode_pairs-spelled_bytes 0 text)
     ]
 
--- two lists, one after the other, where both are there
+-- two lists, one after the other, if both are there
 abbrev pub both_found : Option (List ℕ) → Option (List ℕ) → Option (List ℕ)
 both_found (Some xs) more = option_map (λ rest. xs ++ rest) more
 both_found None more = None
@@ -115,7 +115,7 @@ unless_bad true is_good bytes whole pairs more e found = refl
 unless_bad false true bytes whole pairs more e found = rw (e, found) refl
 unless_bad false false bytes whole pairs more e found = rw (e, found) refl
 
--- whole pairs, where no digit waits
+-- whole pairs, if no digit waits
 pub Decodes-pairs : (decoder : DecoderState) (pairs bytes : List ℕ) (is_good : Bool)
     → decoder.high ≡ None → unhex pairs ≡ (if is_good then Some bytes else None)
     → length pairs % 2 ≡ 0

@@ -1,4 +1,4 @@
--- What is kept of the inner text, and what it answers at its end.
+-- What is kept of the inner text, and what it gives at its end.
 use Rattle.std.proofs.Common.{◌≡◌, ℕ, ◌+◌, ◌<◌, ◌≤◌, Bool, true, not, List, [], ◌∷◌, ◌++◌}
 use Rattle.std.proofs.Common.{length, Option, Some, None, refl, ap, ◌∙◌, arith, inl, inr}
 use Rattle.std.proofs.Common.{append_assoc, length-append}
@@ -7,8 +7,8 @@ use Rattle.std.specs.Option.{option_map}
 use Rattle.std.proofs.lemmas.Bool.{cases_Bool}
 use Rattle.std.proofs.lemmas.List.Folds.{list_all-append}
 use Rattle.vault_text.specs.Hexadecimal.{DecoderState, Decodes, new_decoder, unhex, unhex_on}
-use Rattle.vault_text.specs.InnerReader.{InnerHas, InnerState, IsCut, IsOneLine, PartHas, PartState}
-use Rattle.vault_text.specs.InnerReader.{next_part}
+use Rattle.vault_text.specs.EnvelopeReader.{InnerHas, InnerState, IsCut, IsOneLine, PartHas}
+use Rattle.vault_text.specs.EnvelopeReader.{PartState, next_part}
 use Rattle.vault_text.specs.InnerText.{Parts, is_line_feed}
 use Rattle.vault_text.specs.declared.reader.inner_text.Part.{Part}
 use Rattle.vault_text.specs.declared.reader.inner_text.Part.TheVariants.{Salt, Tag, Ciphertext}

@@ -11,7 +11,7 @@ use Rattle.std.proofs.lemmas.List.{append-nil}
 use Rattle.std.proofs.lemmas.List.Sums.{sum_by-cons}
 use Rattle.vault_text.specs.Envelope.{Payload, read_inner}
 use Rattle.vault_text.specs.Hexadecimal.{unhex}
-use Rattle.vault_text.specs.InnerReader.{InnerHas, InnerState, IsCut, IsOneLine}
+use Rattle.vault_text.specs.EnvelopeReader.{InnerHas, InnerState, IsCut, IsOneLine}
 use Rattle.vault_text.specs.InnerText.{Parts, cut, fitting, is_line_feed, parts_of}
 use Rattle.vault_text.specs.Limits.{ciphertext_limit}
 use Rattle.vault_text.specs.Steps.{◌>>=◌}
@@ -67,7 +67,7 @@ early-few Tag text parts early is =
     (omega arith)
 early-few Ciphertext text parts early is = absurd (early refl)
 
--- ---- what the parts answer
+-- ---- what the parts give
 
 -- the payload of the bytes of three parts
 abbrev payload_of : ℕ → List ℕ → Option (List ℕ) → Option (List ℕ) → Option (List ℕ)
@@ -117,7 +117,7 @@ module _ (limit : ℕ) (label : List ℕ) where
         | inr over ↦ rw over refl
       ]
 
-  -- where the salt and the tag fit, the answer is that of the ciphertext
+  -- if the salt and the tag fit, the result is that of the ciphertext
   pub payload_of-ciphertext : (s t : List ℕ) (ciphertext : Option (List ℕ))
       (answer : Result (List ℕ) TextFault) → length s ≤ SALT_LIMIT → length t ≡ TAG_LENGTH
       → within room ciphertext ≡ answer
@@ -133,7 +133,7 @@ module _ (limit : ℕ) (label : List ℕ) where
         | inr short ↦ rw (← same, within, tested, short) refl
       ]
 
-  -- ---- what the text answers
+  -- ---- what the text gives
 
   pub read_inner-cut_off : (text : List ℕ) (inner : InnerState) → InnerHas room inner text
       → inner.part ≢ Ciphertext → read_inner limit label text ≡ Err BadPayload

@@ -104,3 +104,10 @@ pub encode_lower-clean : (p : ℕ → Bool) → list_all p lower_digits ≡ true
     → (xs : List ℕ) → list_all p (encode_lower xs) ≡ true
 encode_lower-clean p clean none xs =
     encode_with-clean p lower_digits xs (lower_digit-clean p clean none)
+
+-- a piece more of a text that is taken in pieces, of which `rest` is next
+pub piece_after : (taken rest start lines more whole piece : List ℕ)
+    → taken ++ rest ≡ start ++ lines → piece ≡ rest ++ more → lines ++ more ≡ whole
+    → taken ++ piece ≡ start ++ whole
+piece_after taken rest start lines more whole piece so_far is next =
+    rw (is, ← append_assoc taken rest more, so_far, append_assoc start lines more, next) refl

@@ -15,7 +15,7 @@ take-written filled n k old part inside fits =
     rw len at (take-append-add (take filled old) (part ++ post_of filled k old) n)
     ∙ rw (take-append-le n part (post_of filled k old) fits) refl
 
--- a buffer keeps its length where a part of it was written
+-- a buffer keeps its length if a part of it was written
 pub length-part_written : (done k : ℕ) (bytes piece : List ℕ) → done + k ≤ length bytes
     → length piece ≡ k → length (put_mid done k bytes piece) ≡ length bytes
 length-part_written done k bytes piece inside len =
@@ -32,7 +32,7 @@ length-written filled old part inside len =
 module _ {S : Type 0} (gives : S → List ℕ → S → Type 0)
     (more : (s t u : S) (xs ys : List ℕ) → gives s xs t → gives t ys u → gives s (xs ++ ys) u)
     (s t u : S) (filled n k : ℕ) (old part : List ℕ) (inside : filled ≤ length old) where
-  -- what a source has given is at the start of the buffer, where it then gave nothing more
+  -- what a source has given is at the start of the buffer, if it then gave nothing more
   pub given_none : n ≡ 0 → gives s (take filled old) t → gives t (take n part) u
       → gives s (take filled (put_mid filled k old part)) u
   given_none none p q =

@@ -128,7 +128,7 @@ take-until bytes start end forward =
     let to : start + (end - start) ≡ end = omega arith in
     rw (← take-add start (end - start) bytes, to) refl
 
--- the lines of two texts, where the first fills whole lines unless the second is empty
+-- the lines of two texts, if the first fills whole lines or the second is empty
 body_text-parts : (indentation xs ys : List ℕ) → (length xs % 80 ≡ 0) ⊎ (ys ≡ [])
     → text_of_lines indentation (body_lines xs) ++ text_of_lines indentation (body_lines ys)
     ≡ text_of_lines indentation (body_lines (xs ++ ys))
@@ -171,13 +171,6 @@ body_text-next indentation bytes line end inside until =
       take_min,
     ) refl
 
--- the digits of one more piece
-pub encode_lower-next : (bytes : List ℕ) (done end : ℕ) → done ≤ end
-    → encode_lower (take done bytes) ++ encode_lower (take (end - done) (drop done bytes))
-    ≡ encode_lower (take end bytes)
-encode_lower-next bytes done end forward =
-    rw (← encode_lower-append, take-until bytes done end forward) refl
-
 -- ---- the inner text
 
 pub length-inner_text : (salt tag ciphertext : List ℕ)
@@ -219,7 +212,7 @@ pub ciphertext_lines-nil : (indentation : List ℕ)
     → hexadecimal_lines indentation (encode_lower []) ≡ []
 ciphertext_lines-nil indentation = rw (encode_lower-nil, encode_lower-nil, body_text-nil) refl
 
--- the lines of two texts, where the first fills whole lines unless the second is empty
+-- the lines of two texts, if the first fills whole lines or the second is empty
 pub ciphertext_lines-parts : (indentation xs ys : List ℕ) → (length xs % 20 ≡ 0) ⊎ (ys ≡ [])
     → hexadecimal_lines indentation (encode_lower xs)
     ++ hexadecimal_lines indentation (encode_lower ys)

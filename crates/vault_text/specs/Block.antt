@@ -4,7 +4,7 @@ use Rattle.std.specs.Prelude.{ℕ, ◌==◌, if◌then◌else◌, List, [], ◌�
 use Rattle.std.specs.Prelude.{codes, Option, unwrap_or}
 use Rattle.vault_text.specs.Written.{text_of_lines, written_lines}
 
--- the name of a variable and a colon; nothing where the name is empty
+-- the name of a variable and a colon; nothing if the name is empty
 abbrev pub key_of : List ℕ → List ℕ
 key_of name = if length name == 0 then [] else name ++ codes ": "
 
@@ -16,7 +16,7 @@ first_line name = key_of name ++ codes "!vault |" ++ 10 ∷ []
 abbrev pub block_indentation : List ℕ
 block_indentation = replicate 10 32
 
--- the first line, which names the variable where there is a name, and the indented lines of the
+-- the first line, which names the variable if there is a name, and the indented lines of the
 -- envelope
 unfoldable pub block : Option (List ℕ) → List ℕ → List ℕ → List ℕ → List ℕ → List ℕ
 block name label salt tag ciphertext =

@@ -4,7 +4,7 @@ use Rattle.std.specs.Prelude.{ℕ, nat_lt, nat_eq, not, if◌then◌else◌, Lis
 use Rattle.std.specs.Prelude.{Result, Ok, Err}
 use Rattle.std.specs.List.{starts_with}
 use Rattle.std.specs.Option.{ok_or}
-use Rattle.vault_text.specs.Header.{Header, marker, is_line_end, header_line, read_header}
+use Rattle.vault_text.specs.Header.{marker, is_line_end, header_line, read_header}
 use Rattle.vault_text.specs.Hexadecimal.{unhex}
 use Rattle.vault_text.specs.InnerText.{parts_of}
 use Rattle.vault_text.specs.Limits.{ciphertext_limit, envelope_limit}
@@ -29,8 +29,8 @@ without_line_ends text = filter (λ b. not (is_line_end b)) text
 abbrev pub body : List ℕ → List ℕ
 body input = without_line_ends (drop (length (header_line input)) input)
 
--- steps 2 to 6: what the header line says
-abbrev pub read_head : List ℕ → Result Header TextFault
+-- steps 2 to 6: the label of the header line
+abbrev pub read_head : List ℕ → Result (List ℕ) TextFault
 read_head input =
     -- 2: the input begins as every vault does
     if not (starts_with nat_eq input marker) then Err NotVault
@@ -59,14 +59,14 @@ read_body limit label digits = do
   -- 8 and 9
   read_inner limit label inner
 
--- the payload of an envelope, or the fault of the first of the nine steps that fails, where the
+-- the payload of an envelope, or the fault of the first of the nine steps that fails, if the
 -- plaintext has this limit
 unfoldable pub read_within : ℕ → List ℕ → Result Payload TextFault
 read_within limit input =
     -- 1: the input is no longer than the limit allows
     if nat_lt (envelope_limit limit) (length input) then Err TooLong
     -- 2 to 6, then 7 to 9
-    else read_head input >>= (λ header. read_body limit header.label (body input))
+    else read_head input >>= (λ label. read_body limit label (body input))
 
 -- the payload of an envelope, or its first fault
 abbrev pub read : List ℕ → Result Payload TextFault

@@ -13,13 +13,13 @@ IsSaturated count = u64_max ≤ count
 abbrev pub HasRisen : ℕ → ℕ → Type 0
 HasRisen before after = after ≡ min (before + 1) u64_max
 
--- a call that answers an error counts one failure, and no other call counts any
+-- a call that returns an error counts one failure, and no other call counts any
 abbrev pub CountsFailure : {T E : Type 0} → ℕ → ℕ → Result T E → Type 0
 CountsFailure before after (Ok x) = after ≡ before
 CountsFailure before after (Err e) = HasRisen before after
 
 -- a source or a sink over memory that fails at each call after a number of them: the memory, how
--- many calls it still answers, and its failures, those of the memory among them
+-- many calls are left, and its failures, those of the memory among them
 pub record FailingState (Memory : Type 0) : Type 0 where
   pub memory : Memory
   pub calls : ℕ

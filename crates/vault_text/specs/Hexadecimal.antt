@@ -5,8 +5,7 @@ use Rattle.std.specs.Option.{option_map, option_to_list}
 use Rattle.std.specs.Result.{result_ok}
 use Rattle.hex.specs.Hex.{decode_of, hex_digit_value}
 
--- the bytes that an even number of digits of either case spells; none where the text is anything
--- else
+-- the bytes that an even number of digits of either case spells; none if the text is anything else
 abbrev pub unhex : List ℕ → Option (List ℕ)
 unhex text = result_ok (decode_of text)
 
@@ -24,7 +23,7 @@ pub record DecoderState : Type 0 where
 abbrev pub new_decoder : DecoderState
 new_decoder = record { high = None; is_bad = false }
 
--- the bytes that a text spells where it goes on after what a decoder has taken
+-- the bytes that a text spells if it goes on after what a decoder has taken
 abbrev pub unhex_on : DecoderState → List ℕ → Option (List ℕ)
 unhex_on decoder text = if decoder.is_bad then None else unhex (option_to_list decoder.high ++ text)
 

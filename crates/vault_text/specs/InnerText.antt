@@ -20,7 +20,7 @@ pub record Parts : Type 0 where
 abbrev pub is_line_feed : ℕ → Bool
 is_line_feed b = b == 10
 
--- the text cut at its first two LF; none where there are fewer
+-- the text cut at its first two LF; none if there are fewer
 unfoldable pub cut : List ℕ → Option Parts
 cut text =
     if nat_lt (count_by is_line_feed text) 2 then None
@@ -30,23 +30,23 @@ cut text =
       ciphertext = after_first is_line_feed (after_first is_line_feed text);
     })
 
--- the parts, where the salt is short enough and the tag has 32 bytes
+-- the parts, if the salt is short enough and the tag has 32 bytes
 abbrev pub fitting : Parts → Result Parts TextFault
 fitting parts =
     if nat_le (length parts.salt) SALT_LIMIT && length parts.tag == TAG_LENGTH then Ok parts
     else Err BadPayload
 
--- the bytes of a part, where it is hexadecimal
+-- the bytes of a part, if it is hexadecimal
 abbrev pub part_bytes : List ℕ → Result (List ℕ) TextFault
 part_bytes digits = ok_or (unhex digits) BadPayload
 
--- the bytes of a ciphertext, where it is hexadecimal and no longer than the limit
+-- the bytes of a ciphertext, if it is hexadecimal and no longer than the limit
 abbrev pub ciphertext_of : ℕ → List ℕ → Result (List ℕ) TextFault
 ciphertext_of limit digits = do
   bytes ← part_bytes digits
   if nat_lt limit (length bytes) then Err CipherTooLong else Ok bytes
 
--- step 8: the bytes of the three parts, where each is hexadecimal and the parts fit
+-- step 8: the bytes of the three parts, if each is hexadecimal and the parts fit
 unfoldable pub parts_of : List ℕ → Result Parts TextFault
 parts_of text = do
   -- it has two LF

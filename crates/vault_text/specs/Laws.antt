@@ -18,7 +18,7 @@ WrittenReadsBack =
     → read_within limit (written label salt tag ciphertext)
     ≡ Ok (record { label = label; salt = salt; tag = tag; ciphertext = ciphertext })
 
--- a larger limit changes no answer but the two that speak of a limit
+-- a larger limit changes no result but the two that speak of a limit
 abbrev pub LargerLimits : Type 0
 LargerLimits =
     (smaller larger : ℕ) (input : List ℕ) → smaller ≤ larger
@@ -26,7 +26,7 @@ LargerLimits =
     → read_within larger input ≡ read_within smaller input
 
 -- a byte of the ciphertext takes four digits of an envelope: an input of at most four times the
--- limit gets one answer under it and under every larger one
+-- limit has one result under it and under every larger one
 abbrev pub ShortInputs : Type 0
 ShortInputs =
     (smaller larger : ℕ) (input : List ℕ) → length input ≤ 4 * smaller → smaller ≤ larger

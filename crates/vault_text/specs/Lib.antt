@@ -13,7 +13,6 @@ pub mod Hexadecimal
 pub mod InnerText
 pub mod Envelope
 pub mod Pieces
-pub mod InnerReader
 pub mod EnvelopeReader
 pub mod Written
 pub mod Block

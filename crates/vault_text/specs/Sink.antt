@@ -11,7 +11,7 @@ abbrev pub taken : {E : Type 0} → Result ℕ E → List ℕ → List ℕ
 taken (Ok n) bytes = take n bytes
 taken (Err e) bytes = []
 
--- a sink: the bytes that it holds, where they are known, its stage, and its failures
+-- a sink: the bytes that it holds, if they are known, its stage, and its failures
 pub record SinkState : Type 0 where
   pub held : Option (List ℕ)
   pub stage : Stage
@@ -22,7 +22,7 @@ pub record Takes (old : SinkState) (taken : List ℕ) (new : SinkState) : Type 0
   pub appended : Appends old.held new.held taken
   pub failures_monotone : old.failures ≤ new.failures
 
--- whether `begin` was answered Ok
+-- whether `begin` has returned Ok
 abbrev pub has_begun : Stage → Bool
 has_begun Unbegun = false
 has_begun Begun = true
@@ -44,7 +44,7 @@ state_of m = record { held = Some m.held; stage = m.stage; failures = m.failures
 abbrev pub MemoryTakes : MemSinkState → List ℕ → MemSinkState → Type 0
 MemoryTakes old taken new = Takes (state_of old) taken (state_of new) × (new.step ≡ old.step)
 
--- the same where it fails after a number of calls
+-- the same if it fails after a number of calls
 abbrev pub failing_state_of : FailingState MemSinkState → SinkState
 failing_state_of f =
     record { held = Some f.memory.held; stage = f.memory.stage; failures = f.failures }

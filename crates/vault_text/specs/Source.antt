@@ -9,7 +9,7 @@ abbrev pub given : {E : Type 0} → Result ℕ E → List ℕ → List ℕ
 given (Ok n) buffer = take n buffer
 given (Err e) buffer = []
 
--- a source: the bytes that it has left, where they are known, whether it reported its end, and its
+-- a source: the bytes that it has left, if they are known, whether it reported its end, and its
 -- failures
 pub record SourceState : Type 0 where
   pub left : Option (List ℕ)
@@ -38,7 +38,7 @@ state_of m = record { left = Some m.left; ended = m.ended; failures = 0 }
 abbrev pub MemoryGives : MemSourceState → List ℕ → MemSourceState → Type 0
 MemoryGives old given new = Gives (state_of old) given (state_of new) × (new.step ≡ old.step)
 
--- the same where it fails after a number of calls
+-- the same if it fails after a number of calls
 abbrev pub failing_state_of : FailingState MemSourceState → SourceState
 failing_state_of f =
     record { left = Some f.memory.left; ended = f.memory.ended; failures = f.failures }

@@ -13,7 +13,7 @@ abbrev pub bytes_of : Place → List ℕ
 bytes_of (Borrowed memory filled) = take filled memory.now
 bytes_of (Reserved memory) = memory.now.items
 
--- the text may grow to this many bytes where it lies
+-- the text may grow in place to this many bytes
 abbrev pub HasRoom : Place → ℕ → Type 0
 HasRoom (Borrowed memory filled) limit = (limit ≡ length memory.now) × (filled ≤ limit)
 HasRoom (Reserved memory) limit =

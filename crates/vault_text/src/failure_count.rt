@@ -19,7 +19,7 @@ impl Model for FailureCount {
 }
 
 impl FailureCount {
-    /// Of a source or a sink that was not called yet.
+    /// The count of a source or a sink that has not been called.
     pub fn new() -> Self
         ensures { result ≡ 0 }
     {

@@ -3,52 +3,19 @@
 ghost use Rattle.std.specs.Prelude.{◌≡◌, ◌==◌, ◌≤◌, [], ◌∷◌, ◌++◌, length, nat_le, is_some};
 ghost use Rattle.std.specs.Prelude.{IfSome, IfNone};
 ghost use Rattle.std.specs.List.{before_first, list_all, position_or_len, slice_split};
-ghost use Rattle.vault_text.specs.Header.{field, header_line, is_ascii, is_cipher, is_line_end};
-ghost use Rattle.vault_text.specs.Header.{parts_of_line, read_header, version_of};
+ghost use Rattle.vault_text.specs.Header.{field, header_line, is_ascii, is_line_end};
+ghost use Rattle.vault_text.specs.Header.{parts_of_line, read_header};
 
 use crate::fault::TextFault;
 use crate::label::Label;
 use crate::limits::HEADER_LIMIT;
 use crate::whitespace::strip;
-use std::marker::Model;
 
 /// What every vault begins with.
 pub const MARKER: &[u8; 14] = b"$ANSIBLE_VAULT";
 
-/// A version of the payload format.
-#[derive(Clone, Copy)]
-pub(crate) enum Version {
-    V1_1,
-    V1_2,
-}
-
-/// What a header line says.
-#[derive(Drop)]
-pub(crate) struct Header {
-    version: Version,
-    label: Label,
-}
-
-impl Model for Header {
-    ghost use Rattle.vault_text.specs.Header.{Header};
-
-    ghost Value = { Header };
-
-    ghost view = { λ h. record { version = h.version; label = h.label } };
-}
-
-impl Header {
-    /// The label that the line names, `default` where it names none.
-    pub(crate) fn into_label(self) -> Label
-        ensures { result ≡ self.label }
-    {
-        let Header { version: _, label } = self;
-        label
-    }
-}
-
 /// The fields of a header line that are read, without whitespace at their ends. The label is empty
-/// where the line has none.
+/// if the line has none.
 #[derive(Drop)]
 struct Fields<'a> {
     version: &'a [u8],
@@ -63,7 +30,7 @@ pub(crate) fn is_line_end(byte: u8) -> bool
     byte == b'\n' || byte == b'\r'
 }
 
-/// The bytes before the first line end, or all where there is none.
+/// The bytes before the first line end, or all if there is none.
 pub(crate) fn before_line_end(input: &[u8]) -> &[u8]
     ensures line { result.now ≡ header_line input.now }
     ensures inside { length result.now ≤ length input.now }
@@ -75,7 +42,7 @@ pub(crate) fn before_line_end(input: &[u8]) -> &[u8]
     &input[..end]
 }
 
-/// The first place of the byte, or the length where it does not occur.
+/// The first place of the byte, or the length if it does not occur.
 pub(crate) fn position_of(bytes: &[u8], byte: u8) -> usize
     ensures place { result ≡ position_or_len (λ b. b == byte) bytes.now }
     ensures inside { result ≤ length bytes.now }
@@ -87,7 +54,7 @@ pub(crate) fn position_of(bytes: &[u8], byte: u8) -> usize
     place
 }
 
-/// What comes before the first such byte, and after it where there is one.
+/// What comes before the first such byte, and what comes after it if there is one.
 pub(crate) fn split_at_byte(bytes: &[u8], byte: u8) -> (&[u8], Option<&[u8]>)
     ensures before { result.0.now ≡ before_first (λ b. b == byte) bytes.now }
     ensures found { IfSome result.1 (λ rest. bytes.now ≡ result.0.now ++ byte ∷ rest.now) }
@@ -106,7 +73,7 @@ pub(crate) fn split_at_byte(bytes: &[u8], byte: u8) -> (&[u8], Option<&[u8]>)
     }
 }
 
-/// The fields of a header line; None where it has fewer than three.
+/// The fields of a header line; None if it has fewer than three.
 fn fields_of(line: &[u8]) -> Option<Fields<'_>>
     ensures enough { is_some result ≡ nat_le 3 (length (parts_of_line line.now)) }
     ensures version { IfSome result (λ fields. fields.version.now ≡ field 1 line.now) }
@@ -133,28 +100,9 @@ fn is_ascii(line: &[u8]) -> bool
     line.iter().all(|byte| *byte < 128)
 }
 
-/// The version that a field names.
-fn version_of(field: &[u8]) -> Option<Version>
-    ensures { result ≡ version_of field.now }
-{
-    if field == b"1.1".as_slice() {
-        Some(Version::V1_1)
-    } else if field == b"1.2".as_slice() {
-        Some(Version::V1_2)
-    } else {
-        None
-    }
-}
-
-fn is_cipher(field: &[u8]) -> bool
-    ensures { result ≡ is_cipher field.now }
-{
-    field == b"AES256".as_slice()
-}
-
-/// What a header line says, given without its line end.
+/// The label that a header line names, given without its line end.
 #[tactic(auto, unfolding(crate::specs::Header::read_header))]
-pub(crate) fn read_header(line: &[u8]) -> Result<Header, TextFault>
+pub(crate) fn read_header(line: &[u8]) -> Result<Label, TextFault>
     ensures { result ≡ read_header line.now }
 {
     if line.len() > HEADER_LIMIT {
@@ -169,11 +117,11 @@ pub(crate) fn read_header(line: &[u8]) -> Result<Header, TextFault>
     let Some(label) = Label::from_bytes_or_default(fields.label) else {
         return Err(TextFault::BadHeader);
     };
-    let Some(version) = version_of(fields.version) else {
+    if fields.version != b"1.1".as_slice() && fields.version != b"1.2".as_slice() {
         return Err(TextFault::BadVersion);
-    };
-    if !is_cipher(fields.cipher) {
+    }
+    if fields.cipher != b"AES256".as_slice() {
         return Err(TextFault::BadCipher);
     }
-    Ok(Header { version, label })
+    Ok(label)
 }

@@ -29,9 +29,8 @@ fn digit_value(digit: u8) -> Option<u8>
     Some(value[0])
 }
 
-/// Decodes pairs of digits, each to a byte, and answers whether all were digits. Where one was not,
-/// the bytes mean nothing. A bad digit does not end a loop early: that branch would be
-/// mispredicted.
+/// Decodes pairs of digits, each to a byte, and returns whether all were digits. If one was not,
+/// the bytes mean nothing. A bad digit ends no loop early: that branch would be mispredicted.
 fn decode_pairs(pairs: &[u8], bytes: &mut [u8]) -> bool
     requires { length pairs.now ≡ 2 * length bytes.old }
     ensures { unhex pairs.now ≡ (if result then Some bytes.new else None) }
@@ -127,8 +126,8 @@ impl HexDecoder {
         }
     }
 
-    /// Decodes the bytes that these digits complete, to the start of `bytes`, and answers how many.
-    /// Once a digit was bad, the bytes mean nothing.
+    /// Decodes the bytes that these digits complete, to the start of `bytes`, and returns how many.
+    /// After a bad digit the bytes mean nothing.
     pub(crate) fn decode(&mut self, digits: &[u8], bytes: &mut [u8]) -> usize
         requires { byte_count self.old digits.now ≤ length bytes.old }
         ensures count { result ≡ byte_count self.old digits.now }
@@ -145,18 +144,18 @@ impl HexDecoder {
         1 + self.decode_aligned(rest, &mut bytes[1..])
     }
 
-    /// Decodes pairs of digits, each to a byte. It answers false where a digit is bad, here or
-    /// before, or where one waits for its second; then the bytes mean nothing.
+    /// Decodes pairs of digits, each to a byte. It returns false if a digit is bad, here or before,
+    /// or if one waits for its second; then the bytes mean nothing.
     pub(crate) fn decode_whole(&self, pairs: &[u8], bytes: &mut [u8]) -> bool
         requires { length pairs.now ≡ 2 * length bytes.old }
-        ensures answer { unhex_on self.now pairs.now ≡ (if result then Some bytes.new else None) }
+        ensures value { unhex_on self.now pairs.now ≡ (if result then Some bytes.new else None) }
         ensures good { result ≡ true → unhex pairs.now ≡ Some bytes.new }
         ensures decoded { result ≡ true → Decodes self.now pairs.now bytes.new self.now }
     {
         self.is_complete() && decode_pairs(pairs, bytes)
     }
 
-    /// Decodes where no digit waits for its second.
+    /// Decodes digits while none waits for its second.
     fn decode_aligned(&mut self, digits: &[u8], bytes: &mut [u8]) -> usize
         requires aligned { self.old.high ≡ None }
         requires room { length digits.now / 2 ≤ length bytes.old }

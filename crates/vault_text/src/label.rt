@@ -58,7 +58,7 @@ fn is_label(text: &[u8]) -> bool
 }
 
 impl Label {
-    /// Fails where the text is not allowed as a label.
+    /// Fails if the text is not allowed as a label.
     pub fn new(text: &str) -> Result<Self, BadLabel>
         ensures allowed { is_ok result ≡ is_label text.now }
         ensures text { IfOk result (λ label. label ≡ text.now) }
@@ -72,7 +72,7 @@ impl Label {
         }
     }
 
-    /// The label of this text, `default` where it is empty.
+    /// The label of this text, `default` if it is empty.
     pub fn new_or_default(text: &str) -> Result<Self, BadLabel>
         ensures allowed { is_ok result ≡ is_label (label_or_default text.now) }
         ensures text { IfOk result (λ label. label ≡ label_or_default text.now) }
@@ -84,7 +84,7 @@ impl Label {
         }
     }
 
-    /// The label of these bytes, `default` where they are none; None where they may not be one.
+    /// The label of these bytes, `default` if there are none; None if they are not allowed as one.
     pub(crate) fn from_bytes_or_default(bytes: &[u8]) -> Option<Self>
         ensures allowed { is_some result ≡ is_label (label_or_default bytes.now) }
         ensures text { IfSome result (λ label. label ≡ label_or_default bytes.now) }

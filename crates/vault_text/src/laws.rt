@@ -29,8 +29,8 @@ pub fn larger_limits()
     ensures { LargerLimits }
 {}
 
-/// An input of at most four times a limit is answered alike under it and under each larger one,
-/// since an envelope spells each byte of its ciphertext with four digits.
+/// An input of at most four times a limit is read alike under it and under each larger one, since
+/// an envelope spells each byte of its ciphertext with four digits.
 pub fn short_inputs()
     ensures { ShortInputs }
 {}

@@ -34,7 +34,7 @@ pub const LABEL_LIMIT: usize = 128;
 /// The length of a tag, which is a SHA-256 digest.
 pub const TAG_LENGTH: usize = 32;
 
-/// The longest envelope that is read where the plaintext has this limit.
+/// The longest envelope that is read if the plaintext has this limit.
 pub(crate) fn envelope_limit(limit: usize) -> usize
     requires { limit ≤ PLAINTEXT_LIMIT }
     ensures value { result ≡ envelope_limit limit }

@@ -9,10 +9,10 @@ use std::marker::Model;
 /// What an envelope holds. The tag and the ciphertext are not checked against each other.
 #[derive(Drop)]
 pub struct Payload<'a> {
-    label: Label,
-    salt: Salt,
-    tag: [u8; TAG_LENGTH],
-    ciphertext: &'a mut [u8],
+    pub(crate) label: Label,
+    pub(crate) salt: Salt,
+    pub(crate) tag: [u8; TAG_LENGTH],
+    pub(crate) ciphertext: &'a mut [u8],
 }
 
 impl<'a> Model for Payload<'a> {
@@ -29,28 +29,7 @@ impl<'a> Model for Payload<'a> {
 }
 
 impl<'a> Payload<'a> {
-    pub(crate) fn new(
-        label: Label,
-        salt: Salt,
-        tag: [u8; TAG_LENGTH],
-        ciphertext: &'a mut [u8],
-    ) -> Self
-        ensures { result ≡ record {
-          label = label;
-          salt = salt;
-          tag = tag;
-          ciphertext = ciphertext.old;
-        } }
-    {
-        Payload {
-            label,
-            salt,
-            tag,
-            ciphertext,
-        }
-    }
-
-    /// The label that the header line names, `default` where it names none.
+    /// The label that the header line names, `default` if it names none.
     pub fn label(&self) -> &Label
         ensures { result.now ≡ self.now.label }
     {
@@ -64,7 +43,7 @@ impl<'a> Payload<'a> {
         &self.salt
     }
 
-    /// The tag as it was read, of which nothing says that it fits the ciphertext.
+    /// The tag as it was read: nothing says that it fits the ciphertext.
     pub fn tag(&self) -> &[u8; TAG_LENGTH]
         ensures { result.now ≡ self.now.tag }
     {
@@ -78,16 +57,11 @@ impl<'a> Payload<'a> {
         self.ciphertext
     }
 
-    /// The ciphertext, where it lies in the memory that the reader borrowed.
+    /// The ciphertext, in place in the memory that the reader borrowed.
     pub fn into_body(self) -> &'a mut [u8]
         ensures { result.now ≡ self.entry.ciphertext }
     {
-        let Payload {
-            label: _,
-            salt: _,
-            tag: _,
-            ciphertext,
-        } = self;
+        let Payload { ciphertext, .. } = self;
         ciphertext
     }
 }

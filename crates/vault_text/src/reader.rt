@@ -7,10 +7,9 @@ ghost use Rattle.vault_text.specs.Limits.{IsWorkLength, envelope_limit, limit_of
 ghost use Rattle.vault_text.specs.declared.limits.TheConstants.{ENVELOPE_LIMIT};
 
 mod body;
-mod ciphertext_part;
 mod header_line;
 mod inner_text;
-mod short_part;
+mod parts;
 
 use crate::fault::TextFault;
 use crate::limits::{PADDING_LIMIT, envelope_limit};
@@ -104,8 +103,8 @@ impl<'a> EnvelopeReader<'a> {
     }
 
     /// The payload of the input, or its first fault in the order of the nine steps: `TooLong` over
-    /// `input_limit`, then those of the header line, `BadHex`, `BadPayload`, and `CipherTooLong`
-    /// where the ciphertext does not fit in the memory.
+    /// `input_limit`, then those of the header line, `BadHex`, `BadPayload`, and `CipherTooLong` if
+    /// the ciphertext does not fit in the memory.
     pub fn finish(self) -> Result<Payload<'a>, TextFault>
         ensures { (input : List ℕ) →
             HasRead self.entry input → result ≡ read_within self.entry.limit input }
@@ -119,7 +118,7 @@ impl<'a> EnvelopeReader<'a> {
         if bytes_read > envelope_limit(limit) {
             return Err(TextFault::TooLong);
         }
-        let header = line.finish()?;
-        body.finish(header.into_label())
+        let label = line.finish()?;
+        body.finish(label)
     }
 }

@@ -21,11 +21,11 @@ pub struct SinkFailed;
 /// How far the use of a sink has come.
 #[derive(Clone, Copy, Debug, PartialEq, Eq)]
 pub enum Stage {
-    /// `begin` was not answered Ok yet: nothing is taken.
+    /// `begin` has not returned `Ok` yet: nothing is taken.
     Unbegun,
     /// Bytes are taken.
     Begun,
-    /// `finish` was answered Ok: all that was taken has been flushed.
+    /// `finish` has returned `Ok`: all that was taken has been flushed.
     Finished,
 }
 
@@ -50,7 +50,7 @@ pub trait Sink {
         ensures failed { CountsFailure (failures self.old) (failures self.new) result }
         ensures full { IsSaturated (failures self.old) → IsErr result };
 
-    /// Takes a prefix of `bytes` and answers its length, at least 1. A failed call takes none.
+    /// Takes a prefix of `bytes` and returns its length, at least 1. A failed call takes none.
     fn put(&mut self, bytes: &[u8]) -> Result<usize, SinkFailed>
         requires begun { stage self.old ≡ Stage.Begun }
         requires some { 0 < length bytes.now }

@@ -43,7 +43,7 @@ impl<'a> TextMemory<'a> {
         }
     }
 
-    /// So much of the vector's capacity, with no text in it: what the vector held is dropped.
+    /// `limit` bytes of the vector's capacity, with no text in them: what it held is dropped.
     pub fn reserved(memory: &'a mut Vec<u8>, limit: usize) -> Self
         requires { limit ≤ vec_capacity memory.old }
         ensures { result ≡ record { bytes = []; limit = limit } }
@@ -79,12 +79,12 @@ impl<'a> TextMemory<'a> {
             }
             Place::Reserved(memory) => {
                 // It stays within the capacity.
-                let _ = memory.extend_from_slice(bytes);
+                memory.extend_from_slice(bytes).unwrap();
             }
         }
     }
 
-    /// The text, where it lies.
+    /// The text, in place.
     pub fn into_bytes(self) -> &'a mut [u8]
         ensures bytes { result.now ≡ self.entry.bytes }
         ensures bound { length result.now ≤ self.entry.limit }
@@ -96,7 +96,7 @@ impl<'a> TextMemory<'a> {
         }
     }
 
-    /// The text, where it lies, followed by `spare` further bytes of unspecified value.
+    /// The text, in place, followed by `spare` further bytes of unspecified value.
     pub fn into_bytes_and_spare(self, spare: usize) -> &'a mut [u8]
         requires { length self.bytes + spare ≤ self.limit }
         ensures bytes { take (length self.entry.bytes) result.now ≡ self.entry.bytes }
@@ -107,7 +107,7 @@ impl<'a> TextMemory<'a> {
             Place::Borrowed(memory, filled) => &mut memory[..filled + spare],
             Place::Reserved(memory) => {
                 // It stays within the capacity.
-                let _ = memory.resize(memory.len() + spare, 0);
+                memory.resize(memory.len() + spare, 0).unwrap();
                 memory.as_mut_slice()
             }
         }

@@ -1,4 +1,4 @@
--- What reading answers under two limits.
+-- What reading gives under two limits.
 use Rattle.std.proofs.Common.{◌≡◌, ℕ, ◌*◌, ◌≤◌, false, not, List, [], ◌∷◌}
 use Rattle.std.proofs.Common.{length, drop, suc, Option, Some, None, Result, Ok, Err, refl, ap}
 use Rattle.std.proofs.Common.{arith, inl, inr, length-drop}
@@ -9,7 +9,7 @@ use Rattle.std.proofs.lemmas.Bool.{cases_Bool}
 use Rattle.std.proofs.lemmas.Bool.Decides.{nat_tests}
 use Rattle.std.proofs.lemmas.List.Sums.{count_by-le-length, length-filter}
 use Rattle.vault_text.specs.Envelope.{body, read_body, read_head, read_within}
-use Rattle.vault_text.specs.Header.{Header, header_line, is_line_end}
+use Rattle.vault_text.specs.Header.{header_line, is_line_end}
 use Rattle.vault_text.specs.Hexadecimal.{unhex}
 use Rattle.vault_text.specs.InnerText.{Parts, cut, is_line_feed, part_bytes, parts_of}
 use Rattle.vault_text.specs.Laws.{LargerLimits, ShortInputs}
@@ -21,7 +21,7 @@ use Rattle.vault_text.proofs.EnvelopeLemmas.{IfOk-if, IfOk-steps}
 use Rattle.vault_text.proofs.HexadecimalLemmas.{byte_of, cons_found, spelled_bytes}
 use Rattle.vault_text.proofs.HexadecimalLemmas.{unhex-spelled_bytes}
 
--- ---- two limits that give one answer
+-- ---- two limits that give one result
 
 ok_or-found : {A : Type 0} (o : Option A) (fault : TextFault) (x : A) → ok_or o fault ≡ Ok x
     → o ≡ Some x
@@ -47,11 +47,11 @@ read_body-same smaller larger label digits more fits =
     grind (arith, nat_tests) in
     rw (short, shorter) refl))
 
--- an envelope whose body has one answer
+-- an envelope whose body has one result
 read_within-same : (smaller larger : ℕ) (input : List ℕ)
     → nat_lt (envelope_limit smaller) (length input) ≡ false → smaller ≤ larger
-    → ((header : Header) → read_head input ≡ Ok header
-    → read_body larger header.label (body input) ≡ read_body smaller header.label (body input))
+    → ((label : List ℕ) → read_head input ≡ Ok label
+    → read_body larger label (body input) ≡ read_body smaller label (body input))
     → read_within larger input ≡ read_within smaller input
 unfolding read_within
 read_within-same smaller larger input short more same =
@@ -67,8 +67,8 @@ larger_limits smaller larger input more not_long fits =
     elim (cases_Bool (nat_lt (envelope_limit smaller) (length input))) [
       | inl long ↦ absurd (not_long (rw long refl))
       | inr short ↦
-          read_within-same smaller larger input short more (λ header names.
-          read_body-same smaller larger header.label (body input) more (λ inner parts spelled known.
+          read_within-same smaller larger input short more (λ label names.
+          read_body-same smaller larger label (body input) more (λ inner parts spelled known.
           elim (cases_Bool (nat_lt (ciphertext_limit smaller) (length parts.ciphertext))) [
             | inl long ↦ absurd (fits (rw (short, names, spelled, known, long) refl))
             | inr fitting ↦ fitting
@@ -130,8 +130,8 @@ pub short_inputs : ShortInputs
 short_inputs smaller larger input few more =
     let short : nat_lt (envelope_limit smaller) (length input) ≡ false = grind (arith, nat_tests) in
     let body_few = body-short input in
-    read_within-same smaller larger input short more (λ header names.
-    read_body-same smaller larger header.label (body input) more (λ inner parts spelled known.
+    read_within-same smaller larger input short more (λ label names.
+    read_body-same smaller larger label (body input) more (λ inner parts spelled known.
     let inner_short : 2 * length inner ≤ length (body input) = rw spelled
     at (unhex-short (body input)) in
     let parts_short : 2 * length parts.ciphertext ≤ length inner =

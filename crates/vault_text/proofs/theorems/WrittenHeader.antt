@@ -2,7 +2,7 @@
 use Rattle.std.proofs.Common.{◌≡◌, ℕ, ◌-◌, ◌≤◌, ◌==◌, true, false, not, List, [], ◌∷◌}
 use Rattle.std.proofs.Common.{◌++◌, length, get_or, codes, inl, inr, arith, refl, Ok}
 use Rattle.std.specs.List.{list_all, slice_split, starts_with, suffix_len}
-use Rattle.std.specs.Prelude.{if◌then◌else◌, nat_eq, nat_lt}
+use Rattle.std.specs.Prelude.{nat_eq, nat_lt}
 use Rattle.std.specs.Str.{bytes_eq}
 use Rattle.std.proofs.lemmas.Bool.{and_parts, cases_Bool, leb-true, lt-leb}
 use Rattle.std.proofs.lemmas.Bool.Decides.{nat_tests}
@@ -11,8 +11,6 @@ use Rattle.std.proofs.lemmas.List.Sums.{prefix_len_is, suffix_len_is}
 use Rattle.std.proofs.lemmas.List.{take_all}
 use Rattle.std.proofs.lemmas.Slice.Eq.{bytes_eq-Decides}
 use Rattle.vault_text.specs.Header.{is_ascii, is_line_end, marker, read_header}
-use Rattle.vault_text.specs.declared.header.Version.{Version}
-use Rattle.vault_text.specs.declared.header.Version.TheVariants.{V1_1, V1_2}
 use Rattle.vault_text.specs.Label.{default_label, is_label, is_label_character}
 use Rattle.vault_text.specs.Whitespace.{is_whitespace, strip}
 use Rattle.vault_text.specs.Written.{written_header}
@@ -105,7 +103,7 @@ header-starts label rest =
 
 read_header-labelled : (label : List ℕ) → is_label label ≡ true
     → read_header (codes "$ANSIBLE_VAULT;1.2;AES256;" ++ label)
-    ≡ Ok (record { version = V1_2; label = label })
+    ≡ Ok label
 unfolding read_header
 read_header-labelled label good =
     let known = label_parts label good in
@@ -124,13 +122,9 @@ read_header-labelled label good =
       good,
     ) refl
 
--- the version of the format in which a label is written
-abbrev pub written_version : List ℕ → Version
-written_version label = if bytes_eq label default_label then V1_1 else V1_2
-
 pub header-reads : (label : List ℕ) → is_label label ≡ true
     → read_header (written_header label)
-    ≡ Ok (record { version = written_version label; label = label })
+    ≡ Ok label
 unfolding written_header read_header
 header-reads label good =
     elim (cases_Bool (bytes_eq label default_label)) [

@@ -57,7 +57,7 @@ impl<'a> BodyReader<'a> {
         }
     }
 
-    /// Takes a line end, or digits of a line, and answers what follows.
+    /// Takes a line end, or digits of a line, and returns what follows.
     fn extend_chunk<'t>(&mut self, text: &'t [u8]) -> &'t [u8]
         requires { 0 < length text.now }
         ensures shorter { length result.now < length text.now }
@@ -75,8 +75,8 @@ impl<'a> BodyReader<'a> {
         &text[digits.len()..]
     }
 
-    /// Takes as many digits as a written line has, where the text begins with them, and answers
-    /// what follows. This looks for no line end.
+    /// Takes as many digits as a written line has, if the text begins with them, and returns what
+    /// follows. This looks for no line end.
     fn extend_line<'t>(&mut self, text: &'t [u8]) -> Option<&'t [u8]>
         ensures shorter { IfSome result (λ rest. length rest.now < length text.now) }
         ensures taken { IfSome result (λ rest. (limit : ℕ) → TakesUpTo (BodyHas limit) self.old
@@ -102,7 +102,7 @@ impl<'a> BodyReader<'a> {
         self.inner.extend(&text[..count]);
     }
 
-    /// The payload under this label, where no digit follows.
+    /// The payload under this label, if no digit follows.
     pub(super) fn finish(self, label: Label) -> Result<Payload<'a>, TextFault>
         ensures { (limit : ℕ) (digits : List ℕ) → BodyHas (ciphertext_limit limit) self.entry digits
             → result ≡ read_body limit label digits }

@@ -1,11 +1,12 @@
 //! The header line of an envelope, as it comes in pieces.
 ghost use Rattle.std.specs.Prelude.{◌≡◌, ℕ, List, ◌++◌, []};
 ghost use Rattle.vault_text.specs.Envelope.{body, read_head, without_line_ends};
-ghost use Rattle.vault_text.specs.EnvelopeReader.{IsKept, LineHas};
+ghost use Rattle.vault_text.specs.EnvelopeReader.{LineHas};
 ghost use Rattle.vault_text.specs.Pieces.{TakesPiece};
 
 use crate::fault::TextFault;
-use crate::header::{Header, MARKER, before_line_end, read_header};
+use crate::header::{MARKER, before_line_end, read_header};
+use crate::label::Label;
 use crate::limits::HEADER_LIMIT;
 use arrayvec::ArrayVec;
 use std::marker::Model;
@@ -39,7 +40,7 @@ impl HeaderLine {
         }
     }
 
-    /// Takes what belongs to the header line, and answers what follows it.
+    /// Takes what belongs to the header line, and returns what follows it.
     pub(super) fn extend<'t>(&mut self, text: &'t [u8]) -> &'t [u8]
         ensures line { TakesPiece LineHas self.old text.now self.new }
         ensures body { (input : List ℕ) → LineHas self.old input →
@@ -50,22 +51,13 @@ impl HeaderLine {
         }
         let line = before_line_end(text);
         self.has_ended = line.len() < text.len();
-        self.keep(line);
+        let count = line.len().min(self.kept.remaining_capacity());
+        self.kept.try_extend_from_slice(&line[..count]).unwrap();
         &text[line.len()..]
     }
 
-    /// Keeps as many of the bytes as fit.
-    fn keep(&mut self, bytes: &[u8])
-        ensures ended { self.new.has_ended ≡ self.old.has_ended }
-        ensures line { TakesPiece IsKept self.old.kept bytes.now self.new.kept }
-    {
-        let count = bytes.len().min(self.kept.remaining_capacity());
-        // This many always fit.
-        let _ = self.kept.try_extend_from_slice(&bytes[..count]);
-    }
-
-    /// What the line says, where nothing follows.
-    pub(super) fn finish(&self) -> Result<Header, TextFault>
+    /// The label that the line names, if nothing follows.
+    pub(super) fn finish(&self) -> Result<Label, TextFault>
         ensures { (input : List ℕ) → LineHas self.now input → result ≡ read_head input }
     {
         if !self.kept.as_slice().starts_with(MARKER) {

@@ -3,13 +3,12 @@
 ghost use Rattle.std.specs.Prelude.{◌≡◌, ◌<◌, ◌≤◌, ◌++◌, ◌∷◌, ℕ, List, [], length};
 ghost use Rattle.std.specs.Prelude.{IfNone, IfSome};
 ghost use Rattle.vault_text.specs.Envelope.{read_inner};
-ghost use Rattle.vault_text.specs.InnerReader.{InnerHas, MayHave, next_part};
+ghost use Rattle.vault_text.specs.EnvelopeReader.{InnerHas, MayHave, next_part};
 ghost use Rattle.vault_text.specs.Limits.{ciphertext_limit};
 ghost use Rattle.vault_text.specs.Pieces.{TakesPiece, TakesUpTo};
 
 use super::CHUNK_LIMIT;
-use super::ciphertext_part::CiphertextPart;
-use super::short_part::ShortPart;
+use super::parts::{CiphertextPart, ShortPart};
 use crate::fault::TextFault;
 use crate::header::split_at_byte;
 use crate::label::Label;
@@ -28,7 +27,7 @@ pub(super) enum Part {
 }
 
 impl Part {
-    /// What a text gives to the part, and what follows the LF that ends it, where there is one.
+    /// What a text gives to the part, and what follows the LF that ends it, if there is one.
     fn split(self, text: &[u8]) -> (&[u8], Option<&[u8]>)
         ensures digits { MayHave self result.0.now }
         ensures whole { IfNone result.1 (text.now ≡ result.0.now) }
@@ -65,7 +64,7 @@ pub(super) struct InnerReader<'a> {
 }
 
 impl<'a> Model for InnerReader<'a> {
-    ghost use Rattle.vault_text.specs.InnerReader.{InnerState};
+    ghost use Rattle.vault_text.specs.EnvelopeReader.{InnerState};
 
     ghost Value = { InnerState };
 
@@ -101,7 +100,7 @@ impl<'a> InnerReader<'a> {
         }
     }
 
-    /// Takes what the text gives to the part that comes next, and answers what follows.
+    /// Takes what the text gives to the part that comes next, and returns what follows.
     fn extend_part<'t>(&mut self, text: &'t [u8]) -> &'t [u8]
         requires some { 0 < length text.now }
         requires short { length text.now ≤ CHUNK_LIMIT }
@@ -132,7 +131,7 @@ impl<'a> InnerReader<'a> {
         }
     }
 
-    /// The payload under this label, where no text follows.
+    /// The payload under this label, if no text follows.
     pub(super) fn finish(self, label: Label) -> Result<Payload<'a>, TextFault>
         ensures { (limit : ℕ) (text : List ℕ) → InnerHas (ciphertext_limit limit) self.entry text
             → result ≡ read_inner limit label text }
@@ -153,6 +152,11 @@ impl<'a> InnerReader<'a> {
             return Err(TextFault::BadPayload);
         };
         let ciphertext = ciphertext.finish()?;
-        Ok(Payload::new(label, salt, tag, ciphertext))
+        Ok(Payload {
+            label,
+            salt,
+            tag,
+            ciphertext,
+        })
     }
 }

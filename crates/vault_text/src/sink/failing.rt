@@ -55,14 +55,14 @@ impl FailingSink {
         self.memory.bytes()
     }
 
-    /// Whether `begin` has answered `Ok`.
+    /// Whether `begin` has returned `Ok`.
     pub fn begun(&self) -> bool
         ensures { result ≡ has_begun self.now.memory.stage }
     {
         self.memory.begun()
     }
 
-    /// Uses up one call; fails where none was left, or where the count of failures is full.
+    /// Uses up one call; fails if none was left, or if the count of failures is full.
     fn use_call(&mut self) -> Result<(), SinkFailed>
         ensures takes { Takes (failing_state_of self.old) [] (failing_state_of self.new) }
         ensures memory { self.new.memory ≡ self.old.memory }

@@ -56,7 +56,7 @@ impl MemSink {
         self.bytes.as_slice()
     }
 
-    /// Whether `begin` has answered `Ok`.
+    /// Whether `begin` has returned `Ok`.
     pub fn begun(&self) -> bool
         ensures { result ≡ has_begun self.now.stage }
     {

@@ -29,7 +29,7 @@ impl<W: Write> Model for WriteSink<W> {
 }
 
 impl<W: Write> WriteSink<W> {
-    /// Writes after what `writer` holds. Opening the sink does not ask it.
+    /// Writes after what `writer` holds. Opening the sink does not call it.
     pub fn new(writer: W) -> Self
         ensures { result
             ≡ record { held = W.contents writer; stage = Stage.Unbegun; failures = 0 } }

@@ -1,12 +1,11 @@
 //! Blocks of YAML: an envelope as the value of a variable, written into a sink.
-ghost use Rattle.std.specs.Prelude.{◌≡◌, ◌≤◌, ◌++◌, [], ℕ, IsErr, OnOk, length, take, unwrap_or};
+ghost use Rattle.std.specs.Prelude.{◌≡◌, ◌≤◌, ◌++◌, ℕ, IsErr, OnOk, length, take};
 ghost use Rattle.std.specs.Option.{option_copied};
 ghost use Rattle.vault_text.specs.Block.{block, first_line};
 ghost use Rattle.vault_text.specs.Failures.{CountsFailure, IsSaturated};
 
-use super::header::START_LIMIT;
 use super::lines::INDENTATION_LIMIT;
-use super::{Parts, put_lines};
+use super::{START_LIMIT, put_lines};
 use crate::label::Label;
 use crate::limits::TAG_LENGTH;
 use crate::salt::Salt;
@@ -36,25 +35,10 @@ pub fn write_block<K: Sink>(
     ensures failed { CountsFailure (K.failures sink.old) (K.failures sink.new) result }
     ensures full { IsSaturated (K.failures sink.old) → IsErr result }
 {
-    let name = name_or_empty(name);
+    let name = name.unwrap_or("");
     let start = block_start(name);
     put_all(sink, name.as_bytes())?;
-    let parts = Parts {
-        label,
-        salt,
-        tag,
-        ciphertext,
-    };
-    put_lines(sink, start, BLOCK_INDENTATION, &parts)
-}
-
-fn name_or_empty(name: Option<&str>) -> &str
-    ensures { result.now ≡ unwrap_or (option_copied name.entry) [] }
-{
-    match name {
-        Some(name) => name,
-        None => "",
-    }
+    put_lines(sink, start, BLOCK_INDENTATION, label, salt, tag, ciphertext)
 }
 
 /// What follows the name on the first line of a block, with the end of the line.

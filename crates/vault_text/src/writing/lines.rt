@@ -53,34 +53,18 @@ pub(super) fn append<const LIMIT: usize>(text: &mut ArrayVec<u8, LIMIT>, bytes: 
     ensures text { text.new.items ≡ text.old.items ++ bytes.now }
     ensures length { array_vec_len text.new ≡ array_vec_len text.old + length bytes.now }
 {
-    let _ = text.try_extend_from_slice(bytes);
+    text.try_extend_from_slice(bytes).unwrap();
 }
 
-/// Appends the digits of at most a line of bytes.
-fn append_digits<const LIMIT: usize>(text: &mut ArrayVec<u8, LIMIT>, bytes: &[u8])
-    requires few { length bytes.now ≤ LINE_BYTES }
-    requires room { array_vec_len text.old + 2 * length bytes.now ≤ LIMIT }
-    ensures text { text.new.items ≡ text.old.items ++ encode_lower bytes.now }
-    ensures length { array_vec_len text.new ≡ array_vec_len text.old + 2 * length bytes.now }
+/// The digits of bytes, at the start of memory that has room for them.
+pub(super) fn digits_of<'d>(bytes: &[u8], memory: &'d mut [u8]) -> &'d [u8]
+    requires { 2 * length bytes.now ≤ length memory.old }
+    ensures digits { result.now ≡ encode_lower bytes.now }
+    ensures length { length result.now ≡ 2 * length bytes.now }
 {
-    let mut digits = [0; LINE_DIGITS];
-    let digits = &mut digits[..2 * bytes.len()];
-    let _ = hex::encode_to_slice(bytes, digits);
-    append(text, digits);
-}
-
-/// Appends the digits of bytes, however many they are.
-pub(super) fn append_hexadecimal(text: &mut First, bytes: &[u8])
-    requires { array_vec_len text.old + 2 * length bytes.now ≤ FIRST_BYTES }
-    ensures text { text.new.items ≡ text.old.items ++ encode_lower bytes.now }
-    ensures length { array_vec_len text.new ≡ array_vec_len text.old + 2 * length bytes.now }
-{
-    let mut done = 0;
-    while done < bytes.len() {
-        let end = bytes.len().min(done + LINE_BYTES);
-        append_digits(text, &bytes[done..end]);
-        done = end;
-    }
+    let digits = &mut memory[..2 * bytes.len()];
+    hex::encode_to_slice(bytes, digits).unwrap();
+    digits
 }
 
 /// Appends a line that spells the bytes.
@@ -94,7 +78,7 @@ fn append_line(text: &mut Text, indentation: &[u8], bytes: &[u8])
         ≡ array_vec_len text.old + length indentation.now + 2 * length bytes.now + 1 }
 {
     append(text, indentation);
-    append_digits(text, bytes);
+    append(text, digits_of(bytes, &mut [0; LINE_DIGITS]));
     append(text, b"\n");
 }
 
@@ -125,10 +109,11 @@ fn append_ciphertext_line(text: &mut Text, indentation: &[u8], ciphertext: &[u8]
         ++ (indentation.now ++ encode_lower (encode_lower ciphertext.now) ++ 10 ∷ []) }
     ensures length { array_vec_len text.new ≤ array_vec_len text.old + LINE_LIMIT }
 {
-    let mut digits = [0; LINE_BYTES];
-    let digits = &mut digits[..2 * ciphertext.len()];
-    let _ = hex::encode_to_slice(ciphertext, digits);
-    append_line(text, indentation, digits);
+    append_line(
+        text,
+        indentation,
+        digits_of(ciphertext, &mut [0; LINE_BYTES]),
+    );
 }
 
 /// Appends the lines of at most a batch of ciphertext.

@@ -10,8 +10,8 @@ returns-then-is_complete-clause-decoded c good =
     rw new (Decodes-pairs new_decoder c.args.pairs.now c.decode_pairs.new.bytes true refl
     (rw good at c.decode_pairs.ensures) (omega (arith, c.requires)))
 
-pub returns-else-is_complete-clause-answer : goal.returns-else-is_complete-clause-answer
-returns-else-is_complete-clause-answer c =
+pub returns-else-is_complete-clause-value : goal.returns-else-is_complete-clause-value
+returns-else-is_complete-clause-value c =
     let none = unhex_on-incomplete c.args.self.now c.args.pairs.now c.if-is_complete.ensures
     (omega (arith, c.requires)) in
     rw c.if-is_complete.false none

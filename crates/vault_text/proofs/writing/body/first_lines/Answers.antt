@@ -6,16 +6,16 @@ use Rattle.vault_text.proofs.writing.body.first_lines.Goals as goal
 
 pub returns-clause-text : goal.returns-clause-text
 returns-clause-text c =
-    let parts = c.args.parts.now in
-    let both : c.split_at.result.0.now ++ c.split_at.result.1.now ≡ parts.ciphertext.now =
+    let ciphertext = c.args.ciphertext.now in
+    let both : c.split_at.result.0.now ++ c.split_at.result.1.now ≡ ciphertext =
     rw (c.split_at.ensures.front, c.split_at.ensures.back)
-    (take-append-drop c.min.result parts.ciphertext.now) in
+    (take-append-drop c.min.result ciphertext) in
     inner_text-split _ _ _ _ _ _ _ c.salt_and_tag-inner.ensures.text
-    c.append_hexadecimal.ensures.text both
+    (rw c.digits_of.ensures.digits at c.append.ensures.text) both
 
 pub returns-clause-full : goal.returns-clause-full
 returns-clause-full c =
-    let ciphertext = c.args.parts.now.ciphertext.now in
+    let ciphertext = c.args.ciphertext.now in
     elim (cases_lt c.min.result (length ciphertext)) [
       | inl some ↦ inl (omega arith)
       | inr none ↦ inr (c.split_at.ensures.back ∙ drop_all c.min.result ciphertext none)

@@ -1,6 +1,6 @@
 use Rattle.std.proofs.Common.{arith, rules, tests}
 use Rattle.std.proofs.lemmas.List.{nil_from_length}
-use Rattle.vault_text.specs.InnerReader.{InnerHas}
+use Rattle.vault_text.specs.EnvelopeReader.{InnerHas}
 use Rattle.vault_text.proofs.PiecesLemmas.{TakesPiece-whole, TakesUpTo-more}
 use Rattle.vault_text.proofs.reader.inner_text.InnerReader.extend.Goals as goal
 

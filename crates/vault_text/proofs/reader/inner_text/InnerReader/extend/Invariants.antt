@@ -1,5 +1,5 @@
 use Rattle.std.proofs.Common.{ℕ, ◌≤◌, length}
-use Rattle.vault_text.specs.InnerReader.{InnerHas}
+use Rattle.vault_text.specs.EnvelopeReader.{InnerHas}
 use Rattle.vault_text.specs.Pieces.{TakesUpTo}
 use Rattle.vault_text.proofs.reader.inner_text.InnerReader.extend.Given as goal
 

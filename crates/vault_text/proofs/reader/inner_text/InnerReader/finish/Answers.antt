@@ -63,7 +63,7 @@ returns c limit text has =
     let tag = c.in_ok-finish-2.ensures.bytes here.digits.tag here.tag in
     let ciphertext = c.in_ok-ciphertext.ensures.bytes _ here.digits.ciphertext here.ciphertext in
     let whole = c.in-Ok.ensures.1 in
-    rw (c.new-2.ensures, c.in-Some.ensures.bytes, whole.same)
+    rw (c.in-Some.ensures.bytes, whole.same)
     (sym (rw (salt, tag) at (read_inner-parts limit c.args.label text _ here c.in-Ciphertext.is)
     ∙ payload_of-ciphertext limit c.args.label _ _ (unhex here.digits.ciphertext) (Ok _)
     c.in_ok-finish.ensures.fits whole.long ciphertext))

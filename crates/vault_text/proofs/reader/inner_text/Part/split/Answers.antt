@@ -1,5 +1,5 @@
 use Rattle.std.proofs.Common.{◌≡◌, ◌⊎◌, ℕ, List, inl, inr}
-use Rattle.vault_text.specs.InnerReader.{IsOneLine, MayHave}
+use Rattle.vault_text.specs.EnvelopeReader.{IsOneLine, MayHave}
 use Rattle.vault_text.specs.InnerText.{is_line_feed}
 use Rattle.vault_text.specs.declared.reader.inner_text.Part.{Part}
 use Rattle.vault_text.specs.declared.reader.inner_text.Part.TheVariants.{Salt, Tag}

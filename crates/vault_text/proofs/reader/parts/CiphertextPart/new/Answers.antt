@@ -1,6 +1,6 @@
 use Rattle.std.proofs.Common.{[], refl, arith}
 use Rattle.vault_text.proofs.HexadecimalLemmas.{Decodes-nothing}
-use Rattle.vault_text.proofs.reader.ciphertext_part.CiphertextPart.new.Goals as goal
+use Rattle.vault_text.proofs.reader.parts.CiphertextPart.new.Goals as goal
 
 pub returns : goal.returns
 returns c =

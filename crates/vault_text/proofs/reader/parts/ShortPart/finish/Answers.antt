@@ -1,6 +1,6 @@
 use Rattle.std.proofs.Common.{rules, tests}
 use Rattle.vault_text.proofs.InnerReaderLemmas.{unhex-bad, unhex-long}
-use Rattle.vault_text.proofs.reader.short_part.ShortPart.finish.Goals as goal
+use Rattle.vault_text.proofs.reader.parts.ShortPart.finish.Goals as goal
 
 pub returns-then-self-clause-long : goal.returns-then-self-clause-long
 returns-then-self-clause-long g c digits has =

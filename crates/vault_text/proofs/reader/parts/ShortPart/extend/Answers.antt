@@ -1,6 +1,6 @@
 use Rattle.std.proofs.Common.{rules, tests}
 use Rattle.vault_text.proofs.InnerReaderLemmas.{PartHas-fits, PartHas-long}
-use Rattle.vault_text.proofs.reader.short_part.ShortPart.extend.Goals as goal
+use Rattle.vault_text.proofs.reader.parts.ShortPart.extend.Goals as goal
 
 pub returns-then-is_err : goal.returns-then-is_err
 returns-then-is_err g c text has =

@@ -1,6 +1,6 @@
 use Rattle.std.proofs.Common.{refl, rules, tests}
 use Rattle.vault_text.proofs.InnerReaderLemmas.{PartHas-fits, PartHas-long}
-use Rattle.vault_text.proofs.reader.ciphertext_part.CiphertextPart.extend.Goals as goal
+use Rattle.vault_text.proofs.reader.parts.CiphertextPart.extend.Goals as goal
 
 pub returns-then-count-room : goal.returns-then-count-room
 returns-then-count-room c limit text has =
