@@ -3,9 +3,8 @@ use Rattle.std.proofs.Common.{◌≡◌, ℕ, ◌+◌, ◌≤◌, List, [], ◌�
 use Rattle.std.proofs.Common.{arith, add-one, zero, suc, ◌-◌, ◌*◌, ◌<◌, inl, inr, min, take, drop}
 use Rattle.std.proofs.lemmas.List.FromFn.{length-map-range_with_len, map-range_with_len_more}
 use Rattle.std.specs.Int.{to_be_bytes, w32, div_ceil}
-use Rattle.vault_kdf.specs.Pbkdf2.{block, iterate, iterates, blocks, pbkdf2}
-use Rattle.vault_kdf.specs.Xor.{xor, xor_all}
-use Rattle.vault_kdf.specs.Hmac.{hmac}
+use Rattle.vault_kdf.specs.Hmac.{hmac, xor}
+use Rattle.vault_kdf.specs.Pbkdf2.{block, iterate, iterates, blocks, pbkdf2, xor_all}
 use Rattle.vault_kdf.proofs.XorLemmas.{xor_all_push, length-xor}
 use Rattle.std.specs.List.{concat}
 use Rattle.std.proofs.lemmas.List.{append-nil, length-append, length-drop, length-take-le, take_all}
@@ -140,7 +139,7 @@ take_past n m k xs ys len is_n =
     let at : n ≡ length xs + k = omega arith in
     ap (λ (l : ℕ). take l (xs ++ ys)) at ∙ take-append-add xs ys k
 
--- a block as far as n bytes reach, and what stands after it where they reach further
+-- a block as far as n bytes reach, and what stands after it if they reach further
 take_part : (n k : ℕ) (next rest : List ℕ) → length next ≡ 32 → k ≡ min n 32 → length rest ≡ n - k
     → take 32 (take k next ++ rest) ≡ take n next
 take_part n k next rest len is_k is_rest = elim (cases_lt n 32) [

@@ -2,9 +2,8 @@
 use Rattle.std.proofs.Common.{◌≡◌, [], ◌∷◌, codes, replicate, refl}
 use Rattle.sha2.specs.Sha256.{compress, digest_bytes, first_words, hash_after, rounds, schedule}
 use Rattle.sha2.specs.Sha256.{sha256}
-use Rattle.vault_kdf.specs.Pbkdf2.{block, blocks, iterate, iterates, pbkdf2}
-use Rattle.vault_kdf.specs.Xor.{xor, xor_all}
-use Rattle.vault_kdf.specs.Hmac.{hmac, inner_key, outer_key, padded_key, shortened_key}
+use Rattle.vault_kdf.specs.Pbkdf2.{block, blocks, iterate, iterates, pbkdf2, xor_all}
+use Rattle.vault_kdf.specs.Hmac.{hmac, inner_key, outer_key, padded_key, shortened_key, xor}
 
 pub hmac-vectors :
     -- RFC 4231, section 4.2

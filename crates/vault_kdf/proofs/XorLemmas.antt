@@ -6,7 +6,8 @@ use Rattle.std.specs.List.{zip}
 use Rattle.std.proofs.lemmas.List.{length-map, length-set, get_or-map, ext_get_or}
 use Rattle.std.proofs.lemmas.List.Sums.{fold_push}
 use Rattle.std.proofs.lemmas.Slice.Zip.{length-zip, get_or-zip}
-use Rattle.vault_kdf.specs.Xor.{xor, xor_all}
+use Rattle.vault_kdf.specs.Hmac.{xor}
+use Rattle.vault_kdf.specs.Pbkdf2.{xor_all}
 
 pub length-xor : (xs ys : List ℕ) → length ys ≡ length xs
     → length (xor xs ys) ≡ length xs

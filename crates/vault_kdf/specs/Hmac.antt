@@ -1,11 +1,16 @@
 -- HMAC (RFC 2104, section 2). Its hash function H is SHA-256, whose blocks have 64 bytes.
 use Rattle.std.specs.Prelude.{ℕ, ◌-◌, nat_lt, if◌then◌else◌, List, ◌++◌, length, replicate}
+use Rattle.std.specs.Prelude.{map, bit_xor}
+use Rattle.std.specs.List.{zip}
 use Rattle.sha2.specs.Sha256.{sha256}
 use Rattle.sha2.specs.Hashers.{Holds256}
-use Rattle.vault_kdf.specs.Xor.{xor}
 use Rattle.vault_kdf.specs.declared.hmac_sha256.Hmac.{Hmac}
 
--- the key, or its hash where it is longer than a block
+-- the exclusive or of two strings of one length, byte by byte
+unfoldable pub xor : List ℕ → List ℕ → List ℕ
+xor xs ys = map (λ (x, y). bit_xor x y) (zip xs ys)
+
+-- the key, or its hash if it is longer than a block
 unfoldable pub shortened_key : List ℕ → List ℕ
 shortened_key key = if nat_lt 64 (length key) then sha256 key else key
 

@@ -1,4 +1,3 @@
-pub mod Xor
 pub mod Hmac
 pub mod Pbkdf2
 pub mod Keys

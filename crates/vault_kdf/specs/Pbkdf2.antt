@@ -1,10 +1,9 @@
 -- PBKDF2 (RFC 8018, section 5.2). Its pseudorandom function is HMAC-SHA-256, whose output has 32
 -- bytes.
-use Rattle.std.specs.Prelude.{ℕ, zero, suc, List, ◌++◌, map, take}
+use Rattle.std.specs.Prelude.{ℕ, zero, suc, List, [], ◌∷◌, ◌++◌, map, fold, take}
 use Rattle.std.specs.List.{concat, range_with_len}
 use Rattle.std.specs.Int.{div_ceil, to_be_bytes, w32}
-use Rattle.vault_kdf.specs.Xor.{xor_all}
-use Rattle.vault_kdf.specs.Hmac.{hmac}
+use Rattle.vault_kdf.specs.Hmac.{hmac, xor}
 
 -- U_j, the tag of the iterate before it (step 3). U_0 stands for the message of which U_1 is the
 -- tag.
@@ -16,8 +15,13 @@ iterate password message (suc j) = hmac password (iterate password message j)
 unfoldable pub iterates : List ℕ → List ℕ → ℕ → List (List ℕ)
 iterates password message c = map (iterate password message) (range_with_len 1 c)
 
--- T_i, which is F (P, S, c, i): the exclusive or of U_1 to U_c, where U_1 is the tag of the salt
--- and then i as four big-endian bytes (step 3)
+-- the exclusive or of all strings of a list
+unfoldable pub xor_all : List (List ℕ) → List ℕ
+xor_all [] = []
+xor_all (xs ∷ rest) = fold xor xs rest
+
+-- T_i, which is F (P, S, c, i): the exclusive or of U_1 to U_c; U_1 is the tag of the salt and then
+-- i as four big-endian bytes (step 3)
 unfoldable pub block : List ℕ → List ℕ → ℕ → ℕ → List ℕ
 block password salt c i = xor_all (iterates password (salt ++ to_be_bytes w32 i) c)
 

@@ -64,8 +64,8 @@ impl Hmac {
         outer.chain_update(inner.finalize()).finalize()
     }
 
-    /// The tag of the message and a last piece. Each hasher is cloned where it is fed, and fed in
-    /// place: a clone of both at once, or `chain_update`, moves them more often.
+    /// The tag of the message and a last piece. Each hasher is cloned just before it is fed, and is
+    /// fed in place: a clone of both at once, or `chain_update`, moves them more often.
     pub(crate) fn mac_of(&self, last: &[u8]) -> [u8; DIGEST_LEN]
         ensures { (key message : List ℕ) → HasRead self.now key message
             → result ≡ hmac key (message ++ last.now) }

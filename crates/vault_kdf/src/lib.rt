@@ -15,12 +15,12 @@
 mod hmac_sha256;
 mod keys;
 mod meter;
+mod one_shot;
 mod pbkdf2_hmac;
-mod tag;
 mod xor;
 
 pub use hmac_sha256::Hmac;
 pub use keys::{Keys, derive};
 pub use meter::Meter;
+pub use one_shot::hmac;
 pub use pbkdf2_hmac::pbkdf2;
-pub use tag::hmac;

@@ -1,6 +1,6 @@
 //! Exclusive or of byte strings.
 ghost use Rattle.std.specs.Prelude.{◌≡◌};
-ghost use Rattle.vault_kdf.specs.Xor.{xor};
+ghost use Rattle.vault_kdf.specs.Hmac.{xor};
 
 /// Each byte is the exclusive or of the two at its place.
 pub(crate) fn xor<const N: usize>(a: &[u8; N], b: &[u8; N]) -> [u8; N]

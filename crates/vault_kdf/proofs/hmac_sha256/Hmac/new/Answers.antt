@@ -1,6 +1,5 @@
 use Rattle.std.proofs.Common.{◌≡◌, ℕ, List, replicate, ap, ◌∙◌, append-nil}
-use Rattle.vault_kdf.specs.Xor.{xor}
-use Rattle.vault_kdf.specs.Hmac.{inner_key, outer_key, HasRead}
+use Rattle.vault_kdf.specs.Hmac.{inner_key, outer_key, xor, HasRead}
 use Rattle.vault_kdf.proofs.hmac_sha256.Hmac.new.Goals as goal
 
 pub returns : goal.returns

@@ -1,4 +1,4 @@
-//! The tag of a whole message.
+//! HMAC with SHA-256 (RFC 2104) of a whole message.
 ghost use Rattle.std.specs.Prelude.{◌≡◌};
 ghost use Rattle.vault_kdf.specs.Hmac.{hmac};
 
@@ -8,7 +8,5 @@ use crate::hmac_sha256::{DIGEST_LEN, Hmac};
 pub fn hmac(key: &[u8], message: &[u8]) -> [u8; DIGEST_LEN]
     ensures { result ≡ hmac key.now message.now }
 {
-    let mut state = Hmac::new(key);
-    state.update(message);
-    state.finish()
+    Hmac::new(key).mac_of(message)
 }
