@@ -31,7 +31,7 @@ rot_word-rotate_left n fits =
     rw low (or_shifted (n % 2 ^ 24) 8 (n / 2 ^ 24) (omega arith)) in
     omega (arith, whole)
 
--- a word is made of the words before it alone
+-- a word is made of the words before it only
 next_word-take : (words : List ℕ) (i : ℕ) → 8 ≤ i → next_word (take i words) i ≡ next_word words i
 unfolding next_word
 next_word-take words i low =

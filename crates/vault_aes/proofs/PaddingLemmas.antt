@@ -59,7 +59,7 @@ last-padded plain =
     ∙ get_or-replicate (count_of plain) (length (padded plain) - 1 - length plain) (count_of plain)
     0 (omega (arith, total))
 
--- one plaintext alone has the padding
+-- only one plaintext has the padding
 pub padded-once : (one other : List ℕ) → padded one ≡ padded other → one ≡ other
 padded-once one other same =
     let last = rw same at (last-padded one) in
@@ -105,7 +105,7 @@ without_padding-padded plain text is =
     (n, omega (arith, count, size), taken) in
     rw (← is) (find_same padded-Decides plain (prefixes all) ∙ rw some refl)
 
--- where no plaintext has the padding
+-- if no plaintext has the padding
 pub without_padding-None : (text : List ℕ) → ((plain : List ℕ) → padded plain ≡ text → ⊥)
     → None ≡ without_padding text
 without_padding-None text none = unless (without_padding text) refl
@@ -121,7 +121,7 @@ replicate-from_All value n xs long all =
     same_lists xs (replicate n value) (long ∙ sym (length-replicate n value))
     (λ k d lt. all k d lt ∙ sym (get_or-replicate n k value d (omega arith)))
 
--- what `unpad` answers once it has compared the last bytes
+-- what `unpad` returns once it has compared the last bytes
 pub then_some-without_padding : (text : List ℕ) (count : ℕ) (same : Bool) → count ≡ last_of text
     → 1 ≤ count → count ≤ 16 → 1 ≤ length text → length text % 16 ≡ 0
     → IsTrue same ↔ All (λ x. x ≡ count) (drop (length text - count) text)

@@ -30,21 +30,10 @@ mixed k s = column (λ r c. mul (entry mixing_matrix r k) s) 0
 abbrev pub IsMixed : List ℕ → ℕ → Type 0
 IsMixed table k = map (to_be_bytes w32) table ≡ map (mixed k) S_BOX
 
-pub IsMixed-TE0_WORDS : IsMixed TE0_WORDS 0
+pub IsMixed-tables : IsMixed TE0_WORDS 0 × IsMixed TE1_WORDS 1 × IsMixed TE2_WORDS 2
+    × IsMixed TE3_WORDS 3
 unfolding on_literals
-IsMixed-TE0_WORDS = refl
-
-pub IsMixed-TE1_WORDS : IsMixed TE1_WORDS 1
-unfolding on_literals
-IsMixed-TE1_WORDS = refl
-
-pub IsMixed-TE2_WORDS : IsMixed TE2_WORDS 2
-unfolding on_literals
-IsMixed-TE2_WORDS = refl
-
-pub IsMixed-TE3_WORDS : IsMixed TE3_WORDS 3
-unfolding on_literals
-IsMixed-TE3_WORDS = refl
+IsMixed-tables = (refl, refl, refl, refl)
 
 pub to_be_bytes-table : (table : List ℕ) (k x : ℕ) → IsMixed table k → x < 256
     → to_be_bytes w32 (slice_index table x) ≡ mixed_column x k

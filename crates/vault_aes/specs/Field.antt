@@ -14,7 +14,7 @@ abbrev pub modulus : ℕ
 modulus = 0x11b
 
 -- the remainder modulo m(x) of a polynomial of degree below 8 + n (4.2): from the highest degree
--- down, m(x) · x^k is added where the coefficient of x^(8 + k) is 1
+-- down, m(x) · x^k is added if the coefficient of x^(8 + k) is 1
 unfoldable pub remainder : ℕ → ℕ → ℕ
 remainder p zero = p
 remainder p (suc k) = remainder (bit_xor p (bit_at p (8 + k) * (modulus * 2 ^ k))) k

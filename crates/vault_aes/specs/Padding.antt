@@ -24,6 +24,6 @@ padded plaintext =
 abbrev pub prefixes : List ℕ → List (List ℕ)
 prefixes text = map (λ n. take n text) (range_with_len 0 (length text))
 
--- the plaintext that the text is when it is padded; none where there is no such plaintext
+-- the plaintext that the text is when it is padded; none if there is no such plaintext
 unfoldable pub without_padding : List ℕ → Option (List ℕ)
 without_padding text = find (λ plaintext. bytes_eq (padded plaintext) text) (prefixes text)

@@ -24,8 +24,8 @@ pub fn ctr_apply(key: &Key, iv: &[u8; BLOCK_LEN], bytes: &mut [u8])
     }
 }
 
-/// The counter's big-endian bytes. Halves are stored whole, where the 16 bytes of
-/// `counter.to_be_bytes()` go one by one.
+/// The counter's big-endian bytes. Each half is stored whole; the 16 bytes of
+/// `counter.to_be_bytes()` would be stored one by one.
 #[inline(always)]
 fn counter_block(counter: u128) -> [u8; BLOCK_LEN]
     ensures { result ≡ to_be_bytes w128 counter }
@@ -36,7 +36,7 @@ fn counter_block(counter: u128) -> [u8; BLOCK_LEN]
     block
 }
 
-/// A whole block's length is known where this is inlined, and then no byte costs a branch.
+/// Inlined so that the length of a whole block is known, and no byte costs a branch.
 #[inline(always)]
 fn xor_keystream(bytes: &mut [u8], keystream: &[u8; BLOCK_LEN])
     requires { length bytes.old ≤ BLOCK_LEN }

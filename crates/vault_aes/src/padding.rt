@@ -20,7 +20,7 @@ pub fn pad(work: &mut [u8], n: usize) -> usize
     n + count
 }
 
-/// The length of the plaintext without its padding (RFC 5652, section 6.3). It is `None` where the
+/// The length of the plaintext without its padding (RFC 5652, section 6.3). It is `None` if the
 /// length of `padded` is not a positive multiple of 16, the last byte n is not 1 to 16, or the last
 /// n bytes do not all equal n. It does not take constant time.
 pub fn unpad(padded: &[u8]) -> Option<usize>

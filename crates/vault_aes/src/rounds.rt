@@ -32,7 +32,7 @@ pub(crate) fn columns_of(block: &[u8; BLOCK_LEN]) -> State
     ]
 }
 
-/// Each word is stored whole, where an array of 16 bytes would be stored byte by byte.
+/// Each word is stored whole; an array of 16 bytes would be stored byte by byte.
 #[inline(always)]
 pub(crate) fn bytes_of(state: State) -> [u8; BLOCK_LEN]
     ensures { result ≡ state_of state }
