@@ -18,7 +18,7 @@ prefix limit (Whole bytes) = Ok (take limit bytes)
 prefix limit (Broken bytes) =
     if nat_lt (length bytes) limit then Err CannotRead else Ok (take limit bytes)
 
--- the answer is that of a file that may be found
+-- reading a prefix of a file that may be found gives this
 pub record Answers (finds : FileState → Type 0) (limit : ℕ)
     (answer : Result (List ℕ) FileFault) : Type 0 where
   pub file : FileState

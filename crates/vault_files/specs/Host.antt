@@ -1,32 +1,47 @@
 -- A program's files over any system: one output, and the system calls that it takes.
-use Rattle.std.specs.Prelude.{◌≡◌, ℕ, ◌+◌, ◌≤◌, true, List, [], ◌∷◌, ◌++◌, take}
-use Rattle.std.specs.Prelude.{Option, Some, None, is_some}
+use Rattle.std.specs.Prelude.{◌≡◌, ℕ, ◌+◌, List, [], ◌∷◌, ◌++◌, take}
+use Rattle.std.specs.String.{string_bytes}
 use Rattle.vault_text.specs.declared.sink.Stage.{Stage}
-use Rattle.vault_text.specs.declared.sink.Stage.TheVariants.{Unbegun, Begun, Finished}
+use Rattle.vault_text.specs.declared.sink.Stage.TheVariants as stage
 use Rattle.vault_files.specs.System.{OpenCalls, SystemCall}
 use Rattle.vault_files.specs.System.SystemCall.{Create, ChmodOwnerOnly, Truncate, Write, Sync}
 use Rattle.vault_files.specs.System.SystemCall.{Failed}
 use Rattle.vault_files.specs.declared.access.Access.{Access}
 use Rattle.vault_files.specs.declared.access.Access.TheVariants.{Kept, OwnerOnly}
+use Rattle.vault_files.specs.declared.host.Output as rust
+use Rattle.vault_files.specs.declared.host.Output.TheVariants as variant
 
--- the system, the path of the output where one was chosen, its permissions, how far its use has
--- come, and its failures
+-- how far the output has come
+pub data OutputState : Type 0 where
+  Unchosen : OutputState
+  -- its path and its permissions
+  Chosen : List ℕ → Access → OutputState
+  Begun : OutputState
+  Finished : OutputState
+
+-- its stage as a sink
+abbrev pub stage_of : OutputState → Stage
+stage_of Unchosen = stage.Unbegun
+stage_of (Chosen path access) = stage.Unbegun
+stage_of Begun = stage.Begun
+stage_of Finished = stage.Finished
+
+-- what a contract sees of the output that the code holds
+abbrev pub output_of : {Writer : Type 0} → rust.Output Writer → OutputState
+output_of variant.None = Unchosen
+output_of (variant.Chosen path access) = Chosen (string_bytes path) access
+output_of (variant.Open file) = Begun
+output_of variant.Finished = Finished
+
+-- the system, the output, and how often it failed
 pub record HostState (System : Type 0) : Type 0 where
   pub system : System
-  pub output_file : Option (List ℕ)
-  pub access : Access
-  pub stage : Stage
+  pub output : OutputState
   pub failures : ℕ
 
 -- files whose output was not chosen yet
 abbrev pub new_host : {System : Type 0} → System → HostState System
-new_host system = record {
-  system = system;
-  output_file = None;
-  access = Kept;
-  stage = Unbegun;
-  failures = 0;
-}
+new_host system = record { system = system; output = Unchosen; failures = 0 }
 
 -- what restricts an output that is open
 abbrev pub restricting : Access → List SystemCall
@@ -34,52 +49,42 @@ restricting Kept = []
 restricting OwnerOnly = ChmodOwnerOnly ∷ []
 
 -- what begins an output, before its first byte: a file that was there is truncated last
-abbrev pub beginning : Option (List ℕ) → Access → List SystemCall
-beginning None access = []
-beginning (Some path) access = Create path ∷ restricting access ++ Truncate ∷ []
+abbrev pub beginning : List ℕ → Access → List SystemCall
+beginning path access = Create path ∷ restricting access ++ Truncate ∷ []
 
--- the calls that bring an output with this beginning from one stage to another, while it takes
--- bytes; so often it failed: a call did, or a write took nothing
-pub data OutputCalls (first : List SystemCall) : Stage → List SystemCall → List ℕ → ℕ → Stage
-    → Type 0 where
-  none : (s : Stage) → OutputCalls first s [] [] 0 s
-  begins : (calls : List SystemCall) (bytes : List ℕ) (failed : ℕ) (t : Stage)
-      → OutputCalls first Begun calls bytes failed t
-      → OutputCalls first Unbegun (first ++ calls) bytes failed t
-  writes : (some : List ℕ) (calls : List SystemCall) (bytes : List ℕ) (failed : ℕ) (t : Stage)
-      → OutputCalls first Begun calls bytes failed t
-      → OutputCalls first Begun (Write some ∷ calls) (some ++ bytes) failed t
-  finishes : (calls : List SystemCall) (bytes : List ℕ) (failed : ℕ) (t : Stage)
-      → OutputCalls first Finished calls bytes failed t
-      → OutputCalls first Begun (Sync ∷ calls) bytes failed t
+-- one use of an output, which brings it from one state to another: the calls of the system that it
+-- makes, the bytes that it takes, and 1 if it fails
+pub data OutputStep : OutputState → List SystemCall → List ℕ → ℕ → OutputState → Type 0 where
+  begins : (path : List ℕ) (access : Access)
+      → OutputStep (Chosen path access) (beginning path access) [] 0 Begun
+  writes : (some : List ℕ) → OutputStep Begun (Write some ∷ []) some 0 Begun
+  finishes : OutputStep Begun (Sync ∷ []) [] 0 Finished
+  is_unchosen : OutputStep Unchosen [] [] 1 Unchosen
   -- at the last of the first n calls that begin an output
-  fails_to_begin : (n : ℕ) (calls : List SystemCall) (bytes : List ℕ) (failed : ℕ) (t : Stage)
-      → OutputCalls first Unbegun calls bytes failed t
-      → OutputCalls first Unbegun (take n first ++ Failed ∷ calls) bytes (failed + 1) t
-  fails_to_write : (calls : List SystemCall) (bytes : List ℕ) (failed : ℕ) (t : Stage)
-      → OutputCalls first Begun calls bytes failed t
-      → OutputCalls first Begun (Write [] ∷ Failed ∷ calls) bytes (failed + 1) t
-  writes_nothing : (calls : List SystemCall) (bytes : List ℕ) (failed : ℕ) (t : Stage)
-      → OutputCalls first Begun calls bytes failed t
-      → OutputCalls first Begun (Write [] ∷ calls) bytes (failed + 1) t
-  fails_to_finish : (calls : List SystemCall) (bytes : List ℕ) (failed : ℕ) (t : Stage)
-      → OutputCalls first Begun calls bytes failed t
-      → OutputCalls first Begun (Sync ∷ Failed ∷ calls) bytes (failed + 1) t
+  fails_to_begin : (path : List ℕ) (access : Access) (n : ℕ)
+      → OutputStep (Chosen path access) (take n (beginning path access) ++ Failed ∷ []) [] 1
+      (Chosen path access)
+  fails_to_write : OutputStep Begun (Write [] ∷ Failed ∷ []) [] 1 Begun
+  writes_nothing : OutputStep Begun (Write [] ∷ []) [] 1 Begun
+  fails_to_finish : OutputStep Begun (Sync ∷ Failed ∷ []) [] 1 Begun
+
+-- the same of any number of uses, one after the other
+pub data OutputCalls : OutputState → List SystemCall → List ℕ → ℕ → OutputState → Type 0 where
+  no_steps : (s : OutputState) → OutputCalls s [] [] 0 s
+  steps : (s t u : OutputState) (calls more : List SystemCall) (xs ys : List ℕ) (m n : ℕ)
+      → OutputStep s calls xs m t → OutputCalls t more ys n u
+      → OutputCalls s (calls ++ more) (xs ++ ys) (m + n) u
 
 module _ {System : Type 0} (executes : System → List SystemCall → System → Type 0) where
-  -- between two states the output took these bytes: the system was asked for nothing else, each
-  -- call that failed counts, and, where a path was chosen, nothing else does; all else stayed
+  -- between two states the output took these bytes: the system was asked for nothing else, and
+  -- each call that failed counts
   pub record HostTakes (old : HostState System) (bytes : List ℕ) (new : HostState System)
       : Type 0 where
     pub calls : List SystemCall
     pub failed : ℕ
     pub executed : executes old.system calls new.system
-    pub are_of_output :
-        OutputCalls (beginning old.output_file old.access) old.stage calls bytes failed new.stage
-    pub failures : old.failures + failed ≤ new.failures
-    pub no_other_failure : is_some old.output_file ≡ true → new.failures ≡ old.failures + failed
-    pub output_file : new.output_file ≡ old.output_file
-    pub access : new.access ≡ old.access
+    pub are_of_output : OutputCalls old.output calls bytes failed new.output
+    pub failures : new.failures ≡ old.failures + failed
 
   -- between two states the system was asked to open these paths, in this order, and all else stayed
   pub record HostOpens (old : HostState System) (paths : List (List ℕ)) (new : HostState System)

@@ -9,7 +9,7 @@ use Rattle.vault_text.specs.Source.{Gives, SourceState}
 use Rattle.vault_files.specs.System.{OpenCalls, SystemCall}
 use Rattle.vault_files.specs.File.{Answers, FileState}
 use Rattle.vault_files.specs.File.FileState.{Missing, Whole, Broken}
-use Rattle.vault_files.specs.FileSystemProofs.{take-given}
+use Rattle.vault_files.specs.MemoryProofs.{take-given}
 use Rattle.vault_files.specs.Host.{HostOpens, HostState}
 use Rattle.vault_files.specs.HostReaders.{HostFinds, HostOpened, IsFileOf}
 use Rattle.vault_files.specs.declared.fault.FileFault.TheVariants.{CannotRead}
@@ -18,7 +18,7 @@ use Rattle.vault_files.specs.declared.fault.FileFault.TheVariants.{CannotRead}
 abbrev fresh : Option (List ℕ) → SourceState
 fresh left = record { left = left; ended = false; failures = 0 }
 
--- the end is reported only where nothing is left
+-- the end is reported only if nothing is left
 ends : (left : Option (List ℕ)) (t : SourceState) (xs : List ℕ) → Gives (fresh left) xs t
     → IsTrue t.ended → IsAtEnd t.left
 ends left t xs gives = gives.end_is_real (λ ended. absurd (false≢true ended))
@@ -39,11 +39,14 @@ whole-file : (left : Option (List ℕ)) (t : SourceState) (xs : List ℕ) (n : �
     → Gives (fresh left) xs t → length xs ≤ n → IsTrue t.ended ⊎ (length xs ≡ n)
     → (bytes : List ℕ) × IfSome left (λ known. bytes ≡ known) × (take n bytes ≡ xs)
 whole-file None t xs n gives fits end = (xs, tt, take_all n xs fits)
-whole-file (Some bytes) t xs n gives fits (inl ended) =
-    let none_left = ends (Some bytes) t xs gives ended in
-    (bytes, refl, take-left bytes xs t.left n gives.consumed fits (inl none_left))
-whole-file (Some bytes) t xs n gives fits (inr exact) =
-    (bytes, refl, take-left bytes xs t.left n gives.consumed fits (inr exact))
+whole-file (Some bytes) t xs n gives fits end = (
+  bytes,
+  refl,
+  take-left bytes xs t.left n gives.consumed fits (elim end [
+    | inl ended ↦ inl (ends (Some bytes) t xs gives ended)
+    | inr exact ↦ inr exact
+  ]),
+)
 
 -- what a source gave is a prefix of what was left
 prefix-left : (left later : Option (List ℕ)) (xs : List ℕ) → Consumes left later xs

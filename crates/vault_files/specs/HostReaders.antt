@@ -7,9 +7,8 @@ use Rattle.vault_files.specs.Host.{HostState}
 
 module _ {System Reader : Type 0} (reader_at : System → List ℕ → Option Reader → Type 0)
     (remaining : Reader → Option (List ℕ)) where
-  -- opening this file may have given this: no reader where it is missing; where it is whole, a
-  -- reader that has its bytes left, if that is known; where it breaks, one that has these bytes
-  -- left first
+  -- opening this file may have given this: no reader if it is missing; if it is whole, a reader
+  -- that has its bytes left, if that is known; if it breaks, one that has these bytes left first
   abbrev pub IsFileOf : FileState → Option Reader → Type 0
   IsFileOf Missing None = Unit {0}
   IsFileOf Missing (Some reader) = ⊥
@@ -24,7 +23,7 @@ module _ {System Reader : Type 0} (reader_at : System → List ℕ → Option Re
   HostFinds s path file =
       (found : Option Reader) × reader_at s.system path found × IsFileOf file found
 
-  -- a source over a reader that opening the path gives, from where it stands
+  -- a fresh source over a reader that opening the path gives
   abbrev pub HostOpened : HostState System → List ℕ → SourceState → Type 0
   HostOpened s path source =
       (reader : Reader) × reader_at s.system path (Some reader)

@@ -5,7 +5,5 @@ pub mod System
 pub mod Host
 pub mod HostProofs
 pub mod HostReaders
-pub mod SinkProofs
-pub mod SourceProofs
-pub mod FileSystemProofs
+pub mod MemoryProofs
 pub mod HostReaderProofs

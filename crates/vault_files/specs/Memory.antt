@@ -54,8 +54,8 @@ pub record Reads (old : ReaderState) (given : List ℕ) (new : ReaderState) : Ty
   pub break_is_real : old.failures < new.failures → IsAtBreak new
   pub failures_monotone : old.failures ≤ new.failures
 
--- files in memory, the path of the output where one was chosen, what the output has taken, and the
--- log of the paths that were opened, if one is kept and has room for all
+-- files in memory, the path of the output if one was chosen, what the output has taken, and the log
+-- of the paths that were opened, if one is kept and has room for all
 pub record StoreState : Type 0 where
   pub entries : List Entry
   pub output_file : Option (List ℕ)

@@ -4,9 +4,9 @@ use Rattle.std.specs.Prelude.{ℕ, List, [], ◌∷◌, Result, Ok, Err}
 pub data SystemCall : Type 0 where
   -- the file at this path is opened for reading
   Open : List ℕ → SystemCall
-  -- the file at this path is opened for writing: as it is, or created for its owner alone
+  -- the file at this path is opened for writing: as it is, or created for its owner only
   Create : List ℕ → SystemCall
-  -- that file is made its owner's alone, if it is a regular one
+  -- only its owner may read and write that file from now on, if it is a regular one
   ChmodOwnerOnly : SystemCall
   -- it is cut to no byte, if it is a regular one
   Truncate : SystemCall
@@ -17,7 +17,7 @@ pub data SystemCall : Type 0 where
   -- the call before this one failed
   Failed : SystemCall
 
--- what comes after a call that was answered so
+-- what comes after a call that returned this
 abbrev pub if_failed : {T E : Type 0} → Result T E → List SystemCall
 if_failed (Ok value) = []
 if_failed (Err error) = Failed ∷ []

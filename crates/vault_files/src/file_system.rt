@@ -26,14 +26,14 @@ pub trait FileSystem: Sink {
     // Opening the path gives this reader.
     ghost reader_at: { Self → List ℕ → Self.Reader → Type 0 };
 
-    // Between two states it was asked to open these paths, in this order.
+    // Between two states these paths were opened, in this order.
     ghost opens: { Self → List (List ℕ) → Self → Type 0 };
 
     // The same files, the output at this path, with these permissions.
     ghost output_set: { Self → List ℕ → Access → Self → Type 0 };
 
-    /// Opens a file for reading, before the output is begun. It answers `CannotOpen` where that
-    /// fails, whatever the reason.
+    /// Opens a file for reading, before the output is begun. If that fails, for whatever reason,
+    /// it returns `CannotOpen`.
     fn open(&mut self, path: &str) -> Result<Self::Reader, FileFault>
         requires { Self.stage self.old ≡ Stage.Unbegun }
         ensures opens { opens self.old (path.now ∷ []) self.new }
@@ -77,15 +77,15 @@ pub trait FileSystem: Sink {
         → IsTrue (Self.Reader.ended t) ⊎ (length xs ≡ n)
         → Self.Reader.failures t ≡ Self.Reader.failures r → Answers (finds s path) n (Ok xs) };
 
-    // Where it failed before that, such a file breaks there.
+    // If it failed before that, such a file breaks there.
     ghost break_found: { (s : Self) (path : List ℕ) (r t : Self.Reader) (xs : List ℕ) (n : ℕ)
         → reader_at s path r → Self.Reader.gives r xs t → length xs < n
         → HasRisen (Self.Reader.failures r) (Self.Reader.failures t)
         → Answers (finds s path) n (Err CannotRead) };
 }
 
-/// Reads a prefix of a file, and answers how many bytes are at the start of `buf`: fewer than it
-/// holds only where the file has no more. After a refusal `buf` holds any bytes.
+/// Reads a prefix of a file into the start of `buf` and returns its length: less than that of `buf`
+/// only if the file has no more bytes. After an error the contents of `buf` are unspecified.
 pub fn read_prefix<F: FileSystem>(
     files: &mut F,
     path: &str,

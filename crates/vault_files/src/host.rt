@@ -1,5 +1,5 @@
 //! Files of a system.
-ghost use Rattle.std.specs.Prelude.{◌≡◌, ℕ, ◌++◌, [], ◌∷◌, Some, MatchResult, take};
+ghost use Rattle.std.specs.Prelude.{◌≡◌, ℕ, ◌++◌, [], ◌∷◌, MatchResult, take};
 ghost use Rattle.vault_files.specs.System.{if_failed};
 ghost use Rattle.vault_files.specs.System.SystemCall.{Failed};
 ghost use Rattle.vault_files.specs.Host.{beginning, new_host, restricting};
@@ -10,58 +10,53 @@ use crate::file_system::FileSystem;
 use crate::system::System;
 use std::io;
 use std::marker::Model;
-use vault_text::{FailureCount, ReadSource, Sink, SinkFailed, Stage};
+use vault_text::{FailureCount, ReadSource, Sink, SinkFailed};
 
-/// The files of a system. When an output is begun, it is opened, made its owner's alone under
-/// `Access::OwnerOnly`, and only then truncated. Where one of these fails, so does `begin`, and a
-/// file that was there keeps its bytes. An output is synced when it is finished. What a file holds
+/// How far the output has come.
+#[derive(Drop)]
+enum Output<W> {
+    None,
+    Chosen(String, Access),
+    Open(W),
+    Finished,
+}
+
+/// The files of a system. `begin` opens the output, restricts it to its owner under
+/// `Access::OwnerOnly`, and only then truncates it. If one of these fails, so does `begin`, and a
+/// file that was there keeps its bytes. `finish` syncs the output and closes it. What a file holds
 /// is what the system's reader has left.
 #[derive(Drop)]
 pub struct HostFiles<D: System> {
     system: D,
-    output_file: Option<String>,
-    access: Access,
-    output: Option<D::Writer>,
-    stage: Stage,
+    output: Output<D::Writer>,
     failures: FailureCount,
 }
 
 impl<D: System> Model for HostFiles<D> {
-    ghost use Rattle.std.specs.Prelude.{◌≡◌, is_some};
-    ghost use Rattle.std.specs.Option.{option_map};
-    ghost use Rattle.std.specs.String.{string_bytes};
-    ghost use Rattle.vault_text.specs.Sink.{has_begun};
-    ghost use Rattle.vault_files.specs.Host.{HostState};
+    ghost use Rattle.vault_files.specs.Host.{HostState, output_of};
 
     ghost Value = { HostState D };
 
     ghost view = { λ s. record {
       system = s.system;
-      output_file = option_map string_bytes s.output_file;
-      access = s.access;
-      stage = s.stage;
+      output = output_of s.output;
       failures = s.failures;
     } };
-
-    ghost invariant = { λ s. has_begun s.stage ≡ is_some s.output };
 }
 
 impl<D: System> HostFiles<D> {
-    /// Files whose output was not chosen yet.
+    /// The files of this system; no output is chosen yet.
     pub fn new(system: D) -> Self
         ensures { result ≡ new_host system }
     {
         HostFiles {
             system,
-            output_file: None,
-            access: Access::Kept,
-            output: None,
-            stage: Stage::Unbegun,
+            output: Output::None,
             failures: FailureCount::new(),
         }
     }
 
-    /// The system, with what an output has left there.
+    /// The system, with what the output has left there.
     pub fn into_system(self) -> D
         ensures { result ≡ self.system }
     {
@@ -69,7 +64,7 @@ impl<D: System> HostFiles<D> {
     }
 }
 
-/// Restricts an output that is open.
+/// Restricts an open output to its owner, unless its permissions are kept.
 fn restrict<D: System>(system: &mut D, file: &D::Writer, access: Access) -> io::Result<()>
     ensures { D.executes system.old (restricting access ++ if_failed result) system.new }
 {
@@ -79,12 +74,12 @@ fn restrict<D: System>(system: &mut D, file: &D::Writer, access: Access) -> io::
     }
 }
 
-/// The file that is to be written, open and empty.
+/// Opens the file that is to be written, and empties it.
 fn open_output<D: System>(system: &mut D, path: &str, access: Access) -> io::Result<D::Writer>
     ensures { MatchResult result
-        (λ file. D.executes system.old (beginning (Some path.now) access) system.new)
+        (λ file. D.executes system.old (beginning path.now access) system.new)
         (λ error. (n : ℕ) × D.executes system.old
-        (take n (beginning (Some path.now) access) ++ Failed ∷ []) system.new) }
+        (take n (beginning path.now access) ++ Failed ∷ []) system.new) }
 {
     let file = system.create(path)?;
     restrict(system, &file, access)?;
@@ -94,12 +89,12 @@ fn open_output<D: System>(system: &mut D, path: &str, access: Access) -> io::Res
 
 impl<D: System> Sink for HostFiles<D> {
     ghost use Rattle.std.proofs.Common.{arith};
-    ghost use Rattle.vault_files.specs.Host.{HostTakes};
+    ghost use Rattle.vault_files.specs.Host.{HostTakes, stage_of};
     ghost use Rattle.vault_files.specs.HostProofs.{HostTakes-none, HostTakes-more};
 
     ghost takes = { HostTakes D.executes };
 
-    ghost stage = { λ s. s.stage };
+    ghost stage = { λ s. stage_of s.output };
 
     ghost failures = { λ s. s.failures };
 
@@ -113,32 +108,26 @@ impl<D: System> Sink for HostFiles<D> {
         if self.failures.is_saturated() {
             return Err(SinkFailed);
         }
-        let opened = match &self.output_file {
-            Some(path) => open_output(&mut self.system, path.as_str(), self.access).ok(),
-            None => None,
+        let Output::Chosen(path, access) = &self.output else {
+            self.failures.raise();
+            return Err(SinkFailed);
         };
-        match opened {
-            Some(file) => {
-                self.output = Some(file);
-                self.stage = Stage::Begun;
-                Ok(())
-            }
-            None => {
-                self.failures.raise();
-                Err(SinkFailed)
-            }
-        }
+        let Ok(file) = open_output(&mut self.system, path.as_str(), *access) else {
+            self.failures.raise();
+            return Err(SinkFailed);
+        };
+        self.output = Output::Open(file);
+        Ok(())
     }
 
     fn put(&mut self, bytes: &[u8]) -> Result<usize, SinkFailed> {
         if self.failures.is_saturated() {
             return Err(SinkFailed);
         }
-        let written = match &mut self.output {
-            Some(file) => self.system.write(file, bytes),
-            None => Ok(0),
+        let Output::Open(file) = &mut self.output else {
+            unreachable!()
         };
-        match written {
+        match self.system.write(file, bytes) {
             Ok(n) if n > 0 => Ok(n),
             _ => {
                 self.failures.raise();
@@ -151,22 +140,22 @@ impl<D: System> Sink for HostFiles<D> {
         if self.failures.is_saturated() {
             return Err(SinkFailed);
         }
-        let synced = match &self.output {
-            Some(file) => self.system.sync(file).is_ok(),
-            None => false,
+        let Output::Open(file) = &self.output else {
+            unreachable!()
         };
-        if !synced {
+        if self.system.sync(file).is_err() {
             self.failures.raise();
             return Err(SinkFailed);
         }
-        self.stage = Stage::Finished;
+        self.output = Output::Finished;
         Ok(())
     }
 }
 
 impl<D: System> FileSystem for HostFiles<D> {
-    ghost use Rattle.std.specs.Prelude.{◌≡◌, refl, Some};
+    ghost use Rattle.std.specs.Prelude.{◌≡◌, refl};
     ghost use Rattle.vault_files.specs.Host.{HostOpens};
+    ghost use Rattle.vault_files.specs.Host.OutputState.{Chosen};
     ghost use Rattle.vault_files.specs.HostProofs.{HostOpens-none, HostOpens-more};
     ghost use Rattle.vault_files.specs.HostReaderProofs.{HostFinds-back, HostFinds-some};
     ghost use Rattle.vault_files.specs.HostReaderProofs.{HostOpened-back, host-break, host-prefix};
@@ -180,8 +169,7 @@ impl<D: System> FileSystem for HostFiles<D> {
 
     ghost opens = { HostOpens D.executes };
 
-    ghost output_set = { λ s path access t. t
-        ≡ record s { output_file = Some path; access = access } };
+    ghost output_set = { λ s path access t. t ≡ record s { output = Chosen path access } };
 
     ghost opens_none = { HostOpens-none D.executes D.executes_none };
 
@@ -211,7 +199,6 @@ impl<D: System> FileSystem for HostFiles<D> {
     }
 
     fn set_output(&mut self, path: String, access: Access) {
-        self.output_file = Some(path);
-        self.access = access;
+        self.output = Output::Chosen(path, access);
     }
 }

@@ -1,9 +1,7 @@
 //! Files in memory, for tests and for programs that embed this one.
-mod entry;
+mod file;
 mod path_log;
-mod reader;
 mod store;
 
-pub use entry::MemFile;
-pub use reader::MemFileReader;
+pub use file::{MemFile, MemFileReader};
 pub use store::MemFiles;

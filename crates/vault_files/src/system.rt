@@ -30,12 +30,12 @@ pub trait System {
         ensures found { IfOk result (λ reader. reader_at self.old path.now (Some reader)) }
         ensures missing { IfErr result (λ _. reader_at self.old path.now None) };
 
-    /// Opens a file for writing, as it is; if there is none, it is created for its owner alone,
-    /// less the umask.
+    /// Opens a file for writing, as it is; if there is none, it is created for its owner only, less
+    /// the umask.
     fn create(&mut self, path: &str) -> io::Result<Self::Writer>
         ensures { executes self.old (Create path.now ∷ if_failed result) self.new };
 
-    /// Makes a regular file readable and writable by its owner alone.
+    /// Makes a regular file readable and writable by its owner only.
     fn chmod_owner_only(&mut self, file: &Self::Writer) -> io::Result<()>
         ensures { executes self.old (ChmodOwnerOnly ∷ if_failed result) self.new };
 
@@ -43,13 +43,13 @@ pub trait System {
     fn truncate(&mut self, file: &Self::Writer) -> io::Result<()>
         ensures { executes self.old (Truncate ∷ if_failed result) self.new };
 
-    /// Hands the file bytes, of which it takes a prefix, and answers its length.
+    /// Writes a prefix of the bytes and returns its length.
     fn write(&mut self, file: &mut Self::Writer, bytes: &[u8]) -> io::Result<usize>
         ensures executes { executes self.old (Write (taken result bytes.now) ∷ if_failed result)
             self.new }
         ensures bound { IfOk result (λ n. n ≤ length bytes.now) };
 
-    /// Brings what a file took to its device, where it is one that can be synced.
+    /// Brings what was written to the file's device, if that can be synced.
     fn sync(&mut self, file: &Self::Writer) -> io::Result<()>
         ensures { executes self.old (Sync ∷ if_failed result) self.new };
 

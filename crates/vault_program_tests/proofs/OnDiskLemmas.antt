@@ -11,16 +11,17 @@ use Rattle.vault_fault.specs.declared.fault.Fault.{Fault}
 use Rattle.vault_text.specs.Sink.{MemSinkState, MemoryTakes, has_begun}
 use Rattle.vault_text.specs.Source.{MemSourceState, MemoryGives, SourceState}
 use Rattle.vault_text.specs.SourceProofs.{MemoryGives-none}
-use Rattle.vault_text.specs.declared.sink.Stage.{Stage}
-use Rattle.vault_text.specs.declared.sink.Stage.TheVariants.{Unbegun, Begun, Finished}
 use Rattle.vault_files.specs.System.{SystemCall}
 use Rattle.vault_files.specs.System.SystemCall.{Open, Create, ChmodOwnerOnly, Truncate}
 use Rattle.vault_files.specs.System.SystemCall.{Write, Sync, Failed}
 use Rattle.vault_files.specs.File.{FileState, Found}
 use Rattle.vault_files.specs.File.FileState.{Missing, Whole, Broken}
-use Rattle.vault_files.specs.Host.{HostOpens, HostState, HostTakes, OutputCalls, beginning}
-use Rattle.vault_files.specs.Host.OutputCalls.{none, begins, writes, finishes, writes_nothing}
-use Rattle.vault_files.specs.Host.OutputCalls.{fails_to_begin, fails_to_write, fails_to_finish}
+use Rattle.vault_files.specs.Host.{HostOpens, HostState, HostTakes, OutputCalls, OutputState}
+use Rattle.vault_files.specs.Host.{OutputStep, beginning, stage_of}
+use Rattle.vault_files.specs.Host.OutputCalls.{no_steps, steps}
+use Rattle.vault_files.specs.Host.OutputState.{Chosen, Begun, Finished}
+use Rattle.vault_files.specs.Host.OutputStep.{begins, writes, finishes, is_unchosen, writes_nothing}
+use Rattle.vault_files.specs.Host.OutputStep.{fails_to_begin, fails_to_write, fails_to_finish}
 use Rattle.vault_files.specs.HostReaders.{HostFinds, HostOpened, IsFileOf}
 use Rattle.vault_files.specs.declared.access.Access.{Access}
 use Rattle.vault_files.specs.declared.access.Access.TheVariants.{Kept, OwnerOnly}
@@ -93,30 +94,30 @@ module _ (s : HostState SystemState) where
 
 -- ---- the file that is created
 
--- what it holds after the calls of an output that has begun
-holds : (first : List SystemCall) (s t : Stage) (calls : List SystemCall) (bytes held : List ℕ)
-    (n : ℕ) (d : SystemState)
-    → OutputCalls first s calls bytes n t → has_begun s ≡ true → d.written ≡ Some held
+-- what it holds after a call of an output that has begun, which then has begun still
+holds-step : (s t : OutputState) (calls : List SystemCall) (bytes held : List ℕ) (n : ℕ)
+    (d : SystemState)
+    → OutputStep s calls bytes n t → has_begun (stage_of s) ≡ true → d.written ≡ Some held
+    → ((after calls d).written ≡ Some (held ++ bytes)) × (has_begun (stage_of t) ≡ true)
+holds-step _ _ _ _ held _ d (begins path access) b is = absurd (false≢true b)
+holds-step _ _ _ _ held _ d (writes some) b is = (rw is refl, refl)
+holds-step _ _ _ _ held _ d finishes b is = (is ∙ ap Some (sym (append-nil held)), refl)
+holds-step _ _ _ _ held _ d is_unchosen b is = absurd (false≢true b)
+holds-step _ _ _ _ held _ d (fails_to_begin path access n) b is = absurd (false≢true b)
+holds-step _ _ _ _ held _ d fails_to_write b is = (rw is refl, refl)
+holds-step _ _ _ _ held _ d writes_nothing b is = (rw is refl, refl)
+holds-step _ _ _ _ held _ d fails_to_finish b is = (is ∙ ap Some (sym (append-nil held)), refl)
+
+holds : (s t : OutputState) (calls : List SystemCall) (bytes held : List ℕ) (n : ℕ)
+    (d : SystemState)
+    → OutputCalls s calls bytes n t → has_begun (stage_of s) ≡ true → d.written ≡ Some held
     → (after calls d).written ≡ Some (held ++ bytes)
-holds first s t _ _ held _ d (none _) b is = is ∙ ap Some (sym (append-nil held))
-holds first _ t _ _ held n d (begins calls bytes _ _ p) b is = absurd (false≢true b)
-holds first _ t _ _ held n d (writes some calls bytes _ _ p) b is =
-    holds first Begun t calls bytes (held ++ some) n
-    (record d { written = option_map (λ held. held ++ some) d.written }) p refl (rw is refl)
-    ∙ ap Some (append_assoc held some bytes)
-holds first _ t _ bytes held n d (finishes calls _ _ _ p) b is =
-    holds first Finished t calls bytes held n d p refl is
-holds first _ t _ _ held _ d (fails_to_begin k calls bytes m _ p) b is = absurd (false≢true b)
-holds first _ t _ bytes held _ d (fails_to_write calls _ m _ p) b is =
-    holds first Begun t calls bytes held m
-    (record d { written = option_map (λ held. held ++ []) d.written }) p refl
-    (rw is (ap Some (append-nil held)))
-holds first _ t _ bytes held _ d (writes_nothing calls _ m _ p) b is =
-    holds first Begun t calls bytes held m
-    (record d { written = option_map (λ held. held ++ []) d.written }) p refl
-    (rw is (ap Some (append-nil held)))
-holds first _ t _ bytes held _ d (fails_to_finish calls _ m _ p) b is =
-    holds first Begun t calls bytes held m d p refl is
+holds s t _ _ held _ d (no_steps _) b is = is ∙ ap Some (sym (append-nil held))
+holds s t _ _ held _ d (steps _ u _ calls more xs ys m n step p) b is =
+    let (written, begun) = holds-step s u calls xs held m d step b is in
+    ap (λ (e : SystemState). e.written) (after-append calls more d)
+    ∙ holds u t more ys (held ++ xs) n (after calls d) p begun written
+    ∙ ap Some (append_assoc held xs ys)
 
 -- creating a file leaves the path at which that can be done
 created-output : (b : Bool) (d : SystemState)
@@ -143,36 +144,23 @@ bytes_eq-same xs = (bytes_eq-Decides xs xs).1 refl
 
 -- an output that is begun at its path is empty
 empty : (path : List ℕ) (access : Access) (d : SystemState) → path ≡ d.output
-    → (after (beginning (Some path) access) d).written ≡ Some []
+    → (after (beginning path access) d).written ≡ Some []
 empty path Kept d is = rw (is, bytes_eq-same d.output) refl
 empty path OwnerOnly d is = rw (is, bytes_eq-same d.output) refl
 
 -- and what it holds once its output has begun
-whole : (path : List ℕ) (access : Access) (s t : Stage) (calls : List SystemCall) (bytes : List ℕ)
-    (n : ℕ) (d : SystemState)
-    → OutputCalls (beginning (Some path) access) s calls bytes n t → has_begun s ≡ false
-    → has_begun t ≡ true → path ≡ d.output → (after calls d).written ≡ Some bytes
-whole path access s t _ _ _ d (none _) fresh begun is = absurd (false≢true (sym fresh ∙ begun))
-whole path access _ t _ bytes n d (begins calls _ _ _ p) fresh begun is =
-    ap (λ (e : SystemState). e.written) (after-append (beginning (Some path) access) calls d)
-    ∙ holds (beginning (Some path) access) Begun t calls bytes [] n
-    (after (beginning (Some path) access) d) p refl (empty path access d is)
-whole path access _ t _ _ n d (writes some calls bytes _ _ p) fresh begun is =
-    absurd (false≢true (sym fresh))
-whole path access _ t _ bytes n d (finishes calls _ _ _ p) fresh begun is =
-    absurd (false≢true (sym fresh))
-whole path access _ t _ bytes _ d (fails_to_begin k calls _ m _ p) fresh begun is =
-    let later = after (take k (beginning (Some path) access)) d in
-    ap (λ (e : SystemState). e.written)
-    (after-append (take k (beginning (Some path) access)) (Failed ∷ calls) d)
-    ∙ whole path access Unbegun t calls bytes m later p refl begun
-    (is ∙ sym (output-stays (take k (beginning (Some path) access)) d))
-whole path access _ t _ bytes _ d (fails_to_write calls _ m _ p) fresh begun is =
-    absurd (false≢true (sym fresh))
-whole path access _ t _ bytes _ d (writes_nothing calls _ m _ p) fresh begun is =
-    absurd (false≢true (sym fresh))
-whole path access _ t _ bytes _ d (fails_to_finish calls _ m _ p) fresh begun is =
-    absurd (false≢true (sym fresh))
+whole : (path : List ℕ) (access : Access) (t : OutputState) (calls : List SystemCall)
+    (bytes : List ℕ) (n : ℕ) (d : SystemState)
+    → OutputCalls (Chosen path access) calls bytes n t → has_begun (stage_of t) ≡ true
+    → path ≡ d.output → (after calls d).written ≡ Some bytes
+whole path access _ _ _ _ d (no_steps _) begun is = absurd (false≢true begun)
+whole path access t _ _ _ d (steps _ _ _ _ more _ ys _ n (begins _ _) p) begun is =
+    ap (λ (e : SystemState). e.written) (after-append (beginning path access) more d)
+    ∙ holds Begun t more ys [] n (after (beginning path access) d) p refl (empty path access d is)
+whole path access t _ _ _ d (steps _ _ _ _ more _ ys _ n (fails_to_begin _ _ k) p) begun is =
+    let first = take k (beginning path access) ++ Failed ∷ [] in
+    ap (λ (e : SystemState). e.written) (after-append first more d)
+    ∙ whole path access t more ys n (after first d) p begun (is ∙ sym (output-stays first d))
 
 -- ---- calls over a disk, a source and a sink in memory
 
@@ -181,7 +169,7 @@ abbrev pub disk_store : HostState SystemState → HostState SystemState
 disk_store old new = record {
   output = record {
     takes = HostTakes SystemExecutes;
-    stage = λ s. s.stage;
+    stage = λ s. stage_of s.output;
     failures = λ s.
         s.failures;
   };
@@ -189,7 +177,7 @@ disk_store old new = record {
     finds = HostFinds SystemGives left_of;
     reader_at = HostOpened SystemGives left_of;
     opens = HostOpens SystemExecutes;
-    output_set = λ s path access t. t ≡ record s { output_file = Some path; access = access };
+    output_set = λ s path access t. t ≡ record s { output = Chosen path access };
   };
   old = old;
   new = new;
@@ -211,65 +199,57 @@ memory_sink old new = record {
 
 module _ (files new_files : HostState SystemState) (src new_src : MemSourceState)
     (out new_out err new_err : MemSinkState) (result : Status)
-    (ok : result ≢ DeviceFailed) (unbegun : files.stage ≡ Unbegun) (access : Access) where
-  module _ (paths : List (List ℕ)) (opened : HostState SystemState)
-      (opens : HostOpens SystemExecutes files paths opened) where
-    abbrev OutputAt : Option (List ℕ) → Output
-    OutputAt output_file = to_path output_file access
-        (files_from opened (disk_store files new_files))
-        (memory_sink out new_out)
+    (ok : result ≢ DeviceFailed) (access : Access) (opened : HostState SystemState) where
+  abbrev OutputAt : Option (List ℕ) → Output
+  OutputAt output_file = to_path output_file access
+      (files_from opened (disk_store files new_files))
+      (memory_sink out new_out)
 
-    received : (output_file output : Option (List ℕ)) → Receives (OutputAt output_file) output
-        → Received output_file output (change out new_out)
-    received None None took = took.0
-    received None (Some bytes) ((took, same), finished) = (took.0.appended, finished)
-    received (Some path) None took = took.0
-    received (Some path) (Some bytes) (took, finished) = took.0
+  received : (output_file output : Option (List ℕ)) → Receives (OutputAt output_file) output
+      → Received output_file output (change out new_out)
+  received None None took = took.0
+  received None (Some bytes) ((took, same), finished) = (took.0.appended, finished)
+  received (Some path) None took = took.0
+  received (Some path) (Some bytes) (took, finished) = took.0
 
-    stands : (output_file output : Option (List ℕ)) → Receives (OutputAt output_file) output
-        → Stands output_file output new_files.system
-    stands None output took = tt
-    stands (Some path) None took = tt
-    stands (Some path) (Some bytes) ((same_out, (chosen, at, took)), finished) =
-        λ is.
-        let calls = took.are_of_output in
-        let output_file : chosen.output_file
-        ≡ Some path = ap (λ (s : HostState SystemState). s.output_file) at in
-        let same_access : chosen.access
-        ≡ access = ap (λ (s : HostState SystemState). s.access) at in
-        let stage : chosen.stage ≡ Unbegun = ap (λ (s : HostState SystemState). s.stage) at
-        ∙ ap (λ (s : HostState SystemState). s.stage) opens.rest ∙ unbegun in
-        let made : OutputCalls (beginning (Some path) access) chosen.stage took.calls bytes
-        took.failed new_files.stage = rw (output_file, same_access) at calls in
-        let fresh : has_begun chosen.stage ≡ false = rw stage refl in
-        let begun : has_begun new_files.stage ≡ true = rw finished refl in
-        let same : new_files.system.output ≡ chosen.system.output =
-        ap (λ (d : SystemState). d.output) took.executed ∙ output-stays took.calls chosen.system in
-        ap (λ (d : SystemState). d.written) took.executed
-        ∙ whole path access chosen.stage new_files.stage took.calls bytes took.failed chosen.system
-        made fresh begun (is ∙ same)
+  stands : (output_file output : Option (List ℕ)) → Receives (OutputAt output_file) output
+      → Stands output_file output new_files.system
+  stands None output took = tt
+  stands (Some path) None took = tt
+  stands (Some path) (Some bytes) ((same_out, (chosen, at, took)), finished) =
+      λ is.
+      let chosen_is : chosen.output ≡ Chosen path access =
+      ap (λ (s : HostState SystemState). s.output) at in
+      let made : OutputCalls (Chosen path access) took.calls bytes took.failed new_files.output =
+      rw chosen_is at took.are_of_output in
+      let begun : has_begun (stage_of new_files.output) ≡ true = rw finished refl in
+      let same : new_files.system.output ≡ chosen.system.output =
+      ap (λ (d : SystemState). d.output) took.executed ∙ output-stays took.calls chosen.system in
+      ap (λ (d : SystemState). d.written) took.executed
+      ∙ whole path access new_files.output took.calls bytes took.failed chosen.system made begun
+      (is ∙ same)
 
-    left : (output_file : Option (List ℕ)) (answer : Answer)
-        → Finishes (OutputAt output_file) (memory_sink err new_err) result answer
-        → Leaves result (change files.system new_files.system) (change out new_out) output_file
-        answer
-    left output_file answer (inl done) = record {
-      status = done.status;
-      output = received output_file answer.output done.output;
-      file = stands output_file answer.output done.output;
-    }
-    left output_file answer (inr fails) = absurd (ok fails.status)
+  left : (output_file : Option (List ℕ)) (answer : Answer)
+      → Finishes (OutputAt output_file) (memory_sink err new_err) result answer
+      → Leaves result (change files.system new_files.system) (change out new_out) output_file
+      answer
+  left output_file answer (inl done) = record {
+    status = done.status;
+    output = received output_file answer.output done.output;
+    file = stands output_file answer.output done.output;
+  }
+  left output_file answer (inr fails) = absurd (ok fails.status)
 
-    pub leaves : (output_file : Option (List ℕ)) (executed : Option ℕ) (answers : List ℕ → Answer)
-        → Ends (OutputAt output_file) (memory_sink err new_err) result (memory_source src new_src)
-        executed
-        answers
-        → (input : List ℕ) × MemoryGives src input new_src
-        × Leaves result (change files.system new_files.system) (change out new_out) output_file
-        (answers input)
-    leaves output_file None answers (unread, done) =
-        ([], rw unread (MemoryGives-none src), left output_file (answers []) done)
-    leaves output_file (Some limit) answers (input, (given, fits, inl (fails, short))) =
-        absurd (ok fails.status)
-    leaves output_file (Some limit) answers (input, (given, fits, inr (read, done))) =
-        (input, given, left output_file (answers input) done)
+  pub leaves : (output_file : Option (List ℕ)) (executed : Option ℕ) (answers : List ℕ → Answer)
+      → Ends (OutputAt output_file) (memory_sink err new_err) result (memory_source src new_src)
+      executed
+      answers
+      → (input : List ℕ) × MemoryGives src input new_src
+      × Leaves result (change files.system new_files.system) (change out new_out) output_file
+      (answers input)
+  leaves output_file None answers (unread, done) =
+      ([], rw unread (MemoryGives-none src), left output_file (answers []) done)
+  leaves output_file (Some limit) answers (input, (given, fits, inl (fails, short))) =
+      absurd (ok fails.status)
+  leaves output_file (Some limit) answers (input, (given, fits, inr (read, done))) =
+      (input, given, left output_file (answers input) done)

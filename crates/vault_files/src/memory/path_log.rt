@@ -12,7 +12,7 @@ use std::marker::Model;
 pub struct PathLog {
     longest: usize,
     spare: Vec<String>,
-    paths: Vec<String>,
+    pub(super) paths: Vec<String>,
 }
 
 impl Model for PathLog {
@@ -51,7 +51,7 @@ impl PathLog {
         })
     }
 
-    /// The log with a path after its others; None where there is no room for it.
+    /// The log with a path after its others; None if it has no room for it.
     pub(super) fn with(self, path: &str) -> Option<Self>
         ensures { result ≡ with_path self path.now }
     {
@@ -71,12 +71,5 @@ impl PathLog {
             spare,
             paths,
         })
-    }
-
-    /// The paths, in their order.
-    pub(super) fn paths(&self) -> &[String]
-        ensures { map string_bytes result.now ≡ self.now.paths }
-    {
-        self.paths.as_slice()
     }
 }

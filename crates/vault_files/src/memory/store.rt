@@ -1,16 +1,14 @@
 //! All the files in memory of a run.
-ghost use Rattle.std.specs.Prelude.{◌≡◌, [], ◌∷◌, Some, MatchOption, IsErr, OnOk, OnErr, map};
+ghost use Rattle.std.specs.Prelude.{◌≡◌, [], Some, MatchOption, IsErr, OnOk, OnErr, map};
 ghost use Rattle.std.specs.Option.{option_map};
 ghost use Rattle.std.specs.String.{string_bytes};
 ghost use Rattle.vault_files.specs.File.FileState.{Missing};
 ghost use Rattle.vault_text.specs.Failures.{CountsFailure, IsSaturated};
-ghost use Rattle.vault_files.specs.Memory.{StoreOpens, StoreTakes, bytes_of, file_at};
-ghost use Rattle.vault_files.specs.Memory.{new_store, stands_at};
+ghost use Rattle.vault_files.specs.Memory.{StoreTakes, bytes_of, file_at, new_store, stands_at};
 ghost use Rattle.vault_files.specs.PathLog.{new_log};
 
-use super::entry::MemFile;
+use super::file::{MemFile, MemFileReader};
 use super::path_log::PathLog;
-use super::reader::MemFileReader;
 use crate::access::Access;
 use crate::fault::FileFault;
 use crate::file_system::FileSystem;
@@ -18,10 +16,10 @@ use std::alloc::{AllocError, Global};
 use std::marker::Model;
 use vault_text::{MemSink, Sink, SinkFailed, Stage};
 
-/// Files in memory. Of two files under one path the first counts. What is written is at the
-/// path that was chosen, from `begin` on, in the place of what stood there; where none was chosen
-/// it is at no path. An allocation that fails counts as a failure of the output. A log keeps the
-/// paths that were opened, also those where no file was found, as long as all of them have room.
+/// Files in memory. Of two files under one path the first counts. From `begin` on, the output is at
+/// the path that was chosen, in place of what was there; if none was chosen, it is at no path. An
+/// allocation that fails counts as a failure of the output. A log keeps the paths that were opened,
+/// whether or not there was a file, as long as all of them have room.
 #[derive(Drop)]
 pub struct MemFiles<'a> {
     entries: &'a [MemFile<'a>],
@@ -46,7 +44,7 @@ impl<'a> Model for MemFiles<'a> {
 }
 
 impl<'a> MemFiles<'a> {
-    /// These files, without a log, and an output that was not chosen yet.
+    /// These files, without a log; no output is chosen yet.
     pub fn new(alloc: Global, entries: &'a [MemFile<'a>]) -> Self
         ensures { result ≡ new_store entries.now }
     {
@@ -58,8 +56,7 @@ impl<'a> MemFiles<'a> {
         }
     }
 
-    /// The bytes of the file at a path; None where there is none. Those of a file that breaks are
-    /// the ones before the break.
+    /// The bytes of the file at a path, up to where it breaks; None if there is no file.
     pub fn content(&self, path: &str) -> Option<&[u8]>
         ensures { option_map (λ bytes. bytes.now) result ≡ bytes_of (stands_at self.now path.now) }
     {
@@ -84,23 +81,13 @@ impl<'a> MemFiles<'a> {
         Ok(())
     }
 
-    /// The paths that were opened since the log was begun, in their order; None where there is no
-    /// log, or it had no room for one of them.
+    /// The paths that were opened since the log was begun, in their order; None if there is no log,
+    /// or if it had no room for one of them.
     pub fn log(&self) -> Option<&[String]>
         ensures { option_map (λ log. map string_bytes log.now) result
             ≡ option_map (λ log. log.paths) self.now.log }
     {
-        self.log.as_ref().map(|log| log.paths())
-    }
-
-    /// Logs an open.
-    fn note(&mut self, path: &str)
-        ensures { StoreOpens self.old (path.now ∷ []) self.new }
-    {
-        self.log = match self.log.take() {
-            Some(log) => log.with(path),
-            None => None,
-        };
+        self.log.as_ref().map(|log| log.paths.as_slice())
     }
 }
 
@@ -119,7 +106,7 @@ fn find<'a>(entries: &'a [MemFile<'a>], path: &str) -> Option<&'a MemFile<'a>>
 
 impl<'a> Sink for MemFiles<'a> {
     ghost use Rattle.vault_files.specs.Memory.{StoreTakes};
-    ghost use Rattle.vault_files.specs.SinkProofs.{StoreTakes-none, StoreTakes-more};
+    ghost use Rattle.vault_files.specs.MemoryProofs.{StoreTakes-none, StoreTakes-more};
 
     ghost takes = { StoreTakes };
 
@@ -164,8 +151,8 @@ impl<'a> Sink for MemFiles<'a> {
 
 impl<'a> FileSystem for MemFiles<'a> {
     ghost use Rattle.std.specs.Prelude.{◌≡◌, refl, Some};
-    ghost use Rattle.vault_files.specs.FileSystemProofs.{StoreOpens-none, StoreOpens-more};
-    ghost use Rattle.vault_files.specs.FileSystemProofs.{prefix-found, break-found};
+    ghost use Rattle.vault_files.specs.MemoryProofs.{StoreOpens-none, StoreOpens-more};
+    ghost use Rattle.vault_files.specs.MemoryProofs.{prefix-given, break-given};
     ghost use Rattle.vault_files.specs.Memory.{IsReaderOf, StoreOpens, file_at};
 
     type Reader = MemFileReader<'a>;
@@ -193,12 +180,17 @@ impl<'a> FileSystem for MemFiles<'a> {
     ghost finds_some = { λ s path. (file_at s.entries path, refl) };
 
     ghost prefix_found = { λ s path r t xs n opened gives fits end unfailed.
-        prefix-found (file_at s.entries path) r t xs n opened gives fits end };
+        let file = file_at s.entries path in
+        let same = prefix-given file r t xs n opened gives fits end in
+        record { file = file; found = refl; same = same } };
 
-    ghost break_found = { λ s path. break-found (file_at s.entries path) };
+    ghost break_found = { λ s path r t xs n opened gives short risen.
+        let file = file_at s.entries path in
+        let same = break-given file r t xs n opened gives short risen in
+        record { file = file; found = refl; same = same } };
 
     fn open(&mut self, path: &str) -> Result<MemFileReader<'a>, FileFault> {
-        self.note(path);
+        self.log = self.log.take().and_then(|log| log.with(path));
         match find(self.entries, path) {
             Some(entry) => Ok(entry.reader()),
             None => Err(FileFault::CannotOpen),

@@ -5,7 +5,7 @@ use std::io::{ErrorKind, Write};
 use std::os::unix::fs::{OpenOptionsExt, PermissionsExt};
 use std::{fs, io};
 
-/// Readable and writable by its owner alone.
+/// Readable and writable by its owner only.
 const OWNER_ONLY: u32 = 0o600;
 
 /// The system itself. No contract covers it: that each method asks for what the trait says, and for

@@ -1,7 +1,6 @@
 use Rattle.std.proofs.Common.{inl, inr, map}
 use Rattle.std.specs.String.{string_bytes}
 use Rattle.vault_request.specs.Settled.{requested_by}
-use Rattle.vault_cli.specs.OpenedPaths.{opened_paths}
 use Rattle.vault_cli.specs.Access.{access_of}
 use Rattle.vault_cli.specs.Program.{answer_to, output_path, stdin_needed}
 use Rattle.vault_program_tests.proofs.OnDiskLemmas.{all-on, leaves}
@@ -17,8 +16,7 @@ returns c = λ parses fits ok.
         all-on c.args.files.now executes found seen,
         leaves c.args.files.now c.drive_over.new.files c.args.src.now c.drive_over.new.src
             c.args.out.now c.drive_over.new.out c.args.err.now c.drive_over.new.err
-            c.drive_over.result ok
-            c.requires.files_unbegun (access_of executes) (opened_paths executes found) opened went
-            (output_path executes) (stdin_needed executes found) (answer_to executes found) ends,
+            c.drive_over.result ok (access_of executes) opened (output_path executes)
+            (stdin_needed executes found) (answer_to executes found) ends,
       )
     ]
