@@ -3,7 +3,9 @@ use Rattle.std.proofs.Common.{◌≡◌, ◌≢◌, ℕ, List, Option, Some, Non
 use Rattle.std.proofs.Common.{ap, subst, ◌∙◌}
 use Rattle.vault_text.specs.Failures.{HasRisen}
 use Rattle.vault_fault.specs.declared.fault.Fault.{Fault}
-use Rattle.vault_core.specs.Input.{IsUnreadable}
+use Rattle.vault_fault.specs.declared.fault.Fault.TheVariants.{Read}
+use Rattle.vault_fault.specs.declared.fault.Role.TheVariants.{Input}
+use Rattle.vault_core.proofs.InputLemmas.{Ok-read, cases_unread}
 use Rattle.vault_core.specs.Ready.{Ready}
 use Rattle.vault_request.specs.Request.{Request}
 use Rattle.vault_cli.specs.Call.{SinkCall, SourceCall}
@@ -56,18 +58,16 @@ module _ {K E : Type 0} (out : SinkCall K) (err : SinkCall E) (result : Status) 
   })
 
   module _ {S : Type 0} (src : SourceCall S) where
-    source-failed : (fault : Fault)
-        → IsUnreadable (src.failures src.old) (src.failures src.new) fault
-        → FinishesBy (Err fault) → SourceFails (to_sink out) err result src
-    source-failed fault (unread, risen) (inl done) = record {
-      status = done.status ∙ ap status_of unread;
+    source-failed : HasRisen (src.failures src.old) (src.failures src.new)
+        → FinishesBy (Err (Read Input)) → SourceFails (to_sink out) err result src
+    source-failed risen (inl done) = record {
+      status = done.status;
       failed = risen;
       unfailed = done.unfailed;
       output = done.output;
-      line = rw unread at done.line;
+      line = done.line;
     }
-    source-failed fault (unread, risen) (inr fails) =
-        let (bytes, none, prefix) = fails.output in absurd cc
+    source-failed risen (inr fails) = let (bytes, none, prefix) = fails.output in absurd cc
 
     -- ---- on the STRING, or on the input
 
@@ -78,12 +78,21 @@ module _ {K E : Type 0} (out : SinkCall K) (err : SinkCall E) (result : Status) 
           (input_needed_by (Ok task) string (task_limit limit task))
           (λ text. answered (ready_by limit (Ok task) string (Ok text)))
       ends-text answer (Some string) (unread, is) done = (unread, subst FinishesBy is done)
-      ends-text (Ok ready) None (input, given, fits, (stay, (whole, is))) done =
-          (input, (given, fits, inr ((stay, whole), subst FinishesBy is done)))
-      ends-text (Err fault) None (input, given, fits, inl (unread, (short, none))) done =
-          (input, (given, fits, inl (source-failed fault unread done, short)))
-      ends-text (Err fault) None (input, given, fits, inr ((other, stay), (whole, is))) done =
-          (input, (given, fits, inr ((stay, whole), subst FinishesBy is done)))
+      ends-text answer None (input, reads) done =
+          elim (cases_unread answer) [
+            | inl unread ↦
+                let failed = source-failed (reads.failed unread) (subst FinishesBy unread done) in
+                (input, (reads.gives, reads.bounded, inl (failed, reads.short unread)))
+            | inr read ↦
+                let done = subst FinishesBy (reads.answered read) done in (
+                  input,
+                  (
+                    reads.gives,
+                    reads.bounded,
+                    inr ((reads.unfailed read, reads.whole read), done),
+                  ),
+                )
+          ]
 
     -- a run whose steps 9 to 11 answer so
     module _ (limit : ℕ) (request : Request) (contents : List (List ℕ)) (salt : List ℕ) where
@@ -123,7 +132,7 @@ module _ {S : Type 0} (src : SourceCall S) (limit : ℕ) (task : Task) where
   pub performed-unfailed : (ready : Ready) (string : Option (List ℕ))
       → Performs src limit task (Ok ready) string → src.failures src.new ≡ src.failures src.old
   performed-unfailed ready (Some string) (unread, is) = ap src.failures unread
-  performed-unfailed ready None (input, given, fits, (stay, read)) = stay
+  performed-unfailed ready None (input, reads) = reads.unfailed (Ok-read ready)
 
   -- one that answers a fault refuses alone, or its source failed
   pub performed-refused : (result : Status) (fault : Fault) → result ≡ status_of fault
@@ -132,10 +141,15 @@ module _ {S : Type 0} (src : SourceCall S) (limit : ℕ) (task : Task) where
   performed-refused result fault status (Some string) (unread, is) =
       IsDeviceStatus-refused result _ _
       (status ∙ rw (sym is) at (alone-performed limit task string)) (ap src.failures unread)
-  performed-refused result fault status None (input, given, fits, inl ((unread, risen), short)) =
-      let failed = status ∙ ap status_of unread in
-      ((λ device. risen, λ none. absurd (none failed), λ memory. cc), λ succeeds. cc)
-  performed-refused result fault status None
-      (input, given, fits, inr ((other, stay), (whole, is))) =
-      IsDeviceStatus-refused result _ _
-      (status ∙ rw (sym is) at (alone-performed limit task input)) stay
+  performed-refused result fault status None (input, reads) =
+      elim (cases_unread {A = Ready} (Err fault)) [
+        | inl unread ↦
+            let failed : result ≡ DeviceFailed = cc in (
+              (λ device. reads.failed unread, λ none. absurd (none failed), λ memory. cc),
+              λ succeeds. cc,
+            )
+        | inr read ↦
+            IsDeviceStatus-refused result _ _
+            (status ∙ rw (sym (reads.answered read)) at (alone-performed limit task input))
+            (reads.unfailed read)
+      ]

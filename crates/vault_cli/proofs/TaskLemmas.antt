@@ -14,8 +14,7 @@ use Rattle.vault_text.specs.Steps.{◌>>=◌}
 use Rattle.vault_fault.specs.declared.fault.Fault.{Fault}
 use Rattle.vault_fault.specs.declared.fault.Fault.TheVariants.{TooLong}
 use Rattle.vault_core.specs.Decryption.{decryption}
-use Rattle.vault_core.specs.Input.{IsReadToEndOrPastLimit, UnlessUnreadable}
-use Rattle.vault_core.specs.Ready.{Ready}
+use Rattle.vault_core.specs.Input.{IsReadToEndOrPastLimit}
 use Rattle.vault_core.specs.Rekeying.{rekeying}
 use Rattle.vault_core.specs.Secrets.{Secret}
 use Rattle.vault_request.specs.Request.{Request, SecretFile, files_of}
@@ -47,17 +46,6 @@ module _ (limit : ℕ) (task : Task) (ended : Bool) (text prefix left : List ℕ
         performed-too_long limit task text (omega (arith, long, more)),
         performed-too_long limit task prefix (omega (arith, long)),
       )
-
-  -- what was performed on a text in memory, which never fails
-  pub performed-text : (result : Result Ready Fault) (Failed : Type 0)
-      → UnlessUnreadable 0 0 result Failed
-      (IsReadToEndOrPastLimit (task_limit limit task) ended prefix
-      × (result ≡ performed limit task prefix))
-      → result ≡ performed limit task text
-  performed-text (Ok ready) Failed (same, (whole, is)) = is ∙ performed-prefix whole
-  performed-text (Err fault) Failed (inl ((is, risen), failed)) = absurd cc
-  performed-text (Err fault) Failed (inr ((other, same), (whole, is))) =
-      is ∙ performed-prefix whole
 
 -- ---- the secrets of password files, one file after the other
 

@@ -1,17 +1,36 @@
--- What a call answers that read its input whole.
-use Rattle.std.proofs.Common.{◌≡◌, ◌≢◌, ◌⊎◌, ℕ, Bool, true, false, Option, Some, None, Result, Ok}
-use Rattle.std.proofs.Common.{Err, inl, inr, refl}
+-- What a call returns that read its input.
+use Rattle.std.proofs.Common.{◌≡◌, ◌≢◌, ◌⊎◌, ℕ, ◌+◌, ◌≤◌, Bool, true, false, List, length}
+use Rattle.std.proofs.Common.{Option, Some, None, Result, Ok, Err, ap, arith, inl, inr, refl, sym}
+use Rattle.std.proofs.Common.{◌∙◌}
 use Rattle.std.specs.Prelude.{if◌then◌else◌, MatchResult}
 use Rattle.std.specs.Option.{ok_or}
+use Rattle.vault_text.specs.Failures.{HasRisen, IsSaturated}
 use Rattle.vault_text.specs.Steps.{◌>>=◌}
-use Rattle.vault_core.specs.Input.{UnlessUnreadable}
+use Rattle.vault_text.specs.declared.source.Source.{Ghosts as SourceTerms}
+use Rattle.vault_core.specs.Input.{IsReadToEndOrPastLimit, Prepares, ReadsThenAnswers}
+use Rattle.vault_core.specs.Ready.{Ready}
 use Rattle.vault_fault.specs.declared.fault.Fault.{Fault}
 use Rattle.vault_fault.specs.declared.fault.Fault.TheVariants.{Read}
 use Rattle.vault_fault.specs.declared.fault.Role.TheVariants.{Input}
 
+pub Ok-read : {A : Type 0} (x : A) → Ok x ≢ Err (Read Input)
+Ok-read x unread = cc
+
+-- a result says that the source failed, or it does not
+pub cases_unread : {A : Type 0} (result : Result A Fault)
+    → (result ≡ Err (Read Input)) ⊎ (result ≢ Err (Read Input))
+cases_unread (Ok x) = inr (Ok-read x)
+cases_unread (Err (Read Input)) = inl refl
+cases_unread (Err fault) = inr (λ unread. cc)
+
 -- the fact holds of the answer, or it is a fault, and none of reading
 abbrev pub HasAnswered : {A : Type 0} → Result A Fault → (A → Type 0) → Type 0
 HasAnswered answer P = MatchResult answer P (λ fault. fault ≢ Read Input)
+
+pub HasAnswered-read : {A : Type 0} (P : A → Type 0) (answer : Result A Fault)
+    → HasAnswered answer P → answer ≢ Err (Read Input)
+HasAnswered-read P (Ok x) answered unread = cc
+HasAnswered-read P (Err fault) other unread = other cc
 
 pub HasAnswered-steps : {A B : Type 0} (r : Result A Fault) (f : A → Result B Fault)
     (P : A → Type 0) (Q : B → Type 0)
@@ -31,14 +50,76 @@ pub HasAnswered-unless : {A : Type 0} (b : Bool) (fault : Fault) (r : Result A F
 HasAnswered-unless true fault r P other rest = other
 HasAnswered-unless false fault r P other rest = rest refl
 
-pub UnlessUnreadable-from : {T : Type 0} (F P : Type 0) (Q : T → Type 0) (before after : ℕ)
-    (result : Result T Fault)
-    → HasAnswered result Q → after ≡ before → P → UnlessUnreadable before after result F P
-UnlessUnreadable-from F P Q before after (Ok x) answered same p = (same, p)
-UnlessUnreadable-from F P Q before after (Err fault) answered same p = inr ((answered, same), p)
+-- a call that took this input from its source
+module _ {S : Type 0} (source : SourceTerms S) (old new : S) (bound : ℕ) (input : List ℕ) where
+  -- the source failed
+  pub ReadsThenAnswers-failed : {T : Type 0} (answer : Result T Fault)
+      → source.gives old input new → HasRisen (source.failures old) (source.failures new)
+      → length input ≤ bound
+      → ReadsThenAnswers source old new bound input (Err (Read Input)) answer
+  ReadsThenAnswers-failed answer gives risen short = record {
+    gives = gives;
+    bounded = omega arith;
+    failed = λ _. risen;
+    short = λ _. short;
+    unfailed = λ other. absurd (other refl);
+    whole = λ other. absurd (other refl);
+    answered = λ other. absurd (other refl);
+  }
 
--- what follows from each of the two facts, where a call answers the fault of its first step
-pub UnlessUnreadable-Err : {A B F P G Q : Type 0} → (A × F) ⊎ (B × P) → (F → G) → (P → Q)
-    → (A × G) ⊎ (B × Q)
-UnlessUnreadable-Err (inl (unreadable, f)) failed read = inl (unreadable, failed f)
-UnlessUnreadable-Err (inr (refused, p)) failed read = inr (refused, read p)
+  -- it did not fail
+  pub ReadsThenAnswers-whole : {T : Type 0} (result answer : Result T Fault)
+      → source.gives old input new → length input ≤ bound + 1
+      → source.failures new ≡ source.failures old
+      → IsReadToEndOrPastLimit bound (source.ended new) input
+      → result ≢ Err (Read Input) → result ≡ answer
+      → ReadsThenAnswers source old new bound input result answer
+  ReadsThenAnswers-whole result answer gives bounded same whole other is = record {
+    gives = gives;
+    bounded = bounded;
+    failed = λ unread. absurd (other unread);
+    short = λ unread. absurd (other unread);
+    unfailed = λ _. same;
+    whole = λ _. whole;
+    answered = λ _. is;
+  }
+
+-- a call that takes a step from what it read, and derives as many keys as its count says
+module _ {S A : Type 0} (source : SourceTerms S) (old new : S) (bound before after : ℕ)
+    (input : List ℕ) (read found : Result A Fault) (step : A → Result Ready Fault)
+    (count : Result A Fault → ℕ) where
+  abbrev stepped : Result A Fault → Result Ready Fault
+  stepped result = result >>= step
+
+  pub Prepares-steps : (answer : List ℕ → Result Ready Fault) (derivations : List ℕ → ℕ)
+      → stepped found ≡ answer input → count found ≡ derivations input
+      → answer input ≢ Err (Read Input) → count (Err (Read Input)) ≡ 0
+      → ReadsThenAnswers source old new bound input read found
+      → (IsSaturated (source.failures old) → read ≡ Err (Read Input))
+      → after ≡ before + count read
+      → Prepares source old new bound before after (stepped read) answer derivations
+  Prepares-steps answer derivations is derived never none reads full counted = record {
+    input = input;
+    reads = record {
+      gives = reads.gives;
+      bounded = reads.bounded;
+      failed = λ unread. reads.failed (first unread);
+      short = λ unread. reads.short (first unread);
+      unfailed = λ other. reads.unfailed (λ unread. other (ap stepped unread));
+      whole = λ other. reads.whole (λ unread. other (ap stepped unread));
+      answered = λ other. ap stepped (found_from other) ∙ is;
+    };
+    underived = λ unread. omega (arith, counted, ap count (first unread), none);
+    derived = λ other. omega (arith, counted, ap count (found_from other), derived);
+    full = λ saturated. ap stepped (full saturated);
+  }
+    where
+      found_from : stepped read ≢ Err (Read Input) → read ≡ found
+      found_from other = reads.answered (λ unread. other (ap stepped unread))
+
+      first : stepped read ≡ Err (Read Input) → read ≡ Err (Read Input)
+      first unread = elim (cases_unread read) [
+        | inl failed ↦ failed
+        | inr other ↦
+            absurd (never (sym (ap stepped (reads.answered other) ∙ is) ∙ unread))
+      ]

@@ -1,8 +1,9 @@
--- How a call reads its input.
+-- How a call reads its input, and what it then returns.
 use Rattle.std.specs.Prelude.{◌≡◌, ◌≢◌, ℕ, ◌+◌, ◌≤◌, ◌⊎◌, Bool, IsTrue, List, length}
-use Rattle.std.specs.Prelude.{Result, Ok, Err, OnOk, OnErr}
-use Rattle.vault_text.specs.Failures.{HasRisen}
+use Rattle.std.specs.Prelude.{Result, Err, OnOk, OnErr}
+use Rattle.vault_text.specs.Failures.{HasRisen, IsSaturated}
 use Rattle.vault_text.specs.declared.source.Source.{Ghosts as SourceTerms}
+use Rattle.vault_core.specs.Ready.{Ready}
 use Rattle.vault_fault.specs.declared.fault.Fault.{Fault}
 use Rattle.vault_fault.specs.declared.fault.Fault.TheVariants.{Read}
 use Rattle.vault_fault.specs.declared.fault.Role.TheVariants.{Input}
@@ -11,37 +12,35 @@ use Rattle.vault_fault.specs.declared.fault.Role.TheVariants.{Input}
 abbrev pub IsReadToEndOrPastLimit : ℕ → Bool → List ℕ → Type 0
 IsReadToEndOrPastLimit limit ended input = IsTrue ended ⊎ (length input ≡ limit + 1)
 
--- a call takes this input from its source, at most one byte more than the bound: to its end or past
--- the bound, unless the source failed, and then no byte past the bound
-pub record ReadsInput {S T E : Type 0} (source : SourceTerms S) (old new : S) (bound : ℕ)
-    (result : Result T E) (input : List ℕ) : Type 0 where
-  pub gives : source.gives old input new
-  pub bounded : length input ≤ bound + 1
-  pub whole : OnOk result (IsReadToEndOrPastLimit bound (source.ended new) input)
-  pub short : OnErr result (length input ≤ bound)
+-- a call takes its input from a source, at most one byte more than the bound
+module _ {S : Type 0} (source : SourceTerms S) (old new : S) (bound : ℕ) where
+  -- it reads this input to its end or past the bound, unless the source fails
+  pub record ReadsInput {T E : Type 0} (result : Result T E) (input : List ℕ) : Type 0 where
+    pub gives : source.gives old input new
+    pub bounded : length input ≤ bound + 1
+    pub whole : OnOk result (IsReadToEndOrPastLimit bound (source.ended new) input)
+    pub short : OnErr result (length input ≤ bound)
 
--- the source failed, and the call answered so
-abbrev pub IsUnreadable : ℕ → ℕ → Fault → Type 0
-IsUnreadable before after fault = (fault ≡ Read Input) × HasRisen before after
+  -- it reads this input and returns the answer, unless the source fails
+  pub record ReadsThenAnswers {T : Type 0} (input : List ℕ) (result answer : Result T Fault)
+      : Type 0 where
+    pub gives : source.gives old input new
+    pub bounded : length input ≤ bound + 1
+    -- the source failed
+    pub failed : result ≡ Err (Read Input) → HasRisen (source.failures old) (source.failures new)
+    pub short : result ≡ Err (Read Input) → length input ≤ bound
+    -- it did not fail
+    pub unfailed : result ≢ Err (Read Input) → source.failures new ≡ source.failures old
+    pub whole : result ≢ Err (Read Input)
+        → IsReadToEndOrPastLimit bound (source.ended new) input
+    pub answered : result ≢ Err (Read Input) → result ≡ answer
 
--- the source did not fail, and the call did not answer that it did
-abbrev pub IsRefused : ℕ → ℕ → Fault → Type 0
-IsRefused before after fault = (fault ≢ Read Input) × (after ≡ before)
-
--- where the source failed, the result is `Read Input` and the first fact holds; where it did not,
--- the result is another and the second fact holds
-abbrev pub UnlessUnreadable : {T : Type 0} → ℕ → ℕ → Result T Fault → Type 0 → Type 0 → Type 0
-UnlessUnreadable before after (Ok x) failed read = (after ≡ before) × read
-UnlessUnreadable before after (Err fault) failed read =
-    (IsUnreadable before after fault × failed) ⊎ (IsRefused before after fault × read)
-
--- the call takes an input from its source, at most one byte more than the bound, and then answers:
--- where the source failed, the input is within the bound, and the first fact holds; where it did
--- not, the input was read to its end or past the bound, and the second fact holds of it
-abbrev pub ReadsThenAnswers : {S T : Type 0} → SourceTerms S → S → S → ℕ → Result T Fault
-    → Type 0 → (List ℕ → Type 0) → Type 0
-ReadsThenAnswers source old new bound result failed answered =
-    (input : List ℕ) × source.gives old input new × (length input ≤ bound + 1)
-    × UnlessUnreadable (source.failures old) (source.failures new) result
-    ((length input ≤ bound) × failed)
-    (IsReadToEndOrPastLimit bound (source.ended new) input × answered input)
+  -- it returns the answer to its input, and its meter counts the keys that it derives
+  pub record Prepares (before after : ℕ) (result : Result Ready Fault)
+      (answer : List ℕ → Result Ready Fault) (derivations : List ℕ → ℕ) : Type 0 where
+    pub input : List ℕ
+    pub reads : ReadsThenAnswers input result (answer input)
+    pub underived : result ≡ Err (Read Input) → after ≡ before
+    pub derived : result ≢ Err (Read Input) → after ≡ before + derivations input
+    -- once its count of failures is saturated, the source fails
+    pub full : IsSaturated (source.failures old) → result ≡ Err (Read Input)

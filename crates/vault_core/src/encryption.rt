@@ -1,17 +1,14 @@
 //! Encrypting a plaintext.
-ghost use Rattle.std.specs.Prelude.{◌≡◌, ◌+◌, ◌<◌, ◌^◌, [], Err, length};
-ghost use Rattle.vault_fault.specs.declared.fault.Fault.TheVariants.{Read};
-ghost use Rattle.vault_fault.specs.declared.fault.Role.TheVariants.{Input};
+ghost use Rattle.std.specs.Prelude.{◌≡◌, ◌+◌, ◌<◌, ◌^◌, [], length};
 ghost use Rattle.vault_core.specs.Encryption.{encryption, is_vault};
 ghost use Rattle.vault_core.specs.Form.{form_of};
-ghost use Rattle.vault_core.specs.Input.{ReadsThenAnswers};
+ghost use Rattle.vault_core.specs.Input.{Prepares};
 ghost use Rattle.vault_core.specs.Sealing.{sealing_derivations};
-ghost use Rattle.vault_text.specs.Failures.{IsSaturated};
 ghost use Rattle.vault_text.specs.Limits.{IsWorkLength, limit_of};
 
 use crate::form::Form;
 use crate::input::read_plaintext;
-use crate::ready::Ready;
+use crate::ready::{Output, Ready};
 use crate::sealing::seal;
 use crate::secrets::Secrets;
 use vault_fault::Fault;
@@ -20,10 +17,10 @@ use vault_text::{MARKER, PADDING_LIMIT, Salt, Source, TextMemory};
 
 /// Reads a plaintext and seals it with the chosen secret: `choice` is its index, from 0.
 ///
-/// All of it happens in `work`, of 16 bytes to `CIPHERTEXT_LIMIT`: a plaintext is taken that fits
-/// there with a whole block of padding. The input is read to its end, or to one byte more than is
-/// taken. Faults come in this order: [`Fault::Read`], [`Fault::TooLong`], [`Fault::EmptyString`]
-/// for a block alone, [`Fault::AlreadyVault`]. After one `work` holds any bytes.
+/// Encrypts in place. `work`, of 16 to `CIPHERTEXT_LIMIT` bytes, bounds the plaintext with a whole
+/// block of padding; after an error its contents are unspecified. The input is read to its end, or
+/// to one byte past its limit. Faults come in this order: [`Fault::Read`], [`Fault::TooLong`],
+/// [`Fault::EmptyString`] (only for a block), [`Fault::AlreadyVault`].
 pub fn prepare_encrypt<'a, S: Source>(
     src: &mut S,
     work: &'a mut [u8],
@@ -36,12 +33,10 @@ pub fn prepare_encrypt<'a, S: Source>(
     requires room { IsWorkLength (length work.old) }
     requires chosen { choice < length secrets.now.secrets }
     requires countable { meter.old < 2 ^ 62 }
-    ensures answer { let limit = limit_of (length work.old) in
-        ReadsThenAnswers S.Source src.old src.new limit result (meter.new ≡ meter.old)
-        (λ input. (result
-        ≡ encryption limit secrets.now.secrets choice (form_of form.entry) salt.now input)
-        × (meter.new ≡ meter.old + sealing_derivations result)) }
-    ensures full { IsSaturated (S.failures src.old) → result ≡ Err (Read Input) }
+    ensures { let limit = limit_of (length work.old) in
+        let answer = encryption limit secrets.now.secrets choice (form_of form.entry) salt.now in
+        Prepares S.Source src.old src.new limit meter.old meter.new result answer
+        (λ input. sealing_derivations (answer input)) }
 {
     prepare_encrypt_in(
         src,
@@ -68,19 +63,17 @@ pub fn prepare_encrypt_in<'a, S: Source>(
     requires room { IsWorkLength memory.limit }
     requires chosen { choice < length secrets.now.secrets }
     requires countable { meter.old < 2 ^ 62 }
-    ensures answer { let limit = limit_of memory.entry.limit in
-        ReadsThenAnswers S.Source src.old src.new limit result (meter.new ≡ meter.old)
-        (λ input. (result
-        ≡ encryption limit secrets.now.secrets choice (form_of form.entry) salt.now input)
-        × (meter.new ≡ meter.old + sealing_derivations result)) }
-    ensures full { IsSaturated (S.failures src.old) → result ≡ Err (Read Input) }
+    ensures { let limit = limit_of memory.entry.limit in
+        let answer = encryption limit secrets.now.secrets choice (form_of form.entry) salt.now in
+        Prepares S.Source src.old src.new limit meter.old meter.new result answer
+        (λ input. sealing_derivations (answer input)) }
 {
     read_plaintext(src, &mut memory)?;
     encrypt_plaintext(memory, secrets, choice, form, salt, meter)
 }
 
-/// Seals the plaintext that the memory holds, where a whole block of padding has room after it; one
-/// that leaves less room is too long.
+/// Seals the plaintext that the memory holds. It is too long if no whole block of padding fits
+/// after it.
 fn encrypt_plaintext<'a>(
     memory: TextMemory<'a>,
     secrets: &'a Secrets,
@@ -110,7 +103,8 @@ fn encrypt_plaintext<'a>(
     }
     let secret = secrets.get(choice).to_seal_with();
     let vault = seal(work, n, &secret, salt, meter);
-    Ok(Ready::vault(vault, form, 0))
+    let output = Output::Vault(vault, form);
+    Ok(Ready { output, tried: 0 })
 }
 
 /// Whether a plaintext begins as every vault does.

@@ -1,10 +1,10 @@
 //! Reading the input of a call.
-ghost use Rattle.std.specs.Prelude.{◌≡◌, ℕ, ◌+◌, ◌<◌, ◌≤◌, ◌↔◌, List, [], length, ⊤};
-ghost use Rattle.std.specs.Prelude.{IsTrue, IsErr, IfOk, OnOk, OnErr, Err};
+ghost use Rattle.std.specs.Prelude.{◌≡◌, ℕ, ◌<◌, ◌≤◌, ◌↔◌, List, [], length};
+ghost use Rattle.std.specs.Prelude.{IsTrue, IsErr, IfOk, OnErr, Err};
 ghost use Rattle.vault_text.specs.EnvelopeReader.{HasRead};
 ghost use Rattle.vault_text.specs.Failures.{CountsFailure, IsSaturated};
 ghost use Rattle.vault_core.specs.Decryption.{payload_of};
-ghost use Rattle.vault_core.specs.Input.{IsReadToEndOrPastLimit, ReadsInput, ReadsThenAnswers};
+ghost use Rattle.vault_core.specs.Input.{ReadsInput, ReadsThenAnswers};
 ghost use Rattle.vault_text.specs.Limits.{IsWorkLength, envelope_limit, limit_of};
 ghost use Rattle.vault_text.specs.Pieces.{TakesPiece};
 ghost use Rattle.vault_fault.specs.declared.fault.Fault.TheVariants.{Read};
@@ -25,11 +25,8 @@ pub(crate) fn read_plaintext<S: Source>(
     requires empty { memory.old.bytes ≡ [] }
     requires room { IsWorkLength memory.old.limit }
     ensures limit { memory.new.limit ≡ memory.old.limit }
-    ensures gives { S.gives src.old memory.new.bytes src.new }
-    ensures bound { length memory.new.bytes ≤ limit_of memory.old.limit + 1 }
-    ensures whole { OnOk result (IsReadToEndOrPastLimit (limit_of memory.old.limit)
-        (S.ended src.new) memory.new.bytes) }
-    ensures short { OnErr result (length memory.new.bytes ≤ limit_of memory.old.limit) }
+    ensures reads { ReadsInput S.Source src.old src.new (limit_of memory.old.limit) result
+        memory.new.bytes }
     ensures failed { CountsFailure (S.failures src.old) (S.failures src.new) result }
     ensures full { IsSaturated (S.failures src.old) → IsErr result }
 {
@@ -45,8 +42,8 @@ pub(crate) fn read_plaintext<S: Source>(
     Ok(())
 }
 
-/// Reads an envelope to its end, or to one byte more than is taken, and answers its payload, whose
-/// ciphertext lies in the memory, which holds no text before.
+/// Reads an envelope into memory that holds no text, to its end, or to one byte past its limit, and
+/// returns its payload, whose ciphertext lies in the memory.
 pub(crate) fn read_payload<'a, S: Source>(
     src: &mut S,
     memory: TextMemory<'a>,
@@ -54,8 +51,8 @@ pub(crate) fn read_payload<'a, S: Source>(
     requires empty { memory.bytes ≡ [] }
     requires room { IsWorkLength memory.limit }
     ensures answer { let limit = limit_of memory.entry.limit in
-        ReadsThenAnswers S.Source src.old src.new (envelope_limit limit) result
-        ⊤ (λ input. result ≡ payload_of limit input) }
+        (input : List ℕ) × ReadsThenAnswers S.Source src.old src.new (envelope_limit limit)
+        input result (payload_of limit input) }
     ensures full { IsSaturated (S.failures src.old) → result ≡ Err (Read Input) }
 {
     let mut reader = EnvelopeReader::in_memory(memory);
@@ -63,7 +60,7 @@ pub(crate) fn read_payload<'a, S: Source>(
     Ok(reader.finish()?)
 }
 
-/// Feeds the reader with the input to its end, or to one byte more than is taken.
+/// Feeds the reader with the input to its end, or to one byte past its limit.
 fn feed_input<S: Source>(src: &mut S, reader: &mut EnvelopeReader) -> Result<(), SourceFailed>
     ensures limit { reader.new.limit ≡ reader.old.limit }
     ensures reads { let limit = envelope_limit reader.old.limit in

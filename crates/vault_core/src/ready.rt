@@ -2,13 +2,10 @@
 ghost use Rattle.std.specs.Prelude.{◌≡◌, ◌≢◌, ℕ, take, IsErr, OnOk, OnErr};
 ghost use Rattle.vault_text.specs.Failures.{CountsFailure, IsSaturated};
 ghost use Rattle.vault_fault.specs.declared.fault.Fault.TheVariants.{Write};
-ghost use Rattle.vault_core.specs.Form.{form_of};
 ghost use Rattle.vault_core.specs.Output.{output_bytes};
-ghost use Rattle.vault_core.specs.Sealing.{text_in};
 
 use crate::form::Form;
 use crate::sealing::Sealed;
-use crate::unsealing::Unsealed;
 use std::marker::Model;
 use thiserror::Error;
 use vault_fault::Fault;
@@ -37,7 +34,7 @@ impl From<SinkFailed> for WriteFault {
 
 /// What is written.
 #[derive(Drop)]
-enum Output<'a> {
+pub(crate) enum Output<'a> {
     Plain(&'a [u8]),
     Vault(Sealed<'a>, Form<'a>),
 }
@@ -75,8 +72,8 @@ impl<'a> Output<'a> {
 /// written.
 #[derive(Drop)]
 pub struct Ready<'a> {
-    output: Output<'a>,
-    tried: usize,
+    pub(crate) output: Output<'a>,
+    pub(crate) tried: usize,
 }
 
 impl<'a> Model for Ready<'a> {
@@ -90,30 +87,8 @@ impl<'a> Model for Ready<'a> {
 }
 
 impl<'a> Ready<'a> {
-    /// Plaintext that is written as it is.
-    pub(crate) fn plain(unsealed: Unsealed<'a>) -> Self
-        ensures { result ≡ unsealed.entry }
-    {
-        let Unsealed { padded, len, tried } = unsealed;
-        Ready {
-            output: Output::Plain(&padded[..len]),
-            tried,
-        }
-    }
-
-    /// A vault that is written in the form.
-    pub(crate) fn vault(vault: Sealed<'a>, form: Form<'a>, tried: usize) -> Self
-        ensures { result
-            ≡ record { output = text_in (form_of form.entry) vault.entry; tried = tried } }
-    {
-        Ready {
-            output: Output::Vault(vault, form),
-            tried,
-        }
-    }
-
-    /// The position in the tried order, counted from 1, of the secret that matched; 0 where none
-    /// was tried.
+    /// The position in the tried order, counted from 1, of the secret that matched; 0 if none was
+    /// tried.
     pub fn tried(&self) -> usize
         ensures { result ≡ self.now.tried }
     {

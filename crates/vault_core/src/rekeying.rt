@@ -1,20 +1,17 @@
 //! Giving a vault a new secret.
-ghost use Rattle.std.specs.Prelude.{◌≡◌, ◌+◌, ◌<◌, ◌^◌, [], Err, length};
-ghost use Rattle.vault_fault.specs.declared.fault.Fault.TheVariants.{Read};
-ghost use Rattle.vault_fault.specs.declared.fault.Role.TheVariants.{Input};
+ghost use Rattle.std.specs.Prelude.{◌≡◌, ◌+◌, ◌<◌, ◌^◌, [], length};
 ghost use Rattle.vault_core.specs.TriedSecrets.{tries};
 ghost use Rattle.vault_core.specs.Decryption.{decryption_derivations};
-ghost use Rattle.vault_core.specs.Input.{ReadsThenAnswers};
+ghost use Rattle.vault_core.specs.Input.{Prepares};
 ghost use Rattle.vault_core.specs.Rekeying.{rekeying, rekeying_of_payload};
 ghost use Rattle.vault_core.specs.Sealing.{sealing_derivations};
-ghost use Rattle.vault_core.specs.Secrets.{tried_order};
-ghost use Rattle.vault_text.specs.Failures.{IsSaturated};
+ghost use Rattle.vault_core.specs.Secrets.{Secret, tried_order};
 ghost use Rattle.vault_text.specs.Limits.{IsWorkLength, envelope_limit, limit_of};
 
 use crate::encryption::is_vault;
 use crate::form::Form;
 use crate::input::read_payload;
-use crate::ready::Ready;
+use crate::ready::{Output, Ready};
 use crate::sealing::seal;
 use crate::secret::SealingSecret;
 use crate::secrets::Secrets;
@@ -26,9 +23,9 @@ use vault_text::{Label, Payload, Salt, Source, TextMemory};
 /// Reads an envelope, unseals it as `prepare_decrypt` does, and seals its plaintext with a new
 /// label, a new password and a new salt.
 ///
-/// All of it happens in `work`, of 16 bytes to `CIPHERTEXT_LIMIT`, which holds one text at any
-/// moment. The faults are those of `prepare_decrypt`, in their order, and then
-/// [`Fault::AlreadyVault`]. After one `work` holds any bytes.
+/// Works in place. `work`, of 16 to `CIPHERTEXT_LIMIT` bytes, bounds the ciphertext; after an error
+/// its contents are unspecified. The faults are those of `prepare_decrypt`, in their order, and
+/// then [`Fault::AlreadyVault`].
 pub fn prepare_rekey<'a, S: Source>(
     src: &mut S,
     work: &'a mut [u8],
@@ -40,14 +37,12 @@ pub fn prepare_rekey<'a, S: Source>(
 ) -> Result<Ready<'a>, Fault>
     requires room { IsWorkLength (length work.old) }
     requires countable { meter.old < 2 ^ 62 }
-    ensures answer { let limit = limit_of (length work.old) in
-        ReadsThenAnswers S.Source src.old src.new (envelope_limit limit) result
-        (meter.new ≡ meter.old)
-        (λ input. (result ≡ rekeying limit secrets.now
-        (record { label = new.now; password = password.now }) salt.now input)
-        × (meter.new ≡ meter.old + decryption_derivations limit secrets.now input
-        + sealing_derivations result)) }
-    ensures full { IsSaturated (S.failures src.old) → result ≡ Err (Read Input) }
+    ensures { let limit = limit_of (length work.old) in
+        let secret : Secret = record { label = new.now; password = password.now } in
+        let answer = rekeying limit secrets.now secret salt.now in
+        Prepares S.Source src.old src.new (envelope_limit limit) meter.old meter.new result answer
+        (λ input. decryption_derivations limit secrets.now input
+        + sealing_derivations (answer input)) }
 {
     let new = SealingSecret {
         label: new,
@@ -68,19 +63,17 @@ pub fn prepare_rekey_in<'a, S: Source>(
     requires empty { memory.bytes ≡ [] }
     requires room { IsWorkLength memory.limit }
     requires countable { meter.old < 2 ^ 62 }
-    ensures answer { let limit = limit_of memory.entry.limit in
-        ReadsThenAnswers S.Source src.old src.new (envelope_limit limit) result
-        (meter.new ≡ meter.old)
-        (λ input. (result ≡ rekeying limit secrets.now new.now salt.now input)
-        × (meter.new ≡ meter.old + decryption_derivations limit secrets.now input
-        + sealing_derivations result)) }
-    ensures full { IsSaturated (S.failures src.old) → result ≡ Err (Read Input) }
+    ensures { let limit = limit_of memory.entry.limit in
+        let answer = rekeying limit secrets.now new.now salt.now in
+        Prepares S.Source src.old src.new (envelope_limit limit) meter.old meter.new result answer
+        (λ input. decryption_derivations limit secrets.now input
+        + sealing_derivations (answer input)) }
 {
     let payload = read_payload(src, memory)?;
     rekey_payload(payload, secrets, new, salt, meter)
 }
 
-/// Unseals the payload of an envelope and seals its plaintext anew, both where its ciphertext lies.
+/// Unseals the payload of an envelope and seals its plaintext anew, both in place.
 fn rekey_payload<'a>(
     payload: Payload<'a>,
     secrets: &Secrets,
@@ -99,5 +92,6 @@ fn rekey_payload<'a>(
         return Err(Fault::AlreadyVault);
     }
     let vault = seal(padded, len, new, salt, meter);
-    Ok(Ready::vault(vault, Form::Envelope, tried))
+    let output = Output::Vault(vault, Form::Envelope);
+    Ok(Ready { output, tried })
 }

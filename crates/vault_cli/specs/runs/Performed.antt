@@ -16,8 +16,8 @@ module _ {S : Type 0} (src : SourceCall S) (limit : ℕ) (task : Task)
   -- on what the source gave, unless it failed
   abbrev pub PerformsOnInput : Type 0
   PerformsOnInput =
-      ReadsThenAnswers src.terms src.old src.new (task_limit limit task) result
-      (Unit {0}) IsPerformedOn
+      (input : List ℕ) × ReadsThenAnswers src.terms src.old src.new (task_limit limit task) input
+      result (performed limit task input)
 
   -- on the STRING, where there is one: then the source is left alone
   abbrev pub Performs : Option (List ℕ) → Type 0

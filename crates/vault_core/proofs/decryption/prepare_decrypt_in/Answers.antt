@@ -1,51 +1,28 @@
-use Rattle.std.proofs.Common.{arith, refl, sym, ◌∙◌}
+use Rattle.std.proofs.Common.{Ok, Err, arith}
 use Rattle.std.proofs.lemmas.Result.{err_from_is_err_and}
 use Rattle.vault_text.specs.Limits.{limit_of}
-use Rattle.vault_core.proofs.DecryptionLemmas.{decryption-answers, decryption-of}
-use Rattle.vault_core.proofs.DecryptionLemmas.{decryption_derivations-of}
-use Rattle.vault_core.proofs.InputLemmas.{UnlessUnreadable-Err, UnlessUnreadable-from}
+use Rattle.vault_core.proofs.DecryptionLemmas.{Prepares-decryption}
 use Rattle.vault_core.proofs.decryption.prepare_decrypt_in.Goals as goal
 
-pub returns-in_err-payload-clause-answer : goal.returns-in_err-payload-clause-answer
-returns-in_err-payload-clause-answer g c =
+pub returns-in_err-payload : goal.returns-in_err-payload
+returns-in_err-payload g c =
     let p = err_from_is_err_and c.from_residual.result c.from_residual.ensures.1 in
-    let read = c.in_err-payload.ensures.answer in
-    let limit = limit_of c.args.memory.limit in
-    let secrets = c.args.secrets.now in
-    rw (p.1, p.2) (
-      read.0,
-      read.1,
-      read.2,
-      UnlessUnreadable-Err read.3 (λ failed. (failed.0, refl))
-          (λ refused. (
-            refused.0,
-            (
-              sym (decryption-of limit secrets read.0 _ refused.1),
-              omega (arith, decryption_derivations-of limit secrets read.0 _ refused.1),
-            ),
-          )),
-    )
+    let (input, reads) = c.in_err-payload.ensures.answer in
+    rw (p.1, p.2) (Prepares-decryption (limit_of c.args.memory.limit) c.args.secrets.now input _ _ _
+    _ _ (Err _) reads c.in_err-payload.ensures.full (omega arith))
 
-pub returns-clause-answer : goal.returns-clause-answer
-returns-clause-answer g c =
-    let read = c.in_ok-payload.ensures.answer in
-    let limit = limit_of c.args.memory.limit in
-    let secrets = c.args.secrets.now in
-    let answer = c.decrypt_payload.ensures.answer
-    ∙ sym (decryption-of limit secrets read.0 _ read.3.1.1) in (
-      read.0,
-      read.1,
-      read.2,
-      UnlessUnreadable-from _ _ _ _ _ c.decrypt_payload.result
-          (rw (← answer) at (decryption-answers limit secrets read.0)) read.3.0 (
-            read.3.1.0,
-            (
-              answer,
-              omega (
-                arith,
-                c.decrypt_payload.ensures.counted,
-                decryption_derivations-of limit secrets read.0 _ read.3.1.1,
-              ),
-            ),
-          ),
-    )
+pub returns-in_err-padded : goal.returns-in_err-padded
+returns-in_err-padded g c =
+    let p = err_from_is_err_and c.from_residual-in_err-padded.result
+    c.from_residual-in_err-padded.ensures.1 in
+    let (input, reads) = c.in_ok-payload.ensures.answer in
+    let unsealed = c.in_err-padded.ensures in
+    rw (p.1, p.2, unsealed.unsealed) (Prepares-decryption (limit_of c.args.memory.limit)
+    c.args.secrets.now input _ _ _ _ _ (Ok _) reads c.in_ok-payload.ensures.full unsealed.counted)
+
+pub returns : goal.returns
+returns g c =
+    let (input, reads) = c.in_ok-payload.ensures.answer in
+    let unsealed = c.in_ok-padded.ensures in
+    rw (c.padded.view_is, unsealed.unsealed) (Prepares-decryption (limit_of c.args.memory.limit)
+    c.args.secrets.now input _ _ _ _ _ (Ok _) reads c.in_ok-payload.ensures.full unsealed.counted)

@@ -42,5 +42,5 @@ returns-clause-answer c =
     (omega (arith, c.room.ensures, c.if-room-lt-PADDING_LIMIT.false))
     (omega (arith, work.ensures.length)) work.ensures.bytes c.is_block.ensures
     c.else-is_block.either in
-    rw (answer, ← c.if-is_vault.ensures, c.vault.ensures, c.seal-vault.ensures.sealed)
+    rw (answer, ← c.if-is_vault.ensures, c.seal-vault.ensures.sealed)
     (rw (c.to_seal_with-secret.ensures ∙ c.get.ensures) refl)

@@ -1,32 +1,34 @@
-use Rattle.std.proofs.Common.{◌≡◌, ◌≤◌, ◌+◌, ◌-◌, ℕ, arith, eqb-true, inl, length}
+use Rattle.std.proofs.Common.{◌≡◌, ◌≤◌, ◌+◌, ◌-◌, ℕ, arith, eqb-true, inl, inr, length}
 use Rattle.std.proofs.Common.{length-append, length-take, rules, sym, ◌∙◌}
 use Rattle.std.proofs.lemmas.List.{nil_from_length}
-use Rattle.std.proofs.lemmas.Result.{MatchResult-from_err}
+use Rattle.std.proofs.lemmas.Result.{IfOk-from_err, MatchResult-from_err}
 use Rattle.vault_text.proofs.SinkLemmas.{taken_none}
 use Rattle.vault_core.proofs.input.read_plaintext.Goals as goal
 
-pub returns-in_err-piece-clause-gives : goal.returns-in_err-piece-clause-gives
-returns-in_err-piece-clause-gives g c =
-    taken_none g.S.Source.gives g.met.S.Source.gives_more _ _ _ c.loop-buffer.memory.bytes
-    c.loop-buffer.invariant.gives c.in_err-piece.ensures.nothing
+pub returns-in_err-piece-clause-reads : goal.returns-in_err-piece-clause-reads
+returns-in_err-piece-clause-reads g c =
+    let kept = c.loop-buffer.invariant in
+    record {
+      gives = taken_none g.S.Source.gives g.met.S.Source.gives_more _ _ _ c.loop-buffer.memory.bytes
+          kept.gives c.in_err-piece.ensures.nothing;
+      bounded = kept.bound;
+      whole = IfOk-from_err _ _ c.from_residual.ensures.0;
+      short = MatchResult-from_err _ _ _ c.from_residual.ensures.0
+          (λ _. omega (arith, c.room.ensures, kept.limit, c.loop-buffer-test.true));
+    }
 
-pub returns-in_err-piece-clause-short : goal.returns-in_err-piece-clause-short
-returns-in_err-piece-clause-short g c =
-    MatchResult-from_err _ _ _ c.from_residual.ensures.0
-    (λ _. omega (arith, c.room.ensures, c.loop-buffer.invariant.limit, c.loop-buffer-test.true))
-
-pub returns-then-is_empty-clause-gives : goal.returns-then-is_empty-clause-gives
-returns-then-is_empty-clause-gives g c =
+pub returns-then-is_empty-clause-reads : goal.returns-then-is_empty-clause-reads
+returns-then-is_empty-clause-reads g c =
+    let kept = c.loop-buffer.invariant in
     let empty : length c.in_ok-piece.piece.now ≡ 0 =
     eqb-true _ _ (sym c.is_empty.ensures ∙ c.if-is_empty.true) in
-    taken_none g.S.Source.gives g.met.S.Source.gives_more _ _ _ c.loop-buffer.memory.bytes
-    c.loop-buffer.invariant.gives (rw (nil_from_length _ empty) at c.in_ok-piece.ensures.gives)
-
-pub returns-then-is_empty-clause-whole : goal.returns-then-is_empty-clause-whole
-returns-then-is_empty-clause-whole g c =
-    let empty : length c.in_ok-piece.piece.now ≡ 0 =
-    eqb-true _ _ (sym c.is_empty.ensures ∙ c.if-is_empty.true) in
-    inl (c.in_ok-piece.ensures.end.0 empty)
+    record {
+      gives = taken_none g.S.Source.gives g.met.S.Source.gives_more _ _ _ c.loop-buffer.memory.bytes
+          kept.gives (rw (nil_from_length _ empty) at c.in_ok-piece.ensures.gives);
+      bounded = kept.bound;
+      whole = inl (c.in_ok-piece.ensures.end.0 empty);
+      short = tt;
+    }
 
 pub loop-buffer-preserved : goal.loop-buffer-preserved
 loop-buffer-preserved g c =

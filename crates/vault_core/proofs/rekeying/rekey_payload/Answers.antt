@@ -23,5 +23,5 @@ unfolding rekeying_of_payload
 returns-clause-answer c =
     let plain = ap (λ (unsealed : Ready). is_vault unsealed.output) (sym c.padded.view_is)
     ∙ sym c.if-is_vault.ensures in
-    rw (← c.in_ok-padded.ensures.unsealed, plain, c.vault.ensures, c.seal-vault.ensures.sealed)
+    rw (← c.in_ok-padded.ensures.unsealed, plain, c.seal-vault.ensures.sealed)
     (rw (← c.padded.view_is) refl)
