@@ -6,6 +6,8 @@ PROGRAM := bin/ansible-vault
 CPU ?= $(shell cat bin/processor 2> /dev/null)
 # What `make install` may replace besides its own files, where this is yes: whatever stands at their paths.
 REPLACE ?= no
+# Whether `make test` skips what needs a Debian package that is not installed. If not, it stops at once.
+PARTIAL ?= no
 
 VERSION := $(shell sed -n 's/^const VERSION: &str = "\(.*\)";$$/\1/p' crates/vault_request/src/command_line.rt)
 SOURCES := $(shell find crates/*/src crates/*/specs crates/*/proofs) crates.txt
@@ -30,8 +32,8 @@ INSTALLED := bin/ansible-vault:$(PROGRAM) $(foreach page,$(MANUALS),$(page:man/%
 	$(BASH_FOLDER)/ansible-vault:completions/ansible-vault.bash \
 	$(FISH_FOLDER)/ansible-vault.fish:completions/ansible-vault.fish \
 	$(ZSH_FOLDER)/_ansible-vault:completions/ansible-vault.zsh \
-	$(foreach page,README.md CHANGELOG.md CONTRIBUTING.md LICENSE tests/README.md $(sort $(wildcard docs/*)),\
-		$(DOCUMENTS)/$(page):$(page)) \
+	$(foreach page,README.md CHANGELOG.md CONTRIBUTING.md LICENSE debian/copyright tests/README.md \
+		$(sort $(wildcard docs/*)),$(DOCUMENTS)/$(page):$(page)) \
 	$(foreach name,$(COMPANIONS),$(LIBRARY)/ansible-vault-$(name):companions/ansible-vault-$(name)) \
 	$(foreach file,$(wildcard companions/ansible_vault_companions/*.py),$(file:companions/%=$(LIBRARY)/%):$(file))
 # Each with what it leads to, after the colon.
@@ -59,7 +61,8 @@ FLOORS := failed_allocations=1200 failed_allocations_in_memory=1 pytest=4000 fuz
 TESTS := failed_allocations_in_memory outcomes fuzz with_valgrind faults failed_allocations lint
 
 .DELETE_ON_ERROR:
-.PHONY: all check mutants test fuzz faults bench install uninstall portable dist package lint clean FORCE $(TESTS:%=test-%)
+.PHONY: all demo packages check mutants test fuzz faults bench install uninstall portable dist package lint clean \
+	FORCE $(TESTS:%=test-%)
 
 all: $(PROGRAM)
 
@@ -69,6 +72,17 @@ bin/ansible-vault: $(SOURCES) bin/processor
 	@tools/progress.py bin/build.log ansible_vault \
 		tools/build_program ansible_vault $(if $(CPU),--cpu $(CPU)) -- --version
 	@cp crates/ansible_vault/out/ansible_vault $@
+
+# Runs the examples of the README in a folder of their own, and prints them.
+demo: all
+	@python3 -B tests/first_page.py $(PROGRAM)
+
+# Names the packages that the tests lack, before anything is proved.
+packages:
+	@missing=$$(tools/missing_packages); [ -z "$$missing" ] || [ "$(PARTIAL)" = yes ] || { \
+		echo "The tests need packages: apt-get install $$missing   (PARTIAL=yes skips what uses them)" >&2; \
+		exit 1; \
+	}
 
 # The program that tests/failed_allocations_in_memory runs.
 bin/vault_allocation_failures: $(SOURCES)
@@ -85,7 +99,7 @@ bin/processor: FORCE
 # the gate's beginning: a source that changes meanwhile is newer. As many proofs as there are processors run side by
 # side, each in one job: a further job of a proof would load the libraries again.
 check: export RT_JOBS ?= $(shell nproc)
-check: bin/processor
+check: packages bin/processor
 	@echo "Proving every crate and its tests, and trying their must-fail edits"
 	@touch bin/gate-begun
 	@tools/progress.py bin/ci.log all rt ci
@@ -102,7 +116,7 @@ mutants: all
 
 # All of them, whichever fails, that first for which a program is built; each prints what it has to say when it is
 # through. The last line counts all checks.
-test: all
+test: packages all
 	@tools/counts '[a-z_]+: ' $(FLOORS:%=--floor %) $(MAKE) --no-print-directory --keep-going --jobs=4 --output-sync=target \
 		$(TESTS:%=test-%)
 
