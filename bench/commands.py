@@ -6,7 +6,7 @@ Usage: commands.py PROGRAM [--runs N] [--time clock|processor] [--only START] [-
 Of five or more runs of a tool the median is shown, with the minimum and the maximum in parentheses. A ratio is that of
 the medians, with the extremes of single turns in parentheses. It is of processor time, which other work on the machine
 affects least; a ratio of wall-clock times is printed only if both times agree. The vaults are made by the tests' own
-Python; Ansible's tool is found as `tests/lib/ansible.py` says. The last lines are the table of README.md. The chart
+Python; Ansible's tool is found as `tests/lib/ansible.py` says. The last lines are the table of docs/speed.md. The chart
 shows time and memory of `view` against the size of the vault.
 """
 
@@ -44,8 +44,8 @@ GOALS = {
     "encrypt, 1 MiB": 8,
     "rekey, 1 KiB": 13,
 }
-# The rows of the table in README.md, as they are called there.
-README = {
+# The rows of the table in docs/speed.md, as they are called there.
+TABLE = {
     "view, 1 KiB": "`view`, 1 KiB",
     "view, 1 MiB": "`view`, 1 MiB",
     "view, 16 MiB": "`view`, 16 MiB",
@@ -171,10 +171,10 @@ def heading(with_theirs: bool, kind: str) -> str:
 
 
 def print_table(measured: dict[str, dict[str, Times]], runs: int, kind: str) -> None:
-    """As it stands in README.md."""
+    """As it stands in docs/speed.md."""
     print(f"\nTimes of {TIMES[kind]}: the median of {runs} runs, and in parentheses the least and the most.\n")
     print("| | this tool | Ansible's tool | times faster |\n|---|---|---|---|")
-    for name, title in README.items():
+    for name, title in TABLE.items():
         if has_ratio(measured.get(name, {}), kind):
             ours, theirs = (spread(measured[name][tool].of(kind)) for tool in (OURS, THEIRS))
             print(f"| {title} | {ours.shown(' ms')} | {theirs.shown(' ms')} | {ratio_of(measured[name], kind)} |")
