@@ -19,7 +19,7 @@ LIMITS = {
     "plaintext that is encrypted (L)": {"PLAINTEXT_LIMIT"},
     "ciphertext, read or written (L + 16)": {"CIPHERTEXT_LIMIT"},
     "an envelope as it is read (6 L + 8,192)": {"ENVELOPE_LIMIT"},
-    "a header line without its end": {"HEADER_LIMIT"},
+    "a header line, without its line end": {"HEADER_LIMIT"},
     "a salt that is read": {"SALT_LIMIT"},
     "a salt that is written": {"SEALING_SALT_LENGTH", "SALT_TEXT_LIMIT"},
     "a label": {"LABEL_LIMIT"},
@@ -29,7 +29,7 @@ LIMITS = {
 
 
 def code_texts() -> dict[str, list[str]]:
-    """The texts of each fault, one for each role where it has several."""
+    """The texts of each fault, one for each role if it has several."""
     texts = {}
     for name, text in re.findall(r'Fault::(\w+)(?:\(Role::\w+\))? =>\s*"(.*)",', FAULTS):
         texts.setdefault(name, []).append(text)
