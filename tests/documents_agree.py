@@ -1,9 +1,8 @@
 """Compares the faults and limits of docs/formats.md, and the messages and exit statuses of the manual page, with the
-code, and the example on each crate's first page with the test that runs it; and follows the links of the documents.
+code, and the example on each crate's first page with the test that runs it.
 """
 
 import re
-from pathlib import Path
 
 from lib.option_sets import sections
 from lib.outcome import Outcome
@@ -130,17 +129,3 @@ def test_examples(outcome: Outcome) -> None:
     for crate in sorted(tested | examples):
         outcome.check(f"the example of {crate}", examples.get(crate), tested.get(crate))
     outcome.holds("there are examples", len(examples) > 6)
-
-
-def headings(page: Path) -> set[str]:
-    """What a link to a heading of the page ends with."""
-    titles = re.findall(r"^#+ (.*)$", page.read_text(), re.MULTILINE)
-    return {re.sub(r"[^\w -]", "", title.lower()).replace(" ", "-") for title in titles}
-
-
-def test_links(outcome: Outcome) -> None:
-    for page in (*ROOT.glob("*.md"), *ROOT.glob("docs/*.md"), ROOT / "tests" / "README.md"):
-        for target, heading in re.findall(r"\]\((?!https?:)([^)#]*)(?:#([^)]*))?\)", page.read_text()):
-            file = page.parent / target if target else page
-            is_there = file.exists() and (not heading or heading in headings(file))
-            outcome.holds(f"{page.name} links to {target}#{heading}", is_there)

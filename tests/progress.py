@@ -193,7 +193,7 @@ def test_missing_packages(outcome: Outcome, program: str, tmp_path: pathlib.Path
     (tmp_path / "dpkg-query").chmod(0o755)
     (tmp_path / "rt").symlink_to("/bin/false")
     environment = os.environ | {"PATH": f"{tmp_path}{os.pathsep}{os.environ['PATH']}", "PARTIAL": "no"}
-    done = run_make(program, goal, "TESTS=", "FLOORS=", env=environment)
+    done = run_make(program, goal, "TESTS=", "FLOORS=", "PYTEST=true", env=environment)
     wanted = "The tests need packages: apt-get install acl zsh   (PARTIAL=yes skips what uses them)"
     found = done.returncode, done.stdout, done.stderr.splitlines()[:1]
     outcome.check("make stops", found, (2, "", [wanted]))
