@@ -1,5 +1,5 @@
 #!/usr/bin/env -S python3 -B
-"""Times the commands of the built program and those of Ansible's own tool, in alternation, and `view` by the alias.
+"""Times the commands of the built program and of Ansible's own tool, in alternation, and `view` also by the alias.
 
 Usage: commands.py PROGRAM [--runs N] [--time clock|processor] [--only START] [--chart FILE.svg]
 
@@ -115,7 +115,7 @@ class Rows:
         return Row(f"rekey, {name}", size, theirs)
 
     def alias(self) -> Row:
-        """`view` by the tool, and by ansible-vault-with beside it."""
+        """`view` by the tool, by ansible-vault-with beside it, and by Ansible's tool."""
         text = plaintext(1 << 10)
         path = self.file("vault", seal(RIGHT, text))
         companion = self.folder / "ansible-vault-with"
@@ -126,6 +126,8 @@ class Rows:
             OURS: Task([self.program, "view", *self.alone, path], b"", accepts),
             ALIAS: Task([PYTHON, "-ESB", str(companion), "view", *self.alone, path], b"", accepts),
         }
+        if self.ansible is not None:
+            tasks[THEIRS] = Task([self.ansible, "decrypt", *self.alone, "--output", "-", path], b"", accepts)
         return Row("view, 1 KiB, by the alias", 1 << 10, tasks)
 
     def every(self) -> list[Row]:
@@ -181,10 +183,10 @@ def print_table(measured: dict[str, dict[str, Times]], runs: int, kind: str) -> 
 
 
 def print_alias(row: Row, runs: int, kind: str) -> None:
-    times = measure_in_turn(row.tasks, runs)
-    ours, alias = (spread(times[tool].of(kind)) for tool in (OURS, ALIAS))
-    ratio = f"{alias.median / ours.median:.2f} times (goal: {ALIAS_GOAL})"
-    print(f"{row.name}: {alias.shown(' ms')}, the tool {ours.shown(' ms')}, {ratio}")
+    times = {tool: spread(took.of(kind)) for tool, took in measure_in_turn(row.tasks, runs).items()}
+    ratio = f"the alias takes {times[ALIAS].median / times[OURS].median:.2f} times as long as ours (goal: {ALIAS_GOAL})"
+    each = ", ".join(f"{tool} {took.shown(' ms')}" for tool, took in times.items())
+    print(f"{row.name}: {each}; {ratio}")
 
 
 def draw(points: list[dict], path: str) -> None:
