@@ -4,14 +4,16 @@ DESTDIR ?=
 PROGRAM := bin/ansible-vault
 # The processor that the program is built for, as x86-64-v3; by default that of the last build, at first x86-64-v2.
 CPU ?= $(shell cat bin/processor 2> /dev/null)
-# What `make install` may replace besides its own files, where this is yes: whatever stands at their paths.
+# Whether `make install` may replace files that it did not install.
 REPLACE ?= no
+# Whether `make test` skips what needs a Debian package that is not installed. If not, it stops at once.
+PARTIAL ?= no
 
 VERSION := $(shell sed -n 's/^const VERSION: &str = "\(.*\)";$$/\1/p' crates/vault_request/src/command_line.rt)
 SOURCES := $(shell find crates/*/src crates/*/specs crates/*/proofs) crates.txt
 
-# What is installed, below the prefix, where Debian's tools look. Python finds what the companions share
-# beside the files that the links lead to.
+# The installed files, below the prefix, in the folders that Debian's tools search. Python finds the module that the
+# companions share beside the files that the links lead to.
 TOP := $(DESTDIR)$(PREFIX)
 COMPANIONS := $(patsubst companions/ansible-vault-%,%,$(sort $(wildcard companions/ansible-vault-*)))
 MANUALS := $(wildcard man/*.1)
@@ -30,8 +32,8 @@ INSTALLED := bin/ansible-vault:$(PROGRAM) $(foreach page,$(MANUALS),$(page:man/%
 	$(BASH_FOLDER)/ansible-vault:completions/ansible-vault.bash \
 	$(FISH_FOLDER)/ansible-vault.fish:completions/ansible-vault.fish \
 	$(ZSH_FOLDER)/_ansible-vault:completions/ansible-vault.zsh \
-	$(foreach page,README.md CHANGELOG.md CONTRIBUTING.md LICENSE tests/README.md $(sort $(wildcard docs/*)),\
-		$(DOCUMENTS)/$(page):$(page)) \
+	$(foreach page,README.md CHANGELOG.md CONTRIBUTING.md LICENSE debian/copyright tests/README.md \
+		$(sort $(wildcard docs/*)),$(DOCUMENTS)/$(page):$(page)) \
 	$(foreach name,$(COMPANIONS),$(LIBRARY)/ansible-vault-$(name):companions/ansible-vault-$(name)) \
 	$(foreach file,$(wildcard companions/ansible_vault_companions/*.py),$(file:companions/%=$(LIBRARY)/%):$(file))
 # Each with what it leads to, after the colon.
@@ -39,7 +41,7 @@ LINKS := $(foreach name,$(COMPANIONS),\
 	bin/ansible-vault-$(name):../$(LIBRARY)/ansible-vault-$(name) \
 	$(BASH_FOLDER)/ansible-vault-$(name):ansible-vault \
 	$(FISH_FOLDER)/ansible-vault-$(name).fish:ansible-vault.fish)
-# Links of version 0.2.0 where files are now.
+# Links of version 0.2.0 that are files now.
 FORMER_LINKS := $(foreach name,edit rotate check textconv hook,$(PAGES)/ansible-vault-$(name).1:ansible-vault.1)
 # Where `make dist` puts its archives, their names, and how they are made. The time is that of the newest version.
 DIST := bin/dist
@@ -59,16 +61,28 @@ FLOORS := failed_allocations=1200 failed_allocations_in_memory=1 pytest=4000 fuz
 TESTS := failed_allocations_in_memory outcomes fuzz with_valgrind faults failed_allocations lint
 
 .DELETE_ON_ERROR:
-.PHONY: all check mutants test fuzz faults bench install uninstall portable dist package lint clean FORCE $(TESTS:%=test-%)
+.PHONY: all demo packages check mutants test fuzz faults bench install uninstall portable dist package lint clean \
+	FORCE $(TESTS:%=test-%)
 
 all: $(PROGRAM)
 
 # Proves the program and the crates that it stands on, and builds it.
 bin/ansible-vault: $(SOURCES) bin/processor
-	@echo "Proving the program and the crates below it, where they changed; from scratch it takes minutes"
+	@echo "Proving the program and the crates below it, if they changed; from scratch it takes minutes"
 	@tools/progress.py bin/build.log ansible_vault \
 		tools/build_program ansible_vault $(if $(CPU),--cpu $(CPU)) -- --version
 	@cp crates/ansible_vault/out/ansible_vault $@
+
+# Runs the examples of the README in a folder of their own, and prints them.
+demo: all
+	@python3 -B tests/first_page.py $(PROGRAM)
+
+# Names the packages that the tests lack, before anything is proved.
+packages:
+	@missing=$$(tools/missing_packages); [ -z "$$missing" ] || [ "$(PARTIAL)" = yes ] || { \
+		echo "The tests need packages: apt-get install $$missing   (PARTIAL=yes skips what uses them)" >&2; \
+		exit 1; \
+	}
 
 # The program that tests/failed_allocations_in_memory runs.
 bin/vault_allocation_failures: $(SOURCES)
@@ -76,7 +90,7 @@ bin/vault_allocation_failures: $(SOURCES)
 	@tools/progress.py bin/failed_allocations.log vault_allocation_failures tools/build_program vault_allocation_failures -- drive view < /dev/null
 	@cp crates/vault_allocation_failures/out/vault_allocation_failures $@
 
-# Changes where the processor does.
+# Changes if the processor does.
 bin/processor: FORCE
 	@mkdir -p bin
 	@echo '$(CPU)' | cmp -s - $@ || echo '$(CPU)' > $@
@@ -85,7 +99,7 @@ bin/processor: FORCE
 # the gate's beginning: a source that changes meanwhile is newer. As many proofs as there are processors run side by
 # side, each in one job: a further job of a proof would load the libraries again.
 check: export RT_JOBS ?= $(shell nproc)
-check: bin/processor
+check: packages bin/processor
 	@echo "Proving every crate and its tests, and trying their must-fail edits"
 	@touch bin/gate-begun
 	@tools/progress.py bin/ci.log all rt ci
@@ -102,7 +116,7 @@ mutants: all
 
 # All of them, whichever fails, that first for which a program is built; each prints what it has to say when it is
 # through. The last line counts all checks.
-test: all
+test: packages all
 	@tools/counts '[a-z_]+: ' $(FLOORS:%=--floor %) $(MAKE) --no-print-directory --keep-going --jobs=4 --output-sync=target \
 		$(TESTS:%=test-%)
 
@@ -141,14 +155,14 @@ install: all
 	@tools/installed install "$(TOP)" $(SUMS) "$(FORMER_LINKS)" $(REPLACE) $(INSTALLED) -- $(LINKS)
 	@$(if $(DESTDIR),,echo "Type next: hash -r; ansible-vault --version")
 
-# Removes what is as it was installed, and lists the rest.
+# Removes files that are as they were installed, and lists the others.
 uninstall:
 	@tools/installed uninstall "$(TOP)" $(SUMS) "$(FORMER_LINKS)" $(LINKS)
 
-# Fails where the program is built for a newer processor than a package may need.
+# Fails if the program is built for a newer processor than a package may need.
 portable:
 	@[ -z "$(CPU)" ] || { \
-		echo "bin/ansible-vault is built for $(CPU), and what is given to others is for all: make CPU=" >&2; \
+		echo "bin/ansible-vault is built for $(CPU), and packages and archives are for all processors: make CPU=" >&2; \
 		exit 1; \
 	}
 

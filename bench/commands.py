@@ -1,12 +1,12 @@
 #!/usr/bin/env -S python3 -B
-"""Times the commands of the built program and those of Ansible's own tool, in alternation, and `view` by the alias.
+"""Times the commands of the built program and of Ansible's own tool, in alternation, and `view` also by the alias.
 
 Usage: commands.py PROGRAM [--runs N] [--time clock|processor] [--only START] [--chart FILE.svg]
 
 Of five or more runs of a tool the median is shown, with the minimum and the maximum in parentheses. A ratio is that of
 the medians, with the extremes of single turns in parentheses. It is of processor time, which other work on the machine
 affects least; a ratio of wall-clock times is printed only if both times agree. The vaults are made by the tests' own
-Python; Ansible's tool is found as `tests/lib/ansible.py` says. The last lines are the table of README.md. The chart
+Python; Ansible's tool is found as `tests/lib/ansible.py` says. The last lines are the table of docs/speed.md. The chart
 shows time and memory of `view` against the size of the vault.
 """
 
@@ -44,8 +44,8 @@ GOALS = {
     "encrypt, 1 MiB": 8,
     "rekey, 1 KiB": 13,
 }
-# The rows of the table in README.md, as they are called there.
-README = {
+# The rows of the table in docs/speed.md, as they are called there.
+TABLE = {
     "view, 1 KiB": "`view`, 1 KiB",
     "view, 1 MiB": "`view`, 1 MiB",
     "view, 16 MiB": "`view`, 16 MiB",
@@ -115,7 +115,7 @@ class Rows:
         return Row(f"rekey, {name}", size, theirs)
 
     def alias(self) -> Row:
-        """`view` by the tool, and by ansible-vault-with beside it."""
+        """`view` by the tool, by ansible-vault-with beside it, and by Ansible's tool."""
         text = plaintext(1 << 10)
         path = self.file("vault", seal(RIGHT, text))
         companion = self.folder / "ansible-vault-with"
@@ -126,6 +126,8 @@ class Rows:
             OURS: Task([self.program, "view", *self.alone, path], b"", accepts),
             ALIAS: Task([PYTHON, "-ESB", str(companion), "view", *self.alone, path], b"", accepts),
         }
+        if self.ansible is not None:
+            tasks[THEIRS] = Task([self.ansible, "decrypt", *self.alone, "--output", "-", path], b"", accepts)
         return Row("view, 1 KiB, by the alias", 1 << 10, tasks)
 
     def every(self) -> list[Row]:
@@ -171,20 +173,20 @@ def heading(with_theirs: bool, kind: str) -> str:
 
 
 def print_table(measured: dict[str, dict[str, Times]], runs: int, kind: str) -> None:
-    """As it stands in README.md."""
+    """As it stands in docs/speed.md."""
     print(f"\nTimes of {TIMES[kind]}: the median of {runs} runs, and in parentheses the least and the most.\n")
     print("| | this tool | Ansible's tool | times faster |\n|---|---|---|---|")
-    for name, title in README.items():
+    for name, title in TABLE.items():
         if has_ratio(measured.get(name, {}), kind):
             ours, theirs = (spread(measured[name][tool].of(kind)) for tool in (OURS, THEIRS))
             print(f"| {title} | {ours.shown(' ms')} | {theirs.shown(' ms')} | {ratio_of(measured[name], kind)} |")
 
 
 def print_alias(row: Row, runs: int, kind: str) -> None:
-    times = measure_in_turn(row.tasks, runs)
-    ours, alias = (spread(times[tool].of(kind)) for tool in (OURS, ALIAS))
-    ratio = f"{alias.median / ours.median:.2f} times (goal: {ALIAS_GOAL})"
-    print(f"{row.name}: {alias.shown(' ms')}, the tool {ours.shown(' ms')}, {ratio}")
+    times = {tool: spread(took.of(kind)) for tool, took in measure_in_turn(row.tasks, runs).items()}
+    ratio = f"the alias takes {times[ALIAS].median / times[OURS].median:.2f} times as long as ours (goal: {ALIAS_GOAL})"
+    each = ", ".join(f"{tool} {took.shown(' ms')}" for tool, took in times.items())
+    print(f"{row.name}: {each}; {ratio}")
 
 
 def draw(points: list[dict], path: str) -> None:

@@ -1,13 +1,12 @@
-"""Compares the tables of faults and limits in docs/formats.md, the messages, limits and exit statuses of
-the manual page, and the exit statuses of the README with the code, and the example on each
-crate's first page with the test that runs it.
+"""Compares the faults and limits of docs/formats.md, and the messages and exit statuses of the manual page, with the
+code, and the example on each crate's first page with the test that runs it.
 """
 
 import re
 
 from lib.option_sets import sections
 from lib.outcome import Outcome
-from lib.paths import PAGE, README, ROOT
+from lib.paths import PAGE, ROOT
 
 FORMATS = (ROOT / "docs" / "formats.md").read_text()
 CRATES = ROOT / "crates"
@@ -15,32 +14,21 @@ FAULTS = (CRATES / "vault_fault" / "src" / "fault.rt").read_text()
 STATUSES = (CRATES / "vault_cli" / "src" / "runs" / "status.rt").read_text()
 
 # The constants whose values stand in each row.
-DOCUMENT_LIMITS = {
+LIMITS = {
     "plaintext that is encrypted (L)": {"PLAINTEXT_LIMIT"},
     "ciphertext, read or written (L + 16)": {"CIPHERTEXT_LIMIT"},
     "an envelope as it is read (6 L + 8,192)": {"ENVELOPE_LIMIT"},
-    "a header line without its end": {"HEADER_LIMIT"},
+    "a header line, without its line end": {"HEADER_LIMIT"},
     "a salt that is read": {"SALT_LIMIT"},
     "a salt that is written": {"SEALING_SALT_LENGTH", "SALT_TEXT_LIMIT"},
     "a label": {"LABEL_LIMIT"},
     "a password file": {"PASSWORD_FILE_LIMIT"},
     "secrets": {"SECRET_COUNT_LIMIT"},
 }
-PAGE_LIMITS = {
-    "Plaintext to encrypt": {"PLAINTEXT_LIMIT"},
-    "Ciphertext of an envelope": {"CIPHERTEXT_LIMIT"},
-    "Envelope": {"ENVELOPE_LIMIT"},
-    "Header line": {"HEADER_LIMIT"},
-    "Salt that is read": {"SALT_LIMIT"},
-    "Salt that is written": {"SEALING_SALT_LENGTH", "SALT_TEXT_LIMIT"},
-    "Label": {"LABEL_LIMIT"},
-    "Password file": {"PASSWORD_FILE_LIMIT"},
-    "Secrets of a run": {"SECRET_COUNT_LIMIT"},
-}
 
 
 def code_texts() -> dict[str, list[str]]:
-    """The texts of each fault, one for each role where it has several."""
+    """The texts of each fault, one for each role if it has several."""
     texts = {}
     for name, text in re.findall(r'Fault::(\w+)(?:\(Role::\w+\))? =>\s*"(.*)",', FAULTS):
         texts.setdefault(name, []).append(text)
@@ -85,13 +73,6 @@ def numbers(text: str) -> set[int]:
     return {int(each.replace(",", "")) for each in re.findall(r"\d[\d,]*", text)} - {1}
 
 
-def check_limits(outcome: Outcome, rows: dict[str, str], names: dict[str, set[str]], where: str):
-    limits = code_limits()
-    for what, constants in names.items():
-        wanted = {limits[constant] for constant in constants}
-        outcome.check(f"{where} has the code's limit: {what}", numbers(rows.get(what, "")), wanted)
-
-
 def document_limits() -> dict[str, str]:
     """The rows of the document's table."""
     table = FORMATS.partition("\n## Limits\n")[2].partition("\n## ")[0]
@@ -102,16 +83,19 @@ def document_limits() -> dict[str, str]:
 
 def test_formats(outcome: Outcome) -> None:
     outcome.check("docs/formats.md has the faults of the code", document_faults(), code_faults())
-    check_limits(outcome, document_limits(), DOCUMENT_LIMITS, "docs/formats.md")
+    rows, limits = document_limits(), code_limits()
+    for what, constants in LIMITS.items():
+        wanted = {limits[constant] for constant in constants}
+        outcome.check(f"docs/formats.md has the code's limit: {what}", numbers(rows.get(what, "")), wanted)
 
 
 def test_page(outcome: Outcome) -> None:
-    page = sections(PAGE.read_text())
-    messages = re.findall(r"^\.It (.*)$", page["DIAGNOSTICS"], re.MULTILINE)
+    diagnostics = sections(PAGE.read_text())["DIAGNOSTICS"]
+    messages = re.findall(r"^\.It (.*)$", diagnostics, re.MULTILINE)
     texts = [text for texts in code_texts().values() for text in texts]
     outcome.check("the manual page explains every message", sorted(messages), sorted(texts))
-    rows = dict(re.findall(r"^\.It (.+) Ta (.+)$", page["DESCRIPTION"], re.MULTILINE))
-    check_limits(outcome, rows, PAGE_LIMITS, "the manual page")
+    longest = re.search(r"Plaintext has at most ([\d,]+) bytes", diagnostics)
+    outcome.check("and names the longest plaintext", numbers(longest[1]), {code_limits()["PLAINTEXT_LIMIT"]})
 
 
 def code_codes() -> set[int]:
@@ -121,12 +105,8 @@ def code_codes() -> set[int]:
 
 def test_exit_statuses(outcome: Outcome) -> None:
     """The parser's own status is among those of the code."""
-    page = sections(PAGE.read_text())["EXIT STATUS"]
-    tables = {"the manual page": re.findall(r"^\.It (\d)$", page, re.MULTILINE)}
-    table = README.read_text().partition("| Exit status |")[2].partition("\n\n")[0]
-    tables["the README"] = re.findall(r"^\| (\d) \|", table, re.MULTILINE)
-    for where, codes in tables.items():
-        outcome.check(f"{where} has the code's exit statuses", [int(code) for code in codes], sorted(code_codes()))
+    codes = re.findall(r"^\.It (\d)$", sections(PAGE.read_text())["EXIT STATUS"], re.MULTILINE)
+    outcome.check("the manual page has the code's exit statuses", [int(code) for code in codes], sorted(code_codes()))
 
 
 def unspaced(code: str) -> str:

@@ -1,53 +1,83 @@
 """Runs the commands of the README's section "Five minutes" one after the other, with a program as
-`ansible-vault`, and compares what they print.
+`ansible-vault` and the companions beside it, and compares what they print.
+
+`first_page.py PROGRAM` prints them, and fails if one prints something else than the README says.
 """
 
 import os
 import pathlib
 import re
 import subprocess
+import sys
+import tempfile
+from collections.abc import Iterator
+from typing import NamedTuple
 
+from lib.installed import run_make
 from lib.outcome import Outcome
-from lib.paths import README
+from lib.paths import COMPANIONS, README
 
 SECTION = "\n## Five minutes\n"
 
 
-def session(document: str) -> list[tuple[str, str]]:
-    """Each command of the section with what it prints."""
+class Step(NamedTuple):
+    """A command as the README has it, in one line or several, and what it prints; dots stand for any text."""
+
+    command: str
+    wanted: str
+
+    def is_met_by(self, printed: str) -> bool:
+        pattern = ".*".join(re.escape(part) for part in self.wanted.split("..."))
+        return re.fullmatch(pattern, printed.strip("\n"), re.DOTALL) is not None
+
+
+def steps(document: str) -> list[Step]:
     section = document.partition(SECTION)[2].partition("\n## ")[0]
     lines = [line[4:] for line in section.splitlines() if line.startswith("    ")]
-    text = "\n".join(lines).replace("\\\n", "")
-    _, *parts = re.split(r"^\$ (.*)$", text, flags=re.MULTILINE)
-    return [(command, printed.strip("\n")) for command, printed in zip(parts[::2], parts[1::2])]
+    _, *parts = re.split(r"^\$ ((?:.*\\\n)*.*)$", "\n".join(lines), flags=re.MULTILINE)
+    return [Step(command, printed.strip("\n")) for command, printed in zip(parts[::2], parts[1::2])]
 
 
-def agrees(found: str, wanted: str) -> bool:
-    """Three dots stand for any text."""
-    pattern = ".*".join(re.escape(part) for part in wanted.split("..."))
-    return re.fullmatch(pattern, found.strip("\n"), re.DOTALL) is not None
-
-
-def run(command: str, folder: pathlib.Path, tools: pathlib.Path) -> str:
+def session(program: str, top: pathlib.Path) -> Iterator[tuple[Step, str]]:
+    """Each step with what it prints, run in a new folder below this one."""
+    folder, tools = top / "folder", top / "tools"
+    folder.mkdir()
+    tools.mkdir()
+    for name, path in {**COMPANIONS, "ansible-vault": program}.items():
+        (tools / name).symlink_to(path)
     environment = os.environ | {"PATH": f"{tools}{os.pathsep}{os.environ['PATH']}"}
-    ran = subprocess.run(
-        ["sh", "-c", command],
-        cwd=folder,
-        env=environment,
-        stdout=subprocess.PIPE,
-        stderr=subprocess.STDOUT,
-        text=True,
-    )
-    return ran.stdout
+    for step in steps(README.read_text()):
+        command = ["sh", "-c", step.command]
+        ran = subprocess.run(
+            command, cwd=folder, env=environment, stdout=subprocess.PIPE, stderr=subprocess.STDOUT, text=True
+        )
+        yield step, ran.stdout
 
 
 def test_five_minutes(outcome: Outcome, program: str, tmp_path: pathlib.Path) -> None:
-    folder, tools = tmp_path / "folder", tmp_path / "tools"
-    folder.mkdir()
-    tools.mkdir()
-    (tools / "ansible-vault").symlink_to(program)
-    commands = session(README.read_text())
-    outcome.holds("the README has a first session", len(commands) > 0)
-    for command, wanted in commands:
-        found = run(command, folder, tools)
-        outcome.holds(command, agrees(found, wanted), f"printed {found!r}")
+    outcome.holds("the README has a first session", len(steps(README.read_text())) > 0)
+    for step, printed in session(program, tmp_path):
+        outcome.holds(step.command, step.is_met_by(printed), f"printed {printed!r}")
+
+
+def test_demo(outcome: Outcome, program: str) -> None:
+    """`make demo` prints the session as the README has it."""
+    done = run_make(program, "demo", f"PROGRAM={program}")
+    session = "\n".join(f"$ {step.command}\n{step.wanted}".strip("\n") for step in steps(README.read_text()))
+    outcome.check("make demo ends well", (done.returncode, done.stderr), (0, ""))
+    outcome.holds("and prints the session", Step("make demo", session).is_met_by(done.stdout), done.stdout)
+
+
+def show(program: str) -> bool:
+    """Prints the session; whether it is that of the README."""
+    agrees = True
+    with tempfile.TemporaryDirectory() as top:
+        for step, printed in session(program, pathlib.Path(top)):
+            print(f"$ {step.command}\n{printed}", end="", flush=True)
+            agrees &= step.is_met_by(printed)
+    return agrees
+
+
+if __name__ == "__main__":
+    if not show(os.path.abspath(sys.argv[1])):
+        sys.exit("The README says otherwise")

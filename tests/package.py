@@ -82,7 +82,7 @@ def check_processor(outcome: Outcome, copy: pathlib.Path, environment: dict):
     (copy / "bin/ansible-vault").touch()
     for package in copy.glob("bin/*.deb"):
         package.unlink()
-    wanted = "bin/ansible-vault is built for x86-64-v3, and what is given to others is for all: make CPU=\n"
+    wanted = "bin/ansible-vault is built for x86-64-v3, and packages and archives are for all processors: make CPU=\n"
     for command in (["make", "-s", "package"], ["debian/rules", "override_dh_auto_install"]):
         # Not what a `make` above gives, which may choose the processor.
         variables = {name: value for name, value in environment.items() if name not in ("MAKEFLAGS", "CPU")}

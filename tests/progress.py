@@ -1,7 +1,8 @@
 """Shows that tools/progress.py passes on the exit status and the last line of a command, keeps its log,
-prints it where the command fails, and has a line for each crate; that tools/mutants fails unless a goal
-rejects each mutant; that tools/counts adds up the counts of several tests; and that .ci/run ends as `make check`
-does, with the counts of all tests, and fails where it cannot install what they need.
+prints it if the command fails, and has a line for each crate; that tools/mutants fails unless a goal
+rejects each mutant; that tools/counts adds up the counts of several tests; that .ci/run ends as `make check`
+does, with the counts of all tests, and fails if it cannot install what they need; and that `make test` names what it
+lacks.
 """
 
 import os
@@ -12,6 +13,7 @@ import subprocess
 
 import pytest
 
+from lib.installed import run_make
 from lib.outcome import Outcome
 from lib.paths import ROOT
 
@@ -124,18 +126,22 @@ def test_counts(outcome: Outcome, what: str) -> None:
     outcome.check(f"{what}: the output", done.stdout, f"{text}{last}\n")
 
 
+# A `dpkg-query` for which all packages are installed.
+INSTALLED = 'shift 2; for each; do echo "$each installed"; done'
+
+
 def run_ci(folder: pathlib.Path, check: str, status: int, installs: bool, installed: bool):
     """.ci/run where these stand for `make`, `apt-get` and `dpkg-query`."""
     tools = folder / "stand-ins"
-    for path in (".ci/run", "tools/counts"):
-        (folder / path).parent.mkdir()
+    for path in (".ci/run", "tools/counts", "tools/missing_packages"):
+        (folder / path).parent.mkdir(exist_ok=True)
         shutil.copy(ROOT / path, folder / path)
     tools.mkdir()
     (folder / "check").write_text(check)
     shells = {
         "make": f"echo \"REQUIRE_ALL is ${{REQUIRE_ALL-}}, and the words $*\"; cat '{folder}/check'; exit {status}",
-        "dpkg-query": "shift 2; for each; do echo installed; done" if installed else "echo installed; exit 1",
-        "apt-get": f"echo 'E: no package'; exit {0 if installs else 100}",
+        "dpkg-query": INSTALLED if installed else "echo gcc installed; exit 1",
+        "apt-get": f"echo \"E: no package: $*\"; exit {0 if installs else 100}",
     }
     for name, shell in shells.items():
         (tools / name).write_text(f"#!/bin/sh\n{shell}\n")
@@ -164,10 +170,12 @@ RUNS = {
 def test_ci(outcome: Outcome, tmp_path: pathlib.Path, what: str) -> None:
     check, status, installs, end = RUNS[what]
     done = run_ci(tmp_path, check, status, installs, installed=False)
-    first = "REQUIRE_ALL is 1, and the words check CPU="
+    first = "REQUIRE_ALL is 1, and the words check CPU= PARTIAL=yes"
     outcome.check(f"{what}: all is required, of every processor", done.stdout.splitlines()[0], first)
     outcome.check(f"{what}: the end", (done.returncode, done.stdout.splitlines()[-1]), end)
     outcome.check(f"{what}: the reason is printed", "E: no package" in done.stdout, not installs)
+    asked = (tmp_path / "bin" / "install.log").read_text().split()
+    outcome.holds(f"{what}: only what is missing is installed", "fish" in asked and "gcc" not in asked, asked)
 
 
 def test_ci_with_all_installed(outcome: Outcome, tmp_path: pathlib.Path) -> None:
@@ -175,6 +183,22 @@ def test_ci_with_all_installed(outcome: Outcome, tmp_path: pathlib.Path) -> None
     done = run_ci(tmp_path, CHECK.format(failed=0), 0, installs=False, installed=True)
     wanted = (0, "20 passed, 0 failed, 1 skipped")
     outcome.check("the end", (done.returncode, done.stdout.splitlines()[-1]), wanted)
+
+
+@pytest.mark.parametrize("goal", ["test", "check"])
+def test_missing_packages(outcome: Outcome, program: str, tmp_path: pathlib.Path, goal: str) -> None:
+    """They are named in one line before a proof or a test; with PARTIAL=yes nothing is."""
+    query = "#!/bin/sh\nshift 2; printf '%s installed\\n' \"$@\" | grep -v -e zsh -e acl\n"
+    (tmp_path / "dpkg-query").write_text(query)
+    (tmp_path / "dpkg-query").chmod(0o755)
+    (tmp_path / "rt").symlink_to("/bin/false")
+    environment = os.environ | {"PATH": f"{tmp_path}{os.pathsep}{os.environ['PATH']}", "PARTIAL": "no"}
+    done = run_make(program, goal, "TESTS=", "FLOORS=", "PYTEST=true", env=environment)
+    wanted = "The tests need packages: apt-get install acl zsh   (PARTIAL=yes skips what uses them)"
+    found = done.returncode, done.stdout, done.stderr.splitlines()[:1]
+    outcome.check("make stops", found, (2, "", [wanted]))
+    done = run_make(program, "packages", "PARTIAL=yes", env=environment)
+    outcome.check("and goes on", (done.returncode, done.stderr), (0, ""))
 
 
 FLOORS = {

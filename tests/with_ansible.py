@@ -1,10 +1,11 @@
-"""Runs the built program beside Ansible's own tool: what each writes the other reads, and for one salt,
-password and label both write the same bytes.
+"""Runs the built program beside Ansible's own tool: what each writes the other reads, for one salt, password and
+label both write the same bytes, and both say what docs/coming-from-ansible.md says.
 
 Ansible's tool (Debian's package `ansible-core`) is found as `lib/ansible.py` says.
 """
 
 import os
+import re
 import subprocess
 from pathlib import Path
 
@@ -12,6 +13,7 @@ import pytest
 
 from cases import SECONDS, Cases, by_file, by_id
 from lib.ansible import ansible_vault
+from lib.paths import ROOT
 from model.vaults import seal, yaml_block
 
 SIZES = [0, 1, 15, 16, 17, 1 << 10, 1 << 20]
@@ -169,3 +171,49 @@ def test_fixed_salt(both: Both) -> None:
     both.ours("view of what they encrypt", ["view", *both.options], vault, text)
     if salt_of(vault) == salt.encode():
         both.ours("encrypt with a salt text", ["encrypt", *both.options, "--salt", salt], text, vault)
+
+
+# What each row of the messages in docs/coming-from-ansible.md is about.
+REFUSED = {
+    "the password is wrong": "view --vault-password-file wrong vault",
+    "the input is no vault": "view --vault-password-file right plain",
+    "the vault is cut off": "view --vault-password-file right cut",
+    "the vault is not hexadecimal": "view --vault-password-file right odd",
+    "the plaintext is a vault": "encrypt --vault-password-file right --output new vault",
+    "several secrets could encrypt": "encrypt --vault-id a@right --vault-id b@wrong --output new plain",
+    "none has the label": "encrypt --vault-id a@right --encrypt-vault-id b --output new plain",
+    "the password is empty": "view --vault-password-file empty vault",
+    "the password file is missing": "view --vault-password-file missing vault",
+    "the input file is missing": "view --vault-password-file right missing",
+}
+
+
+def refused_files() -> dict[str, bytes]:
+    vault = seal(RIGHT, b"a: 1\n")
+    first_line = vault.partition(b"\n")[0]
+    passwords = {"right": RIGHT, "wrong": NEW, "empty": b""}
+    return passwords | {"plain": b"a: 1\n", "vault": vault, "cut": vault[:200], "odd": first_line + b"\nxyz\n"}
+
+
+def message_rows() -> dict[str, list[tuple[str, int]]]:
+    """What Ansible's tool and ours say, with their exit statuses, in the order of the page."""
+    page = (ROOT / "docs" / "coming-from-ansible.md").read_text()
+    rows = re.findall(r"^\| (.+) \| `(.+)` \| (\d) \| `(.+)` \| (\d) \|$", page, re.MULTILINE)
+    return {what: [(theirs, int(first)), (ours, int(second))] for what, theirs, first, ours, second in rows}
+
+
+def test_messages(cases: Cases) -> None:
+    ansible = ansible_vault()
+    if ansible is None:
+        pytest.skip("Ansible's own ansible-vault is not installed (Debian's package ansible-core)")
+    both = Both(cases, ansible, "")
+    for name, content in refused_files().items():
+        (cases.folder / name).write_bytes(content)
+    rows = message_rows()
+    cases.check("the page has a row for each", sorted(rows), sorted(REFUSED))
+    for what, said in rows.items():
+        for tool, (text, status) in zip((ansible, cases.program), said):
+            done = both.in_folder([tool, *REFUSED[what].split()])
+            pattern = ".*".join(map(re.escape, f"ERROR! {text}".split("...")))
+            is_said = any(re.fullmatch(pattern, line) for line in done.stderr.decode().splitlines())
+            cases.check(f"{what}: {tool}", (done.returncode, is_said), (status, True))

@@ -12,7 +12,7 @@ VERSION = version()
 COMPANIONS = {each.name for each in (ROOT / "companions").glob("ansible-vault-*")}
 SHARED = {each.name for each in (ROOT / "companions/ansible_vault_companions").glob("*.py")}
 NAMES = {"ansible-vault", *COMPANIONS}
-DOCUMENTS = {"README.md", "CHANGELOG.md", "CONTRIBUTING.md", "LICENSE", "tests/README.md"}
+DOCUMENTS = {"README.md", "CHANGELOG.md", "CONTRIBUTING.md", "LICENSE", "debian/copyright", "tests/README.md"}
 DOCUMENTS |= {f"docs/{each.name}" for each in (ROOT / "docs").iterdir()}
 # Where Debian's tools look, below the prefix.
 FILES = {
