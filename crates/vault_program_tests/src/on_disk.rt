@@ -5,6 +5,7 @@ ghost use Rattle.clap.specs.Words.{fault_of};
 ghost use Rattle.vault_request.specs.CommandLine.{vault_app};
 ghost use Rattle.vault_request.specs.Settled.{requested_by};
 ghost use Rattle.vault_text.specs.Source.{MemoryGives};
+ghost use Rattle.vault_files.specs.Host.{stage_of};
 ghost use Rattle.vault_cli.specs.Drive.{AllFound};
 ghost use Rattle.vault_cli.specs.InMemory.{change};
 ghost use Rattle.vault_cli.specs.Program.{Files, output_path, program};
@@ -26,7 +27,7 @@ pub fn drive_on_disk(
     out: &mut MemSink,
     err: &mut MemSink,
 ) -> Status
-    requires files_unbegun { files.old.stage ≡ Stage.Unbegun }
+    requires files_unbegun { stage_of files.old.output ≡ Stage.Unbegun }
     requires out_unbegun { out.old.stage ≡ Stage.Unbegun }
     requires err_unbegun { err.old.stage ≡ Stage.Unbegun }
     ensures { let texts = map string_bytes words.now in let executes = requested_by texts in
