@@ -5,7 +5,7 @@ use Rattle.vault_text.specs.Failures.{HasRisen}
 use Rattle.vault_fault.specs.declared.fault.Fault.{Fault}
 use Rattle.vault_fault.specs.declared.fault.Fault.TheVariants.{Read}
 use Rattle.vault_fault.specs.declared.fault.Role.TheVariants.{Input}
-use Rattle.vault_core.proofs.InputLemmas.{Ok-read, cases_unread}
+use Rattle.vault_core.proofs.InputLemmas.{Ok-is_no_read, cases_unread}
 use Rattle.vault_core.specs.Ready.{Ready}
 use Rattle.vault_request.specs.Request.{Request}
 use Rattle.vault_cli.specs.Call.{SinkCall, SourceCall}
@@ -132,7 +132,7 @@ module _ {S : Type 0} (src : SourceCall S) (limit : ℕ) (task : Task) where
   pub performed-unfailed : (ready : Ready) (string : Option (List ℕ))
       → Performs src limit task (Ok ready) string → src.failures src.new ≡ src.failures src.old
   performed-unfailed ready (Some string) (unread, is) = ap src.failures unread
-  performed-unfailed ready None (input, reads) = reads.unfailed (Ok-read ready)
+  performed-unfailed ready None (input, reads) = reads.unfailed (Ok-is_no_read ready)
 
   -- one that answers a fault refuses alone, or its source failed
   pub performed-refused : (result : Status) (fault : Fault) → result ≡ status_of fault

@@ -19,12 +19,12 @@ use Rattle.vault_core.specs.Secrets.{SecretList}
 use Rattle.vault_fault.specs.declared.fault.Fault.{Fault}
 use Rattle.vault_fault.specs.declared.fault.Fault.TheVariants.{Read}
 use Rattle.vault_fault.specs.declared.fault.Role.TheVariants.{Input}
-use Rattle.vault_core.proofs.InputLemmas.{HasAnswered, HasAnswered-read, HasAnswered-steps}
+use Rattle.vault_core.proofs.InputLemmas.{HasAnswered, HasAnswered-is_no_read, HasAnswered-steps}
 use Rattle.vault_core.proofs.InputLemmas.{Prepares-steps}
 use Rattle.vault_core.proofs.UnsealingLemmas.{FitsAgain, unsealing-answers}
 
 -- no fault of an envelope is one of reading
-pub of_text-is_no_read : (fault : TextFault) → of_text fault ≢ Read Input
+of_text-is_no_read : (fault : TextFault) → of_text fault ≢ Read Input
 of_text-is_no_read text.TooLong h = cc
 of_text-is_no_read text.NotVault h = cc
 of_text-is_no_read text.HeaderTooLong h = cc
@@ -44,6 +44,10 @@ payload_of-answers limit input = by_read (read_within limit input) (read_within-
         (HasFittingCiphertext limit)
     by_read (Ok payload) fits = fits
     by_read (Err fault) fits = of_text-is_no_read fault
+
+pub payload_of-is_no_read : (limit : ℕ) (input : List ℕ) → payload_of limit input ≢ Err (Read Input)
+payload_of-is_no_read limit input =
+    HasAnswered-is_no_read _ (payload_of limit input) (payload_of-answers limit input)
 
 module _ (limit : ℕ) (secrets : SecretList) (input : List ℕ) where
   pub decryption-answers :
@@ -69,4 +73,4 @@ module _ (limit : ℕ) (secrets : SecretList) (input : List ℕ) where
   Prepares-decryption source old new before after read =
       Prepares-steps source old new _ before after input read _ (unsealing secrets)
       (derivations_on secrets) _ _ refl refl
-      (HasAnswered-read _ (decryption limit secrets input) decryption-answers) refl
+      (HasAnswered-is_no_read _ (decryption limit secrets input) decryption-answers) refl

@@ -9,7 +9,9 @@ use Rattle.vault_core.specs.Ready.{Ready}
 use Rattle.vault_core.specs.Sealing.{sealed, text_in}
 use Rattle.vault_core.specs.Secrets.{Secret, secret_at}
 use Rattle.vault_fault.specs.declared.fault.Fault.TheVariants.{TooLong, EmptyString, AlreadyVault}
-use Rattle.vault_core.proofs.InputLemmas.{HasAnswered, HasAnswered-unless}
+use Rattle.vault_fault.specs.declared.fault.Fault.TheVariants.{Read}
+use Rattle.vault_fault.specs.declared.fault.Role.TheVariants.{Input}
+use Rattle.vault_core.proofs.InputLemmas.{HasAnswered, HasAnswered-is_no_read, HasAnswered-unless}
 
 module _ (limit : ℕ) (secrets : List Secret) (index : ℕ) (form : Form) (salt : List ℕ) where
   -- the plaintext in its form
@@ -33,6 +35,10 @@ module _ (limit : ℕ) (secrets : List Secret) (index : ℕ) (form : Form) (salt
         HasAnswered-unless none EmptyString _ P (λ read. cc) (λ some.
         HasAnswered-unless (is_vault input) AlreadyVault _ P (λ read. cc) (λ plain.
         (ltb-false _ _ short, refl))))
+
+    pub encryption-is_no_read : encryption limit secrets index form salt input ≢ Err (Read Input)
+    encryption-is_no_read =
+        HasAnswered-is_no_read _ (encryption limit secrets index form salt input) encryption-answers
 
   -- what a call seals or refuses: the first bytes of the memory, which hold the input
   pub encryption-in : (input work : List ℕ) (has : Bool)

@@ -1,5 +1,5 @@
 -- What a call returns that read its input.
-use Rattle.std.proofs.Common.{◌≡◌, ◌≢◌, ◌⊎◌, ℕ, ◌+◌, ◌≤◌, Bool, true, false, List, length}
+use Rattle.std.proofs.Common.{◌≡◌, ◌≢◌, ◌⊎◌, ℕ, ◌+◌, Bool, true, false, List}
 use Rattle.std.proofs.Common.{Option, Some, None, Result, Ok, Err, ap, arith, inl, inr, refl, sym}
 use Rattle.std.proofs.Common.{◌∙◌}
 use Rattle.std.specs.Prelude.{if◌then◌else◌, MatchResult}
@@ -7,19 +7,19 @@ use Rattle.std.specs.Option.{ok_or}
 use Rattle.vault_text.specs.Failures.{HasRisen, IsSaturated}
 use Rattle.vault_text.specs.Steps.{◌>>=◌}
 use Rattle.vault_text.specs.declared.source.Source.{Ghosts as SourceTerms}
-use Rattle.vault_core.specs.Input.{IsReadToEndOrPastLimit, Prepares, ReadsThenAnswers}
+use Rattle.vault_core.specs.Input.{Prepares, ReadsInput, ReadsThenAnswers}
 use Rattle.vault_core.specs.Ready.{Ready}
 use Rattle.vault_fault.specs.declared.fault.Fault.{Fault}
 use Rattle.vault_fault.specs.declared.fault.Fault.TheVariants.{Read}
 use Rattle.vault_fault.specs.declared.fault.Role.TheVariants.{Input}
 
-pub Ok-read : {A : Type 0} (x : A) → Ok x ≢ Err (Read Input)
-Ok-read x unread = cc
+pub Ok-is_no_read : {A : Type 0} (x : A) → Ok x ≢ Err (Read Input)
+Ok-is_no_read x unread = cc
 
 -- a result says that the source failed, or it does not
 pub cases_unread : {A : Type 0} (result : Result A Fault)
     → (result ≡ Err (Read Input)) ⊎ (result ≢ Err (Read Input))
-cases_unread (Ok x) = inr (Ok-read x)
+cases_unread (Ok x) = inr (Ok-is_no_read x)
 cases_unread (Err (Read Input)) = inl refl
 cases_unread (Err fault) = inr (λ unread. cc)
 
@@ -27,10 +27,10 @@ cases_unread (Err fault) = inr (λ unread. cc)
 abbrev pub HasAnswered : {A : Type 0} → Result A Fault → (A → Type 0) → Type 0
 HasAnswered answer P = MatchResult answer P (λ fault. fault ≢ Read Input)
 
-pub HasAnswered-read : {A : Type 0} (P : A → Type 0) (answer : Result A Fault)
+pub HasAnswered-is_no_read : {A : Type 0} (P : A → Type 0) (answer : Result A Fault)
     → HasAnswered answer P → answer ≢ Err (Read Input)
-HasAnswered-read P (Ok x) answered unread = cc
-HasAnswered-read P (Err fault) other unread = other cc
+HasAnswered-is_no_read P (Ok x) answered unread = cc
+HasAnswered-is_no_read P (Err fault) other unread = other cc
 
 pub HasAnswered-steps : {A B : Type 0} (r : Result A Fault) (f : A → Result B Fault)
     (P : A → Type 0) (Q : B → Type 0)
@@ -50,38 +50,35 @@ pub HasAnswered-unless : {A : Type 0} (b : Bool) (fault : Fault) (r : Result A F
 HasAnswered-unless true fault r P other rest = other
 HasAnswered-unless false fault r P other rest = rest refl
 
--- a call that took this input from its source
-module _ {S : Type 0} (source : SourceTerms S) (old new : S) (bound : ℕ) (input : List ℕ) where
-  -- the source failed
-  pub ReadsThenAnswers-failed : {T : Type 0} (answer : Result T Fault)
-      → source.gives old input new → HasRisen (source.failures old) (source.failures new)
-      → length input ≤ bound
+-- a call that read this input and returns the answer, or `Read Input` if the source failed
+module _ {S T E A : Type 0} (source : SourceTerms S) (old new : S) (bound : ℕ) (input : List ℕ)
+    (answer : Result A Fault) (never : answer ≢ Err (Read Input)) where
+  pub ReadsThenAnswers-Err : (e : E) → let read : Result T E = Err e in
+      ReadsInput source old new bound read input
+      → HasRisen (source.failures old) (source.failures new)
       → ReadsThenAnswers source old new bound input (Err (Read Input)) answer
-  ReadsThenAnswers-failed answer gives risen short = record {
-    gives = gives;
-    bounded = omega arith;
+  ReadsThenAnswers-Err e reads risen = record {
+    gives = reads.gives;
+    bounded = reads.bounded;
     failed = λ _. risen;
-    short = λ _. short;
+    short = λ _. reads.short;
     unfailed = λ other. absurd (other refl);
     whole = λ other. absurd (other refl);
     answered = λ other. absurd (other refl);
   }
 
-  -- it did not fail
-  pub ReadsThenAnswers-whole : {T : Type 0} (result answer : Result T Fault)
-      → source.gives old input new → length input ≤ bound + 1
+  pub ReadsThenAnswers-Ok : (x : T) → let read : Result T E = Ok x in
+      ReadsInput source old new bound read input
       → source.failures new ≡ source.failures old
-      → IsReadToEndOrPastLimit bound (source.ended new) input
-      → result ≢ Err (Read Input) → result ≡ answer
-      → ReadsThenAnswers source old new bound input result answer
-  ReadsThenAnswers-whole result answer gives bounded same whole other is = record {
-    gives = gives;
-    bounded = bounded;
-    failed = λ unread. absurd (other unread);
-    short = λ unread. absurd (other unread);
+      → ReadsThenAnswers source old new bound input answer answer
+  ReadsThenAnswers-Ok x reads same = record {
+    gives = reads.gives;
+    bounded = reads.bounded;
+    failed = λ unread. absurd (never unread);
+    short = λ unread. absurd (never unread);
     unfailed = λ _. same;
-    whole = λ _. whole;
-    answered = λ _. is;
+    whole = λ _. reads.whole;
+    answered = λ _. refl;
   }
 
 -- a call that takes a step from what it read, and derives as many keys as its count says

@@ -1,5 +1,4 @@
 pub mod TriedSecretsLemmas
-pub mod TriedSecretsTagLemmas
 pub mod ChoiceLemmas
 pub mod DecryptionLemmas
 pub mod EncryptionLemmas

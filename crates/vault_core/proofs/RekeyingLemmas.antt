@@ -19,7 +19,7 @@ use Rattle.vault_fault.specs.declared.fault.Fault.{Fault}
 use Rattle.vault_fault.specs.declared.fault.Fault.TheVariants.{AlreadyVault, Read}
 use Rattle.vault_fault.specs.declared.fault.Role.TheVariants.{Input}
 use Rattle.vault_core.proofs.DecryptionLemmas.{decryption-of, payload_of-answers}
-use Rattle.vault_core.proofs.InputLemmas.{HasAnswered, HasAnswered-read, HasAnswered-steps}
+use Rattle.vault_core.proofs.InputLemmas.{HasAnswered, HasAnswered-is_no_read, HasAnswered-steps}
 use Rattle.vault_core.proofs.InputLemmas.{HasAnswered-unless, Prepares-steps}
 use Rattle.vault_core.proofs.UnsealingLemmas.{FitsAgain, unsealing-answers}
 
@@ -60,5 +60,5 @@ module _ (limit : ℕ) (secrets : SecretList) (new : Secret) (salt input : List 
       let step = rekeying_of_payload secrets new salt in
       Prepares-steps source before after _ m n input read _ step
       (λ (r : Result Payload Fault). derivations_on secrets r + sealing_derivations (r >>= step))
-      _ _ refl refl (HasAnswered-read _ (rekeying limit secrets new salt input) rekeying-answers)
-      refl
+      _ _ refl refl
+      (HasAnswered-is_no_read _ (rekeying limit secrets new salt input) rekeying-answers) refl

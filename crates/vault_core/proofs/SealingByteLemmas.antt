@@ -1,4 +1,4 @@
--- What is sealed has bytes alone.
+-- What is sealed has only bytes.
 use Rattle.std.proofs.Common.{ℕ, ◌+◌, ◌*◌, ◌-◌, ◌%◌, ◌<◌, List, length, lit<, arith, inl, inr}
 use Rattle.std.proofs.Common.{replicate, take}
 use Rattle.std.specs.Prelude.{slice_index}

@@ -1,4 +1,4 @@
--- What unsealing an envelope answers: a plaintext of bytes, which with its padding is as long as
+-- What unsealing an envelope returns: a plaintext of bytes, which with its padding is as long as
 -- the ciphertext, or a fault.
 use Rattle.std.proofs.Common.{◌≡◌, ℕ, ◌≤◌, List, length, Some, ap, arith}
 use Rattle.std.specs.Prelude.{find}
@@ -37,13 +37,7 @@ FitsAgain-plain limit payload secret plain ciphertext found =
     record {
       bytes =
           rw (rw padding at (take-padded plain)) at (take-bytes (length plain) text deciphered);
-      fits = omega (
-        arith,
-        ap length padding,
-        length-padded plain,
-        length-counter_mode (key_schedule keys.cipher) keys.iv payload.ciphertext,
-        ciphertext.fits,
-      );
+      fits = omega (arith, ap length padding, length-padded plain, length-counter_mode);
     }
 
 pub unsealing-answers : (limit : ℕ) (secrets : SecretList) (payload : Payload)

@@ -9,8 +9,7 @@ use Rattle.vault_core.specs.declared.choice.ChoiceFault.TheVariants.{NoEncryptSe
 use Rattle.vault_core.specs.declared.choice.ChoiceFault.TheVariants.{ManyEncryptSecrets}
 use Rattle.vault_core.specs.declared.choice.ChoiceFault.TheVariants.{UnknownEncryptId}
 
--- the index, from 0, of the first secret with the label, or of the only secret where no label is
--- given
+-- the index, from 0, of the first secret with the label, or of the only secret if no label is given
 unfoldable pub chosen_index : List Secret → Option (List ℕ) → Result ℕ ChoiceFault
 chosen_index [] label = Err NoEncryptSecret
 chosen_index (only ∷ []) None = Ok 0

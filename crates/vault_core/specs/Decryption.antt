@@ -1,4 +1,4 @@
--- What `decrypt` and `view` answer.
+-- What `decrypt` and `view` return.
 use Rattle.std.specs.Prelude.{ℕ, List, Result, Ok, Err}
 use Rattle.std.specs.Result.{result_map_both}
 use Rattle.vault_text.specs.Envelope.{Payload, read_within}
@@ -25,6 +25,6 @@ abbrev pub derivations_on : SecretList → Result Payload Fault → ℕ
 derivations_on secrets (Ok payload) = tries payload (tried_order secrets payload.label)
 derivations_on secrets (Err fault) = 0
 
--- how many keys are derived to decrypt the input: none where it holds no payload
+-- how many keys are derived to decrypt the input: none if it holds no payload
 unfoldable pub decryption_derivations : ℕ → SecretList → List ℕ → ℕ
 decryption_derivations limit secrets input = derivations_on secrets (payload_of limit input)

@@ -1,4 +1,4 @@
--- What `encrypt` and `encrypt_string` answer.
+-- What `encrypt` and `encrypt_string` return.
 use Rattle.std.specs.Prelude.{ℕ, ◌==◌, ◌&&◌, nat_lt, nat_eq, Bool, if◌then◌else◌, List, length}
 use Rattle.std.specs.Prelude.{Result, Ok, Err}
 use Rattle.std.specs.List.{starts_with}

@@ -1,10 +1,10 @@
 -- In which form a vault is written.
 use Rattle.std.specs.Prelude.{ℕ, Bool, true, false, List, Option}
 use Rattle.std.specs.Option.{option_copied}
-use Rattle.vault_core.specs.declared.form.Form as rust
-use Rattle.vault_core.specs.declared.form.Form.TheVariants as variant
+use Rattle.vault_core.specs.declared.ready.Form as rust
+use Rattle.vault_core.specs.declared.ready.Form.TheVariants as variant
 
--- an envelope, or a block of YAML, where a name may be given
+-- an envelope, or a block of YAML, which may have a name
 pub data Form : Type 0 where
   Envelope : Form
   Block : Option (List ℕ) → Form

@@ -27,7 +27,7 @@ SealedUnseals =
     (secrets : SecretList) (sealing : Secret) (salt plain : List ℕ) → IsTriedFirst secrets sealing
     → unsealing secrets (sealed sealing salt plain) ≡ Ok (record { output = plain; tried = 1 })
 
--- what was sealed and written as an envelope is read, where its ciphertext is not too long
+-- what was sealed and written as an envelope is read, if its ciphertext is not too long
 abbrev pub SealedReadsBack : Type 0
 SealedReadsBack =
     (limit : ℕ) (sealing : Secret) (salt plain : List ℕ) → is_label sealing.label ≡ true
@@ -46,7 +46,7 @@ EncryptedDecrypts =
     → (secrets : SecretList) → IsTriedFirst secrets (secret_at index list)
     → decryption limit secrets ready.output ≡ Ok (record { output = input; tried = 1 })
 
--- what was rekeyed decrypts with the new secret alone, under each rule, to what it decrypted to
+-- what was rekeyed decrypts with only the new secret, under each rule, to what it decrypted to
 -- before
 abbrev pub RekeyedDecrypts : Type 0
 RekeyedDecrypts =

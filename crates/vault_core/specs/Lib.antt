@@ -6,7 +6,6 @@ pub mod Form
 pub mod Input
 pub mod Laws
 pub mod Unsealing
-pub mod Output
 pub mod Password
 pub mod Ready
 pub mod Rekeying

@@ -1,4 +1,4 @@
--- What `rekey` answers.
+-- What `rekey` returns.
 use Rattle.std.specs.Prelude.{ℕ, if◌then◌else◌, List, Result, Ok, Err}
 use Rattle.vault_text.specs.Envelope.{Payload}
 use Rattle.vault_text.specs.Steps.{◌>>=◌}

@@ -36,7 +36,7 @@ unfoldable pub text_in : Form → Payload → List ℕ
 text_in Envelope vault = written vault.label vault.salt vault.tag vault.ciphertext
 text_in (Block name) vault = block name vault.label vault.salt vault.tag vault.ciphertext
 
--- how many keys are derived to seal: one, and none where the answer is a fault
+-- how many keys are derived to seal: one, or none if the result is a fault
 abbrev pub sealing_derivations : {T : Type 0} → Result T Fault → ℕ
 sealing_derivations (Ok x) = 1
 sealing_derivations (Err fault) = 0

@@ -22,8 +22,8 @@ secret_at index secrets = slice_index_or secrets index (record { label = []; pas
 abbrev pub has_label : List ℕ → Secret → Bool
 has_label label secret = bytes_eq secret.label label
 
--- the secrets that are tried after those with the label: the others where the label is a hint,
--- none where it is required
+-- the secrets that are tried after those with the label: the others if the label is a hint, none
+-- if it is required
 abbrev pub tried_after : LabelRule → List ℕ → List Secret → List Secret
 tried_after Hint label secrets = filter (λ secret. not (has_label label secret)) secrets
 tried_after Required label secrets = []

@@ -17,13 +17,13 @@ use Rattle.vault_fault.specs.declared.fault.Fault.TheVariants.{NoSecretFits, Bad
 abbrev pub deciphered_by : Keys → List ℕ → List ℕ
 deciphered_by keys ciphertext = counter_mode (key_schedule keys.cipher) keys.iv ciphertext
 
--- the plaintext under the secret's keys; none where its padding is wrong
+-- the plaintext under the secret's keys; none if its padding is wrong
 abbrev pub plaintext_of : Payload → Secret → Option (List ℕ)
 plaintext_of payload secret =
     without_padding (deciphered_by (keys_of payload secret) payload.ciphertext)
 
--- the plaintext under the first secret in the tried order that matches; where its padding is wrong
--- no other secret is tried
+-- the plaintext under the first secret in the tried order that matches; if its padding is wrong, no
+-- other secret is tried
 unfoldable pub unsealing : SecretList → Payload → Result Ready Fault
 unsealing secrets payload =
     let order = tried_order secrets payload.label in do

@@ -4,7 +4,7 @@ ghost use Rattle.std.specs.Option.{option_copied};
 ghost use Rattle.vault_core.specs.Choice.{chosen_index, of_choice};
 ghost use Rattle.vault_core.specs.Secrets.{has_label};
 
-use crate::secret::Secret;
+use crate::secrets::Secret;
 use thiserror::Error;
 use vault_fault::Fault;
 use vault_text::Label;
@@ -32,7 +32,7 @@ impl From<ChoiceFault> for Fault {
     }
 }
 
-/// The index of the first secret with the label, or of the only one where no label is given.
+/// The index of the first secret with the label, or of the only one if no label is given.
 pub(crate) fn chosen_index(secrets: &[Secret], label: Option<&Label>) -> Result<usize, ChoiceFault>
     ensures { result ≡ chosen_index secrets.now (option_copied label.entry) }
 {

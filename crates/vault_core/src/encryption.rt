@@ -6,9 +6,8 @@ ghost use Rattle.vault_core.specs.Input.{Prepares};
 ghost use Rattle.vault_core.specs.Sealing.{sealing_derivations};
 ghost use Rattle.vault_text.specs.Limits.{IsWorkLength, limit_of};
 
-use crate::form::Form;
 use crate::input::read_plaintext;
-use crate::ready::{Output, Ready};
+use crate::ready::{Form, Output, Ready};
 use crate::sealing::seal;
 use crate::secrets::Secrets;
 use vault_fault::Fault;

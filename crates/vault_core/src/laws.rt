@@ -10,21 +10,25 @@ pub fn limits()
 {}
 
 /// Unsealing a sealed plaintext gives it back.
+#[tactic(auto, using(crate::proofs::theorems::SealedUnseals::sealed_unseals))]
 pub fn sealed_unseals()
     ensures { SealedUnseals }
 {}
 
 /// Reading the envelope of a sealed plaintext gives what was sealed.
+#[tactic(auto, using(crate::proofs::theorems::SealedReadsBack::sealed_reads_back))]
 pub fn sealed_reads_back()
     ensures { SealedReadsBack }
 {}
 
 /// Decrypting what was encrypted gives the input.
+#[tactic(auto, using(crate::proofs::theorems::RoundTrips::encrypted_decrypts))]
 pub fn encrypted_decrypts()
     ensures { EncryptedDecrypts }
 {}
 
 /// Decrypting what was rekeyed gives what decrypting gave before.
+#[tactic(auto, using(crate::proofs::theorems::RoundTrips::rekeyed_decrypts))]
 pub fn rekeyed_decrypts()
     ensures { RekeyedDecrypts }
 {}

@@ -2,9 +2,9 @@
 ghost use Rattle.std.specs.Prelude.{◌≡◌, ◌≢◌, ℕ, take, IsErr, OnOk, OnErr};
 ghost use Rattle.vault_text.specs.Failures.{CountsFailure, IsSaturated};
 ghost use Rattle.vault_fault.specs.declared.fault.Fault.TheVariants.{Write};
-ghost use Rattle.vault_core.specs.Output.{output_bytes};
+ghost use Rattle.vault_core.specs.Form.{form_of, is_block};
+ghost use Rattle.vault_core.specs.Ready.{output_bytes};
 
-use crate::form::Form;
 use crate::sealing::Sealed;
 use std::marker::Model;
 use thiserror::Error;
@@ -29,6 +29,23 @@ impl From<WriteFault> for Fault {
 impl From<SinkFailed> for WriteFault {
     fn from(_: SinkFailed) -> Self {
         WriteFault::Write
+    }
+}
+
+/// In which form a vault is written.
+#[derive(Clone, Copy, Debug)]
+pub enum Form<'a> {
+    /// An envelope, format 1.1 or 1.2.
+    Envelope,
+    /// The envelope as a YAML block for a variable, or without a name if it is absent or empty.
+    Block(Option<&'a str>),
+}
+
+impl<'a> Form<'a> {
+    pub(crate) fn is_block(self) -> bool
+        ensures { result ≡ is_block (form_of self.entry) }
+    {
+        matches!(self, Form::Block(_))
     }
 }
 
@@ -77,11 +94,9 @@ pub struct Ready<'a> {
 }
 
 impl<'a> Model for Ready<'a> {
-    ghost use Rattle.vault_core.specs.Ready.{Ready};
+    ghost use Rattle.vault_core.specs.Ready.{Ready, output_bytes};
 
     ghost Value = { Ready };
-
-    ghost use Rattle.vault_core.specs.Output.{output_bytes};
 
     ghost view = { λ r. record { output = output_bytes r.output; tried = r.tried } };
 }

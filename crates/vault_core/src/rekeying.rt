@@ -9,12 +9,10 @@ ghost use Rattle.vault_core.specs.Secrets.{Secret, tried_order};
 ghost use Rattle.vault_text.specs.Limits.{IsWorkLength, envelope_limit, limit_of};
 
 use crate::encryption::is_vault;
-use crate::form::Form;
 use crate::input::read_payload;
-use crate::ready::{Output, Ready};
+use crate::ready::{Form, Output, Ready};
 use crate::sealing::seal;
-use crate::secret::SealingSecret;
-use crate::secrets::Secrets;
+use crate::secrets::{SealingSecret, Secrets};
 use crate::unsealing::{Unsealed, unseal};
 use vault_fault::Fault;
 use vault_kdf::Meter;

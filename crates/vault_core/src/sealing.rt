@@ -3,7 +3,7 @@ ghost use Rattle.std.specs.Prelude.{◌≡◌, ◌+◌, ◌<◌, ◌≤◌, ◌^
 ghost use Rattle.vault_aes.specs.Padding.{padded_length};
 ghost use Rattle.vault_core.specs.Sealing.{sealed};
 
-use crate::secret::SealingSecret;
+use crate::secrets::SealingSecret;
 use std::marker::Model;
 use vault_aes::{Key, ctr_apply, pad};
 use vault_kdf::{Meter, derive, hmac};
@@ -31,7 +31,7 @@ impl<'a> Model for Sealed<'a> {
     } };
 }
 
-/// Seals the first `n` bytes of `work` there, where the ciphertext then lies.
+/// Seals the first `n` bytes of `work` in place.
 pub(crate) fn seal<'a>(
     work: &'a mut [u8],
     n: usize,

@@ -1,4 +1,4 @@
-//! The secrets that a vault is tried with.
+//! Secrets, and the list of those that a vault is tried with.
 ghost use Rattle.std.specs.Prelude.{◌≡◌, ◌<◌, ◌≤◌, ◌↔◌, [], ◌∷◌, ◌++◌, length, IsErr, IfOk};
 ghost use Rattle.std.specs.Prelude.{OnOk, OnErr};
 ghost use Rattle.std.specs.Option.{option_copied};
@@ -8,12 +8,70 @@ ghost use Rattle.vault_fault.specs.declared.fault.Fault.TheVariants.{TooManySecr
 ghost use Rattle.vault_fault.specs.declared.label_rule.LabelRule.TheVariants.{Hint};
 
 use crate::choice::{ChoiceFault, chosen_index};
-use crate::secret::Secret;
 use arrayvec::ArrayVec;
 use std::marker::Model;
 use thiserror::Error;
 use vault_fault::{Fault, LabelRule, SECRET_COUNT_LIMIT};
 use vault_text::Label;
+
+/// A secret to seal with: a password under a label.
+#[derive(Drop)]
+pub struct SealingSecret<'a, 'p> {
+    pub label: &'a Label,
+    pub password: &'p [u8],
+}
+
+impl<'a, 'p> Model for SealingSecret<'a, 'p> {
+    ghost use Rattle.vault_core.specs.Secrets.{Secret};
+
+    ghost Value = { Secret };
+
+    ghost view = { λ s. record { label = s.label.now; password = s.password.now } };
+}
+
+/// A secret of a list.
+#[derive(Drop)]
+pub(crate) struct Secret<'p> {
+    pub label: Label,
+    pub password: &'p [u8],
+}
+
+impl<'p> Model for Secret<'p> {
+    ghost use Rattle.vault_core.specs.Secrets.{Secret};
+
+    ghost Value = { Secret };
+
+    ghost view = { λ s. record { label = s.label; password = s.password.now } };
+}
+
+impl<'p> Secret<'p> {
+    ghost use Rattle.vault_core.specs.Secrets.{has_label};
+
+    pub(crate) fn to_seal_with(&self) -> SealingSecret<'_, 'p>
+        ensures { result ≡ self.now }
+    {
+        SealingSecret {
+            label: &self.label,
+            password: self.password,
+        }
+    }
+
+    pub(crate) fn has_label(&self, label: &Label) -> bool
+        ensures { result ≡ has_label label.now self.now }
+    {
+        self.label == *label
+    }
+}
+
+/// An unused slot of a list.
+impl<'p> Default for Secret<'p> {
+    fn default() -> Self {
+        Secret {
+            label: Label::default_label(),
+            password: b"",
+        }
+    }
+}
 
 /// Why a list takes no further secret.
 #[derive(Clone, Copy, Debug, PartialEq, Eq, Error)]
@@ -109,8 +167,8 @@ impl<'p> Secrets<'p> {
         }
     }
 
-    /// The index, from 0, of the secret to encrypt with: the first of the label, or the only one
-    /// where no label is given.
+    /// The index, from 0, of the secret to encrypt with: the first of the label, or the only one if
+    /// no label is given.
     pub fn encrypt_choice(&self, label: Option<&Label>) -> Result<usize, ChoiceFault>
         ensures choice { result ≡ chosen_index self.now.secrets (option_copied label.entry) }
         ensures within { IfOk result (λ index. index < length self.now.secrets) }

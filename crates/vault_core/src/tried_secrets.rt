@@ -5,8 +5,7 @@ ghost use Rattle.std.specs.Option.{option_map};
 ghost use Rattle.vault_core.specs.TriedSecrets.{is_in, matches, keys_of, tries};
 ghost use Rattle.vault_core.specs.Secrets.{tried_order};
 
-use crate::secret::Secret;
-use crate::secrets::Secrets;
+use crate::secrets::{Secret, Secrets};
 use vault_fault::LabelRule;
 use vault_kdf::{Keys, Meter, derive, hmac};
 use vault_text::{Label, Payload, TAG_LENGTH};
@@ -86,7 +85,7 @@ fn is_in(part: Part, label: &Label, secret: &Secret) -> bool
     }
 }
 
-/// The keys of a secret, where the tag that they give is the payload's.
+/// The keys of a secret, if the tag that they give is the payload's.
 #[tactic(auto, unfolding(crate::specs::TriedSecrets::matches))]
 fn keys_if_match(secret: &Secret, payload: &Payload, meter: &mut Meter) -> Option<Keys>
     requires { meter.old < 2 ^ 63 }
@@ -102,8 +101,8 @@ fn keys_if_match(secret: &Secret, payload: &Payload, meter: &mut Meter) -> Optio
     }
 }
 
-/// Whether two tags are one. The differences of all their bytes are collected before they are
-/// looked at, so that the loop does not end where the first difference lies.
+/// Whether two tags are equal. The differences of all their bytes are collected before they are
+/// looked at, so that the loop does not end at the first one.
 fn tags_equal(one: &[u8; TAG_LENGTH], other: &[u8; TAG_LENGTH]) -> bool
     ensures { IsTrue result ↔ (one.now ≡ other.now) }
 {

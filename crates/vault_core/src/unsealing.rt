@@ -57,7 +57,7 @@ pub(crate) fn unseal<'a>(
     }
 }
 
-/// Deciphers in place, and answers the length of the plaintext; None where its padding is wrong.
+/// Deciphers in place, and returns the length of the plaintext, or None if its padding is wrong.
 fn decipher(text: &mut [u8], keys: &Keys) -> Option<usize>
     ensures deciphered { text.new ≡ deciphered_by keys.now text.old }
     ensures plaintext { option_map (λ len. take len text.new) result ≡ without_padding text.new }

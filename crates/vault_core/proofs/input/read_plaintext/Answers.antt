@@ -1,4 +1,4 @@
-use Rattle.std.proofs.Common.{◌≡◌, ◌≤◌, ◌+◌, ◌-◌, ℕ, arith, eqb-true, inl, inr, length}
+use Rattle.std.proofs.Common.{◌≡◌, ◌≤◌, ◌+◌, ◌-◌, ℕ, arith, eqb-true, inl, length}
 use Rattle.std.proofs.Common.{length-append, length-take, rules, sym, ◌∙◌}
 use Rattle.std.proofs.lemmas.List.{nil_from_length}
 use Rattle.std.proofs.lemmas.Result.{IfOk-from_err, MatchResult-from_err}
@@ -40,14 +40,7 @@ loop-buffer-preserved g c =
     rw c.put.ensures (record {
       gives = g.met.S.Source.gives_more _ _ _ bytes piece kept.gives c.in_ok-piece.ensures.gives;
       limit = kept.limit;
-      bound = omega (
-        arith,
-        kept.limit,
-        length-append bytes piece,
-        short,
-        c.room-in-loop-buffer.ensures,
-        c.loop-buffer-test.true,
-      );
+      bound = omega (arith, length-append bytes piece);
       failures = c.in_ok-piece.ensures.failed ∙ kept.failures;
       full = search rules;
     })

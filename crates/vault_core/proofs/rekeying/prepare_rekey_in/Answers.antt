@@ -1,4 +1,4 @@
-use Rattle.std.proofs.Common.{◌≡◌, ◌+◌, Ok, Err, arith}
+use Rattle.std.proofs.Common.{Ok, Err, arith}
 use Rattle.std.proofs.lemmas.Result.{err_from_is_err_and}
 use Rattle.vault_text.specs.Limits.{limit_of}
 use Rattle.vault_core.proofs.RekeyingLemmas.{Prepares-rekeying}

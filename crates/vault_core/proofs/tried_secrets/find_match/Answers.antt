@@ -16,21 +16,16 @@ returns-then-is_some c =
     rw found.1 at (tried_order-parts payload c.args.secrets.now payload.label _ refl) in
     record {
       keys = same.keys ∙ ap (option_map (keys_of payload)) (found.1 ∙ sym order.0);
-      tried = omega (arith, same.tried, order.1);
+      tried = omega arith;
       counted = same.counted;
-      countable = omega (arith, c.requires, same.counted, same.tried, list.fits, tries-filter);
+      countable = omega (arith, tries-filter);
     }
 
 pub find_match_in-others-requires : goal.find_match_in-others-requires
-find_match_in-others-requires c =
-    let same = c.find_match_in-same.ensures in
-    omega (arith, same.counted, same.tried, c.as_slice-list.ensures.fits, tries-filter)
+find_match_in-others-requires c = omega (arith, tries-filter)
 
 pub overflow_add-result : goal.overflow_add-result
-overflow_add-result c =
-    let same = c.find_match_in-same.ensures in
-    let others = c.find_match_in-others.ensures in
-    omega (arith, same.tried, others.tried, c.as_slice-list.ensures.fits, tries-filter)
+overflow_add-result c = omega (arith, tries-filter)
 
 pub returns-in-Hint : goal.returns-in-Hint
 returns-in-Hint c =
@@ -44,18 +39,9 @@ returns-in-Hint c =
     (sym c.rule.ensures ∙ c.in-Hint.is)) in
     record {
       keys = others.keys ∙ ap (option_map (keys_of payload)) (sym order.0);
-      tried = omega (arith, same.tried, others.tried, order.1);
-      counted = omega (arith, same.counted, others.counted);
-      countable = omega (
-        arith,
-        c.requires,
-        same.counted,
-        same.tried,
-        others.counted,
-        others.tried,
-        list.fits,
-        tries-filter,
-      );
+      tried = omega arith;
+      counted = omega arith;
+      countable = omega (arith, tries-filter);
     }
 
 pub returns-in-Required : goal.returns-in-Required
@@ -69,7 +55,7 @@ returns-in-Required c =
     (sym c.rule.ensures ∙ c.in-Required.is)) in
     record {
       keys = same.keys ∙ ap (option_map (keys_of payload)) (none ∙ sym order.0);
-      tried = omega (arith, same.tried, order.1, tries-nil payload);
+      tried = omega (arith, tries-nil payload);
       counted = same.counted;
-      countable = omega (arith, c.requires, same.counted, same.tried, list.fits, tries-filter);
+      countable = omega (arith, tries-filter);
     }

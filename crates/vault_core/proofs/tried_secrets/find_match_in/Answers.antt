@@ -18,11 +18,7 @@ returns-then-is_some-clause-tried c =
     let holds : matches payload secret ≡ true =
     sym (found-if _ _ _ c.keys_if_match-keys.ensures.keys) ∙ sym c.is_some.ensures
     ∙ c.if-is_some.true in
-    omega (
-      arith,
-      c.loop-secret.invariant.tried,
-      ap (tries payload) next ∙ tries-cons_yes payload secret _ holds,
-    )
+    omega (arith, ap (tries payload) next ∙ tries-cons_yes payload secret _ holds)
 
 pub loop-secret-preserved : goal.loop-secret-preserved
 loop-secret-preserved c =
@@ -37,9 +33,9 @@ loop-secret-preserved c =
           let next = rw (rw is_in at w.if-is_in.false) at step in
           record {
             found = ap (find (matches payload)) (sym next) ∙ kept.found;
-            tried = omega (arith, w.tried-is, kept.tried, ap (tries payload) next);
-            counted = omega (arith, w.meter-is, w.tried-is, kept.counted);
-            few = omega (arith, w.tried-is, kept.few);
+            tried = omega (arith, ap (tries payload) next);
+            counted = omega arith;
+            few = omega arith;
           }
       | then-is_in+else-is_some w ↦
           let next = rw (rw is_in at w.if-is_in.true) at step in
@@ -48,20 +44,9 @@ loop-secret-preserved c =
           ∙ w.if-is_some.false in
           record {
             found = sym (rw fails at (ap (find (matches payload)) next)) ∙ kept.found;
-            tried = omega (
-              arith,
-              w.tried-is,
-              kept.tried,
-              ap (tries payload) next ∙ tries-cons_no payload secret _ fails,
-            );
-            counted = omega (
-              arith,
-              w.meter-is,
-              w.tried-is,
-              w.keys_if_match-keys.ensures.counted,
-              kept.counted,
-            );
-            few = omega (arith, w.tried-is, kept.few);
+            tried = omega (arith, ap (tries payload) next ∙ tries-cons_no payload secret _ fails);
+            counted = omega arith;
+            few = omega arith;
           }
     ]
 

@@ -1,4 +1,4 @@
-use Rattle.vault_core.proofs.TriedSecretsTagLemmas.{CarriesPrefixesOver}
+use Rattle.vault_core.proofs.TriedSecretsLemmas.{CarriesPrefixesOver}
 use Rattle.vault_core.proofs.tried_secrets.tags_equal.Given as goal
 
 abbrev pub invariant-loop-i : goal.invariant-loop-i
