@@ -8,7 +8,7 @@ use std::process::ExitCode;
 use std::{env, fs, io};
 use vault_cli::{Fault, Role, WriteSink, drive, reject_words, report};
 
-/// The arguments. They are pushed one by one, since `collect` goes on where the room for all of
+/// The arguments. They are pushed one by one, since `collect` goes on if the room for all of
 /// them is refused.
 fn words(rt: &(impl Env + AllocGlobal)) -> io::Result<Vec<String>> {
     let mut words = Vec::new(rt.alloc());
@@ -26,14 +26,14 @@ fn open_directory<F: Files>(files: &F) -> io::Result<F::File> {
         .or_else(|_| fs::open(files, "."))
 }
 
-fn is_closed(stream: BorrowedFd<'_>) -> bool {
-    stream.try_clone_to_owned().is_err()
-}
-
 /// A directory in the place of a stream, if that is closed: of the free descriptors, an open takes
 /// the lowest.
-fn occupy<F: Files>(files: &F, closed: bool, fault: Fault) -> Result<Option<F::File>, Fault> {
-    if !closed {
+fn occupy<F: Files>(
+    files: &F,
+    stream: BorrowedFd<'_>,
+    fault: Fault,
+) -> Result<Option<F::File>, Fault> {
+    if stream.try_clone_to_owned().is_ok() {
         return Ok(None);
     }
     match open_directory(files) {
@@ -42,13 +42,14 @@ fn occupy<F: Files>(files: &F, closed: bool, fault: Fault) -> Result<Option<F::F
     }
 }
 
-/// Occupies descriptors 0 to 2 where they are closed, so that no file that is opened later is taken
+/// Occupies descriptors 0 to 2 if they are closed, so that no file that is opened later is taken
 /// for a standard stream.
 fn occupy_closed_descriptors<F: Files>(
     files: &F,
-    closed: [bool; 3],
+    stdin: BorrowedFd<'_>,
+    stdout: BorrowedFd<'_>,
+    stderr: BorrowedFd<'_>,
 ) -> Result<[Option<F::File>; 3], Fault> {
-    let [stdin, stdout, stderr] = closed;
     Ok([
         occupy(files, stdin, Fault::Read(Role::Input))?,
         occupy(files, stdout, Fault::Write)?,
@@ -57,19 +58,12 @@ fn occupy_closed_descriptors<F: Files>(
 }
 
 fn main(rt: HostRuntime) -> ExitCode {
-    let closed = [
-        is_closed(rt.stdin().as_fd()),
-        is_closed(rt.stdout().as_fd()),
-        is_closed(rt.stderr().as_fd()),
-    ];
-    let directories = occupy_closed_descriptors(&rt, closed);
+    let (stdin, stdout, stderr) = (rt.stdin(), rt.stdout(), rt.stderr());
+    let directories = occupy_closed_descriptors(&rt, stdin.as_fd(), stdout.as_fd(), stderr.as_fd());
     let status = match (&directories, words(&rt)) {
-        (Err(fault), _) => report(*fault, &mut WriteSink::new(rt.stderr())),
-        (Ok(_), Err(error)) => reject_words(&error, &mut WriteSink::new(rt.stderr())),
-        (Ok(_), Ok(words)) => {
-            let words = words.as_slice();
-            drive(&rt, rt.alloc(), words, rt.stdin(), rt.stdout(), rt.stderr())
-        }
+        (Err(fault), _) => report(*fault, &mut WriteSink::new(stderr)),
+        (Ok(_), Err(error)) => reject_words(&error, &mut WriteSink::new(stderr)),
+        (Ok(_), Ok(words)) => drive(&rt, rt.alloc(), words.as_slice(), stdin, stdout, stderr),
     };
     ExitCode::from(status.code())
 }

@@ -1,6 +1,5 @@
 -- The answer to a request by what is prepared, and what follows where its input is asked for.
 use Rattle.std.proofs.Common.{◌≡◌, ◌≢◌, ℕ, List, Option, Some, None, Result, Ok, Err, refl, true}
-use Rattle.std.proofs.Common.{false}
 use Rattle.std.specs.Prelude.{unwrap_or, is_some}
 use Rattle.vault_text.specs.Steps.{◌>>=◌}
 use Rattle.vault_fault.specs.declared.fault.Fault.{Fault}
@@ -47,7 +46,7 @@ module _ (limit : ℕ) (request : Request) (contents : List (List ℕ)) (salt in
 
 -- where a source is asked there is no STRING
 pub requested-no_string : (plans : Result Task Fault) (string : Option (List ℕ)) (limit : ℕ)
-    → is_some (input_needed_by plans string limit) ≡ true → is_some string ≡ false
+    → is_some (input_needed_by plans string limit) ≡ true → string ≡ None
 requested-no_string (Err fault) string limit requested = absurd cc
 requested-no_string (Ok task) (Some string) limit requested = absurd cc
 requested-no_string (Ok task) None limit requested = refl

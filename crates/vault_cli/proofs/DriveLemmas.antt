@@ -19,14 +19,13 @@ use Rattle.vault_cli.specs.runs.Ending.{Ends, EndsUnread, Finishes, Output, to_p
 use Rattle.vault_cli.specs.runs.FileContents.{AtPath, request_paths, fault_in, prefix_in}
 use Rattle.vault_cli.specs.runs.FileContents.{secret_paths}
 use Rattle.vault_cli.specs.Loaded.{ContentsFound, RefusedBy, SaltFound}
-use Rattle.vault_cli.specs.runs.ReportLine.{line_of}
+use Rattle.vault_cli.specs.runs.Reports.{Says, line_of}
 use Rattle.vault_cli.specs.runs.Answer.{Answer, answered, input_needed_by, input_needed}
 use Rattle.vault_cli.specs.runs.Answer.{input_limit, performed, ready_by, reported, run_answer}
 use Rattle.vault_cli.specs.runs.Answer.{run_answer_within}
 use Rattle.vault_cli.specs.Access.{access_of, output_access}
 use Rattle.vault_cli.specs.Program.{Files, answer_to, input_in, can_open_input, output_path}
 use Rattle.vault_cli.specs.Program.{unless_file}
-use Rattle.vault_cli.specs.runs.Reports.{Says}
 use Rattle.vault_request.specs.Request.{Request}
 use Rattle.vault_request.specs.Settled.{Settles}
 use Rattle.vault_cli.specs.runs.Status.{status_of}

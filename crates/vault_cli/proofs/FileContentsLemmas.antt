@@ -1,10 +1,12 @@
 -- Files that are found one after the other, and the contents that they give.
 use Rattle.std.proofs.Common.{◌≡◌, ℕ, ◌+◌, ◌<◌, ◌≤◌, List, [], ◌∷◌, ◌++◌, length, take, drop}
-use Rattle.std.proofs.Common.{get_or, Some, Result, Ok, Err, refl, ap, ◌∙◌, append_assoc}
+use Rattle.std.proofs.Common.{get_or, Some, Result, Ok, Err, ap, ◌∙◌, append_assoc, arith}
+use Rattle.std.proofs.Common.{Global, Vec, set, vec_len}
 use Rattle.std.specs.Option.{option_map}
-use Rattle.std.specs.Prelude.{slice_get}
+use Rattle.std.specs.Prelude.{All, slice_get}
 use Rattle.std.proofs.lemmas.List.{append-nil, drop_all, drop_more, get_or-map, length-map}
-use Rattle.std.proofs.lemmas.List.{take_more}
+use Rattle.std.proofs.lemmas.List.{drop-set-lt, take_more}
+use Rattle.std.proofs.lemmas.List.Elements.{All-head, All-tail}
 use Rattle.std.proofs.lemmas.Option.{slice_get-get_or}
 use Rattle.vault_files.specs.File.{FileState, Found}
 use Rattle.vault_fault.specs.declared.fault.Fault.{Fault}
@@ -15,7 +17,7 @@ use Rattle.vault_request.specs.Request.{Request, SecretFile, files_of}
 use Rattle.vault_cli.specs.runs.FileContents.{contents_of, secret_paths}
 use Rattle.vault_cli.specs.Loaded.{ContentsFound, PrefixFound, SecretsRefuse}
 use Rattle.vault_cli.specs.OpenedPaths.{opened_secrets}
-use Rattle.vault_cli.proofs.TaskLemmas.{no_file, with_prefix, with_prefix-more, with_prefix-none}
+use Rattle.vault_cli.proofs.TaskLemmas.{no_file, with_prefix, with_prefix-more}
 
 pub Found-some : (finds : List ℕ → FileState → Type 0)
     → ((path : List ℕ) → (file : FileState) × finds path file) → (paths : List (List ℕ))
@@ -34,9 +36,6 @@ module _ (finds : List ℕ → FileState → Type 0) (paths : List (List ℕ)) w
       → (files : List FileState) × Found finds paths files
       × (contents_of files ≡ with_prefix contents (contents_of rest))
       × (opened_secrets paths files ≡ take i paths ++ opened_secrets (drop i paths) rest)
-
-  pub GivesPrefix-none : GivesPrefix 0 []
-  GivesPrefix-none = λ rest found. (rest, found, with_prefix-none (contents_of rest), refl)
 
   -- all files gave their bytes
   pub ContentsFound-all : (i : ℕ) (contents : List (List ℕ)) → length paths ≤ i
@@ -94,3 +93,18 @@ pub PrefixFound-before : (finds later : FileState → Type 0)
     → PrefixFound finds role limit answer
 PrefixFound-before finds later back role room limit answer e (file, found, same) =
     (file, back file found, rw e at same)
+
+-- a buffer for a password file, one byte longer than is taken
+abbrev pub IsLong : Vec ℕ Global → Type 0
+IsLong buf = vec_len buf ≡ PASSWORD_FILE_LIMIT + 1
+
+-- the buffer at the index is long, and so are those after it when it is filled
+pub next-long : (bufs : List (Vec ℕ Global)) (i : ℕ) (buf new : Vec ℕ Global) → i < length bufs
+    → All IsLong (drop i bufs)
+    → IsLong (get_or bufs i buf) × All IsLong (drop (i + 1) (set bufs i new))
+next-long bufs i buf new inside long =
+    let rest = rw (drop_more bufs i buf inside) at long in (
+      All-head IsLong (get_or bufs i buf) (drop (i + 1) bufs) rest,
+      rw (drop-set-lt (i + 1) bufs i new (omega arith))
+          (All-tail IsLong (get_or bufs i buf) (drop (i + 1) bufs) rest),
+    )

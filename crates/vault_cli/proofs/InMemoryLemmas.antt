@@ -26,9 +26,8 @@ use Rattle.vault_cli.specs.InMemory.{Change, EndsInMemory, HoldsPrefix, Holds, I
 use Rattle.vault_cli.specs.InMemory.{IsFinished, IsKept, Received, Reported, Stands, Taken}
 use Rattle.vault_cli.specs.InMemory.{change, stands_after}
 use Rattle.vault_cli.specs.runs.Ending.{Ends, Finishes, Output, Receives, to_path}
-use Rattle.vault_cli.specs.runs.ReportLine.{line_of}
+use Rattle.vault_cli.specs.runs.Reports.{Reports, Says, line_of}
 use Rattle.vault_cli.specs.runs.Answer.{Answer}
-use Rattle.vault_cli.specs.runs.Reports.{Reports, Says}
 use Rattle.vault_cli.specs.declared.runs.status.Status.{Status}
 use Rattle.vault_cli.specs.declared.runs.status.Status.TheVariants.{OutOfMemory}
 use Rattle.vault_cli.proofs.ProgramLemmas.{IsOfPrefix, answer-prefix, drives-in}

@@ -10,7 +10,6 @@ pub mod AnswerLemmas
 pub mod PerformedLemmas
 pub mod PlannedLemmas
 pub mod ProgramLemmas
-pub mod ReservedLemmas
 pub mod EscapedLemmas
 pub mod StatusLemmas
 pub mod TaskLemmas

@@ -54,10 +54,6 @@ abbrev pub with_prefix : {A : Type 0} → List A → Result (List A) Fault → R
 with_prefix prefix (Ok rest) = Ok (prefix ++ rest)
 with_prefix prefix (Err fault) = Err fault
 
-pub with_prefix-none : {A : Type 0} (rest : Result (List A) Fault) → rest ≡ with_prefix [] rest
-with_prefix-none (Ok rest) = refl
-with_prefix-none (Err fault) = refl
-
 -- one more before it
 pub with_prefix-more : {A : Type 0} (prefix : List A) (one : A) (rest : Result (List A) Fault)
     → with_prefix prefix (rest >>= λ others. Ok (one ∷ others))

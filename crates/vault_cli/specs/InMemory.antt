@@ -12,7 +12,7 @@ use Rattle.vault_files.specs.Memory.{StoreState, file_at, is_output_at, stands_a
 use Rattle.vault_fault.specs.declared.fault.Fault.TheVariants.{Memory, Write}
 use Rattle.vault_request.specs.Settled.{requested_by}
 use Rattle.vault_cli.specs.Program.{Files, files_in}
-use Rattle.vault_cli.specs.runs.ReportLine.{line_of}
+use Rattle.vault_cli.specs.runs.Reports.{line_of}
 use Rattle.vault_cli.specs.runs.Answer.{Answer}
 use Rattle.vault_cli.specs.declared.runs.status.Status.{Status}
 use Rattle.vault_cli.specs.declared.runs.status.Status.TheVariants.{DeviceFailed, OutOfMemory}

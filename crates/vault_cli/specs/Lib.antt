@@ -5,7 +5,6 @@ pub mod Explained
 pub mod Escaped
 pub mod Program
 pub mod OpenedPaths
-pub mod Reserved
 pub mod Drive
 pub mod Loaded
 pub mod System

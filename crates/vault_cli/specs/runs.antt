@@ -2,7 +2,6 @@ pub mod Ending
 pub mod FileContents
 pub mod Answer
 pub mod Performed
-pub mod ReportLine
 pub mod Reports
 pub mod Run
 pub mod Status

@@ -1,4 +1,4 @@
-//! What the program says where its arguments do not parse.
+//! What the program says if its arguments do not parse.
 ghost use Rattle.std.specs.Prelude.{◌≡◌, ◌≢◌, ◌⊎◌, ℕ, [], List, All, IfOk, MatchOption, map, true};
 ghost use Rattle.std.specs.IoError.{error_kind};
 ghost use Rattle.std.specs.String.{string_bytes};
@@ -10,8 +10,7 @@ ghost use Rattle.vault_fault.specs.declared.fault.Fault.TheVariants.{Memory};
 ghost use Rattle.vault_cli.specs.Call.{sink};
 ghost use Rattle.vault_cli.specs.Escaped.{escaped_text};
 ghost use Rattle.vault_cli.specs.Explained.{Explains, IsShown};
-ghost use Rattle.vault_cli.specs.runs.ReportLine.{line_of, not_text_line};
-ghost use Rattle.vault_cli.specs.runs.Reports.{Reports};
+ghost use Rattle.vault_cli.specs.runs.Reports.{Reports, line_of, not_text_line};
 
 use crate::escaping::escaped_words;
 use crate::runs::{Status, report, write_text};
@@ -24,7 +23,7 @@ use vault_request::parse;
 use vault_text::{Sink, SinkFailed, Stage};
 
 /// Says on `err` that an argument is not UTF-8, or that there is no memory for the arguments, and
-/// answers the status of that. A failure of `err` changes nothing else.
+/// returns the status of that. A failure of `err` changes nothing else.
 pub fn reject_words<E: Sink>(error: &io::Error, err: &mut E) -> Status
     requires { E.stage err.old ≡ Stage.Unbegun }
     ensures memory { error_kind error.now ≡ OutOfMemory

@@ -20,7 +20,7 @@ use vault_text::{MemSink, MemSource, Sink, Stage};
 /// All that the program does, as `drive_over`, over files, an input and sinks in memory. The files
 /// that it finds are those at the paths of its arguments, so that arguments, files and
 /// input determine its answer. `MemFiles::content` and `MemSink::bytes` return what is held
-/// afterwards, and `MemFiles::log`, where `keep_log` has begun one, which paths were opened.
+/// afterwards, and `MemFiles::log`, if `keep_log` has begun one, which paths were opened.
 pub fn drive_in_memory(
     files: &mut MemFiles<'_>,
     alloc: Global,

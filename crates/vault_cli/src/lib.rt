@@ -20,7 +20,6 @@
 //! ```
 #![tactic(auto)]
 
-mod access;
 mod escaping;
 mod explaining;
 mod in_memory;

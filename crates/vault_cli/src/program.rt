@@ -1,5 +1,6 @@
 //! What the program does with its arguments, its files and its standard streams.
-ghost use Rattle.std.specs.Prelude.{◌≡◌, ◌≢◌, [], Ok, Some, is_some, length, map, true};
+ghost use Rattle.std.specs.Prelude.{◌≡◌, ◌≢◌, ◌≤◌, [], Ok, Some, is_some, length, map, true};
+ghost use Rattle.std.specs.Prelude.{vec_capacity, vec_len};
 ghost use Rattle.std.specs.Option.{option_map};
 ghost use Rattle.std.specs.String.{string_bytes};
 ghost use Rattle.clap.specs.Words.{fault_of, subcommand_rows_of};
@@ -15,16 +16,15 @@ ghost use Rattle.vault_cli.specs.Program.{answer_to, program};
 ghost use Rattle.vault_request.specs.Request.{files_of};
 ghost use Rattle.vault_request.specs.Settled.{requested, requested_by};
 
-use crate::access::output_access;
 use crate::explaining::explain;
-use crate::loading::{Loaded, load};
-use crate::reserving::{Reserved, reserve};
-use crate::runs::{Job, Status, report, run_job};
+use crate::loading::load;
+use crate::reserving::{RunMemory, reserve};
+use crate::runs::{Status, report, run_in};
 use clap::ArgMatches;
 use std::alloc::Global;
 use vault_core::Fault;
-use vault_files::FileSystem;
-use vault_request::{Request, parse, settle};
+use vault_files::{Access, FileSystem};
+use vault_request::{CommandName, Request, parse, settle};
 use vault_text::{CIPHERTEXT_LIMIT, Sink, Source, Stage, TextMemory};
 
 /// All that the program does: parses the words, of which the first is the program's name, settles
@@ -113,58 +113,35 @@ fn drive_request<F: FileSystem, S: Source, K: Sink, E: Sink>(
     ensures memory { result ≡ Status.OutOfMemory
         → (files.new ≡ files.old) × (src.new ≡ src.old) }
 {
-    let reserved = match reserve(alloc, request) {
-        Ok(reserved) => reserved,
+    let mut memory = match reserve(alloc, request) {
+        Ok(memory) => memory,
         Err(error) => return report(Fault::from(error), err),
     };
-    let Reserved {
-        mut text,
-        buffers,
-        output,
-    } = reserved;
-    let found = match load(files, request, buffers) {
-        Ok(found) => found,
-        Err(fault) => return report(fault, err),
-    };
-    let Loaded {
-        secret_files,
-        salt,
-        input,
-    } = found;
-    let secret_files = secret_files.as_slice();
-    let salt = salt.as_slice();
-    let memory = TextMemory::reserved(&mut text, CIPHERTEXT_LIMIT);
-    let job = Job {
-        request,
-        secret_files,
-        salt,
-        memory,
-    };
-    match input {
-        Some(mut reader) => run_to_output(files, output, job, &mut reader, out, err),
-        None => run_to_output(files, output, job, src, out, err),
+    match load(files, request, &mut memory.secret_files, &mut memory.salt) {
+        Ok(Some(mut reader)) => run_to_output(files, request, memory, &mut reader, out, err),
+        Ok(None) => run_to_output(files, request, memory, src, out, err),
+        Err(fault) => report(fault, err),
     }
 }
 
-/// Runs a request, whose output goes to its path, where it names one.
+/// Runs a request, whose output goes to its path, if it names one.
 fn run_to_output<F: FileSystem, S: Source, K: Sink, E: Sink>(
     files: &mut F,
-    output: Option<String>,
-    job: Job<'_, '_>,
+    request: &Request,
+    memory: RunMemory,
     src: &mut S,
     out: &mut K,
     err: &mut E,
 ) -> Status
-    requires files { length job.secret_files.now ≡ length (files_of job.request.now) }
-    requires empty { job.memory.bytes ≡ [] }
-    requires room { job.memory.limit ≡ CIPHERTEXT_LIMIT }
-    requires output { option_map string_bytes output ≡ job.request.now.output }
+    requires text { CIPHERTEXT_LIMIT ≤ vec_capacity memory.text }
+    requires count { vec_len memory.secret_files ≡ length (files_of request.now) }
+    requires output { option_map string_bytes memory.output ≡ request.now.output }
     requires files_unbegun { F.stage files.old ≡ Stage.Unbegun }
     requires out_unbegun { K.stage out.old ≡ Stage.Unbegun }
     requires err_unbegun { E.stage err.old ≡ Stage.Unbegun }
-    ensures ends { let request = job.entry.request.now in
-        let contents = map (λ file. file.items) job.entry.secret_files.now in
-        let salt = job.entry.salt.now in
+    ensures ends { let request = request.now in
+        let contents = map (λ file. file.items) memory.secret_files.items in
+        let salt = memory.salt.items in
         let files = store F.FileSystem files.old files.new in
         let out = sink K.Sink out.old out.new in
         Ends (to_path request.output (output_access request.command) files out)
@@ -172,11 +149,29 @@ fn run_to_output<F: FileSystem, S: Source, K: Sink, E: Sink>(
         (input_needed PLAINTEXT_LIMIT request contents salt) (run_answer request contents salt) }
     ensures memory_suffices { result ≢ Status.OutOfMemory }
 {
+    let RunMemory {
+        mut text,
+        secret_files,
+        salt,
+        output,
+    } = memory;
+    let text = TextMemory::reserved(&mut text, CIPHERTEXT_LIMIT);
+    let (secret_files, salt) = (secret_files.as_slice(), salt.as_slice());
     match output {
         Some(path) => {
-            files.set_output(path, output_access(job.request.command()));
-            run_job(job, src, files, err)
+            files.set_output(path, output_access(request.command()));
+            run_in(request, secret_files, salt, text, src, files, err)
         }
-        None => run_job(job, src, out, err),
+        None => run_in(request, secret_files, salt, text, src, out, err),
+    }
+}
+
+/// The permissions of an output that exists already: plaintext is for its owner.
+fn output_access(command: CommandName) -> Access
+    ensures { result ≡ output_access command }
+{
+    match command {
+        CommandName::Decrypt | CommandName::View => Access::OwnerOnly,
+        CommandName::Encrypt | CommandName::EncryptString | CommandName::Rekey => Access::Kept,
     }
 }

@@ -4,8 +4,8 @@ ghost use Rattle.std.specs.Prelude.{vec_capacity, vec_len};
 ghost use Rattle.std.specs.Option.{option_map};
 ghost use Rattle.std.specs.String.{string_bytes};
 ghost use Rattle.vault_core.specs.declared.limits.TheConstants.{PASSWORD_FILE_LIMIT};
+ghost use Rattle.vault_request.specs.Request.{files_of};
 ghost use Rattle.vault_text.specs.declared.limits.TheConstants.{CIPHERTEXT_LIMIT};
-ghost use Rattle.vault_cli.specs.Reserved.{HasRoomFor};
 ghost use Rattle.vault_cli.specs.declared.limits.TheConstants.{SEALING_SALT_LENGTH};
 
 use crate::limits::SEALING_SALT_LENGTH;
@@ -17,46 +17,42 @@ use vault_text::CIPHERTEXT_LIMIT;
 /// How much of the stack a run takes below `reserve`, with some to spare, in bytes.
 const STACK_LENGTH: usize = 36_864;
 
-/// Memory for what is read of the files of a request: one buffer for each password file, the list
-/// that its contents are put into, and a buffer for the salt.
+/// The memory of a run: reserved before any file is opened, then filled.
 #[derive(Drop)]
-pub(crate) struct Buffers {
-    pub unread: Vec<Vec<u8>>,
-    pub contents: Vec<Vec<u8>>,
-    pub salt: Vec<u8>,
-}
-
-/// Memory for the longest text, for the files, and for the path of the output.
-#[derive(Drop)]
-pub(crate) struct Reserved {
+pub(crate) struct RunMemory {
+    /// Room for the longest text.
     pub text: Vec<u8>,
-    pub buffers: Buffers,
+    /// A buffer for each password file, one byte longer than is taken; then what the file holds.
+    pub secret_files: Vec<Vec<u8>>,
+    pub salt: Vec<u8>,
+    /// The path of the output.
     pub output: Option<String>,
 }
 
-/// All memory that a request needs. The stack is touched, too: one that is too small ends the
-/// program here, before any file is opened.
-pub(crate) fn reserve(alloc: Global, request: &Request) -> Result<Reserved, AllocError>
-    ensures text { IfOk result (λ reserved. CIPHERTEXT_LIMIT ≤ vec_capacity reserved.text) }
-    ensures buffers { IfOk result (λ reserved. HasRoomFor request.now reserved.buffers) }
-    ensures output { IfOk result (λ reserved.
-        option_map string_bytes reserved.output ≡ request.now.output) }
+/// Reserves all memory that a request needs. The stack is touched, too: one that is too small ends
+/// the program here, before any file is opened.
+pub(crate) fn reserve(alloc: Global, request: &Request) -> Result<RunMemory, AllocError>
+    ensures text { IfOk result (λ memory. CIPHERTEXT_LIMIT ≤ vec_capacity memory.text) }
+    ensures count { IfOk result (λ memory.
+        vec_len memory.secret_files ≡ length (files_of request.now)) }
+    ensures long { IfOk result (λ memory.
+        All (λ buf. vec_len buf ≡ PASSWORD_FILE_LIMIT + 1) memory.secret_files.items) }
+    ensures salt { IfOk result (λ memory. vec_len memory.salt ≡ SEALING_SALT_LENGTH) }
+    ensures output { IfOk result (λ memory.
+        option_map string_bytes memory.output ≡ request.now.output) }
 {
     let text = Vec::with_capacity(alloc, CIPHERTEXT_LIMIT)?;
     let mut salt = vec![in alloc; 0; SEALING_SALT_LENGTH]?;
     touch_stack(request.files(), salt.as_mut_slice());
-    let buffers = Buffers {
-        unread: password_buffers(alloc, request.files())?,
-        contents: Vec::with_capacity(alloc, request.files())?,
-        salt,
-    };
+    let secret_files = password_buffers(alloc, request.files())?;
     let output = match request.output() {
         Some(path) => Some(String::from_str(alloc, path)?),
         None => None,
     };
-    Ok(Reserved {
+    Ok(RunMemory {
         text,
-        buffers,
+        secret_files,
+        salt,
         output,
     })
 }

@@ -23,11 +23,11 @@ pub fn drive<'a, F: Files, R: Read + Drop, O: Write + Drop, E: Write + Drop>(
     stdout: O,
     stderr: E,
 ) -> Status
-    ensures driven { MayBeDriven
-        (device_terms ⟦<HostFiles<&'a F> as FileSystem>⟧ ⟦<ReadSource<R> as Source>⟧
-        ⟦<WriteSink<O> as Sink>⟧ ⟦<WriteSink<E> as Sink>⟧)
-        (new_devices (new_host rt.entry) (R.remaining stdin) (O.contents stdout)
-        (E.contents stderr)) result (map string_bytes words.now) }
+    ensures driven { let terms = device_terms ⟦<HostFiles<&'a F> as FileSystem>⟧
+        ⟦<ReadSource<R> as Source>⟧ ⟦<WriteSink<O> as Sink>⟧ ⟦<WriteSink<E> as Sink>⟧ in
+        let devices = new_devices (new_host rt.entry) (R.remaining stdin) (O.contents stdout)
+        (E.contents stderr) in
+        MayBeDriven terms devices result (map string_bytes words.now) }
 {
     let mut files = HostFiles::new(rt);
     let mut src = ReadSource::new(stdin);

@@ -13,7 +13,7 @@ use Rattle.vault_core.specs.Ready.{Ready}
 use Rattle.vault_core.specs.Rekeying.{rekeying}
 use Rattle.vault_fault.specs.declared.fault.Fault.{Fault}
 use Rattle.vault_request.specs.CommandName.{encrypts}
-use Rattle.vault_cli.specs.runs.ReportLine.{line_of}
+use Rattle.vault_cli.specs.runs.Reports.{line_of}
 use Rattle.vault_request.specs.Request.{Request}
 use Rattle.vault_cli.specs.runs.Status.{status_of}
 use Rattle.vault_cli.specs.runs.Task as task

@@ -7,9 +7,8 @@ use Rattle.vault_core.specs.Input.{IsReadToEndOrPastLimit}
 use Rattle.vault_fault.specs.declared.fault.Fault.TheVariants.{Memory, Read, Write}
 use Rattle.vault_fault.specs.declared.fault.Role.TheVariants.{Input}
 use Rattle.vault_cli.specs.Call.{SinkCall, SourceCall, StoreCall}
-use Rattle.vault_cli.specs.runs.ReportLine.{line_of}
+use Rattle.vault_cli.specs.runs.Reports.{Says, line_of}
 use Rattle.vault_cli.specs.runs.Answer.{Answer}
-use Rattle.vault_cli.specs.runs.Reports.{Says}
 use Rattle.vault_cli.specs.declared.runs.status.Status.{Status}
 use Rattle.vault_cli.specs.declared.runs.status.Status.TheVariants.{DeviceFailed, OutOfMemory}
 

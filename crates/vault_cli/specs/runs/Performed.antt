@@ -1,5 +1,5 @@
--- How a task is performed: on the STRING of a request, or on what a source gives.
-use Rattle.std.specs.Prelude.{◌≡◌, List, ℕ, Option, Some, None, Result}
+-- How a task is performed on what a source gives.
+use Rattle.std.specs.Prelude.{List, ℕ, Result}
 use Rattle.vault_core.specs.Input.{ReadsThenAnswers}
 use Rattle.vault_core.specs.Ready.{Ready}
 use Rattle.vault_fault.specs.declared.fault.Fault.{Fault}
@@ -9,17 +9,8 @@ use Rattle.vault_cli.specs.runs.Task.{Task}
 
 module _ {S : Type 0} (src : SourceCall S) (limit : ℕ) (task : Task)
     (result : Result Ready Fault) where
-  -- on this text
-  abbrev pub IsPerformedOn : List ℕ → Type 0
-  IsPerformedOn text = result ≡ performed limit task text
-
   -- on what the source gave, unless it failed
   abbrev pub PerformsOnInput : Type 0
   PerformsOnInput =
       (input : List ℕ) × ReadsThenAnswers src.terms src.old src.new (task_limit limit task) input
       result (performed limit task input)
-
-  -- on the STRING, where there is one: then the source is left alone
-  abbrev pub Performs : Option (List ℕ) → Type 0
-  Performs (Some string) = (src.new ≡ src.old) × IsPerformedOn string
-  Performs None = PerformsOnInput

@@ -1,8 +1,19 @@
--- What a sink has taken that was to take a line.
-use Rattle.std.specs.Prelude.{◌≡◌, ℕ, List, [], ◌∷◌, take}
+-- The lines on standard error, of a fault and of arguments that are not UTF-8, and what a sink has
+-- taken that was to take one.
+use Rattle.std.specs.Prelude.{◌≡◌, ℕ, List, [], ◌∷◌, ◌++◌, codes, take}
 use Rattle.vault_text.specs.Failures.{HasRisen}
 use Rattle.vault_text.specs.declared.sink.Stage.TheVariants.{Finished}
+use Rattle.vault_fault.specs.Fault.{text_of}
+use Rattle.vault_fault.specs.declared.fault.Fault.{Fault}
 use Rattle.vault_cli.specs.Call.{SinkCall}
+
+-- `ERROR! `, the text, LF
+abbrev pub line_of : Fault → List ℕ
+line_of fault = codes "ERROR! " ++ text_of fault ++ 10 ∷ []
+
+-- the line on arguments that are not UTF-8
+abbrev pub not_text_line : List ℕ
+not_text_line = codes "error: an argument is not UTF-8" ++ 10 ∷ []
 
 module _ {E : Type 0} (err : SinkCall E) where
   -- the line, after which the sink was finished, or a prefix of it where the sink failed

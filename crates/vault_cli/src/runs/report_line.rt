@@ -2,9 +2,8 @@
 ghost use Rattle.std.specs.Prelude.{◌≡◌, ℕ, take, OnOk};
 ghost use Rattle.vault_text.specs.Failures.{CountsFailure};
 ghost use Rattle.vault_cli.specs.Call.{sink};
-ghost use Rattle.vault_cli.specs.runs.ReportLine.{line_of};
+ghost use Rattle.vault_cli.specs.runs.Reports.{Reports, line_of};
 ghost use Rattle.vault_cli.specs.runs.Status.{status_of};
-ghost use Rattle.vault_cli.specs.runs.Reports.{Reports};
 
 use crate::runs::status::{Status, status_of};
 use arrayvec::ArrayVec;
@@ -18,7 +17,7 @@ const PREFIX: &[u8; 7] = b"ERROR! ";
 /// The bytes of the longest line: the prefix, the longest text of a fault, and the line end.
 const LINE_LIMIT: usize = PREFIX.len() + FAULT_TEXT_LIMIT + 1;
 
-/// Makes `err` take the fault's line, `ERROR! ` and the fault's text, and answers the fault's
+/// Makes `err` take the fault's line, `ERROR! ` and the fault's text, and returns the fault's
 /// status. A failure of `err` changes nothing else.
 pub fn report<E: Sink>(fault: Fault, err: &mut E) -> Status
     requires { E.stage err.old ≡ Stage.Unbegun }

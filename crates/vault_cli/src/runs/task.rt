@@ -12,8 +12,9 @@ ghost use Rattle.vault_request.specs.CommandName.{rekeys};
 ghost use Rattle.vault_request.specs.Request.{files_of};
 ghost use Rattle.vault_cli.specs.runs.StoredTask.{task_in};
 ghost use Rattle.vault_cli.specs.runs.Task.{HasValidIndex, encrypt_task, planned, rekey_task};
+ghost use Rattle.vault_cli.specs.runs.Task.{salt_of};
 
-use crate::runs::salt::salt_of;
+use crate::limits::SEALING_SALT_LENGTH;
 use crate::runs::secret_list::{new_secret_in, secrets_of};
 use vault_core::{
     Fault, Form, Ready, SealingSecret, Secrets, prepare_decrypt_in, prepare_encrypt_in,
@@ -119,6 +120,18 @@ fn plan_rekey<'p>(
     let new = new_secret_in(request, secret_files)?;
     let salt = salt_of(request, salt)?;
     Ok(Task::Rekey { secrets, new, salt })
+}
+
+/// The salt of a request: its salt text, or the first 32 bytes of the salt.
+fn salt_of(request: &Request, salt: &[u8]) -> Result<Salt, Fault>
+    ensures { result ≡ salt_of request.now.salt_text salt.now }
+{
+    let bytes = match request.salt_text() {
+        Some(text) => text.as_bytes(),
+        None if salt.len() < SEALING_SALT_LENGTH => return Err(Fault::SaltShort),
+        None => &salt[..SEALING_SALT_LENGTH],
+    };
+    Ok(Salt::new(bytes).unwrap())
 }
 
 impl<'p> Task<'p> {

@@ -1,6 +1,6 @@
 use Rattle.std.proofs.Common.{arith, rules, ◌∷◌, []}
 use Rattle.std.proofs.lemmas.List.Elements.{All-append, All-cons, All-nil}
-use Rattle.vault_cli.proofs.ReservedLemmas.{IsLong}
+use Rattle.vault_cli.proofs.FileContentsLemmas.{IsLong}
 use Rattle.vault_cli.proofs.reserving.password_buffers.Goals as goal
 
 pub loop-alloc-preserved : goal.loop-alloc-preserved

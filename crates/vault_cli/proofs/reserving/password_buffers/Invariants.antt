@@ -1,6 +1,6 @@
 use Rattle.std.proofs.Common.{◌-◌, ◌≤◌, vec_len}
 use Rattle.std.specs.Prelude.{All}
-use Rattle.vault_cli.proofs.ReservedLemmas.{IsLong}
+use Rattle.vault_cli.proofs.FileContentsLemmas.{IsLong}
 use Rattle.vault_cli.proofs.reserving.password_buffers.Given as goal
 
 abbrev pub invariant-loop-alloc : goal.invariant-loop-alloc

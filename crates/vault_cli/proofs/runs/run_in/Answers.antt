@@ -1,0 +1,42 @@
+use Rattle.std.proofs.Common.{◌≡◌, ◌≢◌, Err, false, refl, sym, ◌∙◌}
+use Rattle.vault_text.specs.Limits.{limit_of}
+use Rattle.vault_fault.specs.declared.fault.Fault.TheVariants.{Read}
+use Rattle.vault_fault.specs.declared.fault.Role.TheVariants.{Input}
+use Rattle.vault_cli.specs.Call.{source}
+use Rattle.vault_cli.specs.runs.StoredTask.{task_in}
+use Rattle.vault_cli.proofs.PerformedLemmas.{Performs, runs-performed, runs-unplanned}
+use Rattle.vault_cli.proofs.TaskLemmas.{performed-prefix}
+use Rattle.vault_cli.proofs.runs.run_in.Goals as goal
+use Rattle.vault_cli.proofs.runs.run_in.Goals.{in-Some, in-None}
+
+pub returns-in-Err : goal.returns-in-Err
+returns-in-Err g c =
+    runs-unplanned (source g.S.Source c.args.src.now c.args.src.now) _ _ _ _ _ _ _ _
+    c.in-Err.ensures.refused c.report.ensures.status refl refl c.report.ensures.line
+
+pub returns : goal.returns
+returns g c =
+    let limit = limit_of c.args.memory.limit in
+    let task = task_in c.in-Ok.task in
+    let src = source g.S.Source c.args.src.now c.match-string.src in
+    let performs : Performs src limit task c.match-string.ready c.args.request.now.string =
+    elim c.match-string.branch [
+      | in-Some w ↦
+          let (prefix, reads) = w.perform-ready.ensures.performs in
+          let read : w.perform-ready.result ≢ Err (Read Input) =
+          λ unread. let risen = reads.failed unread in absurd cc in
+          let text : w.new.result.left ≡ w.in-Some.string.now =
+          rw w.new.ensures w.as_bytes.ensures.value in
+          let unended : w.new.result.ended ≡ false = rw w.new.ensures refl in
+          rw (w.src-is, w.ready-is, ← (rw w.in-Some.is at c.string.ensures)) (
+            refl,
+            reads.answered read
+                ∙ performed-prefix limit task _ _ prefix _ (sym text ∙ reads.gives.0.consumed)
+                (reads.gives.0.end_is_real (λ ended. absurd cc)) (reads.whole read),
+          )
+      | in-None w ↦
+          rw (w.src-is, w.ready-is, ← (rw w.in-None.is at c.string.ensures))
+          (w.perform-ready-in-None.ensures.performs, w.perform-ready-in-None.ensures.full)
+    ] in
+    runs-performed src _ _ _ _ _ _ _ task c.in-Ok.ensures.planned c.match-string.ready performs
+    c.deliver.ensures.finishes c.deliver.ensures.full
