@@ -96,7 +96,7 @@ def test_missing_tools(outcome: Outcome, tmp_path: Path, program: str, run: Limi
 # As Ansible's tool does in a locale that is not UTF-8, and as it says what it is.
 STRICT = "case $LC_ALL in *UTF-8) ;; *) echo 'the locale encoding has to be UTF-8' >&2; exit 1 ;; esac; "
 THEIRS = "echo 'ansible-vault [core 2.14.18]'"
-OURS = "echo 'ansible-vault 0.3.0'"
+OURS = "echo 'ansible-vault 0.4.0'"
 
 
 @pytest.fixture

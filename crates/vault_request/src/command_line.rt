@@ -16,7 +16,7 @@ use clap::{ArgMatches, Command, Error};
 use std::alloc::{AllocError, Global};
 use vault_fault::Fault;
 
-const VERSION: &str = "0.3.0";
+const VERSION: &str = "0.4.0";
 
 /// The last line of the program's help: its manual page, and its companions.
 const SEE_ALSO: &str = "See also: ansible-vault(1), \
@@ -139,7 +139,7 @@ fn with_new_secret<'a>(alloc: Global) -> Result<Command<'a>, AllocError>
     ensures { IfOk result (λ command. IsCommand command
         (app_with (codes "rekey") (secret_rules ++ salt_rules ++ new_secret_rules))) }
 {
-    let about = "Reads an encrypted file and writes one of the same plaintext under a new secret";
+    let about = "Encrypts an encrypted file again, under a new secret";
     with_salt(alloc, "rekey", about)?
         .arg(option(alloc, table::NEW_VAULT_ID))?
         .arg(option(alloc, table::NEW_VAULT_PASSWORD_FILE))

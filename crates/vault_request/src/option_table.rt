@@ -34,21 +34,20 @@ pub const REQUIRE_ID_MATCH: OptionEntry = OptionEntry {
     name: "require-id-match",
     value_name: "",
     help: "Try only the secrets that have the label of the encrypted file; by default they are \
-        only tried first",
+        tried first, then all others",
 };
 
 pub const NEW_VAULT_ID: OptionEntry = OptionEntry {
     name: "new-vault-id",
     value_name: "[LABEL@]PATH",
-    help: "The password file of the new secret, with its label, by default `default`; exactly one \
-        of this option and --new-vault-password-file is needed",
+    help: "The password file of the new secret and, before @, its label (default: `default`); give \
+        this or --new-vault-password-file",
 };
 
 pub const NEW_VAULT_PASSWORD_FILE: OptionEntry = OptionEntry {
     name: "new-vault-password-file",
     value_name: "PATH",
-    help: "The password file of a new secret for the label `default`; exactly one of this option \
-        and --new-vault-id is needed",
+    help: "The password file of a new secret for the label `default`; give this or --new-vault-id",
 };
 
 pub const SALT_FILE: OptionEntry = OptionEntry {
@@ -60,8 +59,8 @@ pub const SALT_FILE: OptionEntry = OptionEntry {
 pub const SALT: OptionEntry = OptionEntry {
     name: "salt",
     value_name: "TEXT",
-    help: "The salt itself, 1 to 64 bytes, in place of a file. One salt used twice under one \
-        password repeats the key stream",
+    help: "The salt itself, 1 to 64 bytes, instead of a file. A salt used twice with one password \
+        repeats the key stream",
 };
 
 pub const NAME: OptionEntry = OptionEntry {
@@ -73,31 +72,30 @@ pub const NAME: OptionEntry = OptionEntry {
 pub const STDIN_NAME: OptionEntry = OptionEntry {
     name: "stdin-name",
     value_name: "NAME",
-    help: "The variable's name where standard input is read; none by default",
+    help: "The variable's name if standard input is read; none by default",
 };
 
 pub const OUTPUT: OptionEntry = OptionEntry {
     name: "output",
     value_name: "PATH",
-    help: "The file to write, or - for standard output, which is the default; required if FILE is \
-        given",
+    help: "The file to write; - or nothing for standard output. It is required if FILE is given",
 };
 
 /// `--output` of `encrypt_string`, which has no FILE.
 pub const STRING_OUTPUT: OptionEntry = OptionEntry {
     name: "output",
     value_name: "PATH",
-    help: "The file to write, or - for standard output, which is the default",
+    help: "The file to write; - or nothing for standard output",
 };
 
 pub const FILE: OptionEntry = OptionEntry {
     name: "FILE",
     value_name: "",
-    help: "The file to read, or - for standard input, which is the default",
+    help: "The file to read; - or nothing for standard input",
 };
 
 pub const STRING: OptionEntry = OptionEntry {
     name: "STRING",
     value_name: "",
-    help: "The text to encrypt, or - for standard input, which is the default",
+    help: "The text to encrypt; - or nothing for standard input",
 };
