@@ -53,16 +53,15 @@ ARCHIVE = tar --create --format=gnu --sort=name --mtime=@$(SOURCE_DATE_EPOCH) --
 # The sums of the files that were installed, so that no other is uninstalled.
 SUMS := $(LIBRARY)/installed.sha256
 
-# pytest, in this number of processes, runs what compares outcomes; the others are commands in tests/.
+# What runs the tests, and in how many processes.
 PYTEST ?= /usr/bin/python3 -B -X utf8 -m pytest
 PYTEST_PROCESSES ?= 4
-# How many checks each makes at least, so that none vanishes unseen; of the outcomes, how many tests (`--at-least`).
-FLOORS := failed_allocations=1200 failed_allocations_in_memory=1 pytest=4000 fuzz=200 with_valgrind=50 faults=3000 lint=5
-TESTS := failed_allocations_in_memory outcomes fuzz with_valgrind faults failed_allocations lint
+TESTING := $(PYTEST) --quiet --numprocesses=$(PYTEST_PROCESSES)
+# For how long `make fuzz` makes requests.
+SECONDS ?= 3600
 
 .DELETE_ON_ERROR:
-.PHONY: all demo packages check mutants test fuzz faults bench install uninstall portable dist package lint clean \
-	FORCE $(TESTS:%=test-%)
+.PHONY: all demo packages check mutants test fuzz faults bench install uninstall portable dist package lint clean FORCE
 
 all: $(PROGRAM)
 
@@ -114,34 +113,17 @@ mutants: all
 	@echo "Trying the mutants; what became of each is printed once all are tried"
 	@tools/mutants
 
-# All of them, whichever fails, that first for which a program is built; each prints what it has to say when it is
-# through. The last line counts all checks.
-test: packages all
-	@tools/counts '[a-z_]+: ' $(FLOORS:%=--floor %) $(MAKE) --no-print-directory --keep-going --jobs=4 --output-sync=target \
-		$(TESTS:%=test-%)
+# All of them. A part with fewer tests than its floor fails, and the last line counts the tests.
+test: packages all bin/vault_allocation_failures
+	$(TESTING) --floors --runs=6000 --seconds=120 --share=20
 
-test-outcomes: all
-	$(PYTEST) --quiet --numprocesses=$(PYTEST_PROCESSES) --at-least=500
-
-test-fuzz: all
-	tests/fuzz bin/ansible-vault --seed 1 --runs 6000 --seconds 120 --minimum 200
-
-test-with_valgrind test-faults test-failed_allocations: test-%: all
-	tests/$* bin/ansible-vault
-
-test-failed_allocations_in_memory: bin/vault_allocation_failures
-	tests/failed_allocations_in_memory bin/vault_allocation_failures
-
-test-lint:
-	tools/lint
-
-# Random requests, until interrupted.
+# Random requests; what differs is kept in tests/fixtures/fuzz.
 fuzz: all
-	tests/fuzz bin/ansible-vault
+	$(TESTING) -m fuzz --runs=100000000 --seconds=$(SECONDS) --timeout=0 --seed=$(shell date +%s)
 
 # Makes every system call fail in turn, and injects the other faults.
 faults: all
-	tests/faults bin/ansible-vault --share 1
+	$(TESTING) -m faults --share=1 --timeout=0
 
 bench: all
 	bench/commands.py bin/ansible-vault --chart docs/speed.svg
