@@ -5,7 +5,7 @@ import time
 import pytest
 
 from ansible_vault_companions import envelopes, leaks
-from companion_cases import CHECK, ROTATE, TEXT, Companions, Place, block, decrypted, ended, sealed
+from companion_cases import CHECK, ROTATE, TEXT, Place, block, decrypted, ended, sealed
 from companion_cases.blocks import BODY, lines_of, texts
 from companion_cases.rotating import summary, to_new
 
@@ -29,15 +29,15 @@ REPORTED = {
 }
 
 
-def test_reported(cases: Companions) -> None:
-    for name, (content, why) in REPORTED.items():
-        place = cases.place()
-        place.put("vars.yml", content)
-        done = place.run(ROTATE, *to_new(place), ".")
-        ended(f"{name}: rotated", done, 1, "./vars.yml", why, summary(0, failed=1))
-        assert place.get("vars.yml") == content, f"{name}: it stays"
-        done = place.run(CHECK, *place.by_file("old"), ".")
-        ended(f"{name}: checked", done, 1, "./vars.yml", why, "0 decrypted, 1 not")
+@pytest.mark.parametrize("name", REPORTED)
+def test_reported(place: Place, name: str) -> None:
+    content, why = REPORTED[name]
+    place.put("vars.yml", content)
+    done = place.run(ROTATE, *to_new(place), ".")
+    ended(f"{name}: rotated", done, 1, "./vars.yml", why, summary(0, failed=1))
+    assert place.get("vars.yml") == content, f"{name}: it stays"
+    done = place.run(CHECK, *place.by_file("old"), ".")
+    ended(f"{name}: checked", done, 1, "./vars.yml", why, "0 decrypted, 1 not")
 
 
 def test_several_in_a_line(place: Place) -> None:

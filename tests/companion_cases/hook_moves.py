@@ -123,17 +123,18 @@ MOVES = {
 }
 
 
-def test_vaults(place: Place) -> None:
+@pytest.mark.parametrize("what", MOVES)
+def test_vaults(place: Place, what: str) -> None:
     with_hooks(place)
-    for what, (before, after) in MOVES.items():
-        silent(f"{what}: at first", again(place, before, sealed("old")))
-        place.shell(f"git rm -q {before}")
-        done = again(place, after, TEXT)
-        refused(what, done, after, why=GONE.format(before), hint=meant(after))
-        place.put(after, sealed("new"))
-        place.shell("git add -A")
-        silent(f"{what}, encrypted", place.run(HOOK))
-        place.shell("git rm -qrf . && git commit -qm none")
+    before, after = MOVES[what]
+    silent(f"{what}: at first", again(place, before, sealed("old")))
+    place.shell(f"git rm -q {before}")
+    done = again(place, after, TEXT)
+    refused(what, done, after, why=GONE.format(before), hint=meant(after))
+    place.put(after, sealed("new"))
+    place.shell("git add -A")
+    silent(f"{what}, encrypted", place.run(HOOK))
+    place.shell("git rm -qrf . && git commit -qm none")
 
 
 def test_renamed_folders(place: Place) -> None:

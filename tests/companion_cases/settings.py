@@ -113,37 +113,37 @@ STRANGE = {
 }
 
 
-def test_what_is_not_trusted(cases: Companions) -> None:
+@pytest.mark.parametrize("what", STRANGE)
+def test_what_is_not_trusted(place: Place, what: str) -> None:
     """Beside options, no companion runs a script of the current folder or encrypts with a secret that it names, unless
     ANSIBLE_CONFIG names its file."""
-    for what, (file, variables, runs) in STRANGE.items():
-        place = cases.place()
-        place.environment["EDITOR"] = place.script('echo more >> "$1"', "editor")
-        secret = place.by_file("old")
-        lines = [
-            [WITH, "view", *secret, "a.yml"],
-            [WITH, "encrypt", *secret, "--encrypt-vault-id", "default", "plain.yml"],
-            [WITH, "edit", *secret, "--encrypt-vault-id", "default", "a.yml"],
-            [EDIT, *secret, "--encrypt-vault-id", "default", "new.yml"],
-            [CHECK, *secret, "a.yml"],
-            [TEXTCONV, *secret, "a.yml"],
-            [MERGE, *secret, "a.yml", "a.yml", "a.yml", "a.yml"],
-            [ROTATE, *secret, *place.by_file("new", "new-"), "a.yml"],
-        ]
-        for line in lines:
-            place.put("a.yml", sealed("old"))
-            place.put("plain.yml", TEXT)
-            (place.tree / "new.yml").unlink(missing_ok=True)
-            (place.path / "ran").unlink(missing_ok=True)
-            place.put("ansible.cfg", file.encode())
-            place.script("touch ../ran; cat ../secrets/prod", "tree/script")
-            done = place.run(*line, **variables)
-            name = f"{what}: {' '.join(line[:2])} ({done.stderr})"
-            assert done.returncode == 0, f"{name}: the status"
-            assert (place.path / "ran").exists() == runs, f"{name}: whether the script is run"
-        if not runs:
-            ended("without options", place.run(CHECK, "a.yml", **variables), 1)
-            assert (place.path / "ran").exists(), f"{what}: without options it is run"
+    file, variables, runs = STRANGE[what]
+    place.environment["EDITOR"] = place.script('echo more >> "$1"', "editor")
+    secret = place.by_file("old")
+    lines = [
+        [WITH, "view", *secret, "a.yml"],
+        [WITH, "encrypt", *secret, "--encrypt-vault-id", "default", "plain.yml"],
+        [WITH, "edit", *secret, "--encrypt-vault-id", "default", "a.yml"],
+        [EDIT, *secret, "--encrypt-vault-id", "default", "new.yml"],
+        [CHECK, *secret, "a.yml"],
+        [TEXTCONV, *secret, "a.yml"],
+        [MERGE, *secret, "a.yml", "a.yml", "a.yml", "a.yml"],
+        [ROTATE, *secret, *place.by_file("new", "new-"), "a.yml"],
+    ]
+    for line in lines:
+        place.put("a.yml", sealed("old"))
+        place.put("plain.yml", TEXT)
+        (place.tree / "new.yml").unlink(missing_ok=True)
+        (place.path / "ran").unlink(missing_ok=True)
+        place.put("ansible.cfg", file.encode())
+        place.script("touch ../ran; cat ../secrets/prod", "tree/script")
+        done = place.run(*line, **variables)
+        name = f"{what}: {' '.join(line[:2])} ({done.stderr})"
+        assert done.returncode == 0, f"{name}: the status"
+        assert (place.path / "ran").exists() == runs, f"{name}: whether the script is run"
+    if not runs:
+        ended("without options", place.run(CHECK, "a.yml", **variables), 1)
+        assert (place.path / "ran").exists(), f"{what}: without options it is run"
 
 
 def test_beside_options(place: Place) -> None:
