@@ -196,7 +196,7 @@ CHECKS = {
 # Changes that each break a page for a check: what is found, and what takes its place once.
 BROKEN = [
     (PAGE, check_written, r"`load` at `(\w+)/src", r"`load` at `\1/sources"),
-    (PAGE, check_written, r"^fn is_closed", "fn is_open"),
+    (PAGE, check_written, r"^fn open_directory", "fn open_folder"),
     (PAGE, check_claims, r"`drive_over`: `answered`", "`drive_over`: `replied`"),
     (PAGE, check_claims, r"`refused_leaves_outputs`", "`refused_leaves_nothing`"),
     (PAGE, check_claims, r"`tests/faults.py`", "`tests/no_faults.py`"),
