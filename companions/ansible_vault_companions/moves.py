@@ -55,7 +55,7 @@ class Moves:
         """Those whose envelopes are as often in the files as before."""
         if not self.values:
             return
-        balance = Counter()
+        balance: Counter[str] = Counter()
         for file in self.change.files:
             balance.update(_envelopes(self.read(file.blob)))
         for blob in [*self.change.gone.values(), *(file.before for file in self.change.files if file.before)]:
