@@ -128,6 +128,7 @@ faults: all
 bench: all
 	bench/commands.py bin/ansible-vault --chart docs/speed.svg
 	bench/parts.py bin/ansible-vault
+	bench/rotation.py bin/ansible-vault
 	bench/envelope.py
 	bench/counter_mode.py
 	bench/key_derivation.py
