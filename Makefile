@@ -57,11 +57,13 @@ SUMS := $(LIBRARY)/installed.sha256
 PYTEST ?= /usr/bin/python3 -B -X utf8 -m pytest
 PYTEST_PROCESSES ?= 4
 TESTING := $(PYTEST) --quiet --numprocesses=$(PYTEST_PROCESSES)
+# How many percent of the companions' lines are run at least.
+LEAST_COVERED := 90
 # For how long `make fuzz` makes requests.
 SECONDS ?= 3600
 
 .DELETE_ON_ERROR:
-.PHONY: all demo packages check mutants test fuzz faults bench install uninstall portable dist package lint clean FORCE
+.PHONY: all demo packages check mutants test planted coverage fuzz faults bench install uninstall portable dist package lint clean FORCE
 
 all: $(PROGRAM)
 
@@ -116,6 +118,18 @@ mutants: all
 # All of them. A part with fewer tests than its floor fails, and the last line counts the tests.
 test: packages all bin/vault_allocation_failures
 	$(TESTING) --floors --runs=6000 --seconds=120 --share=20
+
+# No part of the gate: plants faults in copies of the repository, and runs the test that is to catch each.
+planted: all
+	tools/plant_faults
+
+# No part of the gate: which lines of the companions no test of theirs runs. Tests that watch what a companion writes
+# fail here, since it notes its lines, too.
+coverage: all
+	@rm -rf bin/coverage && mkdir -p bin/coverage && chmod a+rwx bin/coverage
+	-LINES_RUN=$(abspath bin/coverage) $(TESTING) tests/companion_cases
+	@/usr/bin/python3 -m coverage combine --quiet --rcfile=tests/lines_run.ini
+	@/usr/bin/python3 -m coverage report --rcfile=tests/lines_run.ini --fail-under=$(LEAST_COVERED)
 
 # Random requests; what differs is kept in tests/fixtures/fuzz.
 fuzz: all

@@ -12,6 +12,7 @@ import subprocess
 from pathlib import Path
 
 from lib.limits import SECONDS
+from lib.lines_run import note_lines
 from lib.paths import ROOT
 from model.vaults import apply_keystream, seal, tag_of, yaml_block
 
@@ -168,6 +169,7 @@ class Companions:
         self.companions = folder / "companions"
         self.program = folder / "ansible-vault"
         shutil.copytree(COMPANIONS, self.companions)
+        note_lines(self.companions)
         shutil.copyfile(program, self.program)
         self.program.chmod(0o755)
         subprocess.run(["chmod", "-R", "go=rX", str(self.companions)], check=True)
