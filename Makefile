@@ -70,7 +70,7 @@ all: $(PROGRAM)
 # Proves the program and the crates that it stands on, and builds it.
 bin/ansible-vault: $(SOURCES) bin/processor
 	@echo "Proving the program and the crates below it, if they changed; from scratch it takes minutes"
-	@tools/progress.py bin/build.log ansible_vault \
+	@tools/progress.py bin/build.log \
 		tools/build_program ansible_vault $(if $(CPU),--cpu $(CPU)) -- --version
 	@cp crates/ansible_vault/out/ansible_vault $@
 
@@ -88,7 +88,7 @@ packages:
 # The program that tests/failed_allocations_in_memory runs.
 bin/vault_allocation_failures: $(SOURCES)
 	@mkdir -p bin
-	@tools/progress.py bin/failed_allocations.log vault_allocation_failures tools/build_program vault_allocation_failures -- drive view < /dev/null
+	@tools/progress.py bin/failed_allocations.log tools/build_program vault_allocation_failures -- drive view < /dev/null
 	@cp crates/vault_allocation_failures/out/vault_allocation_failures $@
 
 # Changes if the processor does.
@@ -103,7 +103,7 @@ check: export RT_JOBS ?= $(shell nproc)
 check: packages bin/processor
 	@echo "Proving every crate and its tests, and trying their must-fail edits"
 	@touch bin/gate-begun
-	@tools/progress.py bin/ci.log all rt ci
+	@tools/progress.py bin/ci.log rt ci
 	@$(if $(CPU),,cp crates/ansible_vault/out/ansible_vault bin/ansible-vault)
 	@$(if $(CPU),,touch -r bin/gate-begun bin/ansible-vault)
 	@cp crates/vault_allocation_failures/out/vault_allocation_failures bin/vault_allocation_failures

@@ -1,5 +1,5 @@
 #!/usr/bin/env -S python3 -B
-"""Times how many vaults get a new secret: by ansible-vault-rotate, and by Ansible's own tool in one run, in alternation.
+"""Times how many vaults get a new secret: by ansible-vault-rotate and by Ansible's own tool, in one run each, in turn.
 
 Usage: rotation.py PROGRAM [--vaults N] [--runs N]
 

@@ -1,6 +1,5 @@
-"""Shows that tools/progress.py passes on the exit status and the last line of a command, keeps its log,
-prints it if the command fails, and has a line for each crate; that tools/mutants fails unless a goal
-rejects each mutant; that .ci/run ends as `make check` does, with the counts of the gate and of the tests, and fails if
+"""Shows that tools/progress.py passes on the exit status and the counts of a command, keeps its log, prints it if the
+command fails, and has a line each minute; that tools/mutants fails unless a goal rejects each mutant; that .ci/run ends as `make check` does, with the counts of the gate and of the tests, and fails if
 it cannot install what they need; and that `make test` names what it lacks.
 """
 
@@ -9,14 +8,15 @@ import pathlib
 import re
 import shutil
 import subprocess
+import sys
 
 import pytest
 
 from lib.installed import run_make
 from lib.paths import ROOT
 
-CRATES = re.findall(r"^(\w+):", (ROOT / "crates.txt").read_text(), re.MULTILINE)
-GATE = "".join(f"== {crate}\nits own lines\nrt: {crate} proved\n" for crate in CRATES)
+GATE = "its own lines\nrt: vault_aes proved\nrt: vault_kdf proved\n"
+PROGRESS = str(ROOT / "tools" / "progress.py")
 # What `make check` prints of the gate and of the tests.
 CHECK = """\
 12 passed, 0 failed
@@ -26,38 +26,44 @@ skipped: tests/a.py::test_zsh: without zsh
 """
 
 
-def run(top: str, text: str, status: int, log: pathlib.Path) -> subprocess.CompletedProcess:
-    script = 'printf %s "$1"; exit "$2"'
-    command = ["sh", "-c", script, "sh", text, str(status)]
-    progress = [str(ROOT / "tools" / "progress.py"), str(log), top]
-    return subprocess.run([*progress, *command], capture_output=True, text=True)
-
-
-def proved(printed: str) -> list[str]:
-    return re.findall(r"^ +\d+:\d\d  (\w+) is proved", printed, re.MULTILINE)
-
-
-def test_progress(tmp_path: pathlib.Path) -> None:
+@pytest.mark.parametrize("status, count", [(0, "12 passed, 0 failed\n"), (1, "11 passed, 1 failed\n"), (2, "")])
+def test_progress(tmp_path: pathlib.Path, status: int, count: str) -> None:
+    """The log is kept, and printed if the command fails; its counts stand once by themselves, at the end."""
     log = tmp_path / "log"
-    passed = run("all", GATE + "12 passed, 0 failed\n", 0, log)
-    assert (passed.returncode, passed.stderr) == (0, ""), "the status of a gate that passes"
-    assert proved(passed.stdout) == CRATES, "each crate of a gate has its line"
-    assert passed.stdout.splitlines()[-1] == "12 passed, 0 failed", "the gate's last line is the last"
-    assert "its own lines" not in passed.stdout, "the log of a gate that passes is not printed"
-    assert "its own lines" in log.read_text(), "it is kept"
-    failed = run("all", GATE + "11 passed, 1 failed\n", 1, log)
-    assert failed.returncode == 1, "the status of a gate that fails"
-    assert "its own lines" in failed.stdout, "the log of a gate that fails is printed"
-    assert failed.stdout.splitlines().count("11 passed, 1 failed") == 1, "its counts stand once by themselves"
-    assert failed.stdout.splitlines()[-1] == "11 passed, 1 failed", "its last line is the last"
-    for why in ("NOT REFUSED", "BAD EDIT", "NOT TRIED"):
-        edit = f"must-fail {CRATES[0]}/one.edit: {why}: because"
-        first = run("all", f"rt: {edit}\n", 1, log).stdout.splitlines()[0]
-        assert first.endswith(edit), f"an edit has its line: {why}"
-    built = run(CRATES[-1], GATE, 0, log)
-    assert built.returncode == 0, "the status of a build"
-    assert proved(built.stdout) == CRATES, "each crate of a build has its line"
-    assert run(CRATES[-1], "no\n", 2, log).returncode == 2, "the status of a build that fails"
+    command = ["sh", "-c", 'printf %s "$1"; exit "$2"', "sh", GATE + count, str(status)]
+    done = subprocess.run([PROGRESS, str(log), *command], capture_output=True, text=True)
+    assert (done.returncode, done.stderr, log.read_text()) == (status, "", GATE + count)
+    assert ("    its own lines\n" in done.stdout) == bool(status)
+    end = f"    0 min  {'FAILED' if status else 'done'}; the whole log is {log}\n{count}"
+    assert done.stdout.endswith(end)
+    assert done.stdout.splitlines().count(count.strip()) == bool(count)
+
+
+# Runs tools/progress.py with shorter minutes.
+IMPATIENT = """
+import runpy, sys
+main = runpy.run_path(sys.argv[1])["main"]
+main.__globals__["PAUSE"] = 0.1
+sys.exit(main(sys.argv[2:]))
+"""
+
+
+def test_progress_each_minute(tmp_path: pathlib.Path) -> None:
+    """The command goes on until its lines were reported."""
+    log, seen = tmp_path / "log", tmp_path / "seen"
+    script = f"printf '{GATE}'; until [ -e '{seen}' ]; do sleep 0.05; done"
+    words = [sys.executable, "-c", IMPATIENT, PROGRESS, str(log), "sh", "-c", script]
+    with subprocess.Popen(words, stdout=subprocess.PIPE, text=True) as child:
+        lines = iter(child.stdout.readline, "")
+        assert "    0 min  2 crates are proved; vault_kdf proved\n" in lines
+        seen.touch()
+        assert [*lines][-1] == f"    0 min  done; the whole log is {log}\n"
+    assert child.returncode == 0
+
+
+def test_progress_without_the_command(tmp_path: pathlib.Path) -> None:
+    done = subprocess.run([PROGRESS, str(tmp_path / "log"), "no-such-command"], capture_output=True, text=True)
+    assert (done.returncode, done.stderr) == (1, "no-such-command is not on PATH; it comes with the Rattle kit\n")
 
 
 def run_mutants(folder: pathlib.Path, said: list[str], status: int, *names: str) -> subprocess.CompletedProcess:

@@ -4,7 +4,7 @@ import os
 
 import pytest
 
-from companion_cases import CHECK, PASSWORDS, ROTATE, TEXT, Companions, sealed
+from companion_cases import CHECK, PASSWORDS, ROTATE, Companions, sealed
 from companion_cases.rotating import summary
 
 
