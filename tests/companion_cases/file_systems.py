@@ -8,7 +8,7 @@ import shutil
 
 import pytest
 
-from companion_cases import EDIT, NOBODY, ROTATE, TEXT, WITH, Companions, Place, decrypted, sealed
+from companion_cases import EDIT, NOBODY, ROTATE, TEXT, WITH, Place, decrypted, sealed
 from companion_cases.keeping import run_changed
 from companion_cases.rotating import summary, to_new
 
@@ -25,52 +25,49 @@ def injected(place: Place, fault: str, *words: str, **variables: str):
 
 @needs_strace
 @pytest.mark.parametrize("fault, status", {"EIO": 1, "EINVAL": 0}.items())
-def test_folder_that_is_not_synced(cases: Companions, fault: str, status: int) -> None:
+def test_folder_that_is_not_synced(place: Place, fault: str, status: int) -> None:
     """A folder whose sync fails may lose its new entry, which is reported; a file system that has none is no fault."""
-    with cases.place() as place:
-        place.put("a.yml", sealed("old"))
-        # The first is that of the file.
-        done = injected(place, f"fsync:error={fault}:when=2+", WITH, "rekey", *to_new(place), "a.yml")
-        message = f"{WITH}: a.yml: Input/output error\n" if status else ""
-        assert (done.returncode, done.stdout, done.stderr) == (status, "", message)
-        assert "(INJECTED)" in (place.path / "trace").read_text()
-        assert (place.names(), decrypted("new", place.get("a.yml"))) == (["a.yml"], TEXT)
+    place.put("a.yml", sealed("old"))
+    # The first is that of the file.
+    done = injected(place, f"fsync:error={fault}:when=2+", WITH, "rekey", *to_new(place), "a.yml")
+    message = f"{WITH}: a.yml: Input/output error\n" if status else ""
+    assert (done.returncode, done.stdout, done.stderr) == (status, "", message)
+    assert "(INJECTED)" in (place.path / "trace").read_text()
+    assert (place.names(), decrypted("new", place.get("a.yml"))) == (["a.yml"], TEXT)
 
 
 @needs_strace
-def test_folder_that_cannot_be_read(cases: Companions) -> None:
+def test_folder_that_cannot_be_read(place: Place) -> None:
     """It cannot be opened to be synced, so all file systems are."""
-    with cases.place() as place:
-        place.put("folder/a.yml", sealed("old"))
-        place.put("../traces/trace", b"")
-        if os.geteuid() == 0:
-            for path in (place.tree / "folder", place.tree / "folder/a.yml", place.path / "traces/trace"):
-                os.chown(path, NOBODY, NOBODY)
-        (place.tree / "folder").chmod(0o300)
-        tracer = ["strace", "-f", "-o", "../traces/trace", "-e", "trace=sync,rename"]
-        done = place.as_nobody(*tracer, str(place.tools / ROTATE), *to_new(place), "folder/a.yml")
-        (place.tree / "folder").chmod(0o755)
-        assert (done.returncode, done.stdout.splitlines()[-1]) == (0, summary(1))
-        calls = (place.path / "traces/trace").read_text().splitlines()
-        done = [line.split()[1].partition("(")[0] for line in calls if line.endswith("= 0")]
-        assert done == ["rename", "sync"]
+    place.put("folder/a.yml", sealed("old"))
+    place.put("../traces/trace", b"")
+    if os.geteuid() == 0:
+        for path in (place.tree / "folder", place.tree / "folder/a.yml", place.path / "traces/trace"):
+            os.chown(path, NOBODY, NOBODY)
+    (place.tree / "folder").chmod(0o300)
+    tracer = ["strace", "-f", "-o", "../traces/trace", "-e", "trace=sync,rename"]
+    done = place.as_nobody(*tracer, str(place.tools / ROTATE), *to_new(place), "folder/a.yml")
+    (place.tree / "folder").chmod(0o755)
+    assert (done.returncode, done.stdout.splitlines()[-1]) == (0, summary(1))
+    calls = (place.path / "traces/trace").read_text().splitlines()
+    done = [line.split()[1].partition("(")[0] for line in calls if line.endswith("= 0")]
+    assert done == ["rename", "sync"]
 
 
 @needs_strace
 @pytest.mark.parametrize("fault", NO_LINKS)
-def test_no_hard_links(cases: Companions, fault: str) -> None:
+def test_no_hard_links(place: Place, fault: str) -> None:
     """A file system may say in several ways that it has none; a new vault is made all the same."""
-    with cases.place() as place:
-        editor = place.script('echo a > "$1"', "editor")
-        done = injected(place, f"link,linkat:error={fault}", EDIT, *place.by_file("old"), "new.yml", EDITOR=editor)
-        assert (done.returncode, done.stdout, done.stderr) == (0, "", "")
-        assert "(INJECTED)" in (place.path / "trace").read_text()
-        assert decrypted("old", place.get("new.yml")) == b"a\n"
-        assert (place.mode("new.yml"), place.names()) == ("0o600", ["new.yml"])
+    editor = place.script('echo a > "$1"', "editor")
+    done = injected(place, f"link,linkat:error={fault}", EDIT, *place.by_file("old"), "new.yml", EDITOR=editor)
+    assert (done.returncode, done.stdout, done.stderr) == (0, "", "")
+    assert "(INJECTED)" in (place.path / "trace").read_text()
+    assert decrypted("old", place.get("new.yml")) == b"a\n"
+    assert (place.mode("new.yml"), place.names()) == ("0o600", ["new.yml"])
 
 
 @pytest.mark.parametrize("fault", NO_LINKS)
-def test_name_that_is_taken_where_there_are_no_hard_links(cases: Companions, fault: str) -> None:
+def test_name_that_is_taken_where_there_are_no_hard_links(place: Place, fault: str) -> None:
     """A new vault takes the place of nothing there, either."""
     none = f"""
 import errno
@@ -79,22 +76,20 @@ def none(_, target):
     raise OSError(errno.{fault}, "no links")
 os.link = none
 """
-    with cases.place() as place:
-        editor = place.script('echo a > "$1"', "editor")
-        done = run_changed(place, EDIT, none, [*place.by_file("old"), "new.yml"], EDITOR=editor)
-        assert done.returncode == 1
-        assert f"{EDIT}: new.yml: it was created meanwhile; what you saved is encrypted in " in done.stderr
-        assert place.get("new.yml") == b"theirs"
+    editor = place.script('echo a > "$1"', "editor")
+    done = run_changed(place, EDIT, none, [*place.by_file("old"), "new.yml"], EDITOR=editor)
+    assert done.returncode == 1
+    assert f"{EDIT}: new.yml: it was created meanwhile; what you saved is encrypted in " in done.stderr
+    assert place.get("new.yml") == b"theirs"
 
 
 @needs_strace
-def test_links_that_fail_otherwise(cases: Companions) -> None:
-    with cases.place() as place:
-        editor = place.script('echo a > "$1"', "editor")
-        done = injected(place, "link,linkat:error=EIO", EDIT, *place.by_file("old"), "new.yml", EDITOR=editor)
-        assert done.returncode == 1
-        assert f"{EDIT}: new.yml: Input/output error; what you saved is encrypted in " in done.stderr
-        assert not (place.tree / "new.yml").exists()
+def test_links_that_fail_otherwise(place: Place) -> None:
+    editor = place.script('echo a > "$1"', "editor")
+    done = injected(place, "link,linkat:error=EIO", EDIT, *place.by_file("old"), "new.yml", EDITOR=editor)
+    assert done.returncode == 1
+    assert f"{EDIT}: new.yml: Input/output error; what you saved is encrypted in " in done.stderr
+    assert not (place.tree / "new.yml").exists()
 
 
 MOUNTED = {
@@ -109,11 +104,10 @@ MOUNTED = {
 
 
 @pytest.mark.parametrize("name", MOUNTED)
-def test_names_of_mount_points(cases: Companions, name: str) -> None:
+def test_names_of_mount_points(place: Place, name: str) -> None:
     """Such a name has escapes in /proc/self/mountinfo. A name that only looks like them is that of no mount point."""
-    with cases.place() as place:
-        lines = "".join(MOUNT.format(path) for path in ("/proc", f"{place.tree}/{MOUNTED[name]}"))
-        mounts = f"""
+    lines = "".join(MOUNT.format(path) for path in ("/proc", f"{place.tree}/{MOUNTED[name]}"))
+    mounts = f"""
 import builtins, io
 def opened(path, *words):
     if path == "/proc/self/mountinfo":
@@ -121,26 +115,25 @@ def opened(path, *words):
     return builtins.open(path, *words)
 replacing.open = opened
 """
-        names = dict.fromkeys([name, MOUNTED[name]])
-        for each in names:
-            place.put(each, sealed("old"))
-        done = [run_changed(place, EDIT, mounts, [*place.by_file("old"), each], EDITOR="true") for each in names]
-        [refused, *others] = [(each.returncode, each.stderr) for each in done]
-        assert refused[0] == 1 and "it is itself a mount point, so no other file can take its place" in refused[1]
-        assert [status for status, _ in others] == [0] * len(others)
+    names = dict.fromkeys([name, MOUNTED[name]])
+    for each in names:
+        place.put(each, sealed("old"))
+    done = [run_changed(place, EDIT, mounts, [*place.by_file("old"), each], EDITOR="true") for each in names]
+    [refused, *others] = [(each.returncode, each.stderr) for each in done]
+    assert refused[0] == 1 and "it is itself a mount point, so no other file can take its place" in refused[1]
+    assert [status for status, _ in others] == [0] * len(others)
 
 
 @pytest.mark.parametrize("command, password", {"rekey": "new", "decrypt": None}.items())
-def test_attributes_of_security_modules(cases: Companions, command: str, password: str | None) -> None:
+def test_attributes_of_security_modules(place: Place, command: str, password: str | None) -> None:
     """The system gives them to the new file: to set or remove them takes a right that the user need not have."""
     labelled = """
 listed = os.listxattr
 os.listxattr = lambda target: [*listed(target), "security.selinux"]
 """
-    with cases.place() as place:
-        place.put("a.yml", sealed("old"))
-        words = to_new(place) if password else place.by_file("old")
-        done = run_changed(place, WITH, labelled, [command, *words, "a.yml"])
-        assert (done.returncode, done.stdout, done.stderr) == (0, "", "")
-        content = place.get("a.yml")
-        assert (decrypted(password, content) if password else content) == TEXT
+    place.put("a.yml", sealed("old"))
+    words = to_new(place) if password else place.by_file("old")
+    done = run_changed(place, WITH, labelled, [command, *words, "a.yml"])
+    assert (done.returncode, done.stdout, done.stderr) == (0, "", "")
+    content = place.get("a.yml")
+    assert (decrypted(password, content) if password else content) == TEXT
