@@ -10,7 +10,7 @@ import shutil
 import pytest
 
 import shells
-from lib.option_sets import companion_options, page_sets
+from lib.option_sets import OF_ANSIBLE, companion_options, page_sets
 from lib.paths import COMPANIONS
 from model.options import OPTIONS
 from shells import SHELLS, needs_shell, typed_in_bash
@@ -149,7 +149,8 @@ def check_options_of_commands(shell: str, name: str, folder: pathlib.Path, alias
     own = options_of("ansible-vault-with") - {"-V", "--version"}
     for command in WITH_COMMANDS:
         is_tools = command in OPTIONS
-        wanted = page_sets()[command] | own if is_tools else options_of("ansible-vault-edit")
+        of_tool = page_sets().get(command, set()) | own | OF_ANSIBLE.get(command, set())
+        wanted = of_tool if is_tools else options_of("ansible-vault-edit")
         offered = offered_options(shell, f"{name} {command}", folder, alias)
         assert offered == sorted(wanted), f"{shell} offers the options of {command}"
 

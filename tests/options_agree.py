@@ -12,15 +12,8 @@ from pathlib import Path
 import pytest
 
 from lib.needs import needs
-from lib.option_sets import (
-    companion_options,
-    companion_page,
-    companion_statuses,
-    described_options,
-    help_commands,
-    help_of,
-)
-from lib.option_sets import help_options, help_text, options_in, page_sets, sections, spellings
+from lib.option_sets import OF_ANSIBLE, companion_options, companion_page, companion_statuses, described_options
+from lib.option_sets import help_commands, help_of, help_options, help_text, options_in, page_sets, sections, spellings
 from lib.option_table import code_in, constants_in, entries, helps_of, literals_in, named_in, table_options
 from lib.paths import COMPANIONS, PAGE, ROOT, version
 from model.options import COMMON, FLAGS, OPTIONS
@@ -229,8 +222,6 @@ def test_page_as_it_is_shown(tool: str, page: Path) -> None:
 
 # Documents with commands of the companions.
 DOCUMENTS = [*PAGES, ROOT / "README.md", *sorted((ROOT / "docs").glob("*.md"))]
-# Options of Ansible's tool that ansible-vault-with has for a command, beyond those of the tool.
-OF_ANSIBLE = {"encrypt_string": {"--prompt", "-p", "--show-input"}, "rekey": {"--encrypt-vault-id"}}
 COMMAND = re.compile(r"\b(ansible-vault-\w+)((?: +[^\s`|;&'\"<>()]+)*)")
 
 
