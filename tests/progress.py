@@ -1,6 +1,7 @@
 """Shows that tools/progress.py passes on the exit status and the counts of a command, keeps its log, prints it if the
-command fails, and has a line each minute; that tools/mutants fails unless a goal rejects each mutant; that .ci/run ends as `make check` does, with the counts of the gate and of the tests, and fails if
-it cannot install what they need; and that `make test` names what it lacks.
+command fails, and has a line each minute; that tools/mutants fails unless a goal rejects each mutant; that .ci/run
+ends as `make check` does, with the counts of the gate and of the tests, and fails if it cannot install what they need;
+and that `make test` names what it lacks.
 """
 
 import os

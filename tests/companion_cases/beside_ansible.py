@@ -1,5 +1,5 @@
 """A repository that Ansible's tool made, rotated: that tool decrypts all of it, and a playbook prints what
-it printed before. And how long a rotation takes, compared with that tool.
+it printed before.
 """
 
 import os
@@ -7,13 +7,12 @@ import re
 import subprocess
 from pathlib import Path
 
-from companion_cases import CHECK, ROTATE, SECONDS, TEXT, Place, decrypted, ended, sealed
-from companion_cases.rotating import summary, to_new
+from companion_cases import CHECK, ROTATE, SECONDS, Place, ended
+from companion_cases.rotating import summary
 from lib.needs import needs, needs_ansible
 
 # The old and the new password of each label.
 LABELS = {"default": ("old", "new"), "dev": ("dev", "dev2"), "prod": ("prod", "prod2")}
-VAULTS = 50
 FILES_OF_A_LABEL = 8
 PLAYBOOK = """\
 - hosts: all
@@ -119,11 +118,3 @@ def test_a_repository(place: Place) -> None:
         shown = theirs(place, ansible, "view", *place.by_id(label, new), *vaults).stdout.decode()
         wanted = [f"{label}{number}: text {number} of {label}" for number in range(FILES_OF_A_LABEL)]
         assert shown.split("\n")[:-1] == wanted, f"{label}: Ansible's tool decrypts each"
-
-
-def test_many_vaults(place: Place) -> None:
-    names = [f"{number}.yml" for number in range(VAULTS)]
-    for name in names:
-        place.put(name, sealed("old", TEXT * 38))
-    ended("many vaults", place.run(ROTATE, *to_new(place), "."), 0, summary(len(names)))
-    assert {decrypted("new", place.get(name)) for name in names} == {TEXT * 38}, "they are rotated"
