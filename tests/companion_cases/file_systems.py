@@ -4,26 +4,25 @@ The system's faults are injected by strace, or by a companion whose `os` is chan
 """
 
 import os
-import shutil
 
 import pytest
 
 from companion_cases import EDIT, NOBODY, ROTATE, TEXT, WITH, Place, decrypted, sealed
 from companion_cases.keeping import run_changed
 from companion_cases.rotating import summary, to_new
+from lib.needs import needs
 
-needs_strace = pytest.mark.skipif(not shutil.which("strace"), reason="without strace")
 NO_LINKS = ("EPERM", "EOPNOTSUPP", "ENOSYS", "EMLINK")
 MOUNT = "36 35 98:0 / {} rw,noatime master:1 - ext3 /dev/root rw,errors=continue\n"
 
 
 def injected(place: Place, fault: str, *words: str, **variables: str):
     """Runs a companion for which strace makes calls of the system fail."""
+    needs("strace")
     tracer = ["strace", "-f", "-qq", "-o", str(place.path / "trace"), "-e", f"inject={fault}"]
     return place.run(*tracer, str(place.tools / words[0]), *words[1:], **variables)
 
 
-@needs_strace
 @pytest.mark.parametrize("fault, status", {"EIO": 1, "EINVAL": 0}.items())
 def test_folder_that_is_not_synced(place: Place, fault: str, status: int) -> None:
     """A folder whose sync fails may lose its new entry, which is reported; a file system that has none is no fault."""
@@ -36,9 +35,9 @@ def test_folder_that_is_not_synced(place: Place, fault: str, status: int) -> Non
     assert (place.names(), decrypted("new", place.get("a.yml"))) == (["a.yml"], TEXT)
 
 
-@needs_strace
 def test_folder_that_cannot_be_read(place: Place) -> None:
     """It cannot be opened to be synced, so all file systems are."""
+    needs("strace")
     place.put("folder/a.yml", sealed("old"))
     place.put("../traces/trace", b"")
     if os.geteuid() == 0:
@@ -54,7 +53,6 @@ def test_folder_that_cannot_be_read(place: Place) -> None:
     assert done == ["rename", "sync"]
 
 
-@needs_strace
 @pytest.mark.parametrize("fault", NO_LINKS)
 def test_no_hard_links(place: Place, fault: str) -> None:
     """A file system may say in several ways that it has none; a new vault is made all the same."""
@@ -83,7 +81,6 @@ os.link = none
     assert place.get("new.yml") == b"theirs"
 
 
-@needs_strace
 def test_links_that_fail_otherwise(place: Place) -> None:
     editor = place.script('echo a > "$1"', "editor")
     done = injected(place, "link,linkat:error=EIO", EDIT, *place.by_file("old"), "new.yml", EDITOR=editor)
