@@ -93,9 +93,11 @@ def lost(old: Values, new: Values) -> list[Path]:
     return [path for path, found in old.encrypted.items() if found - new.encrypted.get(path, NOWHERE)]
 
 
-def added(old: Values, new: Values) -> list[Path]:
-    """Where a plaintext is that was not there."""
-    return [path for path, found in new.plain.items() if found - old.plain.get(path, NOWHERE)]
+def added(old: Values, new: Values, elsewhere: dict[Path, Counter[str]] | None = None) -> list[Path]:
+    """Where a plaintext is that was not there, nor at these keys elsewhere."""
+    other = elsewhere or {}
+    was = {path: old.plain.get(path, NOWHERE) + other.get(path, NOWHERE) for path in new.plain}
+    return [path for path, found in new.plain.items() if found - was[path]]
 
 
 def _by_last_key(found: dict[Path, Counter[str]]) -> Counter[Path]:
