@@ -58,7 +58,7 @@ PYTEST ?= /usr/bin/python3 -B -X utf8 -m pytest
 PYTEST_PROCESSES ?= 4
 TESTING := $(PYTEST) --quiet --numprocesses=$(PYTEST_PROCESSES)
 # How many percent of the companions' lines are run at least.
-LEAST_COVERED := 90
+LEAST_COVERED := 95
 # For how long `make fuzz` makes requests.
 SECONDS ?= 3600
 
