@@ -53,27 +53,21 @@ def check_changelog():
     assert made.startswith(f"ansible-vault ({VERSION}) "), ("and names this version first", made[:80])
 
 
-def check_same(folder: pathlib.Path, name: str, program: str):
-    """Two folders, one of them with a space, times, umasks and zones make the same bytes, of the program that was
-    built last: nothing is built anew."""
-    without = shutil.ignore_patterns("out", ".git", "*.deb")
-    packages = []
+def check_same(folder: pathlib.Path, package: pathlib.Path, program: str):
+    """A folder with a space, another time, umask and zone make the same bytes, of the program that was built last:
+    nothing is built anew."""
     (folder / "rt").write_text("#!/bin/sh\necho rt is run >&2\nexit 1\n")
     (folder / "rt").chmod(0o755)
-    path = f"{folder}{os.pathsep}{os.environ['PATH']}"
-    for place, umask, zone in (("one", 0o022, "UTC"), ("two words", 0o077, "Asia/Tokyo")):
-        copy = folder / place
-        shutil.copytree(ROOT, copy, symlinks=True, ignore=without)
-        (copy / "man/ansible-vault.1").touch()
-        (copy / "bin/processor").write_text("\n")
-        shutil.copy(program, copy / "bin/ansible-vault")
-        environment = os.environ | {"TZ": zone, "PATH": path}
-        environment.pop("SOURCE_DATE_EPOCH", None)
-        done = run_make(str(ROOT / "bin/ansible-vault"), "package", at=copy, umask=umask, env=environment)
-        assert done.returncode == 0, (f"make package ends well in folder {place}", done.stderr)
-        packages.append((copy / "bin" / name).read_bytes())
-    assert packages[0] == packages[1], "two builds of the package are the same"
-    check_processor(folder / "one", environment)
+    copy = folder / "two words"
+    shutil.copytree(ROOT, copy, symlinks=True, ignore=shutil.ignore_patterns("out", ".git", "*.deb"))
+    (copy / "man/ansible-vault.1").touch()
+    (copy / "bin/processor").write_text("\n")
+    shutil.copy(program, copy / "bin/ansible-vault")
+    environment = os.environ | {"TZ": "Asia/Tokyo", "PATH": f"{folder}{os.pathsep}{os.environ['PATH']}"}
+    done = run_make(str(ROOT / "bin/ansible-vault"), "package", at=copy, umask=0o077, env=environment)
+    assert done.returncode == 0, ("make package ends well in a copy", done.stderr)
+    assert (copy / "bin" / package.name).read_bytes() == package.read_bytes(), "two builds of the package are the same"
+    check_processor(copy, environment)
 
 
 def check_processor(copy: pathlib.Path, environment: dict):
@@ -228,7 +222,7 @@ def package(program: str) -> pathlib.Path:
 
 def test_package(tmp_path: pathlib.Path, package: pathlib.Path, program: str) -> None:
     check_package(package, tmp_path / "package")
-    check_same(tmp_path, package.name, program)
+    check_same(tmp_path, package, program)
     needs_root()
     beside = Beside(package, tmp_path, program)
     beside.check_ours_behind_theirs()
