@@ -53,23 +53,24 @@ ARCHIVE = tar --create --format=gnu --sort=name --mtime=@$(SOURCE_DATE_EPOCH) --
 # The sums of the files that were installed, so that no other is uninstalled.
 SUMS := $(LIBRARY)/installed.sha256
 
-# pytest, in this number of processes, runs what compares outcomes; the others are commands in tests/.
+# What runs the tests, and in how many processes.
 PYTEST ?= /usr/bin/python3 -B -X utf8 -m pytest
 PYTEST_PROCESSES ?= 4
-# How many checks each makes at least, so that none vanishes unseen; of the outcomes, how many tests (`--at-least`).
-FLOORS := failed_allocations=1200 failed_allocations_in_memory=1 pytest=4000 fuzz=200 with_valgrind=50 faults=3000 lint=5
-TESTS := failed_allocations_in_memory outcomes fuzz with_valgrind faults failed_allocations lint
+TESTING := $(PYTEST) --quiet --numprocesses=$(PYTEST_PROCESSES)
+# How many percent of the companions' lines are run at least.
+LEAST_COVERED := 95
+# For how long `make fuzz` makes requests.
+SECONDS ?= 3600
 
 .DELETE_ON_ERROR:
-.PHONY: all demo packages check mutants test fuzz faults bench install uninstall portable dist package lint clean \
-	FORCE $(TESTS:%=test-%)
+.PHONY: all demo packages check mutants test planted coverage fuzz faults bench install uninstall portable dist package lint clean FORCE
 
 all: $(PROGRAM)
 
 # Proves the program and the crates that it stands on, and builds it.
 bin/ansible-vault: $(SOURCES) bin/processor
 	@echo "Proving the program and the crates below it, if they changed; from scratch it takes minutes"
-	@tools/progress.py bin/build.log ansible_vault \
+	@tools/progress.py bin/build.log \
 		tools/build_program ansible_vault $(if $(CPU),--cpu $(CPU)) -- --version
 	@cp crates/ansible_vault/out/ansible_vault $@
 
@@ -87,7 +88,7 @@ packages:
 # The program that tests/failed_allocations_in_memory runs.
 bin/vault_allocation_failures: $(SOURCES)
 	@mkdir -p bin
-	@tools/progress.py bin/failed_allocations.log vault_allocation_failures tools/build_program vault_allocation_failures -- drive view < /dev/null
+	@tools/progress.py bin/failed_allocations.log tools/build_program vault_allocation_failures -- drive view < /dev/null
 	@cp crates/vault_allocation_failures/out/vault_allocation_failures $@
 
 # Changes if the processor does.
@@ -102,7 +103,7 @@ check: export RT_JOBS ?= $(shell nproc)
 check: packages bin/processor
 	@echo "Proving every crate and its tests, and trying their must-fail edits"
 	@touch bin/gate-begun
-	@tools/progress.py bin/ci.log all rt ci
+	@tools/progress.py bin/ci.log rt ci
 	@$(if $(CPU),,cp crates/ansible_vault/out/ansible_vault bin/ansible-vault)
 	@$(if $(CPU),,touch -r bin/gate-begun bin/ansible-vault)
 	@cp crates/vault_allocation_failures/out/vault_allocation_failures bin/vault_allocation_failures
@@ -114,38 +115,34 @@ mutants: all
 	@echo "Trying the mutants; what became of each is printed once all are tried"
 	@tools/mutants
 
-# All of them, whichever fails, that first for which a program is built; each prints what it has to say when it is
-# through. The last line counts all checks.
-test: packages all
-	@tools/counts '[a-z_]+: ' $(FLOORS:%=--floor %) $(MAKE) --no-print-directory --keep-going --jobs=4 --output-sync=target \
-		$(TESTS:%=test-%)
+# All of them. A part with fewer tests than its floor fails, and the last line counts the tests.
+test: packages all bin/vault_allocation_failures
+	$(TESTING) --floors --runs=6000 --seconds=120 --share=20
 
-test-outcomes: all
-	$(PYTEST) --quiet --numprocesses=$(PYTEST_PROCESSES) --at-least=500
+# No part of the gate: plants faults in copies of the repository, and runs the test that is to catch each.
+planted: all
+	tools/plant_faults
 
-test-fuzz: all
-	tests/fuzz bin/ansible-vault --seed 1 --runs 6000 --seconds 120 --minimum 200
+# No part of the gate: which lines of the companions no test of theirs runs. Tests that watch what a companion writes
+# fail here, since it notes its lines, too.
+coverage: all
+	@rm -rf bin/coverage && mkdir -p bin/coverage && chmod a+rwx bin/coverage
+	-LINES_RUN=$(abspath bin/coverage) $(TESTING) tests/companion_cases
+	@/usr/bin/python3 -m coverage combine --quiet --rcfile=tests/lines_run.ini
+	@/usr/bin/python3 -m coverage report --rcfile=tests/lines_run.ini --fail-under=$(LEAST_COVERED)
 
-test-with_valgrind test-faults test-failed_allocations: test-%: all
-	tests/$* bin/ansible-vault
-
-test-failed_allocations_in_memory: bin/vault_allocation_failures
-	tests/failed_allocations_in_memory bin/vault_allocation_failures
-
-test-lint:
-	tools/lint
-
-# Random requests, until interrupted.
+# Random requests; what differs is kept in tests/fixtures/fuzz.
 fuzz: all
-	tests/fuzz bin/ansible-vault
+	$(TESTING) -m fuzz --runs=100000000 --seconds=$(SECONDS) --timeout=0 --seed=$(shell date +%s)
 
 # Makes every system call fail in turn, and injects the other faults.
 faults: all
-	tests/faults bin/ansible-vault --share 1
+	$(TESTING) -m faults --share=1 --timeout=0
 
 bench: all
 	bench/commands.py bin/ansible-vault --chart docs/speed.svg
 	bench/parts.py bin/ansible-vault
+	bench/rotation.py bin/ansible-vault
 	bench/envelope.py
 	bench/counter_mode.py
 	bench/key_derivation.py

@@ -148,6 +148,8 @@ _ansible_vault_with_options() {
     case $1 in
     create | edit) _ansible_vault_companion_options ansible-vault-edit ;;
     "") _ansible_vault_companion_options ansible-vault-with ;;
+    encrypt_string) echo "$(_ansible_vault_options "$1") $_ansible_vault_asking --prompt -p --show-input" ;;
+    rekey) echo "$(_ansible_vault_options "$1") $_ansible_vault_asking --encrypt-vault-id" ;;
     *) echo "$(_ansible_vault_options "$1") $_ansible_vault_asking" ;;
     esac
 }

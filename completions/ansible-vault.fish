@@ -75,8 +75,10 @@ complete -c ansible-vault -n "$given $commands" -l vault-password-file -x -a '(_
 set -l none "not $given $commands create edit"
 complete -c ansible-vault-with -n "$none" -a create -d 'A new encrypted file in an editor'
 complete -c ansible-vault-with -n "$none" -a edit -d 'An encrypted file in an editor'
-complete -c ansible-vault-with -n "$given create edit" -l encrypt-vault-id -x \
+complete -c ansible-vault-with -n "$given create edit rekey" -l encrypt-vault-id -x \
     -d 'The label of the secret to encrypt with'
+complete -c ansible-vault-with -n "$given encrypt_string" -s p -l prompt -d 'Ask for a string'
+complete -c ansible-vault-with -n "$given encrypt_string" -l show-input -d 'Show the string while it is typed'
 complete -c ansible-vault-with -n "$given create edit" -F
 
 for name in edit rotate check textconv hook merge

@@ -52,8 +52,14 @@ _ansible_vault_arguments() {
         '*--vault-pass-file=[a password file for the label default]:file:_ansible_vault_files'
         '*'{-J,--ask-vault-password,--ask-vault-pass}'[ask for a password of the label default]'
     )
-    [[ $service == ansible-vault-with ]] && secrets=($all_secrets)
     local -a encrypt_id=('--encrypt-vault-id=[the label of the secret to encrypt with]:label: ')
+    # Those that ansible-vault-with takes for rekey and encrypt_string, as Ansible's tool does.
+    local -a rekey_id=() typed=()
+    if [[ $service == ansible-vault-with ]]; then
+        secrets=($all_secrets)
+        rekey_id=($encrypt_id)
+        typed=('(-p --prompt)'{-p,--prompt}'[ask for a string]' '--show-input[show it while it is typed]')
+    fi
     local -a label_match=('--require-id-match[try only the secrets with the label of the encrypted file]')
     local -a salt=(
         '(--salt)--salt-file=[the file whose first 32 bytes are the salt]:file:_ansible_vault_files'
@@ -85,8 +91,8 @@ _ansible_vault_arguments() {
         encrypt) _arguments -s -S $help $secrets $encrypt_id $salt $output $file ;;
         decrypt) _arguments -s -S $help $secrets $label_match $output $file ;;
         view) _arguments -s -S $help $secrets $label_match $file ;;
-        rekey) _arguments -s -S $help $secrets $rekey_options $label_match $salt $output $file ;;
-        encrypt_string) _arguments -s -S $help $secrets $encrypt_id $salt $names $output '1:text: ' ;;
+        rekey) _arguments -s -S $help $secrets $rekey_options $rekey_id $label_match $salt $output $file ;;
+        encrypt_string) _arguments -s -S $help $secrets $encrypt_id $salt $names $output $typed '1:text: ' ;;
         create|edit) _arguments -s -S $common $all_secrets $encrypt_id $file ;;
         rotate) _arguments -s -S $common $all_secrets $new_secrets $rotation '*:path:_ansible_vault_files' ;;
         check) _arguments -s -S $common $all_secrets $labels '*:path:_ansible_vault_files' ;;

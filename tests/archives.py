@@ -9,7 +9,7 @@ import tarfile
 import pytest
 
 from lib.installed import PREFIX_FILES, VERSION, check_program, files_below, run_make
-from lib.outcome import Outcome
+from lib.needs import needs
 from lib.paths import ROOT
 
 SOURCE = f"ansible-vault-{VERSION}"
@@ -38,27 +38,26 @@ def tracked_files() -> set[str]:
 
 @pytest.fixture
 def archives(program: str, tmp_path: pathlib.Path) -> pathlib.Path:
-    if not shutil.which("git"):
-        pytest.skip("git is not installed")
+    needs("git")
     made(program, tmp_path / "dist")
     return tmp_path / "dist"
 
 
-def test_contents(outcome: Outcome, archives: pathlib.Path, tmp_path: pathlib.Path) -> None:
+def test_contents(archives: pathlib.Path, tmp_path: pathlib.Path) -> None:
     for name in ARCHIVES:
         with tarfile.open(archives / name) as archive:
             members = archive.getmembers()
-        outcome.check(f"{name}: sorted", [each.name for each in members], sorted(each.name for each in members))
+        assert [each.name for each in members] == sorted(each.name for each in members), f"{name}: sorted"
         owners = {(each.uid, each.gid, each.uname, each.gname) for each in members}
-        outcome.check(f"{name}: nobody's", owners, {(0, 0, "", "")})
-        outcome.check(f"{name}: of one time", len({each.mtime for each in members}), 1)
+        assert owners == {(0, 0, "", "")}, f"{name}: nobody's"
+        assert len({each.mtime for each in members}) == 1, f"{name}: of one time"
         unpacked(archives / name, tmp_path / name)
-    outcome.check("the sources are those of git", files_below(tmp_path / ARCHIVES[0] / SOURCE), tracked_files())
+    assert files_below(tmp_path / ARCHIVES[0] / SOURCE) == tracked_files(), "the sources are those of git"
     top = tmp_path / ARCHIVES[1] / PROGRAM
-    outcome.check("the program and what belongs to it", files_below(top), PREFIX_FILES)
-    check_program(outcome, top / "bin/ansible-vault", "the program of the archive")
+    assert files_below(top) == PREFIX_FILES, "the program and what belongs to it"
+    check_program(top / "bin/ansible-vault", "the program of the archive")
     done = subprocess.run(["sha256sum", "--check", "--quiet", "SHA256SUMS"], cwd=archives, capture_output=True)
-    outcome.check("the sums", (done.returncode, done.stdout), (0, b""))
+    assert (done.returncode, done.stdout) == (0, b""), "the sums"
 
 
 def test_made_again(program: str, archives: pathlib.Path, tmp_path: pathlib.Path) -> None:

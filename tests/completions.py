@@ -10,8 +10,7 @@ import shutil
 import pytest
 
 import shells
-from lib.option_sets import companion_options, page_sets
-from lib.outcome import Outcome
+from lib.option_sets import OF_ANSIBLE, companion_options, page_sets
 from lib.paths import COMPANIONS
 from model.options import OPTIONS
 from shells import SHELLS, needs_shell, typed_in_bash
@@ -45,19 +44,19 @@ def folder(tmp_path: pathlib.Path) -> pathlib.Path:
 
 
 @pytest.mark.parametrize("name", SHELLS)
-def test_program(outcome: Outcome, name: str, folder: pathlib.Path) -> None:
+def test_program(name: str, folder: pathlib.Path) -> None:
     needs_shell(name)
     ask = lambda words: SHELLS[name](f"ansible-vault {words}", folder)
-    outcome.check(f"{name} offers the commands", ask(""), set(OPTIONS))
-    outcome.check(f"{name} offers the commands that begin so", ask("encr"), {"encrypt", "encrypt_string"})
+    assert ask("") == set(OPTIONS), f"{name} offers the commands"
+    assert ask("encr") == {"encrypt", "encrypt_string"}, f"{name} offers the commands that begin so"
     for words, wanted in PATHS:
-        outcome.check(f"{name} offers files for `{words}`", ask(words), wanted)
+        assert ask(words) == wanted, f"{name} offers files for `{words}`"
     for words in PATHS_BEHIND_LABELS:
         # bash replaces what begins with the `@`, the others the whole value.
         wanted = "@one.pass" if name == "bash" else "dev@one.pass"
-        outcome.check(f"{name} offers files for `{words}`", ask(words), {wanted})
+        assert ask(words) == {wanted}, f"{name} offers files for `{words}`"
     for words in NO_FILES:
-        outcome.check(f"{name} offers nothing for `{words}`", ask(words), set())
+        assert ask(words) == set(), f"{name} offers nothing for `{words}`"
 
 
 @pytest.fixture
@@ -70,13 +69,13 @@ def spaced(tmp_path: pathlib.Path, monkeypatch: pytest.MonkeyPatch) -> None:
 
 
 @pytest.mark.parametrize("name", SHELLS)
-def test_checkout_with_a_space(outcome: Outcome, name: str, folder: pathlib.Path, spaced: None) -> None:
+def test_checkout_with_a_space(name: str, folder: pathlib.Path, spaced: None) -> None:
     needs_shell(name)
-    outcome.check(f"{name} offers files", SHELLS[name]("ansible-vault view on", folder), {"one.pass", "one.yml"})
+    assert SHELLS[name]("ansible-vault view on", folder) == {"one.pass", "one.yml"}, f"{name} offers files"
 
 
-def test_typed_with_a_space(outcome: Outcome, folder: pathlib.Path, spaced: None) -> None:
-    outcome.check("bash on a terminal completes a command", typed_in_bash("encrypt_s", folder), ["encrypt_string"])
+def test_typed_with_a_space(folder: pathlib.Path, spaced: None) -> None:
+    assert typed_in_bash("encrypt_s", folder) == ["encrypt_string"], "bash on a terminal completes a command"
 
 
 # The same for the companions.
@@ -127,32 +126,33 @@ def options_of(name: str) -> set[str]:
 
 
 @pytest.mark.parametrize("shell", SHELLS)
-def test_companions(outcome: Outcome, shell: str, folder: pathlib.Path) -> None:
+def test_companions(shell: str, folder: pathlib.Path) -> None:
     needs_shell(shell)
     for name in COMPANIONS:
         what = f"{shell} offers the options of {name}"
-        outcome.check(what, offered_options(shell, name, folder), sorted(options_of(name)))
+        assert offered_options(shell, name, folder) == sorted(options_of(name)), what
     for line, wanted in COMPANION_PATHS:
-        outcome.check(f"{shell} offers files for `{line}`", SHELLS[shell](line, folder), wanted)
+        assert SHELLS[shell](line, folder) == wanted, f"{shell} offers files for `{line}`"
     wanted = "@one.pass" if shell == "bash" else "dev@one.pass"
     line = "ansible-vault-rotate --new-vault-id dev@one.p"
-    outcome.check(f"{shell} offers files for `{line}`", SHELLS[shell](line, folder), {wanted})
+    assert SHELLS[shell](line, folder) == {wanted}, f"{shell} offers files for `{line}`"
 
 
 @pytest.mark.parametrize("shell", SHELLS)
-def test_with(outcome: Outcome, shell: str, folder: pathlib.Path) -> None:
+def test_with(shell: str, folder: pathlib.Path) -> None:
     """After a command ansible-vault-with takes the options of the tool's, and its own for secrets."""
     needs_shell(shell)
-    check_options_of_commands(outcome, shell, "ansible-vault-with", folder)
+    check_options_of_commands(shell, "ansible-vault-with", folder)
 
 
-def check_options_of_commands(outcome: Outcome, shell: str, name: str, folder: pathlib.Path, alias: str = "") -> None:
+def check_options_of_commands(shell: str, name: str, folder: pathlib.Path, alias: str = "") -> None:
     own = options_of("ansible-vault-with") - {"-V", "--version"}
     for command in WITH_COMMANDS:
         is_tools = command in OPTIONS
-        wanted = page_sets()[command] | own if is_tools else options_of("ansible-vault-edit")
+        of_tool = page_sets().get(command, set()) | own | OF_ANSIBLE.get(command, set())
+        wanted = of_tool if is_tools else options_of("ansible-vault-edit")
         offered = offered_options(shell, f"{name} {command}", folder, alias)
-        outcome.check(f"{shell} offers the options of {command}", offered, sorted(wanted))
+        assert offered == sorted(wanted), f"{shell} offers the options of {command}"
 
 
 # Each makes one of the other for all that is typed.
@@ -160,7 +160,7 @@ ALIASES = ["alias ansible-vault=ansible-vault-with", "alias ansible-vault='ansib
 
 
 @pytest.mark.parametrize("shell", SHELLS)
-def test_alias(outcome: Outcome, shell: str, folder: pathlib.Path) -> None:
+def test_alias(shell: str, folder: pathlib.Path) -> None:
     """By an alias, ansible-vault has the completion of ansible-vault-with; without one it has its own."""
     needs_shell(shell)
     for alias in ALIASES:
@@ -168,20 +168,20 @@ def test_alias(outcome: Outcome, shell: str, folder: pathlib.Path) -> None:
             name, _, words = line.partition(" ")
             if name == "ansible-vault-with":
                 offered = SHELLS[shell](f"ansible-vault {words}", folder, alias)
-                outcome.check(f"{shell} offers files for `{words}` by {alias}", offered, wanted)
-    check_options_of_commands(outcome, shell, "ansible-vault", folder, ALIASES[0])
+                assert offered == wanted, f"{shell} offers files for `{words}` by {alias}"
+    check_options_of_commands(shell, "ansible-vault", folder, ALIASES[0])
     # As somebody may have set it, and an alias of another tool.
     if shell == "zsh":
         offered = SHELLS[shell]("ansible-vault ", folder, f"setopt complete_aliases; {ALIASES[0]}")
-        outcome.check("zsh offers the commands of an alias that it does not expand", offered, WITH_COMMANDS)
+        assert offered == WITH_COMMANDS, "zsh offers the commands of an alias that it does not expand"
     offered = SHELLS[shell]("ansible-vault ", folder, "alias ansible-vault-edit=ansible-vault-with")
-    outcome.check(f"{shell} offers those of the tool where it is no alias", offered, set(OPTIONS))
+    assert offered == set(OPTIONS), f"{shell} offers those of the tool where it is no alias"
 
 
-def test_alias_typed_in_bash(outcome: Outcome, folder: pathlib.Path) -> None:
+@pytest.mark.parametrize("line, wanted", {"cre": ["create"], "-J edit one.y": ["-J", "edit", "one.yml"]}.items())
+def test_alias_typed_in_bash(folder: pathlib.Path, line, wanted) -> None:
     needs_shell("bash")
-    for line, wanted in {"cre": ["create"], "-J edit one.y": ["-J", "edit", "one.yml"]}.items():
-        outcome.check(f"bash completes `{line}` by an alias", typed_in_bash(line, folder, ALIASES[0]), wanted)
+    assert typed_in_bash(line, folder, ALIASES[0]) == wanted, f"bash completes `{line}` by an alias"
 
 
 # Where `~` begins a path, and whether the shell expands it there.
@@ -201,24 +201,22 @@ HOME_PATHS = {
 }
 
 
+@pytest.mark.parametrize("words, is_expanded", HOME_PATHS.items())
+@pytest.mark.parametrize("name", ("ansible-vault", "ansible-vault-with"))
 @pytest.mark.parametrize("shell", SHELLS)
-def test_home(outcome: Outcome, shell: str, folder: pathlib.Path, monkeypatch: pytest.MonkeyPatch) -> None:
+def test_home(shell: str, folder: pathlib.Path, monkeypatch: pytest.MonkeyPatch, name, words, is_expanded) -> None:
     """`~` is offered where the shell expands it; elsewhere the path of the folder, and in fish nothing."""
     needs_shell(shell)
     monkeypatch.setenv("HOME", str(folder))
     (folder / "work").mkdir()
-    for name in ("ansible-vault", "ansible-vault-with"):
-        for words, is_expanded in HOME_PATHS.items():
-            line = f"{name} {words}"
-            offered = SHELLS[shell](line, folder / "work")
-            if is_expanded:
-                outcome.check(f"{shell} completes `{line}`", offered, {"~/one.pass"})
-            elif shell == "fish":
-                outcome.check(f"{shell} offers nothing for `{line}`", offered, set())
-            else:
-                outcome.check(f"{shell} expands `{line}`", [each.partition("/")[2] for each in offered], [
-                    f"{folder}/one.pass"[1:]
-                ])
+    line = f"{name} {words}"
+    offered = SHELLS[shell](line, folder / "work")
+    if is_expanded:
+        assert offered == {"~/one.pass"}, f"{shell} completes `{line}`"
+    elif shell == "fish":
+        assert offered == set(), f"{shell} offers nothing for `{line}`"
+    else:
+        assert [each.partition("/")[2] for each in offered] == [f"{folder}/one.pass"[1:]], f"{shell} expands `{line}`"
 
 
 # What is typed before a tab in bash, and the arguments that the command gets.
@@ -252,20 +250,18 @@ QUOTED = {
 }
 
 
-def test_quoted_in_fish(outcome: Outcome, folder: pathlib.Path) -> None:
+@pytest.mark.parametrize("option", ("--vault-id ", "--vault-id="))
+@pytest.mark.parametrize("value, wanted", QUOTED.items())
+def test_quoted_in_fish(folder: pathlib.Path, value, wanted, option) -> None:
     needs_shell("fish")
-    for value, wanted in QUOTED.items():
-        for option in ("--vault-id ", "--vault-id="):
-            start = option if option.endswith("=") else ""
-            offered = SHELLS["fish"](f"ansible-vault view {option}{value}", folder)
-            outcome.check(f"fish completes `{option}{value}`", offered, {start + wanted})
+    start = option if option.endswith("=") else ""
+    offered = SHELLS["fish"](f"ansible-vault view {option}{value}", folder)
+    assert offered == {start + wanted}, f"fish completes `{option}{value}`"
 
 
 @pytest.mark.parametrize("line", TYPED)
-def test_typed_in_bash(
-    outcome: Outcome, line: str, folder: pathlib.Path, monkeypatch: pytest.MonkeyPatch
-) -> None:
+def test_typed_in_bash(line: str, folder: pathlib.Path, monkeypatch: pytest.MonkeyPatch) -> None:
     needs_shell("bash")
     monkeypatch.setenv("HOME", str(folder))
     wanted = [word.replace("HOME", str(folder)) for word in TYPED[line]]
-    outcome.check(f"bash on a terminal completes `{line}`", typed_in_bash(line, folder), wanted)
+    assert typed_in_bash(line, folder) == wanted, f"bash on a terminal completes `{line}`"

@@ -1,8 +1,6 @@
-"""What pytest knows of these tests: the program that they run, and how a test ends by its `Outcome`.
+"""What pytest knows of these tests: their options, the program, and what is skipped, kept and counted.
 
-A test fails if one of its checks fails, but continues after it; one that checks nothing fails, too. What it skips,
-because the machine does not have a tool or a right, is a skip, and with --require-all a failure. The last line
-counts checks: a test may hold a table of hundreds.
+A test that is skipped, because the machine does not have a tool or a right, fails with --require-all.
 """
 
 import locale
@@ -10,32 +8,49 @@ import os
 import shutil
 import subprocess
 import tempfile
+from collections import Counter
 from collections.abc import Iterator
-from inspect import getmembers, isfunction, signature
 from pathlib import Path
 
 import pytest
 
 from cases import Cases
-from companion_cases import Companions
 from lib.locales import use_plain_locale
-from lib.outcome import Outcome
+from lib.needs import TAKES_ROOT
 from lib.paths import ROOT
 from lib.signals import heed_signals
 
 PROGRAM = ROOT / "bin" / "ansible-vault"
-COMPANION_CASES = ROOT / "tests" / "companion_cases"
+OUTCOMES = "outcomes"
+# How many tests of each part have to be run with --floors, the others by their markers; and how much they have to make
+# of what they record.
+FLOORS = {OUTCOMES: 1700, "fuzz": 6, "faults": 44, "allocations": 40, "valgrind": 45}
+LEAST = {"random requests": 200, "refused calls": 700, "signals": 36, "refused allocations": 1200}
+
+
+def seed_of_commit() -> int:
+    """Another one for each commit; 1 where git knows of none."""
+    command = ["git", "-C", str(ROOT), "rev-parse", "--short=8", "HEAD"]
+    try:
+        return int(subprocess.run(command, capture_output=True, text=True, check=True).stdout, 16)
+    except (OSError, subprocess.CalledProcessError):
+        return 1
 
 
 def pytest_addoption(parser: pytest.Parser) -> None:
     group = parser.getgroup("ansible-vault")
-    group.addoption("--program", type=Path, default=PROGRAM, help="the program; by default bin/ansible-vault")
+    add = group.addoption
     required = os.environ.get("REQUIRE_ALL") == "1"
-    group.addoption("--require-all", action="store_true", default=required, help="a skipped check is a failure")
+    add("--program", type=Path, default=PROGRAM, help="the program; by default bin/ansible-vault")
+    add("--require-all", action="store_true", default=required, help="a test that is skipped fails")
+    add("--floors", action="store_true", help="a part with fewer tests than its floor fails")
+    add("--seed", type=int, default=seed_of_commit(), metavar="N", help="of random tests; by default of the commit")
+    add("--runs", type=int, default=400, metavar="N", help="how many random requests are made")
+    add("--seconds", type=float, default=60, metavar="N", help="after which no further random request is made")
+    add("--first", type=int, default=0, metavar="N", help="the number of the first random request")
+    add("--share", type=int, default=100, metavar="N", help="one in N of the faults is tried, and one of each kind")
     help_text = "how many random command lines are compared with Ansible's tool; by default as many as take 20 seconds"
-    group.addoption("--comparisons", type=int, default=0, metavar="N", help=help_text)
-    group.addoption("--at-least", type=int, default=0, metavar="N", help="how many tests have to be run")
-    group.addoption("--vaults", type=int, default=200, metavar="N", help="how many are rotated for the time")
+    add("--comparisons", type=int, default=0, metavar="N", help=help_text)
 
 
 def pytest_sessionstart(session: pytest.Session) -> None:
@@ -50,65 +65,17 @@ def pytest_sessionstart(session: pytest.Session) -> None:
         pytest.exit("this locale is not UTF-8: try `python3 -X utf8 -m pytest`", pytest.ExitCode.USAGE_ERROR)
 
 
-class Topic(pytest.Module):
-    """The tests of a module in companion_cases are the functions in its list TESTS."""
-
-    def collect(self):
-        tests = getattr(self.obj, "TESTS", [])
-        listed = {test.__name__ for test in tests}
-        takes_cases = lambda value: isfunction(value) and list(signature(value).parameters) == ["cases"]
-        own = {name for name, value in getmembers(self.obj, takes_cases) if value.__module__ == self.obj.__name__}
-        if own - listed:
-            raise self.CollectError(f"TESTS does not list {', '.join(sorted(own - listed))}")
-        return [pytest.Function.from_parent(self, name=test.__name__, callobj=test) for test in tests]
-
-
-def pytest_pycollect_makemodule(module_path: Path, parent: pytest.Collector) -> pytest.Module | None:
-    return Topic.from_parent(parent, path=module_path) if module_path.parent == COMPANION_CASES else None
-
-
-def conclude(item: pytest.Function, report: pytest.TestReport, outcome: Outcome) -> None:
-    """Ends a test by what it has checked."""
-    failures, skipped = [*outcome.failures], [*outcome.skipped]
-    if item.config.getoption("--require-all"):
-        failures += [f"{each}: it is skipped, and --require-all is set" for each in skipped]
-        skipped = []
-    skipped += outcome.for_root
-    if not (outcome.passed or failures or skipped or report.failed):
-        failures = ["nothing is checked"]
-    if report.failed:
-        report.sections.append(("checks that failed before", "\n".join(failures)))
-        failures.append("it ends by an exception")
-    elif failures:
-        report.outcome, report.longrepr = "failed", "\n".join(failures)
-    elif skipped:
-        reason = f"Skipped: {'; '.join(skipped)}"
-        report.outcome, report.longrepr = "skipped", (str(item.path), item.location[1] or 0, reason)
-    counts = {"passed": outcome.passed, "failed": len(failures), "skipped": len(skipped)}
-    item.user_properties.extend(counts.items())
-    report.user_properties = [*item.user_properties]
-
-
 @pytest.hookimpl(hookwrapper=True)
 def pytest_runtest_makereport(item: pytest.Function, call: pytest.CallInfo) -> Iterator[None]:
     report = (yield).get_result()
-    outcomes = [each for each in item.funcargs.values() if isinstance(each, Outcome)]
-    if report.when == "call" and outcomes and not report.skipped:
-        conclude(item, report, outcomes[0])
-    elif report.skipped and item.config.getoption("--require-all"):
-        report.outcome = "failed"
-        report.longrepr = f"{report.longrepr[2]}: it is skipped, and --require-all is set"
+    if report.skipped and item.config.getoption("--require-all"):
+        reason = report.longrepr[2].removeprefix("Skipped: ")
+        if reason != TAKES_ROOT or os.geteuid() == 0:
+            report.outcome, report.longrepr = "failed", f"{reason}: it is skipped, and --require-all is set"
     if report.failed:
         item.has_failed = True
         if "tmp_path" in item.funcargs:
             report.sections.append(("files", f"kept in {item.funcargs['tmp_path']}"))
-
-
-def counted(report: pytest.TestReport | pytest.CollectReport, what: str) -> int:
-    """How many checks of a test had this result. A test that counts no checks is one check itself, and so is a module
-    that cannot be collected."""
-    counts = dict(report.user_properties) if report.when == "call" else {}
-    return counts.get(what, int(report.outcome == what))
 
 
 def ends_of_tests(config: pytest.Config) -> list[pytest.TestReport | pytest.CollectReport]:
@@ -117,29 +84,53 @@ def ends_of_tests(config: pytest.Config) -> list[pytest.TestReport | pytest.Coll
     return [each for each in reports if each.when == "call" or not each.passed]
 
 
-def are_too_few(config: pytest.Config) -> bool:
-    return len(ends_of_tests(config)) < config.getoption("--at-least")
+def part_of(report: pytest.TestReport) -> str:
+    return next((part for part in FLOORS if part in report.keywords), OUTCOMES)
+
+
+def too_few(config: pytest.Config) -> list[str]:
+    """A line for each floor that is not reached."""
+    if not config.getoption("--floors"):
+        return []
+    ends = ends_of_tests(config)
+    made = Counter(f"{part_of(each)} tests" for each in ends if not each.skipped)
+    made.update({what: amount for what, (amount, _) in amounts(ends).items()})
+    floors = {f"{part} tests": least for part, least in FLOORS.items()} | LEAST
+    return [f"{what}: {made[what]}, of at least {least}" for what, least in floors.items() if made[what] < least]
 
 
 @pytest.hookimpl(tryfirst=True)
 def pytest_sessionfinish(session: pytest.Session) -> None:
     is_worker = hasattr(session.config, "workerinput")
-    if not is_worker and are_too_few(session.config):
+    if not is_worker and too_few(session.config):
         session.exitstatus = pytest.ExitCode.TESTS_FAILED
 
 
+def amounts(ends: list[pytest.TestReport]) -> dict[str, tuple[int, int]]:
+    """What the tests record that they made of what was asked, added up by its name."""
+    added: dict[str, tuple[int, int]] = {}
+    for what, (made, asked) in (each for end in ends for each in getattr(end, "user_properties", [])):
+        before = added.get(what, (0, 0))
+        added[what] = before[0] + made, before[1] + asked
+    return added
+
+
 def pytest_terminal_summary(terminalreporter, config: pytest.Config) -> None:
+    """Says what was left out, and what was made of what was asked. Its last line counts the tests."""
     if config.option.collectonly:
         return
-    ends = ends_of_tests(config)
+    ends, failures, say = ends_of_tests(config), too_few(config), terminalreporter.write_line
     for each in ends:
         if each.skipped:
-            terminalreporter.write_line(f"skipped: {each.nodeid}: {each.longrepr[2].removeprefix('Skipped: ')}")
-    counts = {what: sum(counted(each, what) for each in ends) for what in ("passed", "failed", "skipped")}
-    if are_too_few(config):
-        counts["failed"] += 1
-        terminalreporter.write_line(f"FAILED {len(ends)} tests are run, of at least {config.getoption('--at-least')}")
-    terminalreporter.write_line(f"pytest: {', '.join(f'{count} {what}' for what, count in counts.items())}")
+            say(f"skipped: {each.nodeid}: {each.longrepr[2].removeprefix('Skipped: ')}")
+    say(f"seed: {config.getoption('--seed')}")
+    for what, (made, asked) in amounts(ends).items():
+        say(f"{what}: {made} of {asked}")
+    for failure in failures:
+        say(f"FAILED {failure}")
+    counts = Counter(each.outcome for each in ends)
+    counts["failed"] += len(failures)
+    say(", ".join(f"{counts[what]} {what}" for what in ("passed", "failed", "skipped")))
 
 
 @pytest.fixture(scope="session")
@@ -159,14 +150,6 @@ def tmp_path(request: pytest.FixtureRequest) -> Iterator[Path]:
 
 
 @pytest.fixture
-def outcome() -> Outcome:
-    return Outcome()
-
-
-@pytest.fixture
-def cases(request: pytest.FixtureRequest, program: str, tmp_path: Path) -> Cases | Companions:
-    """Runs the program; for the tests in companion_cases, the companions beside it."""
-    if request.path.parent == COMPANION_CASES:
-        option = request.config.getoption
-        return Companions(program, tmp_path, option("--vaults"), option("--comparisons"))
+def cases(program: str, tmp_path: Path) -> Cases:
+    """Runs the program, with files in a folder of its own."""
     return Cases(program, tmp_path)

@@ -10,10 +10,15 @@ import subprocess
 import tempfile
 from typing import NamedTuple
 
+import pytest
+
 from cases import SECONDS, TEXT, Cases, by_file, by_id
 from cases.samples import SALT_TEXT, SALT_WORDS
+from lib.needs import needs
 from model.faults import Fault
 from model.vaults import ENVELOPE, parts, seal, serialized
+
+pytestmark = pytest.mark.valgrind
 
 WORKERS = 2
 COLLECTED = re.compile(r"Collected *: *(\d+)")
@@ -53,7 +58,11 @@ def runs(cases: Cases) -> list[Run]:
         Run("none may be tried", ["view", "--require-id-match", *others(most)], vault, 0, refused),
         Run("a wrong padding", ["view", *by_id(right), *others(most)], unpadded, 1, Fault.BAD_PADDING.status),
         Run(
-            "a choice of all", ["encrypt", *others(most), *by_id(right, "dev"), *chosen], TEXT, 1, 0,
+            "a choice of all",
+            ["encrypt", *others(most), *by_id(right, "dev"), *chosen],
+            TEXT,
+            1,
+            0,
             seal(b"right", TEXT, b"dev", SALT_TEXT),
         ),
         Run("another secret", ["rekey", *by_id(right), *others(most), *to_new], vault, 2, 0, rekeyed),
@@ -71,18 +80,16 @@ def collected(program: str, run: Run) -> tuple[subprocess.CompletedProcess, int]
     return done, int(found[1]) if found else 0
 
 
-def check_derivations(cases: Cases) -> None:
+def test_derivations(cases: Cases) -> None:
+    needs("valgrind")
     every = runs(cases)
     with concurrent.futures.ThreadPoolExecutor(WORKERS) as pool:
         counted = list(pool.map(lambda run: collected(cases.program, run), every))
     base, one = counted[0][1], counted[1][1] - counted[0][1]
-    cases.holds("a derivation takes its rounds", one > LEAST_DERIVATION, f"it takes {one} instructions")
+    assert one > LEAST_DERIVATION, ("a derivation takes its rounds", f"it takes {one} instructions")
     for run, (done, _) in zip(every, counted):
-        cases.check(f"{run.name}: answer", (done.returncode, done.stdout), (run.status, run.output))
+        assert (done.returncode, done.stdout) == (run.status, run.output), f"{run.name}: answer"
     # The first two runs are the measure of the others.
     for run, (_, count) in zip(every[2:], counted[2:]):
         found = (count - base) / max(one, 1)
-        cases.holds(
-            f"{run.name}: derivations", abs(found - run.derivations) < TOLERANCE,
-            f"got {found:.3f}, want {run.derivations}",
-        )
+        assert abs(found - run.derivations) < TOLERANCE, f"{run.name}: derivations"

@@ -5,7 +5,6 @@ code, and the example on each crate's first page with the test that runs it.
 import re
 
 from lib.option_sets import sections
-from lib.outcome import Outcome
 from lib.paths import PAGE, ROOT
 
 FORMATS = (ROOT / "docs" / "formats.md").read_text()
@@ -81,21 +80,21 @@ def document_limits() -> dict[str, str]:
     return rows | {"secrets": " ".join(secrets)}
 
 
-def test_formats(outcome: Outcome) -> None:
-    outcome.check("docs/formats.md has the faults of the code", document_faults(), code_faults())
+def test_formats() -> None:
+    assert document_faults() == code_faults(), "docs/formats.md has the faults of the code"
     rows, limits = document_limits(), code_limits()
     for what, constants in LIMITS.items():
         wanted = {limits[constant] for constant in constants}
-        outcome.check(f"docs/formats.md has the code's limit: {what}", numbers(rows.get(what, "")), wanted)
+        assert numbers(rows.get(what, "")) == wanted, f"docs/formats.md has the code's limit: {what}"
 
 
-def test_page(outcome: Outcome) -> None:
+def test_page() -> None:
     diagnostics = sections(PAGE.read_text())["DIAGNOSTICS"]
     messages = re.findall(r"^\.It (.*)$", diagnostics, re.MULTILINE)
     texts = [text for texts in code_texts().values() for text in texts]
-    outcome.check("the manual page explains every message", sorted(messages), sorted(texts))
+    assert sorted(messages) == sorted(texts), "the manual page explains every message"
     longest = re.search(r"Plaintext has at most ([\d,]+) bytes", diagnostics)
-    outcome.check("and names the longest plaintext", numbers(longest[1]), {code_limits()["PLAINTEXT_LIMIT"]})
+    assert numbers(longest[1]) == {code_limits()["PLAINTEXT_LIMIT"]}, "and names the longest plaintext"
 
 
 def code_codes() -> set[int]:
@@ -103,10 +102,10 @@ def code_codes() -> set[int]:
     return {int(code) for code in re.findall(r"Status::\w+ => (\d),", STATUSES)}
 
 
-def test_exit_statuses(outcome: Outcome) -> None:
+def test_exit_statuses() -> None:
     """The parser's own status is among those of the code."""
     codes = re.findall(r"^\.It (\d)$", sections(PAGE.read_text())["EXIT STATUS"], re.MULTILINE)
-    outcome.check("the manual page has the code's exit statuses", [int(code) for code in codes], sorted(code_codes()))
+    assert [int(code) for code in codes] == sorted(code_codes()), "the manual page has the code's exit statuses"
 
 
 def unspaced(code: str) -> str:
@@ -114,7 +113,7 @@ def unspaced(code: str) -> str:
     return re.sub(r",(?=[\])])", "", re.sub(r"\s", "", code))
 
 
-def test_examples(outcome: Outcome) -> None:
+def test_examples() -> None:
     """Each library's example is also a test, which may first get an allocator."""
     tests = (CRATES / "vault_program_tests" / "src" / "examples.rt").read_text()
     bodies = dict(re.findall(r"^fn of_(\w+)\(.*?\{\n(.*?)^\}", tests, re.MULTILINE | re.DOTALL))
@@ -127,5 +126,5 @@ def test_examples(outcome: Outcome) -> None:
         if example := re.search(r"^//! ```rust\n(.*?)^//! ```", page.read_text(), re.MULTILINE | re.DOTALL):
             examples[page.parent.parent.name] = unspaced(example[1].replace("//! ", ""))
     for crate in sorted(tested | examples):
-        outcome.check(f"the example of {crate}", examples.get(crate), tested.get(crate))
-    outcome.holds("there are examples", len(examples) > 6)
+        assert examples.get(crate) == tested.get(crate), f"the example of {crate}"
+    assert len(examples) > 6, "there are examples"

@@ -1,4 +1,4 @@
-"""Shows how a test ends by what it has checked, as `conftest.py` has it."""
+"""How pytest ends by what `conftest.py` and `pytest.ini` say: skips, floors, threads, limits of time."""
 
 import os
 import re
@@ -9,61 +9,24 @@ from pathlib import Path
 
 import pytest
 
-from lib.outcome import Outcome
 from lib.paths import ROOT
 
+SKIP = "import pytest; pytest.skip('why')"
+ROOT_ONLY = "import os; os.geteuid = lambda: {user}; import pytest; import lib.needs; pytest.skip(lib.needs.TAKES_ROOT)"
+THREAD = "import threading; thread = threading.Thread(target=lambda: 1 / 0); thread.start(); thread.join()"
 # The body of a test, options of pytest, its exit status, and the line of counts.
 SAMPLES = {
-    "all hold": ("outcome.check('a', 1, 1); outcome.holds('b', True)", [], 0, "2 passed, 0 failed, 0 skipped"),
-    "a check fails": (
-        "for row in range(3): outcome.check(f'row {row}', row, 1)",
-        [],
-        1,
-        "1 passed, 2 failed, 0 skipped",
-    ),
-    "an exception": (
-        "outcome.check('a', 1, 1); outcome.check('b', 1, 2); 1 / 0",
-        [],
-        1,
-        "1 passed, 2 failed, 0 skipped",
-    ),
-    "nothing is checked": ("pass", [], 1, "0 passed, 1 failed, 0 skipped"),
-    "a part is skipped": (
-        "outcome.check('a', 1, 1); outcome.skip('b', 'why')",
-        [],
-        0,
-        "1 passed, 0 failed, 1 skipped",
-    ),
-    "a part is required": ("outcome.skip('b', 'why')", ["--require-all"], 1, "0 passed, 1 failed, 0 skipped"),
-    "only root can do it": (
-        "outcome.check('a', 1, 1); import os; os.geteuid = lambda: 1; outcome.skip('b', 'why', takes_root=True)",
-        ["--require-all"],
-        0,
-        "1 passed, 0 failed, 1 skipped",
-    ),
-    "root cannot do it": (
-        "import os; os.geteuid = lambda: 0; outcome.skip('b', 'why', takes_root=True)",
-        ["--require-all"],
-        1,
-        "0 passed, 1 failed, 0 skipped",
-    ),
-    "a skip": ("import pytest; pytest.skip('why')", [], 0, "0 passed, 0 failed, 1 skipped"),
-    "a skip that is required": (
-        "import pytest; pytest.skip('why')",
-        ["--require-all"],
-        1,
-        "0 passed, 1 failed, 0 skipped",
-    ),
-    "an assertion": ("assert False", [], 1, "0 passed, 1 failed, 0 skipped"),
-    "a test without end": ("import time; time.sleep(600)", ["--timeout=1"], 1, "0 passed, 1 failed, 0 skipped"),
-    "as many tests as wanted": ("outcome.check('a', 1, 1)", ["--at-least=1"], 0, "1 passed, 0 failed, 0 skipped"),
-    "fewer tests than wanted": ("outcome.check('a', 1, 1)", ["--at-least=2"], 1, "1 passed, 1 failed, 0 skipped"),
-    "fewer in two processes": (
-        "outcome.check('a', 1, 1)",
-        ["--at-least=2", "--numprocesses=2"],
-        1,
-        "1 passed, 1 failed, 0 skipped",
-    ),
+    "it passes": ("pass", [], 0, "1 passed, 0 failed, 0 skipped"),
+    "it fails": ("assert False", [], 1, "0 passed, 1 failed, 0 skipped"),
+    "a thread fails": (THREAD, [], 1, "0 passed, 1 failed, 0 skipped"),
+    "it returns something": ("return 1 == 2", [], 1, "0 passed, 1 failed, 0 skipped"),
+    "it does not end": ("import time; time.sleep(600)", ["--timeout=1"], 1, "0 passed, 1 failed, 0 skipped"),
+    "a skip": (SKIP, [], 0, "0 passed, 0 failed, 1 skipped"),
+    "a skip, and all is required": (SKIP, ["--require-all"], 1, "0 passed, 1 failed, 0 skipped"),
+    "only root can do it": (ROOT_ONLY.format(user=1), ["--require-all"], 0, "0 passed, 0 failed, 1 skipped"),
+    "root cannot do it": (ROOT_ONLY.format(user=0), ["--require-all"], 1, "0 passed, 1 failed, 0 skipped"),
+    "too few": ("pass", ["--floors"], 1, "1 passed, 9 failed, 0 skipped"),
+    "too few in two processes": ("pass", ["--floors", "--numprocesses=2"], 1, "1 passed, 9 failed, 0 skipped"),
     "no test of that name": ("pass", ["-k", "another"], 5, "0 passed, 0 failed, 0 skipped"),
 }
 
@@ -72,7 +35,7 @@ def run_sample(folder: Path, program: str, body: str, options: list[str]) -> sub
     """In a copy of the tests."""
     shutil.copytree(ROOT / "tests", folder / "tests")
     shutil.copy(ROOT / "pytest.ini", folder)
-    (folder / "tests" / "sample.py").write_text(f"def test_it(outcome, tmp_path):\n    {body}\n")
+    (folder / "tests" / "sample.py").write_text(f"def test_it(tmp_path):\n    {body}\n")
     kept = {name: value for name, value in os.environ.items() if not name.startswith(("PYTEST_", "REQUIRE_ALL"))}
     words = ["pytest", f"--program={program}", *options, "tests/sample.py"]
     return subprocess.run([sys.executable, "-B", "-m", *words], capture_output=True, text=True, cwd=folder, env=kept)
@@ -82,14 +45,23 @@ def test_time_limit(pytestconfig: pytest.Config) -> None:
     assert 0 < float(pytestconfig.getini("timeout")) <= 900
 
 
-@pytest.mark.parametrize("what", SAMPLES)
-def test_ending(outcome: Outcome, program: str, tmp_path: Path, what: str) -> None:
-    body, options, status, counts = SAMPLES[what]
+@pytest.mark.parametrize("body, options, status, counts", SAMPLES.values(), ids=SAMPLES)
+def test_ending(program: str, tmp_path: Path, body: str, options: list[str], status: int, counts: str) -> None:
     done = run_sample(tmp_path, program, body, options)
-    outcome.check("the status", done.returncode, status)
-    outcome.check("the counts", re.findall(r"^pytest: (.*)$", done.stdout, re.MULTILINE), [counts])
-    does_fail = status == 1 and "fewer" not in what
+    found = re.findall(r"^(\d+ passed, .*)$", done.stdout, re.MULTILINE)
+    assert (done.returncode, found[0]) == (status, counts), done.stdout
     kept = re.findall(r"^kept in (.*)$", done.stdout, re.MULTILINE)
-    outcome.check("a folder is kept where it fails", [Path(each).is_dir() for each in kept], [True] * does_fail)
+    has_failed = status == 1 and "--floors" not in options
+    assert [Path(each).is_dir() for each in kept] == [True] * has_failed, "a folder is kept where it fails"
     for each in kept:
         shutil.rmtree(each)
+
+
+def test_seed_of_commit(program: str, tmp_path: Path) -> None:
+    """It is 1 in a copy without git, and is printed."""
+    assert "\nseed: 1\n" in run_sample(tmp_path, program, "pass", []).stdout
+    command = ["git", "-C", str(ROOT), "rev-parse", "--short=8", "HEAD"]
+    commit = subprocess.run(command, capture_output=True, text=True).stdout
+    words = [sys.executable, "-B", "-m", "pytest", f"--program={program}", "tests/endings.py", "-k", "time_limit"]
+    done = subprocess.run(words, capture_output=True, text=True, cwd=ROOT)
+    assert f"\nseed: {int(commit, 16) if commit else 1}\n" in done.stdout

@@ -14,7 +14,6 @@ from collections.abc import Iterator
 from typing import NamedTuple
 
 from lib.installed import run_make
-from lib.outcome import Outcome
 from lib.paths import COMPANIONS, README
 
 SECTION = "\n## Five minutes\n"
@@ -54,18 +53,18 @@ def session(program: str, top: pathlib.Path) -> Iterator[tuple[Step, str]]:
         yield step, ran.stdout
 
 
-def test_five_minutes(outcome: Outcome, program: str, tmp_path: pathlib.Path) -> None:
-    outcome.holds("the README has a first session", len(steps(README.read_text())) > 0)
+def test_five_minutes(program: str, tmp_path: pathlib.Path) -> None:
+    assert len(steps(README.read_text())) > 0, "the README has a first session"
     for step, printed in session(program, tmp_path):
-        outcome.holds(step.command, step.is_met_by(printed), f"printed {printed!r}")
+        assert step.is_met_by(printed), (step.command, f"printed {printed!r}")
 
 
-def test_demo(outcome: Outcome, program: str) -> None:
+def test_demo(program: str) -> None:
     """`make demo` prints the session as the README has it."""
     done = run_make(program, "demo", f"PROGRAM={program}")
     session = "\n".join(f"$ {step.command}\n{step.wanted}".strip("\n") for step in steps(README.read_text()))
-    outcome.check("make demo ends well", (done.returncode, done.stderr), (0, ""))
-    outcome.holds("and prints the session", Step("make demo", session).is_met_by(done.stdout), done.stdout)
+    assert (done.returncode, done.stderr) == (0, ""), "make demo ends well"
+    assert Step("make demo", session).is_met_by(done.stdout), "and prints the session"
 
 
 def show(program: str) -> bool:

@@ -12,9 +12,10 @@ from pathlib import Path
 import pytest
 
 from cases import SECONDS, TEXT, Cases, answer_of, by_file
-from cases.samples import SALT_WORDS, Sample, samples
+from cases.samples import SALT_WORDS, Sample, each_command, sample_of, samples
 from lib import resident
 from lib.mounts import tmpfs
+from lib.needs import TAKES_ROOT
 from model.faults import Fault
 from model.vaults import PLAINTEXT_LIMIT, seal
 
@@ -34,13 +35,12 @@ STEPS = 20
 def run_with(program: str, words: list[str], limit: int, amount: int, **streams) -> subprocess.CompletedProcess:
     """Runs with a resource limit. SIGXFSZ stays ignored, as in Python, so that a write past the limit of file size
     fails instead of ending the program."""
+
     def restrict() -> None:
         resource.setrlimit(resource.RLIMIT_CORE, (0, 0))
         resource.setrlimit(limit, (amount, amount))
 
-    return subprocess.run(
-        [program, *words], preexec_fn=restrict, restore_signals=False, timeout=SECONDS, **streams
-    )
+    return subprocess.run([program, *words], preexec_fn=restrict, restore_signals=False, timeout=SECONDS, **streams)
 
 
 def in_memory(program: str, sample: Sample, amount: int) -> subprocess.CompletedProcess:
@@ -74,20 +74,18 @@ def test_address_space(cases: Cases, size: int) -> None:
         for step in range(STEPS + 1):
             done = in_memory(cases.program, sample, least + (ENOUGH - least) * step // STEPS)
             answer = answer_of(done)
-            cases.holds(f"{name}, step {step} of memory", answer in (whole, refused), answer)
+            assert answer in (whole, refused), f"{name}, step {step} of memory"
             answers.append("whole" if answer == whole else "refused" if answer == refused else "neither")
-        cases.check(f"{name} in the least memory", answers[0], "refused")
-        cases.check(f"{name} in enough memory", answers[-1], "whole")
+        assert answers[0] == "refused", f"{name} in the least memory"
+        assert answers[-1] == "whole", f"{name} in enough memory"
 
 
-def test_reserved_first(cases: Cases) -> None:
+@pytest.mark.parametrize("amount, fault", ((16 * MIB, Fault.MEMORY), (ENOUGH, Fault.SECRET_NOT_OPENED)))
+def test_reserved_first(cases: Cases, amount, fault) -> None:
     """Room for the longest text is reserved before any file is looked for."""
     missing = Sample(["view", "--vault-password-file", cases.path()], b"", b"")
-    for amount, fault in ((16 * MIB, Fault.MEMORY), (ENOUGH, Fault.SECRET_NOT_OPENED)):
-        done = in_memory(cases.program, missing, amount)
-        cases.check(
-            f"a missing file in {amount // MIB} MiB", (done.returncode, done.stderr), (fault.status, fault.line)
-        )
+    done = in_memory(cases.program, missing, amount)
+    assert (done.returncode, done.stderr) == (fault.status, fault.line), f"a missing file in {amount // MIB} MiB"
 
 
 @pytest.mark.parametrize("size", RESIDENT)
@@ -96,42 +94,51 @@ def test_resident_memory(cases: Cases, size: int) -> None:
         for name, path in (("from a file", cases.file(sample.stdin)), ("through a pipe", None)):
             name = f"{sample.command} of {size} bytes {name}"
             done = resident.run([cases.program, *sample.words], sample.stdin, path)
-            cases.check(name, (done.status, done.output), (0, sample.output))
-            cases.holds(f"{name}: resident memory", 0 < done.resident <= RESIDENT[size] * KIB, f"{done.resident} KiB")
+            assert (done.status, done.output) == (0, sample.output), name
+            assert 0 < done.resident <= RESIDENT[size] * KIB, (f"{name}: resident memory", f"{done.resident} KiB")
 
 
-def test_limited_files(cases: Cases) -> None:
+@each_command
+def test_limited_files(cases: Cases, command: str) -> None:
     """A file that takes that many bytes, as standard output and by name, where SIGXFSZ is ignored: `faults`
     shows how the signal ends a run."""
-    for sample in samples(cases, TEXT * 20):
-        length = len(sample.output)
-        for amount in (0, 1, 2, 100, length - 1, length, length + 1):
-            wanted = (0, b"") if amount >= length else (Fault.NOT_WRITTEN.status, Fault.NOT_WRITTEN.line)
-            path = Path(cases.path())
-            with path.open("wb") as out:
-                done = run_with(
-                    cases.program, sample.words, resource.RLIMIT_FSIZE, amount, input=sample.stdin, stdout=out,
-                    stderr=subprocess.PIPE,
-                )
-            check_written(
-                cases, f"{sample.command}, {amount} bytes of output, SIGXFSZ ignored", done, wanted, path,
-                sample.output[:amount],
+    sample = sample_of(cases, command, TEXT * 20)
+    length = len(sample.output)
+    for amount in (0, 1, 2, 100, length - 1, length, length + 1):
+        wanted = (0, b"") if amount >= length else (Fault.NOT_WRITTEN.status, Fault.NOT_WRITTEN.line)
+        path = Path(cases.path())
+        with path.open("wb") as out:
+            done = run_with(
+                cases.program,
+                sample.words,
+                resource.RLIMIT_FSIZE,
+                amount,
+                input=sample.stdin,
+                stdout=out,
+                stderr=subprocess.PIPE,
             )
-            if sample.command != "view":
-                words = [*sample.words, "--output", str(path)]
-                done = run_with(
-                    cases.program, words, resource.RLIMIT_FSIZE, amount, input=sample.stdin, stdout=subprocess.DEVNULL,
-                    stderr=subprocess.PIPE,
-                )
-                check_written(
-                    cases, f"{sample.command}, {amount} bytes by name, SIGXFSZ ignored", done, wanted, path,
-                    sample.output[:amount],
-                )
+        check_written(
+            f"{sample.command}, {amount} bytes of output, SIGXFSZ ignored", done, wanted, path, sample.output[:amount]
+        )
+        if sample.command != "view":
+            words = [*sample.words, "--output", str(path)]
+            done = run_with(
+                cases.program,
+                words,
+                resource.RLIMIT_FSIZE,
+                amount,
+                input=sample.stdin,
+                stdout=subprocess.DEVNULL,
+                stderr=subprocess.PIPE,
+            )
+            check_written(
+                f"{sample.command}, {amount} bytes by name, SIGXFSZ ignored", done, wanted, path, sample.output[:amount]
+            )
 
 
-def check_written(cases: Cases, name: str, done, wanted, path: Path, content: bytes) -> None:
-    cases.check(name, (done.returncode, done.stderr), wanted)
-    cases.check(f"{name}: what was taken", path.read_bytes(), content)
+def check_written(name: str, done, wanted, path: Path, content: bytes) -> None:
+    assert (done.returncode, done.stderr) == wanted, name
+    assert path.read_bytes() == content, f"{name}: what was taken"
 
 
 def test_full_file_system(cases: Cases) -> None:
@@ -139,7 +146,7 @@ def test_full_file_system(cases: Cases) -> None:
     folder = Path(cases.path())
     with tmpfs(folder, FILE_SYSTEM_SIZE) as is_mounted:
         if not is_mounted:
-            return cases.skip("a full file system", "none can be mounted here", takes_root=True)
+            pytest.skip(TAKES_ROOT)
         for sample in samples(cases, TEXT * FILE_SYSTEM_SIZE):
             fill_file_system(cases, sample, folder / sample.command)
 
@@ -147,40 +154,47 @@ def test_full_file_system(cases: Cases) -> None:
 def fill_file_system(cases: Cases, sample: Sample, path: Path) -> None:
     with path.open("wb") as out:
         cases.run_streams(
-            f"{sample.command} to a full file system", sample.words, 3, Fault.NOT_WRITTEN.line, input=sample.stdin,
+            f"{sample.command} to a full file system",
+            sample.words,
+            3,
+            Fault.NOT_WRITTEN.line,
+            input=sample.stdin,
             stdout=out,
         )
-    cases.check(f"{sample.command} to a full file system: a prefix", sample.output.startswith(path.read_bytes()), True)
+    assert sample.output.startswith(path.read_bytes()), f"{sample.command} to a full file system: a prefix"
     path.unlink()
     if sample.command != "view":
         cases.refused(
-            f"{sample.command} by name to a full file system", [*sample.words, "--output", str(path)],
-            Fault.NOT_WRITTEN, sample.stdin,
+            f"{sample.command} by name to a full file system",
+            [*sample.words, "--output", str(path)],
+            Fault.NOT_WRITTEN,
+            sample.stdin,
         )
-        cases.check(f"{sample.command} by name: a prefix", sample.output.startswith(path.read_bytes()), True)
+        assert sample.output.startswith(path.read_bytes()), f"{sample.command} by name: a prefix"
         path.unlink()
 
 
-def test_failing_reads(cases: Cases) -> None:
+@each_command
+def test_failing_reads(cases: Cases, command: str) -> None:
     """Files that open and fail when they are read; no files are left to open."""
-    for sample in samples(cases):
-        words = [*sample.words, *by_file(UNREADABLE)]
-        cases.refused(f"{sample.command}, an unreadable password file", words, Fault.SECRET_NOT_READ, sample.stdin)
-        with open(UNREADABLE, "rb", buffering=0) as stdin:
-            cases.run_streams(
-                f"{sample.command}, unreadable input", sample.words, 3, Fault.INPUT_NOT_READ.line, stdin=stdin
-            )
-        salted = [word for word in sample.words if word not in SALT_WORDS]
-        if salted != sample.words:
-            cases.refused(
-                f"{sample.command}, an unreadable salt file", [*salted, "--salt-file", UNREADABLE], Fault.SALT_NOT_READ,
-                sample.stdin,
-            )
-        if sample.command != "encrypt_string":
-            out = [] if sample.command == "view" else ["--output", "-"]
-            cases.refused(
-                f"{sample.command}, an unreadable FILE", [*sample.words, UNREADABLE, *out], Fault.INPUT_NOT_READ
-            )
+    sample = sample_of(cases, command)
+    words = [*sample.words, *by_file(UNREADABLE)]
+    cases.refused(f"{sample.command}, an unreadable password file", words, Fault.SECRET_NOT_READ, sample.stdin)
+    with open(UNREADABLE, "rb", buffering=0) as stdin:
+        cases.run_streams(
+            f"{sample.command}, unreadable input", sample.words, 3, Fault.INPUT_NOT_READ.line, stdin=stdin
+        )
+    salted = [word for word in sample.words if word not in SALT_WORDS]
+    if salted != sample.words:
+        cases.refused(
+            f"{sample.command}, an unreadable salt file",
+            [*salted, "--salt-file", UNREADABLE],
+            Fault.SALT_NOT_READ,
+            sample.stdin,
+        )
+    if sample.command != "encrypt_string":
+        out = [] if sample.command == "view" else ["--output", "-"]
+        cases.refused(f"{sample.command}, an unreadable FILE", [*sample.words, UNREADABLE, *out], Fault.INPUT_NOT_READ)
 
 
 def test_long_words(cases: Cases) -> None:

@@ -10,7 +10,7 @@ from functools import partial
 import pytest
 
 from lib.installed import COMPANIONS, PREFIX_FILES, check_program, files_below, printed, run_make
-from lib.outcome import Outcome
+from lib.needs import needs
 from lib.paths import ROOT
 
 EDIT_PAGE = ROOT / "man" / "ansible-vault-edit.1"
@@ -21,90 +21,74 @@ BASH = "source {} && _completion_loader ansible-vault; complete -p ansible-vault
 BASH_COMPLETION = pathlib.Path("/usr/share/bash-completion/bash_completion")
 
 
-def check_found(outcome: Outcome, prefix: pathlib.Path):
-    """The tools themselves find what was installed, where they are installed."""
-    checks = {
-        "man": (shutil.which("man"), check_man),
-        "fish": (shutil.which("fish"), check_fish),
-        "zsh": (shutil.which("zsh"), check_zsh),
-        "bash-completion": (BASH_COMPLETION.exists(), check_bash_completion),
-    }
-    for tool, (is_installed, check) in checks.items():
-        if is_installed:
-            check(outcome, prefix)
-        else:
-            outcome.skip(f"what {tool} finds", "it is not installed")
-
-
-def check_man(outcome: Outcome, prefix: pathlib.Path):
+def check_man(prefix: pathlib.Path):
     pages = prefix / "share" / "man"
     page = str(pages / "man1" / "ansible-vault.1")
     path = printed("man", "-M", str(pages), "-w", "ansible-vault").strip()
-    outcome.check("man finds the page", path, page)
+    assert path == page, "man finds the page"
     for name in sorted(COMPANIONS):
         path = printed("man", "-M", str(pages), "-w", name).strip()
-        outcome.check(f"man finds that of {name}", path, str(pages / "man1" / f"{name}.1"))
+        assert path == str(pages / "man1" / f"{name}.1"), f"man finds that of {name}"
 
 
-def check_fish(outcome: Outcome, prefix: pathlib.Path):
+def check_fish(prefix: pathlib.Path):
     share = str(prefix / "share")
     ask = 'complete -C "ansible-vault view --require"'
     offered = printed("fish", "-c", ask, XDG_DATA_DIRS=share)
-    outcome.holds("fish finds its completion", "--require-id-match" in offered)
+    assert "--require-id-match" in offered, "fish finds its completion"
     # fish looks for no completion of a command that is not there.
     path = f"{prefix / 'bin'}{os.pathsep}{os.environ['PATH']}"
     ask = 'complete -C "ansible-vault-rotate --dry"'
     offered = printed("fish", "-c", ask, XDG_DATA_DIRS=share, PATH=path)
-    outcome.holds("fish finds that of a companion", "--dry-run" in offered)
+    assert "--dry-run" in offered, "fish finds that of a companion"
 
 
-def check_zsh(outcome: Outcome, _prefix: pathlib.Path):
+def check_zsh(_prefix: pathlib.Path):
     """zsh searches the folders below /usr and /usr/local; what is installed below another prefix it does not find."""
     folders = printed("zsh", "-f", "-c", "print -l $fpath").split()
     wanted = {"/usr/local/share/zsh/site-functions", "/usr/share/zsh/vendor-completions"}
-    outcome.holds("zsh looks where its completion is put", wanted <= {*folders}, str(folders))
+    assert wanted <= {*folders}, "zsh looks where its completion is put"
 
 
-def check_bash_completion(outcome: Outcome, prefix: pathlib.Path):
+def check_bash_completion(prefix: pathlib.Path):
     share = str(prefix / "share")
     loaded = printed("bash", "-c", BASH.format(BASH_COMPLETION), XDG_DATA_DIRS=share)
-    outcome.holds("bash-completion finds its completion", "_ansible_vault " in loaded)
+    assert "_ansible_vault " in loaded, "bash-completion finds its completion"
     text = BASH.replace("ansible-vault", "ansible-vault-rotate").format(BASH_COMPLETION)
     loaded = printed("bash", "-c", text, XDG_DATA_DIRS=share)
-    outcome.holds("bash-completion finds that of a companion", "_ansible_vault_companion" in loaded, loaded)
+    assert "_ansible_vault_companion" in loaded, "bash-completion finds that of a companion"
 
 
-def check_install(outcome: Outcome, folder: pathlib.Path, make: Callable):
+def check_install(folder: pathlib.Path, make: Callable):
     words = [f"DESTDIR={folder}", "PREFIX=/opt/vault"]
-    outcome.check("make install ends well", make("install", *words).returncode, 0)
+    assert make("install", *words).returncode == 0, "make install ends well"
     prefix = folder / "opt" / "vault"
-    outcome.check("make install puts the files below the prefix", files_below(prefix), LOCAL_FILES)
-    check_program(outcome, prefix / "bin" / "ansible-vault", "the installed program")
-    check_found(outcome, prefix)
-    check_links(outcome, prefix / "share/doc/ansible-vault")
-    outcome.check("make uninstall ends well", make("uninstall", *words).returncode, 0)
-    outcome.check("make uninstall leaves no file", files_below(folder), set())
-    outcome.check("nor a folder of its own", [each for each in folder.rglob("ansible*")], [])
-    outcome.holds("make uninstall fails if nothing is installed", make("uninstall", *words).returncode != 0)
+    assert files_below(prefix) == LOCAL_FILES, "make install puts the files below the prefix"
+    check_program(prefix / "bin" / "ansible-vault", "the installed program")
+    check_links(prefix / "share/doc/ansible-vault")
+    assert make("uninstall", *words).returncode == 0, "make uninstall ends well"
+    assert files_below(folder) == set(), "make uninstall leaves no file"
+    assert [each for each in folder.rglob("ansible*")] == [], "nor a folder of its own"
+    assert make("uninstall", *words).returncode != 0, "make uninstall fails if nothing is installed"
 
 
 LINK = re.compile(r"\]\((?!https?:)([^)#]*)(?:#[^)]*)?\)")
 
 
-def check_links(outcome: Outcome, documents: pathlib.Path):
+def check_links(documents: pathlib.Path):
     """Each link of a document leads to what was installed."""
     for page in sorted(documents.rglob("*.md")):
         targets = [target for target in LINK.findall(page.read_text()) if target]
         dead = [target for target in targets if not (page.parent / target).exists()]
-        outcome.check(f"links of {page.relative_to(documents)} that lead nowhere", dead, [])
+        assert dead == [], f"links of {page.relative_to(documents)} that lead nowhere"
 
 
-def check_next_step(outcome: Outcome, folder: pathlib.Path, make: Callable):
+def check_next_step(folder: pathlib.Path, make: Callable):
     """Without DESTDIR, a line says what to type next."""
     done = make("install", "DESTDIR=", f"PREFIX={folder}")
     wanted = (0, "Type next: hash -r; ansible-vault --version\n", "")
-    outcome.check("make install prints the next step", (done.returncode, done.stdout, done.stderr), wanted)
-    outcome.check("with DESTDIR it does not", make("install", f"DESTDIR={folder}").stdout, "")
+    assert (done.returncode, done.stdout, done.stderr) == wanted, "make install prints the next step"
+    assert make("install", f"DESTDIR={folder}").stdout == "", "with DESTDIR it does not"
 
 
 # Stands for dpkg-query where a package owns one file.
@@ -114,7 +98,7 @@ DPKG_QUERY = """\
 """
 
 
-def check_owned(outcome: Outcome, folder: pathlib.Path, make: Callable):
+def check_owned(folder: pathlib.Path, make: Callable):
     """No file of a package is overwritten, whichever of ours it is."""
     for name in ("bin/ansible-vault", "share/man/man1/ansible-vault-edit.1"):
         prefix, tools = folder / name / "usr", folder / name / "tools"
@@ -126,13 +110,13 @@ def check_owned(outcome: Outcome, folder: pathlib.Path, make: Callable):
         environment = os.environ | {"PATH": f"{tools}{os.pathsep}{os.environ['PATH']}"}
         done = make("install", "DESTDIR=", f"PREFIX={prefix}", env=environment)
         reason = f"{prefix / name} belongs to the package ansible-core: "
-        outcome.holds(f"make install refuses a package's {name}", done.returncode != 0)
-        outcome.holds(f"and says whose {name} is", done.stderr.startswith(reason), done.stderr)
+        assert done.returncode != 0, f"make install refuses a package's {name}"
+        assert done.stderr.startswith(reason), f"and says whose {name} is"
         found = files_below(prefix), (prefix / name).read_text()
-        outcome.check(f"and writes nothing beside {name}", found, ({name}, "theirs"))
+        assert found == ({name}, "theirs"), f"and writes nothing beside {name}"
 
 
-def check_replaced(outcome: Outcome, folder: pathlib.Path, make: Callable):
+def check_replaced(folder: pathlib.Path, make: Callable):
     """What another installer put at one of the paths, as pip does, stays unless the caller says otherwise."""
     words = ["DESTDIR=", f"PREFIX={folder}"]
     program, link = folder / "bin/ansible-vault", folder / "bin/ansible-vault-edit"
@@ -140,25 +124,23 @@ def check_replaced(outcome: Outcome, folder: pathlib.Path, make: Callable):
     for path in (program, link):
         path.write_text("theirs")
         done = make("install", *words)
-        outcome.holds(f"make install refuses to overwrite {path.name}", done.returncode != 0)
-        outcome.holds(f"and names {path.name}", done.stderr.startswith(f"{path} is there already"), done.stderr)
-        outcome.check(
-            f"and leaves {path.name}", (files_below(folder), path.read_text()), ({f"bin/{path.name}"}, "theirs")
-        )
-        outcome.holds("make uninstall refuses, too", make("uninstall", *words).returncode != 0 and path.exists())
+        assert done.returncode != 0, f"make install refuses to overwrite {path.name}"
+        assert done.stderr.startswith(f"{path} is there already"), f"and names {path.name}"
+        assert (files_below(folder), path.read_text()) == ({f"bin/{path.name}"}, "theirs"), f"and leaves {path.name}"
+        assert make("uninstall", *words).returncode != 0 and path.exists(), "make uninstall refuses, too"
         path.unlink()
     program.write_text("theirs")
-    outcome.check("REPLACE=yes overwrites it", make("install", *words, "REPLACE=yes").returncode, 0)
-    check_program(outcome, program, "the program that replaced another")
-    outcome.check("and it is then ours", make("install", *words).returncode, 0)
+    assert make("install", *words, "REPLACE=yes").returncode == 0, "REPLACE=yes overwrites it"
+    check_program(program, "the program that replaced another")
+    assert make("install", *words).returncode == 0, "and it is then ours"
     program.write_text("theirs again")
-    outcome.holds("a file that was changed since is not overwritten", make("install", *words).returncode != 0)
+    assert make("install", *words).returncode != 0, "a file that was changed since is not overwritten"
     done = make("uninstall", *words)
     wanted = (0, f"left, since it was changed: {program}\n", {"bin/ansible-vault"})
-    outcome.check("nor removed", (done.returncode, done.stdout, files_below(folder)), wanted)
+    assert (done.returncode, done.stdout, files_below(folder)) == wanted, "nor removed"
 
 
-def check_folders(outcome: Outcome, folder: pathlib.Path, make: Callable):
+def check_folders(folder: pathlib.Path, make: Callable):
     """A folder at a path is not replaced, and nothing is put into it."""
     for number, name in enumerate(("bin/ansible-vault", "bin/ansible-vault-edit")):
         path = folder / str(number) / name
@@ -166,24 +148,24 @@ def check_folders(outcome: Outcome, folder: pathlib.Path, make: Callable):
         for words in ([], ["REPLACE=yes"]):
             done = make("install", "DESTDIR=", f"PREFIX={folder / str(number)}", *words)
             wanted = f"{path} is a folder: remove it, or give another PREFIX\n"
-            outcome.holds(f"a folder {name} is refused {words}", done.returncode != 0 and wanted in done.stderr, done)
-        outcome.check(f"a folder {name}: nothing is written", files_below(folder / str(number)), set())
+            assert done.returncode != 0 and wanted in done.stderr, f"a folder {name} is refused {words}"
+        assert files_below(folder / str(number)) == set(), f"a folder {name}: nothing is written"
     path = folder / "linked/bin/ansible-vault"
     path.parent.mkdir(parents=True)
     path.symlink_to(folder / "0")
     done = make("install", "DESTDIR=", f"PREFIX={folder / 'linked'}", "REPLACE=yes")
-    outcome.check("a link to a folder is replaced", (done.returncode, path.is_symlink()), (0, False))
-    outcome.check("and the folder stays", files_below(folder / "0"), set())
+    assert (done.returncode, path.is_symlink()) == (0, False), "a link to a folder is replaced"
+    assert files_below(folder / "0") == set(), "and the folder stays"
 
 
-def check_spaces(outcome: Outcome, folder: pathlib.Path, make: Callable):
+def check_spaces(folder: pathlib.Path, make: Callable):
     words = [f"DESTDIR={folder}/a folder", "PREFIX=/opt/two words"]
     prefix = folder / "a folder/opt/two words"
-    outcome.check("make install below a path with spaces", make("install", *words).returncode, 0)
-    outcome.check("puts the files there", files_below(prefix), LOCAL_FILES)
-    check_program(outcome, prefix / "bin/ansible-vault", "the program below a path with spaces")
-    outcome.check("make uninstall below a path with spaces", make("uninstall", *words).returncode, 0)
-    outcome.check("leaves no file", files_below(folder), set())
+    assert make("install", *words).returncode == 0, "make install below a path with spaces"
+    assert files_below(prefix) == LOCAL_FILES, "puts the files there"
+    check_program(prefix / "bin/ansible-vault", "the program below a path with spaces")
+    assert make("uninstall", *words).returncode == 0, "make uninstall below a path with spaces"
+    assert files_below(folder) == set(), "leaves no file"
 
 
 # Stands for a tool that ends, and so the script that runs it, at the call of this number.
@@ -195,7 +177,7 @@ exec {tool} "$@"
 """
 
 
-def check_interrupted(outcome: Outcome, folder: pathlib.Path, make: Callable):
+def check_interrupted(folder: pathlib.Path, make: Callable):
     """After an installation that ended early another one is possible, and so is its removal."""
     tools, prefix = folder / "tools", folder / "prefix"
     words = ["DESTDIR=", f"PREFIX={prefix}"]
@@ -208,17 +190,17 @@ def check_interrupted(outcome: Outcome, folder: pathlib.Path, make: Callable):
             (tools / tool).write_text(ENDING.format(calls=calls, number=number, tool=shutil.which(tool)))
             (tools / tool).chmod(0o755)
             name = f"{tool} {number}, then {action}"
-            outcome.holds(f"{name}: it is interrupted", make("install", *words, env=environment).returncode != 0)
+            assert make("install", *words, env=environment).returncode != 0, f"{name}: it is interrupted"
             (tools / tool).unlink()
             if action == "install":
-                outcome.check(f"{name}: the end", make("install", *words).returncode, 0)
-                outcome.check(f"{name}: the files", files_below(prefix), LOCAL_FILES)
+                assert make("install", *words).returncode == 0, f"{name}: the end"
+                assert files_below(prefix) == LOCAL_FILES, f"{name}: the files"
             if (prefix / "lib/ansible-vault/installed.sha256").exists():
-                outcome.check(f"{name}: uninstalled", make("uninstall", *words).returncode, 0)
-                outcome.check(f"{name}: no file is left", files_below(prefix), set())
+                assert make("uninstall", *words).returncode == 0, f"{name}: uninstalled"
+                assert files_below(prefix) == set(), f"{name}: no file is left"
 
 
-def check_changed(outcome: Outcome, folder: pathlib.Path, make: Callable):
+def check_changed(folder: pathlib.Path, make: Callable):
     """make uninstall leaves what it did not put there, and lists what was changed."""
     words = ["DESTDIR=", f"PREFIX={folder}"]
     make("install", *words)
@@ -233,12 +215,12 @@ def check_changed(outcome: Outcome, folder: pathlib.Path, make: Callable):
         path.write_text("another")
     done = make("uninstall", *words)
     kept = {str(path.relative_to(folder)) for path in (program, page, *links, stray)}
-    outcome.check("make uninstall leaves what is not its own", files_below(folder), kept)
+    assert files_below(folder) == kept, "make uninstall leaves what is not its own"
     listed = {f"left, since it was changed: {path}" for path in (program, page, *links)}
-    outcome.check("and lists it", (done.returncode, {*done.stdout.splitlines()}), (0, listed))
+    assert (done.returncode, {*done.stdout.splitlines()}) == (0, listed), "and lists it"
 
 
-def check_upgraded(outcome: Outcome, folder: pathlib.Path, make: Callable):
+def check_upgraded(folder: pathlib.Path, make: Callable):
     """A second make install keeps in mind what the first one put there."""
     words = ["DESTDIR=", f"PREFIX={folder}"]
     make("install", *words)
@@ -248,14 +230,14 @@ def check_upgraded(outcome: Outcome, folder: pathlib.Path, make: Callable):
     sums.write_text(printed("sha256sum", "lib/ansible-vault/older.py", cwd=folder) + sums.read_text())
     page = folder / "share/man/man1/ansible-vault-edit.1"
     links_page(page)
-    outcome.check("make install takes the place of an older version's link", make("install", *words).returncode, 0)
-    outcome.check("with a file", (page.is_symlink(), page.read_bytes()), (False, EDIT_PAGE.read_bytes()))
+    assert make("install", *words).returncode == 0, "make install takes the place of an older version's link"
+    assert (page.is_symlink(), page.read_bytes()) == (False, EDIT_PAGE.read_bytes()), "with a file"
     links_page(page)
     make("uninstall", *words)
-    outcome.check("make uninstall removes what an older version had", files_below(folder), set())
+    assert files_below(folder) == set(), "make uninstall removes what an older version had"
     links_page(page)
     done = make("install", *words)
-    outcome.holds("a link without an installation is another's", done.returncode != 0 and page.is_symlink())
+    assert done.returncode != 0 and page.is_symlink(), "a link without an installation is another's"
 
 
 def links_page(page: pathlib.Path) -> None:
@@ -265,8 +247,15 @@ def links_page(page: pathlib.Path) -> None:
 
 
 INSTALLATIONS = [
-    check_install, check_next_step, check_owned, check_replaced, check_folders, check_spaces, check_interrupted,
-    check_changed, check_upgraded,
+    check_install,
+    check_next_step,
+    check_owned,
+    check_replaced,
+    check_folders,
+    check_spaces,
+    check_interrupted,
+    check_changed,
+    check_upgraded,
 ]
 
 
@@ -276,5 +265,19 @@ def make(program: str) -> Callable:
 
 
 @pytest.mark.parametrize("check", INSTALLATIONS, ids=lambda check: check.__name__.removeprefix("check_"))
-def test_installation(outcome: Outcome, tmp_path: pathlib.Path, make: Callable, check: Callable) -> None:
-    check(outcome, tmp_path, make)
+def test_installation(tmp_path: pathlib.Path, make: Callable, check: Callable) -> None:
+    check(tmp_path, make)
+
+
+# What finds a part of what was installed, by the tool whose own search it is.
+FINDERS = {"man": check_man, "fish": check_fish, "zsh": check_zsh, "bash-completion": check_bash_completion}
+
+
+@pytest.mark.parametrize("tool", FINDERS)
+def test_found(tmp_path: pathlib.Path, make: Callable, tool: str) -> None:
+    if tool != "bash-completion":
+        needs(tool)
+    elif not BASH_COMPLETION.exists():
+        pytest.skip("without bash-completion")
+    assert make("install", f"DESTDIR={tmp_path}", "PREFIX=/opt/vault").returncode == 0, "make install ends well"
+    FINDERS[tool](tmp_path / "opt" / "vault")

@@ -8,7 +8,6 @@ import subprocess
 from pathlib import Path
 
 from lib.contracts import crates
-from lib.outcome import Outcome
 from lib.paths import ROOT
 
 DOCUMENT = ROOT / "docs" / "library.md"
@@ -31,47 +30,47 @@ def written(document: str) -> str:
     return LISTING.sub(listing, document)
 
 
-def test_programs(outcome: Outcome) -> None:
+def test_programs() -> None:
     """Each program is shown or named, and those shown are as they are."""
     document = DOCUMENT.read_text()
-    outcome.holds("tools/write_documents changes nothing in docs/library.md", document == written(document))
+    assert document == written(document), "tools/write_documents changes nothing in docs/library.md"
     programs = {file.name for file in (ROOT / SOURCES).glob("*.rt")} - {"tests.rt"}
     named = set(re.findall(r"\b(\w+\.rt)`", document))
-    outcome.check("the programs that docs/library.md does not name", programs - named, set())
+    assert programs - named == set(), "the programs that docs/library.md does not name"
 
 
-def test_calls(outcome: Outcome) -> None:
+def test_calls() -> None:
     """Each call of the table is one that its crate offers."""
     rows = ROW.findall(DOCUMENT.read_text())
-    outcome.holds("there is a table of calls", len(rows) > 10)
+    assert len(rows) > 10, "there is a table of calls"
     for calls, crate in rows:
         offered = (ROOT / "crates" / crate / "src" / "lib.rt").read_text()
         for call in re.findall(r"`(\w+)[\w:]*`", calls):
-            outcome.holds(f"{crate} offers {call}", bool(re.search(rf"^pub use .*\b{call}\b", offered, re.MULTILINE)))
+            assert bool(re.search(rf"^pub use .*\b{call}\b", offered, re.MULTILINE)), f"{crate} offers {call}"
 
 
-def test_crate_lines(outcome: Outcome) -> None:
+def test_crate_lines() -> None:
     """The lines to be copied are those of crates.txt."""
     ours = dict(CRATE_LINE.findall((ROOT / "crates.txt").read_text()))
     shown = dict(re.findall(r"^    (vault_\w+):(.*)$", DOCUMENT.read_text(), re.MULTILINE))
-    outcome.holds("lines are shown", len(shown) > 3)
+    assert len(shown) > 3, "lines are shown"
     for crate, needed in shown.items():
-        outcome.check(f"the line of {crate}", needed, ours.get(crate))
+        assert needed == ours.get(crate), f"the line of {crate}"
         for name in needed.split():
-            outcome.holds(f"{name}, which {crate} needs, is shown", not name.startswith("vault_") or name in shown)
+            assert not name.startswith("vault_") or name in shown, f"{name}, which {crate} needs, is shown"
 
 
-def test_crates(outcome: Outcome) -> None:
+def test_crates() -> None:
     """The picture and the table of the crates are those of crates.txt."""
     drawn = subprocess.run([ROOT / "tools" / "crates_picture.py"], capture_output=True, text=True).stdout
-    outcome.holds("tools/write_documents does not change docs/crates.svg", PICTURE.read_text() == drawn)
+    assert PICTURE.read_text() == drawn, "tools/write_documents does not change docs/crates.svg"
     page = (ROOT / "docs" / "architecture.md").read_text()
     table = page.partition("\n| Crate | What it does |")[2].partition("\n\n")[0]
     listed = re.findall(r"^\| `(\w+)` \|", table, re.MULTILINE)
-    outcome.check("docs/architecture.md lists every crate", sorted(listed), sorted(crates()))
+    assert sorted(listed) == sorted(crates()), "docs/architecture.md lists every crate"
 
 
-def test_paths(outcome: Outcome) -> None:
+def test_paths() -> None:
     """Each path of a file is one of the crate that is named last before it, or of the repository."""
     for name in ("docs/architecture.md", "CONTRIBUTING.md"):
         crate = ""
@@ -80,4 +79,4 @@ def test_paths(outcome: Outcome) -> None:
                 crate = word
             elif "/" in word and re.search(r"\.(rt|antt|py|md|1)$", word):
                 places = (ROOT / word, ROOT / "crates" / crate / word)
-                outcome.holds(f"there is {word} of {crate}, which {name} names", any(map(Path.is_file, places)))
+                assert any(map(Path.is_file, places)), f"there is {word} of {crate}, which {name} names"

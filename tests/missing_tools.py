@@ -7,45 +7,33 @@ import re
 import subprocess
 import sys
 from pathlib import Path
-from typing import NamedTuple
 
 import pytest
 
 from lib.ansible import ansible_vault
-from lib.outcome import Outcome
+from lib.needs import needs_ansible
 from lib.paths import ROOT
 
-COUNTS = re.compile(r"\w+: (\d+) passed, (\d+) failed, (\d+) skipped")
-
-
-class LimitedRun(NamedTuple):
-    """A command in tests/, or a file of tests and a `-k` expression; and the tools that are missing from its PATH."""
-
-    words: list[str]
-    tools: list[str]
-    name: str = ""
-
-    def __str__(self) -> str:
-        return f"{self.name or self.words[0]} without {', '.join(self.tools)}"
-
-
-# `{program}` is the path of the program.
+# Tests by their file and a `-k` expression, with the tools that are then missing from PATH.
 RUNS = [
-    LimitedRun(["with_valgrind", "{program}"], ["valgrind"]),
-    LimitedRun(["fuzz", "{program}", "--runs", "1"], ["ansible-vault"]),
-    LimitedRun(["failed_allocations", "{program}"], ["cc"]),
-    LimitedRun(["failed_allocations_in_memory", "{program}"], ["cc"]),
-    LimitedRun(["with_strace.py"], ["strace"], "parsing"),
-    LimitedRun(["with_ansible.py"], ["ansible-vault"], "fixed_salt"),
-    LimitedRun(["options_agree.py"], ["zsh", "fish", "mandoc", "groff"], "completions or shown"),
-    LimitedRun(["completions.py"], ["zsh", "fish"], "test_program or quoted"),
-    LimitedRun(["workflows.py"], ["git"], "caveat"),
-    LimitedRun(["workflows.py"], ["zsh"], "Type and not typed"),
-    LimitedRun(["cases/changing_files.py"], ["cc"], "changing"),
-    LimitedRun(["cases/closed_streams.py"], ["strace"], "one_failing_write"),
-    LimitedRun(["companion_cases/hook.py"], ["git"], "where_it_runs"),
-    LimitedRun(["companion_cases/secrecy.py"], ["strace"], "written_files"),
-    LimitedRun(["companion_cases/beside_ansible.py"], ["ansible-vault"], "a_repository"),
+    ("with_valgrind.py", "each_answer", ["valgrind"]),
+    ("derivations.py", "derivations", ["valgrind"]),
+    ("fuzz.py", "made_now", ["ansible-vault"]),
+    ("faults.py", "of_refused_runs", ["strace"]),
+    ("faults.py", "short_transfers and view", ["cc"]),
+    ("failed_allocations.py", "mistake", ["cc"]),
+    ("failed_allocations_in_memory.py", "drive", ["cc"]),
+    ("with_strace.py", "parsing", ["strace"]),
+    ("with_ansible.py", "fixed_salt", ["ansible-vault"]),
+    ("options_agree.py", "completions or shown", ["zsh", "fish", "mandoc", "groff"]),
+    ("completions.py", "test_program or quoted", ["zsh", "fish"]),
+    ("workflows.py", "caveat", ["git"]),
+    ("workflows.py", "Type and not typed", ["zsh"]),
+    ("cases/changing_files.py", "changing", ["cc"]),
+    ("cases/closed_streams.py", "one_failing_write", ["strace"]),
+    ("companion_cases/hook.py", "where_it_runs", ["git"]),
+    ("companion_cases/secrecy.py", "written_files", ["strace"]),
+    ("companion_cases/beside_ansible.py", "a_repository", ["ansible-vault"]),
 ]
 
 
@@ -60,37 +48,24 @@ def link_programs(folder: Path, without: list[str]) -> None:
                 link.symlink_to(program)
 
 
-def command_of(run: LimitedRun, program: str) -> list[str]:
-    name, *words = (word.format(program=program) for word in run.words)
-    path = str(ROOT / "tests" / name)
-    if not run.name:
-        return [sys.executable, "-B", path, *words]
-    options = ["-p", "no:cacheprovider", f"--program={program}", "-k", run.name]
-    return [sys.executable, "-B", "-m", "pytest", *options, path]
+def run_tests(program: str, file: str, name: str, **variables: str) -> tuple[int, list[int], list[str]]:
+    """The status, how many pass, fail and are skipped, and the lines that say so of those that are skipped."""
+    kept = {name: value for name, value in os.environ.items() if not name.startswith(("PYTEST_", "ANSIBLE_VAULT"))}
+    options = ["-p", "no:cacheprovider", f"--program={program}", "-k", name, str(ROOT / "tests" / file)]
+    command = [sys.executable, "-B", "-X", "utf8", "-m", "pytest", *options]
+    done = subprocess.run(command, capture_output=True, text=True, env=kept | variables, cwd=ROOT)
+    [counts] = re.findall(r"^(\d+) passed, (\d+) failed, (\d+) skipped$", done.stdout, re.MULTILINE)
+    return done.returncode, [*map(int, counts)], re.findall(r"^skipped: .*$", done.stdout, re.MULTILINE)
 
 
-def check_run(outcome: Outcome, command: list[str], path: Path, is_required: bool) -> None:
-    """Whether it fails, and whether the last line of counts has what it names."""
-    name = "all required" if is_required else "skipped"
-    environment = os.environ | {"PATH": str(path), "REQUIRE_ALL": "1" if is_required else ""}
-    for variable in ("ANSIBLE_VAULT", "PYTEST_ADDOPTS", "PYTEST_XDIST_WORKER"):
-        environment.pop(variable, None)
-    done = subprocess.run(command, capture_output=True, text=True, env=environment, cwd=ROOT)
-    lines = done.stdout.splitlines()
-    found = [each for each in map(COUNTS.fullmatch, lines) if each]
-    failed, skipped = map(int, found[-1].groups()[1:]) if found else (0, 0)
-    named = sum(line.startswith("skipped: ") for line in lines)
-    outcome.check(f"{name}: whether it fails", (done.returncode, failed > 0), (int(is_required), is_required))
-    ends = skipped == 0 if is_required else named == skipped > 0
-    outcome.holds(f"{name}: what it leaves out", ends, f"{named} lines, and then {lines[-1:]}")
-
-
-@pytest.mark.parametrize("run", RUNS, ids=str)
-def test_missing_tools(outcome: Outcome, tmp_path: Path, program: str, run: LimitedRun) -> None:
-    link_programs(tmp_path, run.tools)
-    command = command_of(run, program)
-    check_run(outcome, command, tmp_path, False)
-    check_run(outcome, command, tmp_path, True)
+@pytest.mark.parametrize("file, name, tools", RUNS)
+def test_missing_tools(tmp_path: Path, program: str, file: str, name: str, tools: list[str]) -> None:
+    link_programs(tmp_path, tools)
+    status, (_, failed, skipped), lines = run_tests(program, file, name, PATH=str(tmp_path), REQUIRE_ALL="")
+    assert (status, failed, len(lines)) == (0, 0, skipped) and skipped > 0
+    assert all(any(tool in line for line in lines) for tool in tools), lines
+    status, (_, failed, skipped), _ = run_tests(program, file, name, PATH=str(tmp_path), REQUIRE_ALL="1")
+    assert (status, skipped) == (1, 0) and failed > 0
 
 
 # As Ansible's tool does in a locale that is not UTF-8, and as it says what it is.
@@ -144,13 +119,7 @@ def test_another_tool_named_as_ansible(only_tools, monkeypatch: pytest.MonkeyPat
         ansible_vault()
 
 
-@pytest.mark.skipif(ansible_vault() is None, reason="Ansible's own ansible-vault is not installed")
 def test_nothing_is_left_out_in_another_locale(program: str) -> None:
-    run = LimitedRun(["with_ansible.py"], [], "fixed_salt")
-    environment = os.environ | {"LC_ALL": "C", "LANG": "C", "REQUIRE_ALL": ""}
-    for variable in ("PYTEST_ADDOPTS", "PYTEST_XDIST_WORKER"):
-        environment.pop(variable, None)
-    command = command_of(run, program)
-    command[1:1] = ["-X", "utf8"]
-    done = subprocess.run(command, capture_output=True, text=True, env=environment, cwd=ROOT)
-    assert re.search(r"^pytest: [1-9]\d* passed, 0 failed, 0 skipped$", done.stdout, re.MULTILINE), done.stdout
+    needs_ansible()
+    found = run_tests(program, "with_ansible.py", "fixed_salt", LC_ALL="C", LANG="C", REQUIRE_ALL="")
+    assert found == (0, [2, 0, 0], [])

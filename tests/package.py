@@ -10,7 +10,7 @@ import subprocess
 import pytest
 
 from lib.installed import FILES, NAMES, VERSION, check_program, files_below, printed, run_make
-from lib.outcome import Outcome
+from lib.needs import needs, needs_root
 from lib.package_root import Root, later, stand_in
 from lib.paths import ROOT
 
@@ -26,57 +26,51 @@ def field(package: pathlib.Path, name: str) -> str:
     return printed("dpkg-deb", "-f", str(package), name).strip()
 
 
-def check_package(outcome: Outcome, package: pathlib.Path, folder: pathlib.Path):
+def check_package(package: pathlib.Path, folder: pathlib.Path):
     """What the package holds and says of itself."""
-    outcome.check("the package has the program's version", field(package, "Version"), VERSION)
-    outcome.holds("the package depends on the C library", "libc6" in field(package, "Depends"))
-    outcome.holds("and on Python, for the companions", "python3" in field(package, "Depends"))
-    outcome.holds("it recommends PyYAML, for blocks in YAML", "python3-yaml" in field(package, "Recommends"))
-    outcome.check("the package takes no other away", field(package, "Conflicts") + field(package, "Breaks"), "")
+    assert field(package, "Version") == VERSION, "the package has the program's version"
+    assert "libc6" in field(package, "Depends"), "the package depends on the C library"
+    assert "python3" in field(package, "Depends"), "and on Python, for the companions"
+    assert "python3-yaml" in field(package, "Recommends"), "it recommends PyYAML, for blocks in YAML"
+    assert field(package, "Conflicts") + field(package, "Breaks") == "", "the package takes no other away"
     subprocess.run(["dpkg-deb", "-R", str(package), str(folder)], check=True)
-    outcome.check("the package puts its files below /usr", files_below(folder / "usr"), PACKAGE_FILES)
-    outcome.check("and none elsewhere", {each.name for each in folder.iterdir()}, {"usr", "DEBIAN"})
-    check_program(outcome, folder / "usr" / "bin" / "ansible-vault", "the packaged program")
+    assert files_below(folder / "usr") == PACKAGE_FILES, "the package puts its files below /usr"
+    assert {each.name for each in folder.iterdir()} == {"usr", "DEBIAN"}, "and none elsewhere"
+    check_program(folder / "usr" / "bin" / "ansible-vault", "the packaged program")
     shebangs = {each.read_text().split("\n")[0] for each in (folder / "usr/lib/ansible-vault").glob("ansible-vault-*")}
-    outcome.check("the companions run by Debian's Python", shebangs, {"#!/usr/bin/python3 -ESB"})
+    assert shebangs == {"#!/usr/bin/python3 -ESB"}, "the companions run by Debian's Python"
     files = [f"usr/{each}" for each in PACKAGE_FILES if not (folder / "usr" / each).is_symlink()]
     sums = printed("md5sum", *files, cwd=folder)
     recorded = (folder / "DEBIAN" / "md5sums").read_text()
-    outcome.check("it has the sums of its files", sorted(recorded.splitlines()), sorted(sums.splitlines()))
-    check_lint(outcome, package)
+    assert sorted(recorded.splitlines()) == sorted(sums.splitlines()), "it has the sums of its files"
+    check_lint(package)
 
 
-def check_changelog(outcome: Outcome):
+def check_changelog():
     """The package's changelog is that of the project."""
     made = printed(str(ROOT / "tools/debian-changelog"))
-    outcome.check("debian/changelog is made from CHANGELOG.md", (ROOT / "debian/changelog").read_text(), made)
-    outcome.holds("and names this version first", made.startswith(f"ansible-vault ({VERSION}) "), made[:80])
+    assert (ROOT / "debian/changelog").read_text() == made, "debian/changelog is made from CHANGELOG.md"
+    assert made.startswith(f"ansible-vault ({VERSION}) "), ("and names this version first", made[:80])
 
 
-def check_same(outcome: Outcome, folder: pathlib.Path, name: str, program: str):
-    """Two folders, one of them with a space, times, umasks and zones make the same bytes, of the program that was
-    built last: nothing is built anew."""
-    without = shutil.ignore_patterns("out", ".git", "*.deb")
-    packages = []
+def check_same(folder: pathlib.Path, package: pathlib.Path, program: str):
+    """A folder with a space, another time, umask and zone make the same bytes, of the program that was built last:
+    nothing is built anew."""
     (folder / "rt").write_text("#!/bin/sh\necho rt is run >&2\nexit 1\n")
     (folder / "rt").chmod(0o755)
-    path = f"{folder}{os.pathsep}{os.environ['PATH']}"
-    for place, umask, zone in (("one", 0o022, "UTC"), ("two words", 0o077, "Asia/Tokyo")):
-        copy = folder / place
-        shutil.copytree(ROOT, copy, symlinks=True, ignore=without)
-        (copy / "man/ansible-vault.1").touch()
-        (copy / "bin/processor").write_text("\n")
-        shutil.copy(program, copy / "bin/ansible-vault")
-        environment = os.environ | {"TZ": zone, "PATH": path}
-        environment.pop("SOURCE_DATE_EPOCH", None)
-        done = run_make(str(ROOT / "bin/ansible-vault"), "package", at=copy, umask=umask, env=environment)
-        outcome.holds(f"make package ends well in folder {place}", done.returncode == 0, done.stderr)
-        packages.append((copy / "bin" / name).read_bytes())
-    outcome.holds("two builds of the package are the same", packages[0] == packages[1])
-    check_processor(outcome, folder / "one", environment)
+    copy = folder / "two words"
+    shutil.copytree(ROOT, copy, symlinks=True, ignore=shutil.ignore_patterns("out", ".git", "*.deb"))
+    (copy / "man/ansible-vault.1").touch()
+    (copy / "bin/processor").write_text("\n")
+    shutil.copy(program, copy / "bin/ansible-vault")
+    environment = os.environ | {"TZ": "Asia/Tokyo", "PATH": f"{folder}{os.pathsep}{os.environ['PATH']}"}
+    done = run_make(str(ROOT / "bin/ansible-vault"), "package", at=copy, umask=0o077, env=environment)
+    assert done.returncode == 0, ("make package ends well in a copy", done.stderr)
+    assert (copy / "bin" / package.name).read_bytes() == package.read_bytes(), "two builds of the package are the same"
+    check_processor(copy, environment)
 
 
-def check_processor(outcome: Outcome, copy: pathlib.Path, environment: dict):
+def check_processor(copy: pathlib.Path, environment: dict):
     """A package is for all processors: none is made of a program that was built for a newer one."""
     (copy / "bin/processor").write_text("x86-64-v3\n")
     (copy / "bin/ansible-vault").touch()
@@ -87,15 +81,14 @@ def check_processor(outcome: Outcome, copy: pathlib.Path, environment: dict):
         # Not what a `make` above gives, which may choose the processor.
         variables = {name: value for name, value in environment.items() if name not in ("MAKEFLAGS", "CPU")}
         done = subprocess.run(command, cwd=copy, env=variables, capture_output=True, text=True)
-        outcome.holds(f"{command[0]} refuses a newer processor", done.returncode != 0 and wanted in done.stderr, done)
-    outcome.check("no package is made of it", [*copy.glob("bin/*.deb"), *copy.glob("debian/ansible-vault")], [])
+        assert done.returncode != 0 and wanted in done.stderr, f"{command[0]} refuses a newer processor"
+    assert [*copy.glob("bin/*.deb"), *copy.glob("debian/ansible-vault")] == [], "no package is made of it"
 
 
-def check_lint(outcome: Outcome, package: pathlib.Path):
-    if not shutil.which("lintian"):
-        return outcome.skip("the look over the package", "lintian is not installed")
+def check_lint(package: pathlib.Path):
+    needs("lintian")
     found = subprocess.run(["lintian", "--pedantic", str(package)], capture_output=True, text=True)
-    outcome.check("lintian finds nothing in the package", (found.returncode, found.stdout), (0, ""))
+    assert (found.returncode, found.stdout) == (0, ""), "lintian finds nothing in the package"
 
 
 # Files of Ansible's package, as a stand-in has them.
@@ -114,8 +107,7 @@ OTHER = "/usr/bin/ansible-vault-original"
 class Beside:
     """The package and Ansible's in a root of their own."""
 
-    def __init__(self, outcome: Outcome, package: pathlib.Path, folder: pathlib.Path, program: str):
-        self.outcome = outcome
+    def __init__(self, package: pathlib.Path, folder: pathlib.Path, program: str):
         self.package = package
         self.folder = folder
         self.root = Root(str(folder / "root"), program)
@@ -124,7 +116,7 @@ class Beside:
 
     def do(self, what: str, *words: str):
         done = self.root.dpkg(*words)
-        self.outcome.check(f"dpkg: {what}", done.returncode, 0)
+        assert done.returncode == 0, f"dpkg: {what}"
         if done.returncode:
             print(done.stdout + done.stderr)
 
@@ -136,27 +128,27 @@ class Beside:
     def check_both(self, when: str, mark: str = ""):
         """Our program has its name, all of theirs stands aside, and playbooks run."""
         output = self.root.run("/usr/bin/ansible-vault", "--version")
-        self.outcome.check(f"{when}: our program has the name", output, f"ansible-vault {VERSION}\n")
+        assert output == f"ansible-vault {VERSION}\n", f"{when}: our program has the name"
         aside = [self.root.aside(f"/{path}") for path in BOTH_HAVE]
         found = {path: self.root.read(other) for path, other in zip(BOTH_HAVE, aside)}
-        self.outcome.check(f"{when}: their files stand aside", found, {path: THEIRS[path] + mark for path in BOTH_HAVE})
-        self.outcome.check(f"{when}: their program runs there", self.root.run(OTHER), "the other\n")
+        assert found == {path: THEIRS[path] + mark for path in BOTH_HAVE}, f"{when}: their files stand aside"
+        assert self.root.run(OTHER) == "the other\n", f"{when}: their program runs there"
         self.check_playbook(when)
 
     def check_playbook(self, when: str):
-        self.outcome.check(f"{when}: ansible-playbook runs", self.root.run("/usr/bin/ansible-playbook"), "played\n")
+        assert self.root.run("/usr/bin/ansible-playbook") == "played\n", f"{when}: ansible-playbook runs"
 
     def check_theirs(self, when: str, mark: str = ""):
         """All is theirs, as if our package had never been there."""
         found = {path: self.root.read(path) for path in THEIRS}
-        self.outcome.check(f"{when}: their files are back", found, {path: text + mark for path, text in THEIRS.items()})
+        assert found == {path: text + mark for path, text in THEIRS.items()}, f"{when}: their files are back"
         self.check_nothing_left(when)
         self.check_playbook(when)
 
     def check_nothing_left(self, when: str):
-        self.outcome.check(f"{when}: nothing stands aside", self.root.diverted(), "")
+        assert self.root.diverted() == "", f"{when}: nothing stands aside"
         left = {f"usr/share/{path}" for path in files_below(self.root.path / "usr/share") if "ansible" in path}
-        self.outcome.check(f"{when}: no other file is left", left - THEIRS.keys(), set())
+        assert left - THEIRS.keys() == set(), f"{when}: no other file is left"
 
     def check_ours_behind_theirs(self):
         self.do("Ansible", "-i", self.theirs("2.14"))
@@ -172,7 +164,7 @@ class Beside:
         self.check_both("installed again", "# later\n")
         self.do("purge", "-P", "ansible-vault")
         self.check_theirs("purged", "# later\n")
-        self.outcome.check("purged: unknown to dpkg", self.root.dpkg("-s", "ansible-vault").returncode, 1)
+        assert self.root.dpkg("-s", "ansible-vault").returncode == 1, "purged: unknown to dpkg"
         self.do("removal of Ansible", "-P", "ansible-core")
 
     def check_failed_unpacking(self):
@@ -181,13 +173,13 @@ class Beside:
         taken = "usr/lib/ansible-vault/ansible-vault-check"
         self.do("a package in the way", "-i", str(stand_in(self.folder, "in-the-way", "1", {taken: "taken\n"})))
         done = self.root.dpkg("-i", str(self.package))
-        outcome = self.outcome
-        outcome.holds("a package with a file that is taken is refused", done.returncode != 0)
-        outcome.holds("and dpkg says why", f"trying to overwrite '/{taken}'" in done.stderr, done.stderr)
+
+        assert done.returncode != 0, "a package with a file that is taken is refused"
+        assert f"trying to overwrite '/{taken}'" in done.stderr, "and dpkg says why"
         self.check_theirs("unpacking failed")
-        outcome.check("unpacking failed: the file stays", self.root.read(taken), "taken\n")
+        assert self.root.read(taken) == "taken\n", "unpacking failed: the file stays"
         status = self.root.dpkg("-s", "ansible-vault").stdout
-        outcome.holds("unpacking failed: dpkg says so", " not-installed\n" in status, status)
+        assert " not-installed\n" in status, "unpacking failed: dpkg says so"
         self.do("removal of what was in the way", "-P", "in-the-way")
         self.do("our package", "-i", str(self.package))
         self.check_both("installed after a failure")
@@ -202,9 +194,9 @@ class Beside:
         self.do("a package in the way", "-i", str(stand_in(self.folder, "in-the-way", "2", {taken: "taken\n"})))
         upgrade = later(self.package, self.folder, VERSION + "+in-the-way", {taken: "ours\n"})
         done = self.root.dpkg("-i", str(upgrade))
-        self.outcome.holds("an upgrade with a file that is taken fails", done.returncode != 0)
+        assert done.returncode != 0, "an upgrade with a file that is taken fails"
         self.check_both("upgrade failed")
-        self.outcome.check("upgrade failed: the file stays", self.root.read(taken), "taken\n")
+        assert self.root.read(taken) == "taken\n", "upgrade failed: the file stays"
         self.do("removal of what was in the way", "-P", "in-the-way")
 
     def check_theirs_behind_ours(self):
@@ -213,29 +205,26 @@ class Beside:
         self.check_both("Ansible after ours")
         self.do("removal of Ansible", "-P", "ansible-core")
         output = self.root.run("/usr/bin/ansible-vault", "--version")
-        self.outcome.check("Ansible removed: our program stays", output, f"ansible-vault {VERSION}\n")
+        assert output == f"ansible-vault {VERSION}\n", "Ansible removed: our program stays"
         self.do("purge", "-P", "ansible-vault")
         self.check_nothing_left("both removed")
-        self.outcome.check("both removed: no program", files_below(self.root.path / "usr/bin"), {"dpkg-divert", "sh"})
+        assert files_below(self.root.path / "usr/bin") == {"dpkg-divert", "sh"}, "both removed: no program"
 
 
 @pytest.fixture
-def package(outcome: Outcome, program: str) -> pathlib.Path:
-    if not shutil.which("dpkg-deb"):
-        pytest.skip("dpkg-deb is not installed")
-    check_changelog(outcome)
-    outcome.check("make package ends well", run_make(program, "package").returncode, 0)
+def package(program: str) -> pathlib.Path:
+    needs("dpkg-deb")
+    check_changelog()
+    assert run_make(program, "package").returncode == 0, "make package ends well"
     architecture = printed("dpkg", "--print-architecture").strip()
     return ROOT / "bin" / f"ansible-vault_{VERSION}_{architecture}.deb"
 
 
-def test_package(outcome: Outcome, tmp_path: pathlib.Path, package: pathlib.Path, program: str) -> None:
-    check_package(outcome, package, tmp_path / "package")
-    check_same(outcome, tmp_path, package.name, program)
-    if os.geteuid() != 0:
-        why = "a root of its own takes the rights of root"
-        return outcome.skip("the package beside Ansible's", why, takes_root=True)
-    beside = Beside(outcome, package, tmp_path, program)
+def test_package(tmp_path: pathlib.Path, package: pathlib.Path, program: str) -> None:
+    check_package(package, tmp_path / "package")
+    check_same(tmp_path, package, program)
+    needs_root()
+    beside = Beside(package, tmp_path, program)
     beside.check_ours_behind_theirs()
     beside.check_failed_unpacking()
     beside.check_theirs_behind_ours()

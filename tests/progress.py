@@ -1,8 +1,7 @@
-"""Shows that tools/progress.py passes on the exit status and the last line of a command, keeps its log,
-prints it if the command fails, and has a line for each crate; that tools/mutants fails unless a goal
-rejects each mutant; that tools/counts adds up the counts of several tests; that .ci/run ends as `make check`
-does, with the counts of all tests, and fails if it cannot install what they need; and that `make test` names what it
-lacks.
+"""Shows that tools/progress.py passes on the exit status and the counts of a command, keeps its log, prints it if the
+command fails, and has a line each minute; that tools/mutants fails unless a goal rejects each mutant; that .ci/run
+ends as `make check` does, with the counts of the gate and of the tests, and fails if it cannot install what they need;
+and that `make test` names what it lacks.
 """
 
 import os
@@ -10,56 +9,62 @@ import pathlib
 import re
 import shutil
 import subprocess
+import sys
 
 import pytest
 
 from lib.installed import run_make
-from lib.outcome import Outcome
 from lib.paths import ROOT
 
-CRATES = re.findall(r"^(\w+):", (ROOT / "crates.txt").read_text(), re.MULTILINE)
-GATE = "".join(f"== {crate}\nits own lines\nrt: {crate} proved\n" for crate in CRATES)
-# What `make check` prints of the gate and of two tests, one of which leaves something out, with their sum.
-TESTS = """\
-skipped: zsh: it is not installed
-one: 3 passed, {failed} failed, 1 skipped
-two: 5 passed, 0 failed, 0 skipped
+GATE = "its own lines\nrt: vault_aes proved\nrt: vault_kdf proved\n"
+PROGRESS = str(ROOT / "tools" / "progress.py")
+# What `make check` prints of the gate and of the tests.
+CHECK = """\
+12 passed, 0 failed
+skipped: tests/a.py::test_zsh: without zsh
+8 passed, {failed} failed, 1 skipped
+1 failed, 8 passed, 1 skipped in 0.10s
 """
-CHECK = "12 passed, 0 failed\n" + TESTS + "8 passed, {failed} failed, 1 skipped\n"
 
 
-def run(top: str, text: str, status: int, log: pathlib.Path) -> subprocess.CompletedProcess:
-    script = 'printf %s "$1"; exit "$2"'
-    command = ["sh", "-c", script, "sh", text, str(status)]
-    progress = [str(ROOT / "tools" / "progress.py"), str(log), top]
-    return subprocess.run([*progress, *command], capture_output=True, text=True)
-
-
-def proved(printed: str) -> list[str]:
-    return re.findall(r"^ +\d+:\d\d  (\w+) is proved", printed, re.MULTILINE)
-
-
-def test_progress(outcome: Outcome, tmp_path: pathlib.Path) -> None:
+@pytest.mark.parametrize("status, count", [(0, "12 passed, 0 failed\n"), (1, "11 passed, 1 failed\n"), (2, "")])
+def test_progress(tmp_path: pathlib.Path, status: int, count: str) -> None:
+    """The log is kept, and printed if the command fails; its counts stand once by themselves, at the end."""
     log = tmp_path / "log"
-    passed = run("all", GATE + "12 passed, 0 failed\n", 0, log)
-    outcome.check("the status of a gate that passes", (passed.returncode, passed.stderr), (0, ""))
-    outcome.check("each crate of a gate has its line", proved(passed.stdout), CRATES)
-    outcome.check("the gate's last line is the last", passed.stdout.splitlines()[-1], "12 passed, 0 failed")
-    outcome.holds("the log of a gate that passes is not printed", "its own lines" not in passed.stdout)
-    outcome.holds("it is kept", "its own lines" in log.read_text())
-    failed = run("all", GATE + "11 passed, 1 failed\n", 1, log)
-    outcome.check("the status of a gate that fails", failed.returncode, 1)
-    outcome.holds("the log of a gate that fails is printed", "its own lines" in failed.stdout)
-    outcome.check("its counts stand once by themselves", failed.stdout.splitlines().count("11 passed, 1 failed"), 1)
-    outcome.check("its last line is the last", failed.stdout.splitlines()[-1], "11 passed, 1 failed")
-    for why in ("NOT REFUSED", "BAD EDIT", "NOT TRIED"):
-        edit = f"must-fail {CRATES[0]}/one.edit: {why}: because"
-        first = run("all", f"rt: {edit}\n", 1, log).stdout.splitlines()[0]
-        outcome.holds(f"an edit has its line: {why}", first.endswith(edit))
-    built = run(CRATES[-1], GATE, 0, log)
-    outcome.check("the status of a build", built.returncode, 0)
-    outcome.check("each crate of a build has its line", proved(built.stdout), CRATES)
-    outcome.check("the status of a build that fails", run(CRATES[-1], "no\n", 2, log).returncode, 2)
+    command = ["sh", "-c", 'printf %s "$1"; exit "$2"', "sh", GATE + count, str(status)]
+    done = subprocess.run([PROGRESS, str(log), *command], capture_output=True, text=True)
+    assert (done.returncode, done.stderr, log.read_text()) == (status, "", GATE + count)
+    assert ("    its own lines\n" in done.stdout) == bool(status)
+    end = f"    0 min  {'FAILED' if status else 'done'}; the whole log is {log}\n{count}"
+    assert done.stdout.endswith(end)
+    assert done.stdout.splitlines().count(count.strip()) == bool(count)
+
+
+# Runs tools/progress.py with shorter minutes.
+IMPATIENT = """
+import runpy, sys
+main = runpy.run_path(sys.argv[1])["main"]
+main.__globals__["PAUSE"] = 0.1
+sys.exit(main(sys.argv[2:]))
+"""
+
+
+def test_progress_each_minute(tmp_path: pathlib.Path) -> None:
+    """The command goes on until its lines were reported."""
+    log, seen = tmp_path / "log", tmp_path / "seen"
+    script = f"printf '{GATE}'; until [ -e '{seen}' ]; do sleep 0.05; done"
+    words = [sys.executable, "-c", IMPATIENT, PROGRESS, str(log), "sh", "-c", script]
+    with subprocess.Popen(words, stdout=subprocess.PIPE, text=True) as child:
+        lines = iter(child.stdout.readline, "")
+        assert "    0 min  2 crates are proved; vault_kdf proved\n" in lines
+        seen.touch()
+        assert [*lines][-1] == f"    0 min  done; the whole log is {log}\n"
+    assert child.returncode == 0
+
+
+def test_progress_without_the_command(tmp_path: pathlib.Path) -> None:
+    done = subprocess.run([PROGRESS, str(tmp_path / "log"), "no-such-command"], capture_output=True, text=True)
+    assert (done.returncode, done.stderr) == (1, "no-such-command is not on PATH; it comes with the Rattle kit\n")
 
 
 def run_mutants(folder: pathlib.Path, said: list[str], status: int, *names: str) -> subprocess.CompletedProcess:
@@ -74,7 +79,7 @@ def run_mutants(folder: pathlib.Path, said: list[str], status: int, *names: str)
     return subprocess.run(command, capture_output=True, text=True, env=environment)
 
 
-def test_mutants(outcome: Outcome, tmp_path: pathlib.Path) -> None:
+def test_mutants(tmp_path: pathlib.Path) -> None:
     folder = tmp_path
     by_goal = "must-fail vault_aes/one.edit: refused, as it must be: note: src/laws.rt:58:1: it is not proved"
     by_name = "must-fail vault_aes/two.edit: refused, as it must be (only because a proof file names it): proofs/x"
@@ -88,42 +93,11 @@ def test_mutants(outcome: Outcome, tmp_path: pathlib.Path) -> None:
     }
     for what, (said, status, end) in wanted.items():
         done = run_mutants(folder, said, status, "vault_aes", "vault_kdf")
-        outcome.check(f"mutants, {what}", (done.returncode, done.stdout.splitlines()[-1]), end)
-    outcome.check("the words of rt", (folder / "words").read_text(), "must-fail vault_aes vault_kdf\n")
+        assert (done.returncode, done.stdout.splitlines()[-1]) == end, f"mutants, {what}"
+    assert (folder / "words").read_text() == "must-fail vault_aes vault_kdf\n", "the words of rt"
     mutants = sorted(f"{path.parent.parent.name}/{path.name}" for path in ROOT.glob("crates/*/mutants/*"))
     tried = [re.sub(r"crates/(\w+)/must-fail/", r"\1/", line) for line in (folder / "edits").read_text().split()]
-    outcome.check("the edits that rt is to try", sorted(tried), mutants)
-
-
-# What a command prints, its exit status, and the last line and the status of tools/counts for it.
-COUNTED = {
-    "all pass": (TESTS.format(failed=0), 0, "8 passed, 0 failed, 1 skipped", 0),
-    "a test fails": (TESTS.format(failed=2), 2, "8 passed, 2 failed, 1 skipped", 2),
-    "a test fails and nobody says so": (TESTS.format(failed=2), 0, "8 passed, 2 failed, 1 skipped", 1),
-    "the command fails and no test does": (TESTS.format(failed=0), 2, "8 passed, 1 failed, 1 skipped", 2),
-    "a count without a name": (
-        "7 passed, 0 failed, 0 skipped\none: 1 passed, 0 failed\n", 0, "1 passed, 0 failed, 0 skipped", 0
-    ),
-    "nothing is run": ("", 0, "0 passed, 1 failed, 0 skipped", 1),
-}
-
-
-@pytest.mark.parametrize("what", COUNTED)
-def test_counts(outcome: Outcome, what: str) -> None:
-    text, status, last, end = COUNTED[what]
-    command = [
-        str(ROOT / "tools" / "counts"),
-        "[a-z]+: ",
-        "sh",
-        "-c",
-        'printf %s "$1"; exit "$2"',
-        "sh",
-        text,
-        str(status),
-    ]
-    done = subprocess.run(command, capture_output=True, text=True)
-    outcome.check(f"{what}: the end", (done.returncode, done.stdout.splitlines()[-1]), (end, last))
-    outcome.check(f"{what}: the output", done.stdout, f"{text}{last}\n")
+    assert sorted(tried) == mutants, "the edits that rt is to try"
 
 
 # A `dpkg-query` for which all packages are installed.
@@ -133,7 +107,7 @@ INSTALLED = 'shift 2; for each; do echo "$each installed"; done'
 def run_ci(folder: pathlib.Path, check: str, status: int, installs: bool, installed: bool):
     """.ci/run where these stand for `make`, `apt-get` and `dpkg-query`."""
     tools = folder / "stand-ins"
-    for path in (".ci/run", "tools/counts", "tools/missing_packages"):
+    for path in (".ci/run", "tools/missing_packages"):
         (folder / path).parent.mkdir(exist_ok=True)
         shutil.copy(ROOT / path, folder / path)
     tools.mkdir()
@@ -158,7 +132,9 @@ RUNS = {
     "a test fails": (CHECK.format(failed=2), 2, True, (2, "20 passed, 2 failed, 1 skipped")),
     "make fails": ("12 passed, 0 failed\n", 2, True, (2, "12 passed, 1 failed, 0 skipped")),
     "the gate fails": (
-        "    11 passed, 1 failed\n  0:01  FAILED\n11 passed, 1 failed\n", 2, True,
+        "    11 passed, 1 failed\n  0:01  FAILED\n11 passed, 1 failed\n",
+        2,
+        True,
         (2, "11 passed, 1 failed, 0 skipped"),
     ),
     "nothing is installed": (CHECK.format(failed=0), 0, False, (1, "20 passed, 1 failed, 1 skipped")),
@@ -167,53 +143,35 @@ RUNS = {
 
 
 @pytest.mark.parametrize("what", RUNS)
-def test_ci(outcome: Outcome, tmp_path: pathlib.Path, what: str) -> None:
+def test_ci(tmp_path: pathlib.Path, what: str) -> None:
     check, status, installs, end = RUNS[what]
     done = run_ci(tmp_path, check, status, installs, installed=False)
     first = "REQUIRE_ALL is 1, and the words check CPU= PARTIAL=yes"
-    outcome.check(f"{what}: all is required, of every processor", done.stdout.splitlines()[0], first)
-    outcome.check(f"{what}: the end", (done.returncode, done.stdout.splitlines()[-1]), end)
-    outcome.check(f"{what}: the reason is printed", "E: no package" in done.stdout, not installs)
+    assert done.stdout.splitlines()[0] == first, f"{what}: all is required, of every processor"
+    assert (done.returncode, done.stdout.splitlines()[-1]) == end, f"{what}: the end"
+    assert ("E: no package" in done.stdout) == (not installs), f"{what}: the reason is printed"
     asked = (tmp_path / "bin" / "install.log").read_text().split()
-    outcome.holds(f"{what}: only what is missing is installed", "fish" in asked and "gcc" not in asked, asked)
+    assert "fish" in asked and "gcc" not in asked, f"{what}: only what is missing is installed"
 
 
-def test_ci_with_all_installed(outcome: Outcome, tmp_path: pathlib.Path) -> None:
+def test_ci_with_all_installed(tmp_path: pathlib.Path) -> None:
     """Nothing is installed then: that takes root, and a network."""
     done = run_ci(tmp_path, CHECK.format(failed=0), 0, installs=False, installed=True)
     wanted = (0, "20 passed, 0 failed, 1 skipped")
-    outcome.check("the end", (done.returncode, done.stdout.splitlines()[-1]), wanted)
+    assert (done.returncode, done.stdout.splitlines()[-1]) == wanted, "the end"
 
 
 @pytest.mark.parametrize("goal", ["test", "check"])
-def test_missing_packages(outcome: Outcome, program: str, tmp_path: pathlib.Path, goal: str) -> None:
+def test_missing_packages(program: str, tmp_path: pathlib.Path, goal: str) -> None:
     """They are named in one line before a proof or a test; with PARTIAL=yes nothing is."""
     query = "#!/bin/sh\nshift 2; printf '%s installed\\n' \"$@\" | grep -v -e zsh -e acl\n"
     (tmp_path / "dpkg-query").write_text(query)
     (tmp_path / "dpkg-query").chmod(0o755)
     (tmp_path / "rt").symlink_to("/bin/false")
     environment = os.environ | {"PATH": f"{tmp_path}{os.pathsep}{os.environ['PATH']}", "PARTIAL": "no"}
-    done = run_make(program, goal, "TESTS=", "FLOORS=", "PYTEST=true", env=environment)
+    done = run_make(program, goal, "PYTEST=true", env=environment)
     wanted = "The tests need packages: apt-get install acl zsh   (PARTIAL=yes skips what uses them)"
     found = done.returncode, done.stdout, done.stderr.splitlines()[:1]
-    outcome.check("make stops", found, (2, "", [wanted]))
+    assert found == (2, "", [wanted]), "make stops"
     done = run_make(program, "packages", "PARTIAL=yes", env=environment)
-    outcome.check("and goes on", (done.returncode, done.stderr), (0, ""))
-
-
-FLOORS = {
-    "enough of each": (["one=4", "two=5"], [], 0, "8 passed, 0 failed, 1 skipped"),
-    "too few of one": (["one=5", "two=5"], ["FAILED one: 4 checks, of at least 5"], 1, "8 passed, 1 failed, 1 skipped"),
-    "one is not run": (["three=1"], ["FAILED three: 0 checks, of at least 1"], 1, "8 passed, 1 failed, 1 skipped"),
-}
-
-
-@pytest.mark.parametrize("what", FLOORS)
-def test_floors(outcome: Outcome, what: str) -> None:
-    floors, said, status, last = FLOORS[what]
-    options = [word for floor in floors for word in ("--floor", floor)]
-    text = TESTS.format(failed=0)
-    command = [str(ROOT / "tools" / "counts"), "[a-z]+: ", *options, "printf", "%s", text]
-    done = subprocess.run(command, capture_output=True, text=True)
-    wanted = [*text.splitlines(), *said, last]
-    outcome.check(f"{what}: the end", (done.returncode, done.stdout.splitlines()), (status, wanted))
+    assert (done.returncode, done.stderr) == (0, ""), "and goes on"

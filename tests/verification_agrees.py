@@ -11,7 +11,6 @@ from pathlib import Path
 import pytest
 
 from lib.contracts import CRATES, IMPORT, code, crates, declared_in, needed
-from lib.outcome import Outcome
 from lib.paths import ROOT
 
 PAGE = ROOT / "docs" / "verification.md"
@@ -101,12 +100,12 @@ def written(page: str) -> str:
     return PLACE.sub(place, page)
 
 
-def check_written(outcome: Outcome, page: str) -> None:
+def check_written(page: str) -> None:
     """The page is as tools/write_documents writes it, and all places are found."""
-    lines = page.splitlines()
-    outcome.holds("tools/write_documents changes nothing", page == written(page),
-                  [line for line in written(page).splitlines() if line not in lines])
-    outcome.check("places that are not found", re.findall(r"\S+:0`", page), [])
+    lines, wanted = page.splitlines(), written(page)
+    changed = [line for line in wanted.splitlines() if line not in lines]
+    assert page == wanted, ("tools/write_documents changes nothing", changed)
+    assert re.findall(r"\S+:0`", page) == [], "places that are not found"
 
 
 @cache
@@ -122,57 +121,57 @@ def contracts_of(call: str) -> list[str]:
     return [each for each in found if "ensures" in each]
 
 
-def check_claims(outcome: Outcome, page: str) -> None:
+def check_claims(page: str) -> None:
     for proved, tests in CLAIM.findall(page):
         for part in proved.split(";"):
             if not (call := CONTRACT.match(part.strip())):
                 continue
             contracts = contracts_of(call[1])
-            outcome.holds(f"{call[1]} has a contract", contracts != [])
+            assert contracts != [], f"{call[1]} has a contract"
             for clause in CODE.findall(call[2] or ""):
                 has = any(re.search(rf"\bensures {clause}\b", each) for each in contracts)
-                outcome.holds(f"{call[1]} has the clause {clause}", has)
-        check_tests(outcome, tests)
+                assert has, f"{call[1]} has the clause {clause}"
+        check_tests(tests)
 
 
-def check_tests(outcome: Outcome, cell: str) -> None:
+def check_tests(cell: str) -> None:
     for name, functions in TEST.findall(cell):
         path = ROOT / name if name.startswith("tests/") else CRATES / name
-        outcome.holds(f"there is {name}", path.exists())
+        assert path.exists(), f"there is {name}"
         files = path.glob("src/**/*.rt") if path.is_dir() else [path] if path.is_file() else []
         text = "".join(file.read_text() for file in files)
         for function in CODE.findall(functions):
-            outcome.holds(f"{name} has {function}", bool(re.search(rf"\b(?:def test_|fn ){function}\b", text)))
+            assert bool(re.search(rf"\b(?:def test_|fn ){function}\b", text)), f"{name} has {function}"
 
 
-def check_definitions(outcome: Outcome, page: str) -> None:
+def check_definitions(page: str) -> None:
     """Each definition is in the one listed file of its name."""
     for names, place in DEFINITIONS.findall(page):
         files = [file for file in sum(needed(), []) if str(file).endswith(f"/{place}")]
-        outcome.holds(f"one listed file is {place}", len(files) == 1, [str(file) for file in files])
+        assert len(files) == 1, (f"one listed file is {place}", [str(file) for file in files])
         declared = declared_in(str(files[0].relative_to(CRATES))) if files else {}
         for name in CODE.findall(names):
-            outcome.holds(f"{place} defines {name}", name in declared)
+            assert name in declared, f"{place} defines {name}"
 
 
-def check_axioms(outcome: Outcome, page: str) -> None:
+def check_axioms(page: str) -> None:
     """The numbers of axioms are those of the logs of builds that are there, and add up."""
     total, library, system = re.search(r"`axioms=(\d+)`[^,]*, (\d+) of the C library and (\d+) of", page).groups()
-    outcome.check("the axioms add up", int(library) + int(system), int(total))
+    assert int(library) + int(system) == int(total), "the axioms add up"
     for log in (ROOT / "bin").glob("*.log"):
         text = log.read_text()
         for kind, count in (("libc", library), ("os", system)):
             for found in re.findall(rf"^axioms {kind}: .*\((\d+) of", text, re.MULTILINE):
-                outcome.check(f"{log.name} counts the axioms of {kind}", count, found)
+                assert count == found, f"{log.name} counts the axioms of {kind}"
 
 
-def check_signs(outcome: Outcome, page: str) -> None:
+def check_signs(page: str) -> None:
     """Each sign beyond ASCII in a listed definition is explained in the reference."""
     explained = set("".join(CODE.findall(page)))
     for file in (file for file in sum(needed(), []) if file.suffix == ".antt"):
         lines = [line for line in file.read_text().splitlines() if not line.lstrip().startswith("--")]
         signs = {sign for sign in "".join(lines) if not sign.isascii()}
-        outcome.check(f"the signs of {file.name} that nothing explains", signs - explained, set())
+        assert signs - explained == set(), f"the signs of {file.name} that nothing explains"
 
 
 def heading_links(text: str) -> set[str]:
@@ -181,13 +180,13 @@ def heading_links(text: str) -> set[str]:
     return {re.sub(r"[^\w -]", "", title.lower()).replace(" ", "-") for title in titles}
 
 
-def check_links(outcome: Outcome, page: str, folder: Path = PAGE.parent) -> None:
+def check_links(page: str, folder: Path = PAGE.parent) -> None:
     """Links lead to a file and to a heading."""
     for path, heading in re.findall(r"\]\((?!http)([\w./-]*)(?:#([\w-]+))?\)", page):
         file = folder / path
         text = page if not path else file.read_text() if file.is_file() and heading else ""
-        outcome.holds(f"there is {path}", file.exists())
-        outcome.holds(f"{path} has the heading {heading}", not heading or heading in heading_links(text))
+        assert file.exists(), f"there is {path}"
+        assert not heading or heading in heading_links(text), f"{path} has the heading {heading}"
 
 
 CHECKS = {
@@ -200,7 +199,7 @@ BROKEN = [
     (PAGE, check_written, r"^fn open_directory", "fn open_folder"),
     (PAGE, check_claims, r"`drive_over`: `answered`", "`drive_over`: `replied`"),
     (PAGE, check_claims, r"`refused_leaves_outputs`", "`refused_leaves_nothing`"),
-    (PAGE, check_claims, r"`tests/faults`", "`tests/no_faults`"),
+    (PAGE, check_claims, r"`tests/faults.py`", "`tests/no_faults.py`"),
     (PAGE, check_definitions, r"`opened_paths` \(", "`opened_from` ("),
     (PAGE, check_links, r"\(security.md\)", "(secure.md)"),
     (PAGE, check_axioms, r"\d+ of the C library", "30 of the C library"),
@@ -211,23 +210,20 @@ BROKEN = [
 
 
 @pytest.mark.parametrize("page", CHECKS, ids=lambda page: page.stem)
-def test_page(outcome: Outcome, page: Path) -> None:
+def test_page(page: Path) -> None:
     for check in CHECKS[page]:
-        check(outcome, page.read_text())
+        check(page.read_text())
 
 
-def test_links(outcome: Outcome) -> None:
+def test_links() -> None:
     for page in (*ROOT.glob("*.md"), *ROOT.glob("docs/*.md"), ROOT / "tests" / "README.md"):
-        check_links(outcome, page.read_text(), page.parent)
+        check_links(page.read_text(), page.parent)
 
 
 @pytest.mark.parametrize(("page", "check", "old", "new"), BROKEN, ids=lambda value: getattr(value, "__name__", None))
-def test_broken_page(
-    outcome: Outcome, page: Path, check: Callable[[Outcome, str], None], old: str, new: str
-) -> None:
+def test_broken_page(page: Path, check: Callable[[str], None], old: str, new: str) -> None:
     """A page with a mistake is not taken."""
     broken = re.sub(old, new, page.read_text(), count=1, flags=re.MULTILINE)
-    outcome.holds("the page is changed", broken != page.read_text())
-    found = Outcome()
-    check(found, broken)
-    outcome.holds(f"{old} is missed", found.failures != [])
+    assert broken != page.read_text(), "the page is changed"
+    with pytest.raises(AssertionError):
+        check(broken)

@@ -12,13 +12,13 @@ from pathlib import Path
 import pytest
 
 from cases import SECONDS, Cases, by_file, by_id
-from lib.ansible import ansible_vault
+from lib.needs import needs, needs_ansible
 from lib.paths import ROOT
 from model.vaults import seal, yaml_block
 
 SIZES = [0, 1, 15, 16, 17, 1 << 10, 1 << 20]
 NAMED = {
-    "umlauts": "schlüssel: \"größe\"\n→\n".encode(),
+    "umlauts": 'schlüssel: "größe"\n→\n'.encode(),
     "every byte": bytes(range(256)),
     "line ends": b"\r\n\n\r",
     "an end like padding": b"a" * 15 + b"\x01",
@@ -75,9 +75,7 @@ class Both:
 
 @pytest.fixture(params=["", "dev"], ids=["no label", "label dev"])
 def both(cases: Cases, request: pytest.FixtureRequest) -> Both:
-    ansible = ansible_vault()
-    if ansible is None:
-        pytest.skip("Ansible's own ansible-vault is not installed (Debian's package ansible-core)")
+    ansible = needs_ansible()
     return Both(cases, ansible, request.param)
 
 
@@ -86,7 +84,7 @@ def test_theirs_to_ours(both: Both) -> None:
     vaults = both.changed_by_them("encrypt", [*both.options, *both.choice], list(TEXTS.values()))
     for (name, text), vault in zip(TEXTS.items(), vaults):
         salt = salt_of(vault)
-        both.cases.check(f"{name}: the tests' own vault", both.sealed(text, salt), vault)
+        assert both.sealed(text, salt) == vault, f"{name}: the tests' own vault"
         for command in ("decrypt", "view"):
             both.ours(f"{command} of their vault of {name}", [command, *both.options], vault, text)
         words = ["encrypt", *both.options, "--salt-file", both.cases.file(salt)]
@@ -96,70 +94,67 @@ def test_theirs_to_ours(both: Both) -> None:
 def test_ours_to_theirs(both: Both) -> None:
     """Our vaults are decrypted there."""
     words = ["encrypt", *both.options]
-    vaults = [both.ours(f"encrypt {name}", words, text, lambda _: True) for name, text in TEXTS.items()]
+    vaults = [both.ours(f"encrypt {name}", words, text, None) for name, text in TEXTS.items()]
     for (name, text), plaintext in zip(TEXTS.items(), both.changed_by_them("decrypt", both.options, vaults)):
-        both.cases.check(f"{name}: Ansible's tool decrypts it, label {both.label!r}", plaintext, text)
+        assert plaintext == text, f"{name}: Ansible's tool decrypts it, label {both.label!r}"
 
 
 def test_files(both: Both) -> None:
     plain, vault, back = both.cases.file(TEXTS["1024 bytes"]), both.cases.path(), both.cases.path()
     both.ours("encrypt FILE", ["encrypt", *both.options, plain, "--output", vault], b"", b"")
     both.theirs("decrypt", *both.options, "--output", back, vault)
-    both.cases.check("their decrypt of our file", Path(back).read_bytes(), TEXTS["1024 bytes"])
+    assert Path(back).read_bytes() == TEXTS["1024 bytes"], "their decrypt of our file"
     both.theirs("encrypt", *both.options, *both.choice, back)
     both.ours("decrypt FILE", ["decrypt", *both.options, "--output", back, back], b"", b"")
-    both.cases.check("our decrypt of their file", Path(back).read_bytes(), TEXTS["1024 bytes"])
+    assert Path(back).read_bytes() == TEXTS["1024 bytes"], "our decrypt of their file"
     both.ours("view FILE", ["view", *both.options, vault], b"", TEXTS["1024 bytes"])
 
 
-def test_blocks(both: Both) -> None:
+@pytest.mark.parametrize("words, written", ((["-n", "größe"], "größe".encode()), ([], b"")))
+@pytest.mark.parametrize("name, string", STRINGS.items())
+def test_blocks(both: Both, name, string, words, written) -> None:
     """Blocks of the same string, one with a name and one without."""
-    for name, string in STRINGS.items():
-        for words, written in ((["-n", "größe"], "größe".encode()), ([], b"")):
-            block = both.theirs("encrypt_string", *both.options, *both.choice, *words, string).rstrip(b"\n") + b"\n"
-            vault = b"\n".join(line.strip() for line in block.split(b"\n")[1:])
-            salt = salt_of(vault)
-            both.cases.check(
-                f"{name}: the tests' own block", yaml_block(both.sealed(string.encode(), salt), written), block
-            )
-            salted = ["encrypt_string", *both.options, "--salt-file", both.cases.file(salt), *words, string]
-            both.ours(f"block of {name}", salted, b"", block)
+    block = both.theirs("encrypt_string", *both.options, *both.choice, *words, string).rstrip(b"\n") + b"\n"
+    vault = b"\n".join(line.strip() for line in block.split(b"\n")[1:])
+    salt = salt_of(vault)
+    assert yaml_block(both.sealed(string.encode(), salt), written) == block, f"{name}: the tests' own block"
+    salted = ["encrypt_string", *both.options, "--salt-file", both.cases.file(salt), *words, string]
+    both.ours(f"block of {name}", salted, b"", block)
 
 
-def test_playbook_values(both: Both) -> None:
+@pytest.mark.parametrize("name, string", STRINGS.items())
+def test_playbook_values(both: Both, name, string) -> None:
     """Ansible reads our blocks as values of a file of variables."""
     tool = Path(both.ansible).parent / "ansible"
-    if not tool.exists():
-        return both.cases.skip("values in playbooks", f"{tool} is not installed")
+    needs(str(tool))
     words = ["encrypt_string", *both.options, "--name", "secret"]
-    for name, string in STRINGS.items():
-        variables = both.cases.file(both.ours(f"block of {name}", [*words, string], b"", lambda _: True))
-        written = both.cases.path()
-        copy = ["-m", "copy", "-a", f"content={{{{ secret }}}} dest={written}", "-e", f"@{variables}"]
-        command = [str(tool), "localhost", "-c", "local", *copy, *both.options]
-        done = both.in_folder(command)
-        value = Path(written).read_bytes() if done.returncode == 0 else done.stdout + done.stderr
-        both.cases.check(f"{name}: the value in a playbook", value, string.encode())
+    variables = both.cases.file(both.ours(f"block of {name}", [*words, string], b"", None))
+    written = both.cases.path()
+    copy = ["-m", "copy", "-a", f"content={{{{ secret }}}} dest={written}", "-e", f"@{variables}"]
+    command = [str(tool), "localhost", "-c", "local", *copy, *both.options]
+    done = both.in_folder(command)
+    value = Path(written).read_bytes() if done.returncode == 0 else done.stdout + done.stderr
+    assert value == string.encode(), f"{name}: the value in a playbook"
 
 
-def test_rekeyed(both: Both) -> None:
+@pytest.mark.parametrize("new_label", ("", "prod"))
+def test_rekeyed(both: Both, new_label) -> None:
     """Rekeyed here, decrypted and rekeyed back there, decrypted here."""
-    for new_label in ("", "prod"):
-        options = ["--new-vault-id", f"{new_label}@{both.new}"]
-        new = by_id(both.new, new_label) if new_label else by_file(both.new)
-        words = ["rekey", *both.options, *options]
-        given = [both.sealed(text, bytes(32)) for text in TEXTS.values()]
-        ours = [both.ours(f"rekey of {name}", words, vault, lambda _: True) for name, vault in zip(TEXTS, given)]
-        decrypted = both.changed_by_them("decrypt", new, ours)
-        both.cases.check("Ansible's tool decrypts them", decrypted, list(TEXTS.values()))
-        back = (
-            ["--new-vault-id", f"{both.label}@{both.password}"]
-            if both.label
-            else ["--new-vault-password-file", both.password]
-        )
-        theirs = both.changed_by_them("rekey", [*new, *back], ours)
-        for (name, text), vault in zip(TEXTS.items(), theirs):
-            both.ours(f"view of {name}, rekeyed by them", ["view", *both.options], vault, text)
+    options = ["--new-vault-id", f"{new_label}@{both.new}"]
+    new = by_id(both.new, new_label) if new_label else by_file(both.new)
+    words = ["rekey", *both.options, *options]
+    given = [both.sealed(text, bytes(32)) for text in TEXTS.values()]
+    ours = [both.ours(f"rekey of {name}", words, vault, None) for name, vault in zip(TEXTS, given)]
+    decrypted = both.changed_by_them("decrypt", new, ours)
+    assert decrypted == list(TEXTS.values()), "Ansible's tool decrypts them"
+    back = (
+        ["--new-vault-id", f"{both.label}@{both.password}"]
+        if both.label
+        else ["--new-vault-password-file", both.password]
+    )
+    theirs = both.changed_by_them("rekey", [*new, *back], ours)
+    for (name, text), vault in zip(TEXTS.items(), theirs):
+        both.ours(f"view of {name}, rekeyed by them", ["view", *both.options], vault, text)
 
 
 def test_fixed_salt(both: Both) -> None:
@@ -203,17 +198,15 @@ def message_rows() -> dict[str, list[tuple[str, int]]]:
 
 
 def test_messages(cases: Cases) -> None:
-    ansible = ansible_vault()
-    if ansible is None:
-        pytest.skip("Ansible's own ansible-vault is not installed (Debian's package ansible-core)")
+    ansible = needs_ansible()
     both = Both(cases, ansible, "")
     for name, content in refused_files().items():
         (cases.folder / name).write_bytes(content)
     rows = message_rows()
-    cases.check("the page has a row for each", sorted(rows), sorted(REFUSED))
+    assert sorted(rows) == sorted(REFUSED), "the page has a row for each"
     for what, said in rows.items():
         for tool, (text, status) in zip((ansible, cases.program), said):
             done = both.in_folder([tool, *REFUSED[what].split()])
             pattern = ".*".join(map(re.escape, f"ERROR! {text}".split("...")))
             is_said = any(re.fullmatch(pattern, line) for line in done.stderr.decode().splitlines())
-            cases.check(f"{what}: {tool}", (done.returncode, is_said), (status, True))
+            assert (done.returncode, is_said) == (status, True), f"{what}: {tool}"

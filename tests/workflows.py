@@ -7,7 +7,6 @@ import os
 import pathlib
 import pty
 import re
-import shutil
 import stat
 import subprocess
 import termios
@@ -17,8 +16,8 @@ from collections.abc import Callable
 import pytest
 
 from lib.limits import SECONDS
+from lib.needs import needs
 from lib.option_sets import sections
-from lib.outcome import Outcome
 from lib.paths import COMPANIONS, PAGE, ROOT
 from model.vaults import seal, yaml_block
 from shells import all_shown
@@ -105,12 +104,16 @@ class Repository:
         for companion in (ROOT / "companions").glob("ansible-vault-*"):
             (tools / companion.name).symlink_to(companion)
         names = {"GIT_AUTHOR_NAME": "a", "GIT_AUTHOR_EMAIL": "a@b", "GIT_COMMITTER_NAME": "a"}
-        self.environment = os.environ | names | {
-            "GIT_COMMITTER_EMAIL": "a@b",
-            "GIT_CONFIG_GLOBAL": "/dev/null",
-            "HOME": str(path),
-            "PATH": f"{tools}{os.pathsep}{os.environ['PATH']}",
-        }
+        self.environment = (
+            os.environ
+            | names
+            | {
+                "GIT_COMMITTER_EMAIL": "a@b",
+                "GIT_CONFIG_GLOBAL": "/dev/null",
+                "HOME": str(path),
+                "PATH": f"{tools}{os.pathsep}{os.environ['PATH']}",
+            }
+        )
         self.folder.mkdir()
         self.shell("git init -q && echo '*.pass' > .gitignore")
         (path / ".vault").mkdir(mode=0o700)
@@ -143,7 +146,7 @@ class Repository:
         )
 
 
-def check_differences(outcome: Outcome, repository: Repository, shell: str):
+def check_differences(repository: Repository, shell: str):
     """A file that is at first not encrypted, then under the old password, then under the new one."""
     name = "group_vars/all/vault.yml"
     repository.put(".gitattributes", MARKS.encode())
@@ -153,15 +156,15 @@ def check_differences(outcome: Outcome, repository: Repository, shell: str):
         repository.put(name, content)
         repository.shell("git add . && git commit -qm change")
     ran = repository.shell(shell)
-    outcome.check("the setting is made", (ran.returncode, ran.stderr), (0, ""))
+    assert (ran.returncode, ran.stderr) == (0, ""), "the setting is made"
     shown = ["db_password: third", f"{name}:db_password: third"]
-    outcome.check("git shows and finds the plaintext", ran.stdout.splitlines(), shown)
+    assert ran.stdout.splitlines() == shown, "git shows and finds the plaintext"
     changes = [("-", "second"), ("+", "third"), ("-", "first"), ("+", "second"), ("+", "first")]
     wanted = [f"{sign}db_password: {text}" for sign, text in changes]
     for folder in (".", "group_vars"):
         shown = repository.shell("git log -p --format=", folder)
         found = [line for line in shown.stdout.splitlines() if re.match(r"[-+]db_password", line)]
-        outcome.check(f"git shows the plaintext of each commit in `{folder}`", (shown.returncode, found), (0, wanted))
+        assert (shown.returncode, found) == (0, wanted), f"git shows the plaintext of each commit in `{folder}`"
 
 
 def played(shown: str) -> list[str]:
@@ -169,23 +172,23 @@ def played(shown: str) -> list[str]:
     return re.findall(r'"msg": "(.*)"', shown)
 
 
-def check_settings(outcome: Outcome, repository: Repository, shell: str):
+def check_settings(repository: Repository, shell: str):
     repository.put("host_vars/web1/secrets.yml", b"port: 1\n")
     repository.put("group_vars/all/vault.yml", b"shared: battery staple\n")
     repository.put("inventory", INVENTORY.encode())
     repository.put("playbook.yml", SHORT_PLAYBOOK.encode())
     repository.put("ansible.cfg", shown_settings().encode())
     ran = repository.shell(shell)
-    outcome.check("the commands end well", (ran.returncode, ran.stderr), (0, ""))
-    outcome.check("the other recipes have the same settings", shown_settings(), SETTINGS)
-    outcome.check("the vault is shown", ran.stdout.splitlines()[:1], ["shared: battery staple"])
-    outcome.check("ansible-playbook reads it by the same settings", played(ran.stdout), ["battery staple"])
+    assert (ran.returncode, ran.stderr) == (0, ""), "the commands end well"
+    assert shown_settings() == SETTINGS, "the other recipes have the same settings"
+    assert ran.stdout.splitlines()[:1] == ["shared: battery staple"], "the vault is shown"
+    assert played(ran.stdout) == ["battery staple"], "ansible-playbook reads it by the same settings"
     for name in ("host_vars/web1/secrets.yml", "group_vars/all/vault.yml"):
         first = repository.get(name).splitlines()[0]
-        outcome.check(f"{name} is a vault of the label", first, b"$ANSIBLE_VAULT;1.2;AES256;prod")
+        assert first == b"$ANSIBLE_VAULT;1.2;AES256;prod", f"{name} is a vault of the label"
 
 
-def check_playbook(outcome: Outcome, repository: Repository, shell: str):
+def check_playbook(repository: Repository, shell: str):
     repository.put("plain.yml", b"shared: battery staple\n")
     repository.put("group_vars/all/.keep", b"")
     repository.put("host_vars/web1.yml", b"port: 5432\n")
@@ -193,38 +196,38 @@ def check_playbook(outcome: Outcome, repository: Repository, shell: str):
     repository.put("playbook.yml", PLAYBOOK.encode())
     ran = repository.shell(shell)
     what = "ansible-playbook reads the vault and the block"
-    outcome.check(what, played(ran.stdout), ["battery staple and correct horse"])
-    outcome.check("the plaintext is still there", repository.get("plain.yml"), b"shared: battery staple\n")
+    assert played(ran.stdout) == ["battery staple and correct horse"], what
+    assert repository.get("plain.yml") == b"shared: battery staple\n", "the plaintext is still there"
 
 
-def check_edit(outcome: Outcome, repository: Repository, shell: str):
+def check_edit(repository: Repository, shell: str):
     name = "group_vars/all/vault.yml"
     repository.put(name, seal(PASSWORDS["prod.pass"], b"password: first\n", b"prod"))
     (repository.folder / name).chmod(0o640)
     ran = repository.shell(shell, EDITOR=repository.script('sed -i s/first/second/ "$1"'))
-    outcome.check("an edit ends well", (ran.returncode, ran.stdout, ran.stderr), (0, "", ""))
+    assert (ran.returncode, ran.stdout, ran.stderr) == (0, "", ""), "an edit ends well"
     shown = repository.shell(f"ansible-vault view --require-id-match --vault-id prod@prod.pass {name}").stdout
-    outcome.check("the vault has the new text and the label", shown, "password: second\n")
-    outcome.check("it keeps its mode", repository.mode(name), "0o640")
+    assert shown == "password: second\n", "the vault has the new text and the label"
+    assert repository.mode(name) == "0o640", "it keeps its mode"
 
 
-def check_asked(outcome: Outcome, repository: Repository, shell: str):
+def check_asked(repository: Repository, shell: str):
     repository.put("group_vars/all/vault.yml", seal(PASSWORDS["old.pass"], b"shown\n"))
     for password, wanted in ((PASSWORDS["old.pass"], True), (b"another", False)):
         shown = pasted(repository, f"{shell.rstrip()}; exit\n", password.decode())
-        outcome.check(f"`{password.decode()}` is typed", "shown\r\n" in shown, wanted)
-        outcome.check("and is not shown", shown.count(password.decode()), 0)
+        assert ("shown\r\n" in shown) == wanted, f"`{password.decode()}` is typed"
+        assert shown.count(password.decode()) == 0, "and is not shown"
 
 
-def check_typed(outcome: Outcome, repository: Repository, shell: str):
+def check_typed(repository: Repository, shell: str):
     repository.put("vault.yml", seal(PASSWORDS["old.pass"], b"shown\n"))
     for interpreter in ("bash", "zsh"):
         for password, wanted in ((PASSWORDS["old.pass"], (0, "shown\n")), (b"another", (1, ""))):
             ran = repository.shell(shell, stdin=password.decode() + "\n", interpreter=interpreter)
-            outcome.check(f"{interpreter}: `{password.decode()}` is typed", (ran.returncode, ran.stdout), wanted)
+            assert (ran.returncode, ran.stdout) == wanted, f"{interpreter}: `{password.decode()}` is typed"
     shown = pasted(repository, shell, PASSWORDS["old.pass"].decode())
-    outcome.holds("pasted on a terminal it waits for the password", "shown\r\n" in shown, repr(shown))
-    outcome.check("and the password is not shown", shown.count(PASSWORDS["old.pass"].decode()), 0)
+    assert "shown\r\n" in shown, "pasted on a terminal it waits for the password"
+    assert shown.count(PASSWORDS["old.pass"].decode()) == 0, "and the password is not shown"
 
 
 def pasted(repository: Repository, shell: str, password: str) -> str:
@@ -255,7 +258,7 @@ def wait_for_question(terminal: int):
         time.sleep(0.02)
 
 
-def check_rotation(outcome: Outcome, repository: Repository, shell: str):
+def check_rotation(repository: Repository, shell: str):
     repository.put("vars/a.yml", seal(PASSWORDS["old.pass"], b"a"))
     repository.put("b.yml", block("secret", "b", "old.pass", "").encode())
     kept = seal(PASSWORDS["prod.pass"], b"c", b"prod")
@@ -263,14 +266,14 @@ def check_rotation(outcome: Outcome, repository: Repository, shell: str):
     repository.shell("rm ~/.vault/new.pass")
     ran = repository.shell(shell)
     summary = ["2 rotated, 0 under the new secret already, 1 of other labels (prod 1), 0 failed"]
-    outcome.check("a rotation", (ran.returncode, ran.stdout.splitlines()[-1:], ran.stderr), (0, summary, ""))
+    assert (ran.returncode, ran.stdout.splitlines()[-1:], ran.stderr) == (0, summary, ""), "a rotation"
     shown = repository.shell('ansible-vault view --vault-password-file "$HOME"/.vault/new.pass vars/a.yml').stdout
-    outcome.check("the vault is under the new secret", (shown, repository.get("c.yml")), ("a", kept))
+    assert (shown, repository.get("c.yml")) == ("a", kept), "the vault is under the new secret"
     output = repository.shell("stat -c %a ~/.vault/new.pass; base64 --decode < ~/.vault/new.pass | wc -c").stdout
-    outcome.check("which has 32 bytes, and is readable by its owner only", output, "600\n32\n")
+    assert output == "600\n32\n", "which has 32 bytes, and is readable by its owner only"
 
 
-def check_check(outcome: Outcome, repository: Repository, shell: str):
+def check_check(repository: Repository, shell: str):
     repository.put("vars/a.yml", seal(PASSWORDS["new.pass"], b"a"))
     repository.put("b.yml", block("secret", "b", "prod.pass", "prod").encode())
     ran = repository.shell(shell)
@@ -280,28 +283,28 @@ def check_check(outcome: Outcome, repository: Repository, shell: str):
         f"./vars/a.yml: default: decrypted by {home}/.vault/new.pass",
         "2 decrypted, 0 not",
     ]
-    outcome.check("a check", (ran.returncode, ran.stdout.splitlines(), ran.stderr), (0, lines, ""))
+    assert (ran.returncode, ran.stdout.splitlines(), ran.stderr) == (0, lines, ""), "a check"
     repository.put("b.yml", seal(b"unknown", b"b"))
-    outcome.check("a stray vault", repository.shell(shell).returncode, 1)
+    assert repository.shell(shell).returncode == 1, "a stray vault"
 
 
 def block(name: str, text: str, password: str, label: str) -> str:
     return yaml_block(seal(PASSWORDS[password], text.encode(), label.encode()), name.encode()).decode()
 
 
-def check_hook(outcome: Outcome, repository: Repository, shell: str):
+def check_hook(repository: Repository, shell: str):
     repository.put(".gitattributes", MARKS.encode())
     ran = repository.shell(shell)
-    outcome.check("the hook is put in its place", (ran.returncode, ran.stderr), (0, ""))
+    assert (ran.returncode, ran.stderr) == (0, ""), "the hook is put in its place"
     repository.put("a b.vault.yml", seal(PASSWORDS["old.pass"], b"secret"))
-    outcome.check("the hook lets a vault pass", repository.shell("git add . && git commit -qm one").returncode, 0)
+    assert repository.shell("git add . && git commit -qm one").returncode == 0, "the hook lets a vault pass"
     repository.put("c.vault.yml", b"password: plain\n")
     ran = repository.shell("git add . && git commit -qm two")
     message = "ansible-vault-hook: c.vault.yml is not encrypted\n"
-    outcome.check("it refuses plaintext", (ran.returncode, ran.stderr.splitlines(True)[0]), (1, message))
+    assert (ran.returncode, ran.stderr.splitlines(True)[0]) == (1, message), "it refuses plaintext"
 
 
-def check_first_day(outcome: Outcome, repository: Repository, shell: str):
+def check_first_day(repository: Repository, shell: str):
     repository.put(".gitattributes", MARKS.encode())
     repository.put("vault.yml", seal(PASSWORDS["prod.pass"], b"password: shown\n", b"prod"))
     repository.put("other.yml", seal(PASSWORDS["new.pass"], b"a: 1\n"))
@@ -309,20 +312,20 @@ def check_first_day(outcome: Outcome, repository: Repository, shell: str):
     repository.put("ansible.cfg", SETTINGS.encode())
     repository.shell("rm -r ~/.vault; git add -A")
     ran = repository.shell(shell)
-    outcome.check("the first day", (ran.returncode, ran.stderr), (0, ""))
+    assert (ran.returncode, ran.stderr) == (0, ""), "the first day"
     last_lines = ["2 decrypted, 0 not, 1 of other labels (default 1)", "password: first"]
-    outcome.check("counts, and shows a vault", ran.stdout.splitlines()[-2:], last_lines)
+    assert ran.stdout.splitlines()[-2:] == last_lines, "counts, and shows a vault"
     modes = repository.shell("stat -c %a ~/.vault ~/.vault/prod.pass; ls prod.pass").stdout
-    outcome.check("the password file is outside, for its owner alone", modes, "700\n600\n")
+    assert modes == "700\n600\n", "the password file is outside, for its owner alone"
     shown = repository.shell("git commit -qm one && git show").stdout
-    outcome.holds("git shows plaintext", "+password: shown" in shown, shown)
+    assert "+password: shown" in shown, "git shows plaintext"
     text = b"a: 1\nb: 2\npassword: shown\nc: 3\nd: 4\n"
     merge_changes(repository, "vault.yml", text, text + b"e: 5\n", b"z: 0\n" + text)
     ran = repository.shell("git merge --no-edit branch && ansible-vault-textconv vault.yml")
-    outcome.check("git merges", (ran.returncode, ran.stdout.endswith(f"z: 0\n{text.decode()}e: 5\n")), (0, True))
+    assert (ran.returncode, ran.stdout.endswith(f"z: 0\n{text.decode()}e: 5\n")) == (0, True), "git merges"
     repository.put("vault.yml", b"password: plain\n")
     ran = repository.shell("git commit -qam two")
-    outcome.check("and refuses plaintext", ran.returncode, 1)
+    assert ran.returncode == 1, "and refuses plaintext"
 
 
 def merge_changes(repository: Repository, name: str, base: bytes, theirs: bytes, ours: bytes):
@@ -334,60 +337,60 @@ def merge_changes(repository: Repository, name: str, base: bytes, theirs: bytes,
         repository.shell(f"git add -A && git commit -qm change && {after}")
 
 
-def check_merge(outcome: Outcome, repository: Repository, shell: str):
+def check_merge(repository: Repository, shell: str):
     name = "group_vars/all/vault.yml"
     repository.put(".gitattributes", MARKS.encode())
     merge_changes(repository, name, b"a: 1\nb: 2\nc: 3\n", b"a: 1\nb: 2\nc: 4\n", b"a: 0\nb: 2\nc: 3\n")
     merge, _, solution = shell.partition("\nansible-vault-edit ")
     ran = repository.shell(merge)
-    outcome.check("git merges what does not conflict", ran.returncode, 0)
+    assert ran.returncode == 0, "git merges what does not conflict"
     view = f"ansible-vault view --require-id-match --vault-id prod@prod.pass {name}"
-    outcome.check("both changes are in the vault", repository.shell(view).stdout, "a: 0\nb: 2\nc: 4\n")
+    assert repository.shell(view).stdout == "a: 0\nb: 2\nc: 4\n", "both changes are in the vault"
     repository.shell("git checkout -q branch")
     repository.put(name, seal(PASSWORDS["prod.pass"], b"a: 5\nb: 2\nc: 4\n", b"prod"))
     repository.shell("git commit -qam other && git checkout -q -")
     ran = repository.shell(merge)
-    outcome.check("git reports a conflict", (ran.returncode, "CONFLICT" in ran.stdout), (1, True))
-    outcome.holds("nothing is in plaintext", repository.get(name).startswith(b"$ANSIBLE_VAULT;1.2;AES256;prod\n"))
+    assert (ran.returncode, "CONFLICT" in ran.stdout) == (1, True), "git reports a conflict"
+    assert repository.get(name).startswith(b"$ANSIBLE_VAULT;1.2;AES256;prod\n"), "nothing is in plaintext"
     ran = repository.shell("ansible-vault-check --vault-id prod@prod.pass .")
-    outcome.check("a check refuses it", ran.returncode, 1)
+    assert ran.returncode == 1, "a check refuses it"
     editor = repository.script("sed -i -e '/^[<=>|]\\{7\\}/d' -e '/^a: [01]$/d' \"$1\"")
     ran = repository.shell(f"ansible-vault-edit {solution}", EDITOR=editor)
-    outcome.check("the conflict is solved", ran.returncode, 0)
-    outcome.check("in the vault", repository.shell(view).stdout, "a: 5\nb: 2\nc: 4\n")
-    outcome.check("and committed", repository.shell("git status --porcelain").stdout, "")
+    assert ran.returncode == 0, "the conflict is solved"
+    assert repository.shell(view).stdout == "a: 5\nb: 2\nc: 4\n", "in the vault"
+    assert repository.shell("git status --porcelain").stdout == "", "and committed"
 
 
-def check_manager(outcome: Outcome, repository: Repository, shell: str):
+def check_manager(repository: Repository, shell: str):
     repository.put(".gitattributes", MARKS.encode())
     repository.put("vault.yml", seal(PASSWORDS["prod.pass"], b"password: shown\n", b"prod"))
     repository.script(PASS, "pass")
     repository.shell("git add -A && git commit -qm one")
     ran = repository.shell(shell)
-    outcome.check("the commands end well", (ran.returncode, ran.stderr), (0, ""))
+    assert (ran.returncode, ran.stderr) == (0, ""), "the commands end well"
     shown = [line for line in ran.stdout.splitlines() if "password: shown" in line]
-    outcome.check("git and the tool show the plaintext", shown, ["+password: shown", "password: shown"])
+    assert shown == ["+password: shown", "password: shown"], "git and the tool show the plaintext"
 
 
-def check_one_secret(outcome: Outcome, repository: Repository, shell: str):
+def check_one_secret(repository: Repository, shell: str):
     name = "host_vars/web1.yml"
     kept, old = block("other", "kept", "prod.pass", "prod"), block("db_password", "correct horse", "prod.pass", "prod")
     repository.put("ansible.cfg", SETTINGS.encode())
     repository.put(name, f"port: 5432  # stays\n{old}{kept}".encode())
     editor = repository.script("sed -i -e 's/correct horse/battery staple/' -e '$a new: !vault |-\\n  a third' \"$1\"")
     ran = repository.shell(shell, EDITOR=editor)
-    outcome.check("the commands end well", (ran.returncode, ran.stderr), (0, ""))
+    assert (ran.returncode, ran.stderr) == (0, ""), "the commands end well"
     shown = "port: 5432  # stays\ndb_password: !vault |-\n  correct horse\nother: !vault |-\n  kept\n"
-    outcome.check("the secrets are shown", ran.stdout, shown)
+    assert ran.stdout == shown, "the secrets are shown"
     text = repository.get(name).decode()
-    outcome.holds("all else stays", text.startswith("port: 5432  # stays\n") and kept in text, text)
-    outcome.holds("and the old value is gone", old not in text)
+    assert text.startswith("port: 5432  # stays\n") and kept in text, "all else stays"
+    assert old not in text, "and the old value is gone"
     shown = repository.shell(f"ansible-vault-textconv {name}").stdout
     values = re.findall(r"^  (.*)$", shown, re.MULTILINE)
-    outcome.check("one secret is changed, and one is new", values, ["battery staple", "kept", "a third"])
+    assert values == ["battery staple", "kept", "a third"], "one secret is changed, and one is new"
 
 
-def check_marks(outcome: Outcome, repository: Repository, shell: str):
+def check_marks(repository: Repository, shell: str):
     ran = repository.shell(shell)
     lines = [
         "group_vars/all/vault.yml: diff: ansible-vault",
@@ -395,15 +398,15 @@ def check_marks(outcome: Outcome, repository: Repository, shell: str):
         "host_vars/web1.yml: diff: ansible-vault",
         "group_vars/all/vars.yml: diff: unspecified",
     ]
-    outcome.check("the marks", (ran.returncode, ran.stdout.splitlines(), ran.stderr), (0, lines, ""))
+    assert (ran.returncode, ran.stdout.splitlines(), ran.stderr) == (0, lines, ""), "the marks"
     output = repository.shell("git check-attr merge vault.yml").stdout
-    outcome.check("and those of a merge", output, "vault.yml: merge: ansible-vault\n")
+    assert output == "vault.yml: merge: ansible-vault\n", "and those of a merge"
     names = ["vault.yml", "roles/web/vars/vault.yml", "roles/web/vars/vault/db.yml", "group_vars/db.vault.yml"]
     output = repository.shell(f"git check-attr diff {' '.join(names)}").stdout
-    outcome.check("of other names", output.count("diff: ansible-vault\n"), len(names))
+    assert output.count("diff: ansible-vault\n") == len(names), "of other names"
 
 
-def check_pipeline(outcome: Outcome, repository: Repository, shell: str):
+def check_pipeline(repository: Repository, shell: str):
     repository.put(".gitattributes", MARKS.encode())
     repository.put("group_vars/all/vault.yml", seal(PASSWORDS["ci.pass"], b"shared: battery staple\n", b"ci"))
     repository.put("prod.vault.yml", seal(PASSWORDS["prod.pass"], b"a: 1\n", b"prod"))
@@ -411,43 +414,43 @@ def check_pipeline(outcome: Outcome, repository: Repository, shell: str):
     repository.put("playbook.yml", SHORT_PLAYBOOK.encode())
     repository.shell("git add -A && git commit -qm one && git update-ref refs/remotes/origin/main HEAD")
     ran = repository.shell(f"set -e\n{shell}", VAULT_PASSWORD=PASSWORDS["ci.pass"].decode())
-    outcome.check("all is well", (ran.returncode, ran.stderr), (0, ""))
+    assert (ran.returncode, ran.stderr) == (0, ""), "all is well"
     counts = "1 decrypted, 0 not, 1 of other labels (prod 1)"
-    outcome.holds("and counted", counts in ran.stdout.splitlines(), ran.stdout)
-    outcome.check("the playbook is run with the same password", played(ran.stdout), ["battery staple"])
+    assert counts in ran.stdout.splitlines(), "and counted"
+    assert played(ran.stdout) == ["battery staple"], "the playbook is run with the same password"
     checks = shell.splitlines()[:4]
     statuses = lambda: [
         repository.shell(line, VAULT_PASSWORD=PASSWORDS["ci.pass"].decode()).returncode for line in checks
     ]
     repository.put("vault.yml", b"a: 1\n")
     repository.shell("git add -A && git commit -qm two --no-verify")
-    outcome.check("plaintext", statuses(), [1, 1, 0, 1])
+    assert statuses() == [1, 1, 0, 1], "plaintext"
     repository.put("vault.yml", seal(PASSWORDS["ci.pass"], b"a: 2\n", b"ci"))
     repository.shell("git commit -qam three --no-verify")
-    outcome.check("plaintext in between", statuses(), [0, 1, 0, 0])
+    assert statuses() == [0, 1, 0, 0], "plaintext in between"
     ran = repository.shell(f"set -e\n{shell}", VAULT_PASSWORD="another")
-    outcome.check("another password", ran.returncode, 1)
+    assert ran.returncode == 1, "another password"
 
 
-def check_encrypt(outcome: Outcome, repository: Repository, shell: str):
+def check_encrypt(repository: Repository, shell: str):
     repository.put("plain.yml", b"plain: text\n")
     repository.put("group_vars/all/.keep", b"")
     ran = repository.shell(shell)
-    outcome.check("a file is encrypted and decrypted", (ran.returncode, ran.stderr), (0, ""))
+    assert (ran.returncode, ran.stderr) == (0, ""), "a file is encrypted and decrypted"
     first = repository.get("group_vars/all/vault.yml").splitlines()[0]
-    outcome.check("one is a vault", first, b"$ANSIBLE_VAULT;1.2;AES256;prod")
-    outcome.check("the other is its plaintext", repository.get("other.yml"), b"plain: text\n")
+    assert first == b"$ANSIBLE_VAULT;1.2;AES256;prod", "one is a vault"
+    assert repository.get("other.yml") == b"plain: text\n", "the other is its plaintext"
 
 
-def check_string(outcome: Outcome, repository: Repository, shell: str):
+def check_string(repository: Repository, shell: str):
     repository.put("vars.yml", b"first: 1\n")
     ran = repository.shell(shell, secret="correct horse")
-    outcome.check("a block is made", (ran.returncode, ran.stderr), (0, ""))
+    assert (ran.returncode, ran.stderr) == (0, ""), "a block is made"
     first, second, text = repository.get("vars.yml").decode().split("\n", 2)
-    outcome.check("it is appended", (first, second), ("first: 1", "db_password: !vault |"))
+    assert (first, second) == ("first: 1", "db_password: !vault |"), "it is appended"
     repository.put("block", "".join(line.strip() + "\n" for line in text.splitlines()).encode())
     shown = repository.shell("ansible-vault view --vault-password-file prod.pass block").stdout
-    outcome.check("of the secret", shown, "correct horse")
+    assert shown == "correct horse", "of the secret"
 
 
 LOST_PASSWORD = """\
@@ -460,22 +463,22 @@ ansible-vault decrypt --vault-password-file pass --output {} vault >> log
 """
 
 
-def check_lost_password(outcome: Outcome, repository: Repository, shell: str):
+def check_lost_password(repository: Repository, shell: str):
     repository.put("pass", b"a password\n")
     repository.put("plain", b"text\n")
     ran = repository.shell(shell)
     wanted = (1, "", "ERROR! a password file is itself a vault\n")
-    outcome.check("the only copy of a password is lost", (ran.returncode, ran.stdout, ran.stderr), wanted)
+    assert (ran.returncode, ran.stdout, ran.stderr) == wanted, "the only copy of a password is lost"
 
 
-def check_cut_log(outcome: Outcome, repository: Repository, shell: str):
+def check_cut_log(repository: Repository, shell: str):
     repository.put("pass", b"a password\n")
     repository.put("plain", b"text\n")
     for path, wanted in (("/dev/stdout", b"text\n"), ("-", b"first\ntext\n")):
         repository.put("log", b"first\n")
         ran = repository.shell(shell.format(path))
         found = ran.returncode, ran.stderr, repository.get("log")
-        outcome.check(f"a log with --output {path}", found, (0, "", wanted))
+        assert found == (0, "", wanted), f"a log with --output {path}"
 
 
 RECIPES = {
@@ -494,11 +497,7 @@ RECIPES = {
     "A hook against plaintext": check_hook,
     "A pipeline": check_pipeline,
 }
-DISPLAYS = {
-    "Encrypt a file": check_encrypt,
-    "Make a block": check_string,
-    "Type a password,": check_typed,
-}
+DISPLAYS = {"Encrypt a file": check_encrypt, "Make a block": check_string, "Type a password,": check_typed}
 # Those of a companion's page that need more than `example_repository` has.
 ROTATED = "old.pass"
 CODE = """\
@@ -528,63 +527,60 @@ def example_repository(repository: Repository, password: str) -> str:
     return repository.script("sed -i -e 's/horse/staple/' -e 's/a: 1/a: 2/' \"$1\"")
 
 
-def check_example(outcome: Outcome, repository: Repository, name: str, shell: str) -> None:
+def check_example(repository: Repository, name: str, shell: str) -> None:
     """It ends well, and says nothing on standard error; a password that is asked for is typed."""
     editor = example_repository(repository, ROTATED if name == "ansible-vault-rotate" else "prod.pass")
     if "prompt" in shell or "--ask-" in shell:
         typed = pasted(repository, shell.rstrip() + " && echo d''one; exit\n", PASSWORDS["prod.pass"].decode())
-        outcome.holds("it ends well", "done\r\n" in typed, typed)
+        assert "done\r\n" in typed, "it ends well"
         return
     ran = repository.shell(shell, EDITOR=editor, EDITOR_OF_TEST=editor, secret="correct horse", GIT_EDITOR="true")
     status = 1 if "--dry-run" in shell else 0
-    outcome.check("it ends well", (ran.returncode, ran.stderr), (status, ""))
+    assert (ran.returncode, ran.stderr) == (status, ""), "it ends well"
 
 
 EXAMPLES = [(name, title) for name in COMPANIONS for title in examples(PAGE.with_name(f"{name}.1"))]
 
 
 @pytest.mark.parametrize("name, title", EXAMPLES)
-def test_companion_example(outcome: Outcome, repository: Repository, name: str, title: str) -> None:
-    check_example(outcome, repository, name, examples(PAGE.with_name(f"{name}.1"))[title])
+def test_companion_example(repository: Repository, name: str, title: str) -> None:
+    check_example(repository, name, examples(PAGE.with_name(f"{name}.1"))[title])
 
 
-def test_companions_have_examples(outcome: Outcome) -> None:
-    outcome.check("each companion's page has examples", {name for name, _ in EXAMPLES}, {*COMPANIONS})
+def test_companions_have_examples() -> None:
+    assert {name for name, _ in EXAMPLES} == {*COMPANIONS}, "each companion's page has examples"
 
 
 WARNINGS = {"A lost password": (LOST_PASSWORD, check_lost_password), "A cut log": (CUT_LOG, check_cut_log)}
 
 
-def test_each_recipe_is_run(outcome: Outcome) -> None:
-    outcome.check("the sections of docs/workflows.md", sorted(recipes()), sorted(RECIPES))
-    outcome.check("the examples of the manual page", sorted(examples()), sorted(DISPLAYS))
+def test_each_recipe_is_run() -> None:
+    assert sorted(recipes()) == sorted(RECIPES), "the sections of docs/workflows.md"
+    assert sorted(examples()) == sorted(DISPLAYS), "the examples of the manual page"
 
 
 @pytest.fixture
 def repository(tmp_path: pathlib.Path, program: str) -> Repository:
-    if not shutil.which("git"):
-        pytest.skip("git is not installed")
+    needs("git")
     return Repository(tmp_path, program)
 
 
-def check_recipe(outcome: Outcome, repository: Repository, title: str, check: Callable, shell: str) -> None:
-    missing = [tool for tool in TOOLS.get(title, []) if not shutil.which(tool)]
-    if missing:
-        pytest.skip(f"without {', '.join(missing)}")
-    check(outcome, repository, shell)
+def check_recipe(repository: Repository, title: str, check: Callable, shell: str) -> None:
+    needs(*TOOLS.get(title, []))
+    check(repository, shell)
 
 
 @pytest.mark.parametrize("title", RECIPES)
-def test_recipe(outcome: Outcome, repository: Repository, title: str) -> None:
-    check_recipe(outcome, repository, title, RECIPES[title], recipes()[title])
+def test_recipe(repository: Repository, title: str) -> None:
+    check_recipe(repository, title, RECIPES[title], recipes()[title])
 
 
 @pytest.mark.parametrize("title", DISPLAYS)
-def test_example(outcome: Outcome, repository: Repository, title: str) -> None:
-    check_recipe(outcome, repository, title, DISPLAYS[title], examples()[title])
+def test_example(repository: Repository, title: str) -> None:
+    check_recipe(repository, title, DISPLAYS[title], examples()[title])
 
 
 @pytest.mark.parametrize("title", WARNINGS)
-def test_caveat(outcome: Outcome, repository: Repository, title: str) -> None:
+def test_caveat(repository: Repository, title: str) -> None:
     shell, check = WARNINGS[title]
-    check(outcome, repository, shell)
+    check(repository, shell)

@@ -22,6 +22,6 @@ def new_secrets(run: Run, old: list[Secret]) -> list[Secret]:
     words = run.words
     new = secret_files.of_options(words.new_ids, words.new_paths, encrypts=True)
     fitting = [secret for secret in new or old if secret.label == run.label and (new or secret.is_setting)]
-    if not fitting and (words.value(ENCRYPT_ID) or run.label and not new):
+    if run.label and not fitting and (words.value(ENCRYPT_ID) or not new):
         raise Refused(f"no new secret has the label {program.shown(run.label)} to encrypt with")
     return new or fitting[:1] or secrets(encrypts=True)

@@ -7,9 +7,9 @@ from dataclasses import dataclass
 from typing import Iterable, NamedTuple
 
 from ansible_vault_companions import literals, yaml_nodes
-from ansible_vault_companions.envelopes import FOLDED, IN_A_LINE, label_of
+from ansible_vault_companions.envelopes import FOLDED, IN_A_LINE, label_of, matched
 from ansible_vault_companions.program import Refused, shown
-from ansible_vault_companions.secret_files import Secret
+from ansible_vault_companions.sources import Secret
 from ansible_vault_companions.yaml_values import LINE_END, Value
 
 # How many columns an envelope stands to the right of its key, as Ansible's tool writes it.
@@ -42,7 +42,7 @@ def replacement(value: Value, header: bytes, body: bytes, end: int) -> list[Chan
 
 def line_end(data: bytes, place: int) -> bytes:
     """How a line ends that ends here."""
-    return SIMPLE_END.match(data, place)[0] or b"\n"
+    return matched(SIMPLE_END, data, place)[0] or b"\n"
 
 
 def named(value: Value) -> str:
@@ -59,7 +59,7 @@ class Block:
     body: bytes
     # As the tool reads it.
     envelope: bytes
-    label: str | None
+    label: str
 
     def in_place_of(self, value: Value) -> list[Change]:
         """The same envelope where a value stands."""
@@ -70,7 +70,7 @@ class Block:
     def replace(self, value: Value, envelope: bytes) -> list[Change]:
         """Another envelope where a value stands."""
         header = self.header if value.column == self.value.column else b"|"
-        found = INDENTED.match(self.body)
+        found = matched(INDENTED, self.body)
         indentation = len(found["spaces"]) - max(self.value.column, 0)
         return replacement(value, header, _body(value, envelope, indentation, line_end(self.body, 0)), value.end)
 
@@ -95,7 +95,7 @@ def block_of(data: bytes, value: Value) -> Block:
     envelope = value.content.strip() + b"\n"
     # Empty lines below are none of the envelope's.
     body = data[value.line_end : value.content_end]
-    return Block(value, data[value.start : value.header_end], body, envelope, label_of(envelope))
+    return Block(value, data[value.start : value.header_end], body, envelope, label_of(envelope) or "")
 
 
 class Decrypted(NamedTuple):

@@ -118,7 +118,7 @@ def of_history(name: str, text: str) -> Change:
     now = {file.name: file for file in files_of(name)}
     pickaxe = ("--stdin", "-r", "-m", "--root", "--no-commit-id", "--no-textconv", f"-S{text}")
     fields = git("diff-tree", *pickaxe, *RAW, "--no-renames", data=git("rev-list", name)).split(b"\0")
-    found = set()
+    found: set[File] = set()
     for about, path in zip(fields[::2], fields[1::2]):
         old_mode, mode, old_blob, blob, _ = about.decode().removeprefix(":").split()
         befores = [each for each_mode, each in ((old_mode, old_blob), (mode, blob)) if each_mode in FILE_MODES]

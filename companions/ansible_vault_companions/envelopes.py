@@ -7,6 +7,7 @@ byte. One in a form that cannot be put back as it stands is found, too, and says
 from __future__ import annotations
 
 import re
+import sys
 from dataclasses import dataclass
 from typing import Iterator
 
@@ -44,6 +45,7 @@ TAG_NAME = b"!vault"
 # How much of a line is searched before a tag, and before an envelope in the line of its tag.
 LONGEST_TAG = 4096
 LONGEST_TAG_IN_LINE = 128
+LINE = re.compile(rb"[^\r\n]*")
 # How a line begins: with spaces, other blanks, and the mark of a comment.
 LINE_HEAD = re.compile(rb"(?P<spaces> *)(?P<blanks>[ \t]*)(?P<comment>#?)")
 # The header of an envelope that is no line of its own, which ends at a quote or an escape.
@@ -97,9 +99,16 @@ class Envelope:
         return b"\r\n" if b"\r\n" in self.text else b"\n"
 
 
+def matched(pattern: re.Pattern[bytes], data: bytes, start: int = 0, end: int = sys.maxsize) -> re.Match[bytes]:
+    """What is found at a place where the pattern is known to match."""
+    found = pattern.match(data, start, end)
+    assert found
+    return found
+
+
 def label_of(text: bytes) -> str | None:
     """The label in the first line of an envelope; None where that is no header."""
-    fields = [field.strip() for field in re.match(rb"[^\r\n]*", text)[0].split(b";")]
+    fields = [field.strip() for field in matched(LINE, text)[0].split(b";")]
     if len(fields) < 3 or not b"".join(fields).isascii():
         return None
     return (fields[3] if len(fields) > 3 else b"").decode() or "default"
@@ -128,14 +137,14 @@ class _Line:
         # Of the first character that is no white space.
         self.first = len(data) - len(data.lstrip())
         self.number = 1
-        self.head = LINE_HEAD.match(data)
+        self.head = matched(LINE_HEAD, data)
 
     def go_to(self, place: int) -> None:
         self.number += self.data.count(b"\n", self.place, place)
         end = self.data.rfind(b"\n", self.place, place)
         if end >= 0:
             self.start = end + 1
-            self.head = LINE_HEAD.match(self.data, self.start)
+            self.head = matched(LINE_HEAD, self.data, self.start)
         self.place = place
 
     def before(self) -> bytes:
@@ -161,7 +170,7 @@ def _block(line: _Line) -> Envelope | None:
         return None
     tag_line = line.before()
     tag = TAG.search(tag_line)
-    found = BLOCK.match(line.data, line.start)
+    found = matched(BLOCK, line.data, line.start)
     if not (tag or found["digits"]):
         return None
     text = re.sub(rb"^ +", b"", found[0], flags=re.MULTILINE) + b"\n"
@@ -189,13 +198,13 @@ def _elsewhere(line: _Line) -> Envelope | None:
     data, place = line.data, line.place
     after = place + len(START)
     following = data.find(START, after, after + WINDOW)
-    digits = DIGITS.search(data, after, following if following >= 0 else after + WINDOW)
-    has_digits = digits is not None and KNOWN_HEADER.match(data, place) is not None
+    end = following if following >= 0 else after + WINDOW
+    digits = DIGITS.search(data, after, end) if KNOWN_HEADER.match(data, place) else None
     first = max(line.start, place - LONGEST_TAG)
     tag = TAG_IN_LINE.search(data, max(first, place - LONGEST_TAG_IN_LINE), place)
-    if not (has_digits or tag):
+    if not (digits or tag):
         return None
-    header = HEADER.match(data, place, digits.start() if has_digits else len(data))[0]
+    header = matched(HEADER, data, place, digits.start() if digits else len(data))[0]
     # Only what follows the last brace or comma.
     name = _name(re.split(rb"[{,]", data[first : tag.start()])[-1]) if tag else None
     return Envelope(place, after, line.number, b"", b"", label_of(header), name, _obstacle(line))

@@ -36,9 +36,10 @@ def git(
 ) -> bytes:
     environment = {**os.environ, "GIT_INDEX_FILE": index} if index else None
     errors = subprocess.DEVNULL if is_quiet else None
-    options = {"stdout": subprocess.PIPE, "stderr": errors, "env": environment, "cwd": folder}
     try:
-        done = subprocess.run(["git", *words], input=data, **options)
+        done = subprocess.run(
+            ["git", *words], input=data, stdout=subprocess.PIPE, stderr=errors, env=environment, cwd=folder
+        )
     except FileNotFoundError:
         raise Refused("git is not installed") from None
     if done.returncode != 0:
@@ -76,7 +77,7 @@ def forget_unmerged(name: str) -> None:
     notes = _notes()
     lines = _lines(notes)
     kept = [words for words in lines if words[2:] != [os.fsencode(name).hex()]]
-    if len(kept) < len(lines):
+    if notes and len(kept) < len(lines):
         with open(notes, "w", encoding="ascii") as file:
             file.writelines(f"{' '.join(words)}\n" for words in kept)
 
@@ -106,7 +107,7 @@ def unmerged_in_index() -> list[tuple[bytes, str]]:
 
 
 def _blobs_of_theirs(folder: str | None) -> set[str]:
-    blobs = set()
+    blobs: set[str] = set()
     for name in THEIRS:
         try:
             commits = git("rev-parse", name, folder=folder, is_quiet=True).decode().split()
@@ -202,12 +203,14 @@ class Blobs:
     def __enter__(self) -> Blobs:
         command = ["git", "cat-file", "--batch"]
         self.git = subprocess.Popen(command, stdin=subprocess.PIPE, stdout=subprocess.PIPE)
+        assert self.git.stdin and self.git.stdout
+        self.stdin, self.stdout = self.git.stdin, self.git.stdout
         self.recent: dict[str, bytes] = {}
         return self
 
-    def __exit__(self, *_) -> None:
-        self.git.stdin.close()
-        self.git.stdout.close()
+    def __exit__(self, *_: object) -> None:
+        self.stdin.close()
+        self.stdout.close()
         self.git.wait()
 
     def read(self, blob: str) -> bytes:
@@ -217,11 +220,11 @@ class Blobs:
         return self.recent[blob]
 
     def _read(self, blob: str) -> bytes:
-        self.git.stdin.write(blob.encode() + b"\n")
-        self.git.stdin.flush()
-        about = self.git.stdout.readline().split()
+        self.stdin.write(blob.encode() + b"\n")
+        self.stdin.flush()
+        about = self.stdout.readline().split()
         if len(about) != 3:
             raise Refused("git cat-file failed")
-        content = self.git.stdout.read(int(about[2]))
-        self.git.stdout.read(1)
+        content = self.stdout.read(int(about[2]))
+        self.stdout.read(1)
         return content

@@ -12,9 +12,10 @@ from typing import Callable, NamedTuple
 
 from ansible_vault_companions import blocks, files, literals, matching
 from ansible_vault_companions.blocks import Change, Decrypted, named
+from ansible_vault_companions.envelopes import matched
 from ansible_vault_companions.matching import Choice, Typed
 from ansible_vault_companions.program import Refused
-from ansible_vault_companions.secret_files import Secret
+from ansible_vault_companions.sources import Secret
 from ansible_vault_companions.tool import Tool
 from ansible_vault_companions.yaml_nodes import NotYaml
 from ansible_vault_companions.yaml_values import LINE_END, Scan, Value
@@ -80,7 +81,7 @@ class Showing:
     def keep_encrypted(self, value: Value, why: str) -> None:
         self.still_encrypted.append(StillEncrypted(value, why))
         if self.note and not value.in_flow:
-            spaces = SPACES.match(self.data, value.line_start)[0]
+            spaces = matched(SPACES, self.data, value.line_start)[0]
             end = blocks.line_end(self.data, value.line_end)
             text = spaces + self.note + b"%s stays encrypted: %s" % (_named(value), why.encode()) + end
             self.changes.append(Change(value.line_start, value.line_start, text))
@@ -139,14 +140,13 @@ def encrypted(shown: Showing, text: bytes, tool: Tool, choice: Choice) -> bytes:
     typed = [Typed(value, _plain(value)) for value in found.values if not blocks.is_envelope(value)]
     changes = [Change(start, end, b"") for start, end in found.comments(shown.note.strip().decode())]
     envelopes = {}
-    for (value, plaintext), action in zip(typed, matching.actions(shown.decrypted, typed, choice)):
-        envelopes[value] = tool.encrypt(plaintext, *action.key) if action.key else action.block.block.envelope
-        if action.key is None:
-            changes += action.block.block.in_place_of(value)
-        elif action.block:
-            changes += action.block.block.replace(value, envelopes[value])
-        else:
-            changes += blocks.new_block(text, value, envelopes[value])
+    for (value, plaintext), (old, key) in zip(typed, matching.actions(shown.decrypted, typed, choice)):
+        if key:
+            envelopes[value] = new = tool.encrypt(plaintext, *key)
+            changes += old.block.replace(value, new) if old else blocks.new_block(text, value, new)
+        elif old:
+            envelopes[value] = old.block.envelope
+            changes += old.block.in_place_of(value)
     after = blocks.changed(text, changes)
     if any(map(shown.needs_final_newline, shown.decrypted)):
         after = LAST_LINE_END.sub(b"", after)

@@ -35,7 +35,7 @@ class LastSave:
             signal.pthread_sigmask(signal.SIG_SETMASK, mask)
         return self
 
-    def __exit__(self, *_) -> None:
+    def __exit__(self, *_: object) -> None:
         self._end.set()
         self._thread.join()
 

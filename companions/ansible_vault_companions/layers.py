@@ -4,7 +4,7 @@ from __future__ import annotations
 
 from ansible_vault_companions.envelopes import MAGIC, label_of
 from ansible_vault_companions.matching import Key
-from ansible_vault_companions.secret_files import Secret
+from ansible_vault_companions.sources import Secret
 from ansible_vault_companions.tool import Tool
 
 # The line that precedes the inner vault, since ansible-vault encrypts no vault as it is.

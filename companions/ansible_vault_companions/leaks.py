@@ -77,7 +77,7 @@ def fault_of_marked(content: bytes, marks: set[str]) -> str | None:
 def _is_whole_block(content: bytes, block: Envelope) -> bool:
     """Whether its lines are those of an envelope, and no line of the same text follows them."""
     following = NEXT_LINE.match(content, block.end)
-    is_longer = bool(block.spaces and following) and len(following["spaces"]) >= len(block.spaces)
+    is_longer = block.spaces and following and len(following["spaces"]) >= len(block.spaces)
     return not block.obstacle and is_whole(block.text) and not is_longer
 
 

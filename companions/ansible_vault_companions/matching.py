@@ -11,7 +11,7 @@ from typing import NamedTuple
 
 from ansible_vault_companions.blocks import Decrypted, named
 from ansible_vault_companions.program import Refused
-from ansible_vault_companions.secret_files import Secret
+from ansible_vault_companions.sources import Secret
 from ansible_vault_companions.yaml_values import Value
 
 NEW = "is new; choose its secret with --encrypt-vault-id"

@@ -10,6 +10,7 @@ import os
 import re
 import secrets as randomness
 import subprocess
+from contextlib import suppress
 from dataclasses import dataclass
 from typing import NamedTuple
 
@@ -18,7 +19,7 @@ from ansible_vault_companions.blocks import Block, Change
 from ansible_vault_companions.inline import Decrypt
 from ansible_vault_companions.envelopes import MAGIC, TAG_NAME, label_of
 from ansible_vault_companions.program import Refused, shown
-from ansible_vault_companions.secret_files import Secret
+from ansible_vault_companions.sources import Secret
 from ansible_vault_companions.tool import NOT_DECRYPTED, SecretRefused, Tool
 from ansible_vault_companions.yaml_nodes import LITERAL, NotYaml
 from ansible_vault_companions.yaml_values import Scan
@@ -53,9 +54,10 @@ def merged_lines(ours: bytes, base: bytes, theirs: bytes) -> Merged:
     files = [_in_memory(text) for text in (ours, base, theirs)]
     names = [word for side in SIDES for word in ("-L", side)]
     paths = [f"/proc/self/fd/{file}" for file in files]
-    pipes = {"stdin": subprocess.DEVNULL, "stdout": subprocess.PIPE, "stderr": subprocess.PIPE}
+    words = ["git", "merge-file", "-p", *names, *paths]
+    pipe = subprocess.PIPE
     try:
-        done = stopping.run(["git", "merge-file", "-p", *names, *paths], pass_fds=files, **pipes)
+        done = stopping.run(words, pass_fds=files, stdin=subprocess.DEVNULL, stdout=pipe, stderr=pipe)
     except FileNotFoundError:
         raise Refused("git is not installed") from None
     finally:
@@ -151,7 +153,7 @@ class Values:
     def __init__(self, decrypt: Decrypt, base: bytes, ours: bytes, theirs: bytes) -> None:
         self.decrypt = decrypt
         self.mark = f"ansible-vault-{randomness.token_hex(16)}".encode()
-        self.tokens: dict[tuple, bytes] = {}
+        self.tokens: dict[tuple[object, ...], bytes] = {}
         self.ours, self.base, self.theirs = map(self._side, (ours, base, theirs))
 
     def _side(self, data: bytes) -> _Side:
@@ -167,11 +169,12 @@ class Values:
         return _Side(blocks.changed(data, changes), places)
 
     def _place(self, block: Block) -> _Place:
-        try:
+        secret: Secret | None = None
+        plaintext = b""
+        known_by: tuple[object, ...] = (block.envelope,)
+        with suppress(Refused):
             secret, plaintext = self.decrypt(block.envelope)
             known_by = (block.label, plaintext)
-        except Refused:
-            secret, plaintext, known_by = None, b"", (block.envelope,)
         token = self.tokens.setdefault(known_by, b"%s-%d" % (self.mark, len(self.tokens)))
         return _Place(block, token, secret, plaintext)
 
@@ -207,14 +210,14 @@ class Values:
         if ours and theirs:
             is_ours_old = base and ours.block.envelope == base.block.envelope
             return (theirs if is_ours_old else ours).block, None
-        chosen = ours or theirs or base
+        chosen = next(each for each in (ours, theirs, base) if each)
         other = (self.theirs if ours else self.ours).at(chosen.block.value.path)
         before = self.base.at(chosen.block.value.path)
-        is_moved = chosen.secret and all(
-            each and each.secret and each.block.label == chosen.block.label for each in (other, before)
-        )
-        if is_moved and _is_same(chosen.secret, before.secret) and not _is_same(other.secret, before.secret):
-            return chosen.block, tool.encrypt(chosen.plaintext, other.secret, chosen.block.label)
+        if not (other and before and chosen.block.label == other.block.label == before.block.label):
+            return chosen.block, None
+        secret, new, old = chosen.secret, other.secret, before.secret
+        if secret and new and old and _is_same(secret, old) and not _is_same(new, old):
+            return chosen.block, tool.encrypt(chosen.plaintext, new, chosen.block.label)
         return chosen.block, None
 
 

@@ -3,7 +3,8 @@
 from __future__ import annotations
 
 import os
-from collections import Counter
+from collections import Counter, defaultdict
+from functools import cached_property
 from typing import Callable, Iterator
 
 from ansible_vault_companions import leaks, plain_values
@@ -55,7 +56,7 @@ class Moves:
         """Those whose envelopes are as often in the files as before."""
         if not self.values:
             return
-        balance = Counter()
+        balance: Counter[str] = Counter()
         for file in self.change.files:
             balance.update(_envelopes(self.read(file.blob)))
         for blob in [*self.change.gone.values(), *(file.before for file in self.change.files if file.before)]:
@@ -92,10 +93,20 @@ class Moves:
         if not (lost and plain_values.differ(before, content)):
             return None
         old, new = values(before), values(content)
-        came = plain_values.added(old, new) if old and new else []
+        came = plain_values.added(old, new, self._plain_in_gone_files) if old and new else []
         found = [(name, path) for name, path in lost if any(each[: len(path)] == path for each in came)]
         names = [f"{plain_values.shown_path(path)} of {_shown(name)}" for name, path in found]
         return f"has {', '.join(names)} in plaintext, encrypted" if names else None
+
+    @cached_property
+    def _plain_in_gone_files(self) -> dict[Path, Counter[str]]:
+        """The plaintexts at each path in the files that have gone: in another file they are not new."""
+        found: dict[Path, Counter[str]] = defaultdict(Counter)
+        for blob in self.change.gone.values():
+            old = values(self.read(blob))
+            for path, texts in old.plain.items() if old else ():
+                found[path] += texts
+        return found
 
 
 def _envelopes(content: bytes) -> list[str]:

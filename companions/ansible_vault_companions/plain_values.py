@@ -30,7 +30,8 @@ class Values(NamedTuple):
 @lru_cache(maxsize=2)
 def values(content: bytes) -> Values | None:
     """None if it cannot be read as YAML, or PyYAML is not installed."""
-    encrypted, plain = defaultdict(Counter), defaultdict(Counter)
+    encrypted: dict[Path, Counter[str]] = defaultdict(Counter)
+    plain: dict[Path, Counter[str]] = defaultdict(Counter)
     try:
         for node in nodes(content):
             text = node.text.strip()
@@ -44,11 +45,13 @@ def values(content: bytes) -> Values | None:
 
 
 def _path(node: Node) -> Path:
-    path, is_merged = [], False
+    path: list[str] = []
+    is_merged = False
     for key in node.path:
-        is_item = isinstance(key, int)
-        if key != MERGE and not (is_item and is_merged):
-            path.append(ITEM if is_item else key)
+        if isinstance(key, str) and key != MERGE:
+            path.append(key)
+        elif isinstance(key, int) and not is_merged:
+            path.append(ITEM)
         is_merged = key == MERGE
     return tuple(path)
 
@@ -90,14 +93,16 @@ def lost(old: Values, new: Values) -> list[Path]:
     return [path for path, found in old.encrypted.items() if found - new.encrypted.get(path, NOWHERE)]
 
 
-def added(old: Values, new: Values) -> list[Path]:
-    """Where a plaintext is that was not there."""
-    return [path for path, found in new.plain.items() if found - old.plain.get(path, NOWHERE)]
+def added(old: Values, new: Values, elsewhere: dict[Path, Counter[str]] | None = None) -> list[Path]:
+    """Where a plaintext is that was not there, nor at these keys elsewhere."""
+    other = elsewhere or {}
+    was = {path: old.plain.get(path, NOWHERE) + other.get(path, NOWHERE) for path in new.plain}
+    return [path for path, found in new.plain.items() if found - was[path]]
 
 
 def _by_last_key(found: dict[Path, Counter[str]]) -> Counter[Path]:
     """How many texts there are, but for items of lists."""
-    counts = Counter()
+    counts: Counter[Path] = Counter()
     for path, texts in found.items():
         if path[-1:] != (ITEM,):
             counts[path[-1:]] += sum(texts.values())

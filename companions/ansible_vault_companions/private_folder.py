@@ -36,7 +36,7 @@ class PrivateFolder:
     def __enter__(self) -> PrivateFolder:
         return self
 
-    def __exit__(self, _kind, fault: BaseException | None, _trace) -> None:
+    def __exit__(self, _kind: object, fault: BaseException | None, _trace: object) -> None:
         if self.is_kept:
             return
         try:

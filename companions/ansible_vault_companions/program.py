@@ -2,8 +2,7 @@
 
 from __future__ import annotations
 
-# The module `signal` imports `enum`, which takes half as long as Python's own start.
-import _signal
+import io
 import os
 import resource
 import sys
@@ -15,7 +14,11 @@ from ansible_vault_companions import VERSION
 TYPE_CHECKING = False
 if TYPE_CHECKING:
     import argparse
-    from typing import Callable
+    import signal as _signal
+    from typing import Any, Callable, TextIO
+else:
+    # The module `signal` imports `enum`, which takes half as long as Python's own start.
+    import _signal
 
 NOTE = """\
 This program is tested, not proved. It leaves all encryption and decryption to
@@ -30,7 +33,7 @@ class Refused(Exception):
         self.status = status
 
 
-def parser(name: str, summary: str, statuses: str, example: str = "", **options) -> argparse.ArgumentParser:
+def parser(name: str, summary: str, statuses: str, example: str = "", **options: Any) -> argparse.ArgumentParser:
     """A command line whose faults end the program with status 2."""
     import argparse
 
@@ -116,7 +119,7 @@ def _status_of(main: Callable[[list[str]], int]) -> int:
         status = main(sys.argv[1:])
     except SystemExit as end:
         # After the help, or a fault of the command line.
-        status = end.code
+        status = int(end.code or 0)
     write(b"")
     return status
 
@@ -146,7 +149,8 @@ def _prepare_streams() -> None:
     sys.stdout = sys.stdout or open(1, "w", closefd=False)
     sys.stderr = sys.stderr or open(2, "w", buffering=1, closefd=False)
     for stream in (sys.stdout, sys.stderr):
-        stream.reconfigure(errors="backslashreplace")
+        if isinstance(stream, io.TextIOWrapper):
+            stream.reconfigure(errors="backslashreplace")
 
 
 def _prepare_signals() -> None:
@@ -156,7 +160,7 @@ def _prepare_signals() -> None:
         _signal.signal(_signal.SIGINT, _signal.SIG_DFL)
 
 
-def _discard(stream) -> None:
+def _discard(stream: TextIO) -> None:
     """What could not be written is not tried again when Python ends."""
     null = os.open(os.devnull, os.O_WRONLY)
     os.dup2(null, stream.fileno())

@@ -20,13 +20,9 @@ def password(path: str, label: str) -> bytes:
     words = [os.path.abspath(path), *(["--vault-id", label] if is_client and label else [])]
     # A script may ask at the terminal by its streams; it is not to read the data of the companion. Of a client only
     # faults are shown.
-    options = {
-        "stdin": None if os.isatty(0) else subprocess.DEVNULL,
-        "stdout": subprocess.PIPE,
-        "stderr": subprocess.PIPE if is_client else None,
-    }
+    stdin = None if os.isatty(0) else subprocess.DEVNULL
     try:
-        done = stopping.run(words, **options)
+        done = stopping.run(words, stdin=stdin, stdout=subprocess.PIPE, stderr=subprocess.PIPE if is_client else None)
     except OSError as fault:
         raise Refused(f"this script cannot be run: {reason(fault)}; if it is not a script, `chmod -x` it") from None
     if done.returncode != 0:
@@ -34,7 +30,7 @@ def password(path: str, label: str) -> bytes:
     return _whole(done.stdout.strip(b"\r\n"))
 
 
-def _failure(done: subprocess.CompletedProcess, is_client: bool) -> str:
+def _failure(done: subprocess.CompletedProcess[bytes], is_client: bool) -> str:
     if done.returncode < 0:
         why = f"this script was ended by signal {-done.returncode}"
     elif is_client and done.returncode == UNKNOWN_LABEL:

@@ -104,7 +104,7 @@ def _configuration(trusts_folder: bool, warn: Callable[[str], None]) -> str | No
         places.insert(0, NAME)
     elif os.path.exists(NAME):
         warn(f"{shown(os.path.abspath(NAME))} is ignored, since its folder is world-writable")
-    return next(filter(_is_readable, places), None)
+    return next((place for place in places if _is_readable(place)), None)
 
 
 def _is_readable(path: str) -> bool:

@@ -83,7 +83,7 @@ def blocks(run: Run) -> int:
         if len(texts) > 1:
             what = f"the variable {program.shown(text.name)}" if text.name else "a string without a name"
             write_error(f"# Block {number} is {what}, from {text.origin}.")
-    if output in (None, STANDARD_INPUT):
+    if output is None or output == STANDARD_INPUT:
         program.write(b"".join(made))
     else:
         replacing.replace(output, b"".join(made), files.read(output))

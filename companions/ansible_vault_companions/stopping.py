@@ -12,7 +12,8 @@ import signal
 import subprocess
 import time
 from contextlib import contextmanager, suppress
-from typing import Iterator
+from types import FrameType
+from typing import Any, Iterator
 
 # Those that cannot be noted, that end no program by default, and that a fault of Python itself would
 # raise again at once.
@@ -32,7 +33,7 @@ _noted: list[int] = []
 # When the first of them came.
 _first_time = 0.0
 _left_to_programs: set[int] = set()
-_running: set[subprocess.Popen] = set()
+_running: set[subprocess.Popen[bytes]] = set()
 # What these started, where a signal was passed on to it.
 _signalled: set[int] = set()
 _is_interruptible = False
@@ -50,7 +51,7 @@ def listen() -> None:
             signal.signal(number, _note)
 
 
-def _note(number: int, _frame) -> None:
+def _note(number: int, _frame: FrameType | None) -> None:
     global _first_time
     if number in _left_to_programs:
         return
@@ -69,7 +70,7 @@ def _note(number: int, _frame) -> None:
         raise Stopped
 
 
-def _pass_on(program: subprocess.Popen, number: int) -> None:
+def _pass_on(program: subprocess.Popen[bytes], number: int) -> None:
     """To a program and all that it started, as the shell of an editor starts the editor."""
     if program.returncode is None:
         _signalled.update(_descendants(program.pid))
@@ -164,7 +165,7 @@ def end_by_signal() -> None:
         raise SystemExit(128 + _noted[0])
 
 
-def run(words: list[str], data: bytes | None = None, **options) -> subprocess.CompletedProcess:
+def run(words: list[str], data: bytes | None = None, **options: Any) -> subprocess.CompletedProcess[bytes]:
     """Runs a program to its end."""
     check()
     done = _run(words, data, **options)
@@ -183,7 +184,7 @@ def run_on_terminal(words: list[str]) -> int:
         _left_to_programs.clear()
 
 
-def _run(words: list[str], data: bytes | None = None, **options) -> subprocess.CompletedProcess:
+def _run(words: list[str], data: bytes | None = None, **options: Any) -> subprocess.CompletedProcess[bytes]:
     with subprocess.Popen(words, **options) as program:
         _running.add(program)
         try:

@@ -97,7 +97,7 @@ class Tool:
         return self.run(["encrypt", secret.option(label=label)], plaintext, [secret])
 
 
-def _refusal(done: subprocess.CompletedProcess) -> Refused:
+def _refusal(done: subprocess.CompletedProcess[bytes]) -> Refused:
     if done.returncode < 0:
         return Refused(f"{NAME} was ended by signal {-done.returncode}")
     text = done.stderr.decode(errors="replace").strip().removeprefix("ERROR! ")
@@ -121,9 +121,9 @@ def _says_its_name(path: str) -> bool:
 
     from ansible_vault_companions import stopping
 
-    silent = {"stdin": subprocess.DEVNULL, "stderr": subprocess.DEVNULL}
-    output = stopping.run([path, "--version"], stdout=subprocess.PIPE, **silent).stdout
-    return re.match(rb"ansible-vault \d", output) is not None
+    null = subprocess.DEVNULL
+    done = stopping.run([path, "--version"], stdin=null, stdout=subprocess.PIPE, stderr=null)
+    return re.match(rb"ansible-vault \d", done.stdout) is not None
 
 
 def _on_path() -> str | None:

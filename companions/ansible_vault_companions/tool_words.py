@@ -71,7 +71,7 @@ class Words:
 
     def value(self, name: str) -> str | None:
         """The last value of an option."""
-        return self.values.get(name, [None])[-1]
+        return self.values[name][-1] if name in self.values else None
 
     def has_files(self) -> bool:
         """Whether all arguments are files, and there are some."""

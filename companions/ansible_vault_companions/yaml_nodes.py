@@ -4,7 +4,8 @@ from __future__ import annotations
 
 import re
 import sys
-from typing import Collection, Iterator, NamedTuple, Tuple, Union
+from types import ModuleType
+from typing import Any, Collection, Iterator, NamedTuple, Tuple, Union
 
 from ansible_vault_companions.envelopes import MAGIC
 from ansible_vault_companions.program import Refused
@@ -137,13 +138,14 @@ def nodes(data: bytes, tags: Collection[str] = ()) -> Iterator[Node]:
             containers.append(Container(path, style, column, bool(event.flow_style), is_key))
 
 
-def _column(text: str, style: str, mark) -> int:
+def _column(text: str, style: str, mark: Any) -> int:
     """That of a collection in block style. The event of its beginning ends at the first key or dash; or behind the
     dash, if that is in the column of the key above."""
-    return mark.column if style is MAPPING or text.startswith("-", mark.index) else mark.column - 1
+    column: int = mark.column
+    return column if style is MAPPING or text.startswith("-", mark.index) else column - 1
 
 
-def _events(yaml, text: str) -> Iterator:
+def _events(yaml: ModuleType, text: str) -> Iterator[Any]:
     try:
         yield from yaml.parse(text, getattr(yaml, "CSafeLoader", yaml.SafeLoader))
     except yaml.MarkedYAMLError as fault:
@@ -152,13 +154,13 @@ def _events(yaml, text: str) -> Iterator:
         raise NotYaml(f"it cannot be read as YAML: {fault}") from None
 
 
-def _explained(fault) -> str:
+def _explained(fault: Any) -> str:
     mark = fault.context_mark if fault.context in BEGIN_EARLIER else fault.problem_mark
     context = f" {fault.context}" if fault.context else ""
     return f"line {mark.line + 1}: it cannot be read as YAML: {fault.problem}{context}"
 
 
-def _pyyaml():
+def _pyyaml() -> ModuleType:
     """PyYAML, from where `site` finds packages. The companions start without `site`, by -S; no folder that it adds
     depends on the current one."""
     try:

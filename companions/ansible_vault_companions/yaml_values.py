@@ -12,6 +12,7 @@ from functools import cached_property
 from typing import Collection, Iterable, Iterator, NamedTuple
 
 from ansible_vault_companions import yaml_nodes
+from ansible_vault_companions.envelopes import matched
 from ansible_vault_companions.yaml_nodes import Node
 
 TAG = yaml_nodes.TAGS[0]
@@ -166,7 +167,7 @@ def _on_side(side: str, line: str, mark: str) -> str:
 
 def _value(data: bytes, node: Node, head: str, tag: int, end: int) -> Value:
     """The value of a node that has these bytes, behind the head of its line."""
-    start = PROPERTIES.match(data, tag, end).end()
+    start = matched(PROPERTIES, data, tag, end).end()
     written = data[start:end]
     header = BLOCK_HEADER.match(data, start) if node.style in (yaml_nodes.LITERAL, yaml_nodes.FOLDED) else None
     header_end = header.end() if header else end
@@ -197,7 +198,7 @@ def _ends(data: bytes, line_end: int, end: int, indicators: bytes, text: str) ->
     content = text.rstrip(LINE_ENDS_IN_TEXT)
     count = 1 + sum(map(content.count, LINE_ENDS_IN_TEXT)) if content else 0
     ends = [found.start() for found in LINE_END.finditer(data, line_end, end)]
-    if not ends or LINE_END.match(data, ends[-1]).end() < end:
+    if not ends or matched(LINE_END, data, ends[-1]).end() < end:
         ends.append(end)
     return ends[-1] if b"+" in indicators else ends[count], ends[count]
 

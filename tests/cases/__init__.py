@@ -6,7 +6,6 @@ import subprocess
 from pathlib import Path
 
 from lib.limits import SECONDS
-from lib.outcome import Outcome
 from model.faults import Fault
 
 TEXT = b"secret: value\n"
@@ -35,11 +34,10 @@ def refusal(fault: Fault) -> tuple[int, bytes, bytes]:
     return fault.status, b"", fault.line
 
 
-class Cases(Outcome):
+class Cases:
     """Runs the program, with files in a folder of its own."""
 
-    def __init__(self, program: str, folder: Path, prints: bool = False) -> None:
-        super().__init__(prints)
+    def __init__(self, program: str, folder: Path) -> None:
         self.program = os.path.abspath(program)
         self.folder = folder
         self.files = 0
@@ -81,15 +79,10 @@ class Cases(Outcome):
     def done(self, words, stdin=b"", **options) -> subprocess.CompletedProcess:
         return run_captured([self.program, *words], stdin, **options)
 
-    def run(self, name, words, stdin=b"", status=0, out=b"", err=b"") -> bytes:
-        """`out` and `err` are bytes, or a test of bytes."""
+    def run(self, name, words, stdin=b"", status=0, out: bytes | None = b"", err=b"") -> bytes:
+        """Compares the status and both streams, and returns the output, which is not compared if `out` is None."""
         done = self.done(words, stdin)
-        self.check(f"{name}: status", done.returncode, status)
-        for stream, actual, expected in (("output", done.stdout, out), ("message", done.stderr, err)):
-            if callable(expected):
-                self.holds(f"{name}: {stream}", expected(actual), actual)
-            else:
-                self.check(f"{name}: {stream}", actual, expected)
+        assert answer_of(done) == (status, done.stdout if out is None else out, err), name
         return done.stdout
 
     def refused(self, name, words, fault: Fault, stdin=b"") -> None:
@@ -105,13 +98,12 @@ class Cases(Outcome):
 
     def usage_error(self, name, words, part: bytes) -> None:
         """The parser refuses the words in a text that holds this part."""
-        self.run(name, words, status=2, err=lambda text: part in text)
+        status, output, message = answer_of(self.done(words))
+        assert (status, output) == (2, b"") and part in message, (name, message)
 
     def run_streams(self, name, words, status, err=None, **streams) -> None:
         """Runs with these streams. Standard output is discarded by default; standard error is checked only if `err`
         is given."""
         given = {"stdout": subprocess.DEVNULL, "stderr": subprocess.DEVNULL if err is None else subprocess.PIPE}
         done = subprocess.run([self.program, *words], timeout=SECONDS, **given | streams)
-        self.check(f"{name}: status", done.returncode, status)
-        if err is not None:
-            self.check(f"{name}: message", done.stderr, err)
+        assert (done.returncode, done.stderr if err is not None else None) == (status, err), name

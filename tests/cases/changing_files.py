@@ -6,13 +6,13 @@ on. Without a C compiler nothing is run.
 
 import io
 import os
-import shutil
 import signal
 import subprocess
 from pathlib import Path
 
 from cases import SECONDS, Cases, by_file
 from cases.samples import SALT_WORDS
+from lib.needs import needs
 from lib.preloaded import build_library
 from lib.processes import started
 from model.answers import HostFiles, answer
@@ -68,8 +68,7 @@ def changed_run(cases: Cases, library: str, words: list[str], content: bytes, is
 
 
 def test_changing(cases: Cases) -> None:
-    if shutil.which("cc") is None:
-        return cases.skip("files that change", "no C compiler is installed (Debian's package gcc)")
+    needs("cc")
     library = build_library(str(cases.folder), LIBRARY)
     password = by_file(cases.file(b"right\n"))
     runs = [(["encrypt", *password, *SALT_WORDS], TEXT), (["view", *password], seal(b"right", TEXT))]
@@ -78,7 +77,7 @@ def test_changing(cases: Cases) -> None:
             for is_named in (True, False):
                 name = f"{words[0]} of a {'FILE' if is_named else 'stream'} that is {how}"
                 found, read = changed_run(cases, library, words, content, is_named, changed)
-                cases.holds(f"{name}: it is stopped while it reads", read is not None)
+                assert read is not None, f"{name}: it is stopped while it reads"
                 want = answer(words, HostFiles(), io.BytesIO(read or b""))
                 output = b"" if want.output is None else want.output
-                cases.check(name, found, (want.status, output, want.message))
+                assert found == (want.status, output, want.message), name

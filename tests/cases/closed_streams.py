@@ -5,16 +5,18 @@ which holds a prefix if a write fails.
 import concurrent.futures
 import itertools
 import resource
-import shutil
 import signal
 import subprocess
 import tempfile
 from pathlib import Path
 from typing import NamedTuple
 
+import pytest
+
 from cases import SECONDS, TEXT, Cases, answer_of, by_file
 from cases.samples import Sample, samples
 from lib.mounts import PAGE, tmpfs
+from lib.needs import TAKES_ROOT, needs
 from model.compared import contents
 from model.faults import Fault
 
@@ -133,20 +135,18 @@ def test_every_combination(cases: Cases) -> None:
     with concurrent.futures.ThreadPoolExecutor(WORKERS) as pool:
         found = list(pool.map(lambda setting: compared(cases.program, setting), every))
     for setting, (left, want) in zip(every, found):
-        cases.check(str(setting), left, want)
+        assert left == want, str(setting)
 
 
-def test_refused(cases: Cases) -> None:
+@pytest.mark.parametrize("closed", COMBINATIONS)
+def test_refused(cases: Cases, closed) -> None:
     """A refusal ends as with open streams, and no file changes."""
     texts = [(["--version"], 0), (["view", "--loud"], 2)]
-    for closed in COMBINATIONS:
-        for sample in samples(cases):
-            check_refused(cases, sample.command, closed)
-        for words, status in texts:
-            open_run = cases.done(words)
-            check_text(
-                cases, words, closed, open_run, Fault.NOT_WRITTEN.status if status == 0 and 1 in closed else status
-            )
+    for sample in samples(cases):
+        check_refused(cases, sample.command, closed)
+    for words, status in texts:
+        open_run = cases.done(words)
+        check_text(cases, words, closed, open_run, Fault.NOT_WRITTEN.status if status == 0 and 1 in closed else status)
 
 
 def check_refused(cases: Cases, command: str, closed: set[int]) -> None:
@@ -158,7 +158,7 @@ def check_refused(cases: Cases, command: str, closed: set[int]) -> None:
         output = [] if command == "view" else ["--output", OLD_FILE]
         done = run_closed([cases.program, *sample.words, *by_file("empty"), *output], closed, folder)
         left = Left(done.returncode, done.stdout, done.stderr, changed(before, folder))
-        cases.check(f"{command}, refused, without {sorted(closed)}", left, failed(Fault.SECRET_EMPTY, closed))
+        assert left == failed(Fault.SECRET_EMPTY, closed), f"{command}, refused, without {sorted(closed)}"
 
 
 def check_text(cases: Cases, words: list[str], closed: set[int], whole, status: int) -> None:
@@ -168,7 +168,7 @@ def check_text(cases: Cases, words: list[str], closed: set[int], whole, status: 
         done = run_closed([cases.program, *words], closed, folder)
     message = Fault.NOT_WRITTEN.line if status == Fault.NOT_WRITTEN.status else whole.stderr
     want = (status, b"" if 1 in closed else whole.stdout, b"" if 2 in closed else message)
-    cases.check(f"{words} without {sorted(closed)}", answer_of(done), want)
+    assert answer_of(done) == want, f"{words} without {sorted(closed)}"
 
 
 def limited() -> None:
@@ -191,9 +191,9 @@ def check_write_fault(cases: Cases, name: str, command: str, closed: set[int], p
         others_changed = {other: now for other, now in changed(before, folder).items() if other != path}
     name = f"{command} to {name}, without {sorted(closed)}"
     left = Left(done.returncode, done.stdout, done.stderr, others_changed)
-    cases.check(name, left, failed(Fault.NOT_WRITTEN, closed))
+    assert left == failed(Fault.NOT_WRITTEN, closed), name
     is_prefix = sample.output.startswith(found) and found != sample.output
-    cases.holds(f"{name}: a prefix", is_prefix, f"got {found!r:.300}")
+    assert is_prefix, (f"{name}: a prefix", f"got {found!r:.300}")
 
 
 def test_write_faults(cases: Cases) -> None:
@@ -216,10 +216,9 @@ def test_full_standard_output(cases: Cases) -> None:
             words = [cases.program, *named(own, "given").words, *to_output(None, own.command)]
             done = run_closed(words, closed, folder, stdout=full)
             left = Left(done.returncode, b"", done.stderr, changed(before, folder))
-        cases.check(
-            f"{own.command} to a full standard output, without {sorted(closed)}", left,
-            failed(Fault.NOT_WRITTEN, closed),
-        )
+        assert left == failed(
+            Fault.NOT_WRITTEN, closed
+        ), f"{own.command} to a full standard output, without {sorted(closed)}"
 
 
 def test_full_file_system(cases: Cases) -> None:
@@ -227,7 +226,7 @@ def test_full_file_system(cases: Cases) -> None:
     folder = Path(cases.path())
     with tmpfs(folder, PAGE) as is_mounted:
         if not is_mounted:
-            return cases.skip("closed streams and a full file system", "none can be mounted here", takes_root=True)
+            pytest.skip(TAKES_ROOT)
         for command, closed in itertools.product(writing, COMBINATIONS):
             path = folder / NEW_FILE
             check_write_fault(cases, "a full file system", command, closed, str(path))
@@ -236,8 +235,7 @@ def test_full_file_system(cases: Cases) -> None:
 
 def test_one_failing_write(cases: Cases) -> None:
     """A write fails, and the next one would not: the message does not come into the output."""
-    if shutil.which("strace") is None:
-        return cases.skip("a write that fails once", "strace is not installed (Debian's package strace)")
+    needs("strace")
     inject = f"write:error=ENOSPC:when={FAILING_WRITE}"
     strace = ["strace", "-o", cases.path(), "-e", "trace=write", "-e", f"inject={inject}"]
     for sample, closed in itertools.product(samples(cases), COMBINATIONS):
@@ -253,8 +251,7 @@ def refusing(directories: list[str]) -> list[str]:
 
 def test_refused_directories(cases: Cases) -> None:
     """The next directory takes the number of a closed stream; without any, a run ends before it opens a file."""
-    if shutil.which("strace") is None:
-        return cases.skip("directories that cannot be opened", "strace is not installed (Debian's package strace)")
+    needs("strace")
     writing = [sample.command for sample in samples(cases) if sample.command != "view"]
     for command, closed, count in itertools.product(writing, COMBINATIONS[1:], range(1, len(DIRECTORIES))):
         name, strace = f"a limited file, {DIRECTORIES[:count]} refused", refusing(DIRECTORIES[:count])
@@ -276,4 +273,4 @@ def check_without_directories(cases: Cases, command: str, closed: set[int]) -> N
     fault = Fault.INPUT_NOT_READ if 0 in closed else Fault.NOT_WRITTEN
     # strace says on standard error what it makes of a relative path.
     left = left._replace(message=b"".join(line for line in left.message.splitlines(True) if b"strace" not in line))
-    cases.check(f"{command} without a directory and without {sorted(closed)}", left, failed(fault, closed))
+    assert left == failed(fault, closed), f"{command} without a directory and without {sorted(closed)}"

@@ -7,6 +7,8 @@ import itertools
 import os
 import re
 
+import pytest
+
 from cases import Cases, by_file
 from cases.modes import with_output
 from cases.samples import samples
@@ -39,30 +41,33 @@ def check_text(cases: Cases, words: list, stdin: bytes = b"") -> None:
     """The words are refused, in a text."""
     done = cases.done(words, stdin)
     found = done.returncode != 0, done.stdout, done.stderr != b"" and is_text(done.stderr)
-    cases.check(f"{words!r:.200}: standard error is text ({done.stderr!r:.200})", found, (True, b"", True))
+    assert found == (True, b"", True), f"{words!r:.200}: standard error is text ({done.stderr!r:.200})"
 
 
 def check_escaped(cases: Cases, words: list) -> None:
     """The words are refused in the message of the escaped words."""
     check_text(cases, words)
     found, wanted = (cases.done(each).stderr for each in (words, [escaped(word) for word in words]))
-    cases.check(f"{words!r:.200}: the message shows the words escaped", found, wanted)
+    assert found == wanted, f"{words!r:.200}: the message shows the words escaped"
 
 
-def test_in_words(cases: Cases) -> None:
+@pytest.mark.parametrize("control", CONTROLS + INVISIBLE)
+def test_in_words(cases: Cases, control) -> None:
     """Words that the parser names in its text."""
-    for control in CONTROLS + INVISIBLE:
-        word = f"a{control}b"
-        check_escaped(cases, [word])
-        check_escaped(cases, [f"--{word}"])
-        check_escaped(cases, [f"-{control}"])
-        for command in COMMANDS:
-            for words in (
-                [f"--{word}"], [f"--{word}=x"], ["x", word], [f"-{control}"],
-                ["--vault-id", "x", f"--vault-id{control}", "y"],
-            ):
-                check_escaped(cases, [command, *words])
-        check_escaped(cases, ["view", f"--require-id-match={word}"])
+    word = f"a{control}b"
+    check_escaped(cases, [word])
+    check_escaped(cases, [f"--{word}"])
+    check_escaped(cases, [f"-{control}"])
+    for command in COMMANDS:
+        for words in (
+            [f"--{word}"],
+            [f"--{word}=x"],
+            ["x", word],
+            [f"-{control}"],
+            ["--vault-id", "x", f"--vault-id{control}", "y"],
+        ):
+            check_escaped(cases, [command, *words])
+    check_escaped(cases, ["view", f"--require-id-match={word}"])
 
 
 def test_forged_lines(cases: Cases) -> None:
@@ -78,32 +83,32 @@ def test_forged_lines(cases: Cases) -> None:
         cases.run(f"{word!r}", ["view", "x", word], status=2, err=message.encode())
 
 
-def test_in_bytes(cases: Cases) -> None:
+@pytest.mark.parametrize("byte", (b"\x80", b"\xff", b"\xc3", b"\xed\xa0\x80", b"\x1b\xff"))
+def test_in_bytes(cases: Cases, byte) -> None:
     """Words that are not UTF-8, and words too many of them."""
-    for byte in (b"\x80", b"\xff", b"\xc3", b"\xed\xa0\x80", b"\x1b\xff"):
-        for words in ([byte], [b"view", b"--" + byte], [b"view", b"x", byte], [b"view", b"--vault-id", byte]):
-            check_text(cases, words)
+    for words in ([byte], [b"view", b"--" + byte], [b"view", b"x", byte], [b"view", b"--vault-id", byte]):
+        check_text(cases, words)
 
 
-def test_in_values(cases: Cases) -> None:
+@pytest.mark.parametrize("control", CONTROLS + INVISIBLE)
+def test_in_values(cases: Cases, control) -> None:
     """Paths, labels, names and salts, which no message names."""
-    for control in CONTROLS + INVISIBLE:
-        path = os.path.join(cases.path(), f"a{control}b")
-        for sample in samples(cases):
-            check_text(cases, [*sample.words, *by_file(path)], sample.stdin)
-            check_text(cases, [*sample.words, "--vault-id", f"a{control}b@{path}"], sample.stdin)
-        for sample in with_output(cases):
-            check_text(cases, [*sample.words, "--output", path], sample.stdin)
-        if ord(control[0]) < 128:
-            check_text(cases, ["encrypt_string", "--name", f"a{control}b", "x"])
+    path = os.path.join(cases.path(), f"a{control}b")
+    for sample in samples(cases):
+        check_text(cases, [*sample.words, *by_file(path)], sample.stdin)
+        check_text(cases, [*sample.words, "--vault-id", f"a{control}b@{path}"], sample.stdin)
+    for sample in with_output(cases):
+        check_text(cases, [*sample.words, "--output", path], sample.stdin)
+    if ord(control[0]) < 128:
+        check_text(cases, ["encrypt_string", "--name", f"a{control}b", "x"])
 
 
-def test_in_files(cases: Cases) -> None:
+@pytest.mark.parametrize("byte", itertools.chain(range(32), range(127, 256)))
+def test_in_files(cases: Cases, byte) -> None:
     """A vault and a password that are refused."""
     right = by_file(cases.file(b"right\n"))
-    for byte in itertools.chain(range(32), range(127, 256)):
-        control = bytes([byte])
-        check_text(cases, ["view", *right], control * 3)
-        check_text(cases, ["view", *right], HEADER + b";" + control * 200 + b"\n")
-        check_text(cases, ["view", *right], HEADER + b"\n" + control * 3 + b"zz")
-        check_text(cases, ["view", *by_file(cases.file(b"#!" + control * 3))])
+    control = bytes([byte])
+    check_text(cases, ["view", *right], control * 3)
+    check_text(cases, ["view", *right], HEADER + b";" + control * 200 + b"\n")
+    check_text(cases, ["view", *right], HEADER + b"\n" + control * 3 + b"zz")
+    check_text(cases, ["view", *by_file(cases.file(b"#!" + control * 3))])

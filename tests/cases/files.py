@@ -4,9 +4,11 @@ import os
 import subprocess
 from pathlib import Path
 
+import pytest
+
 from cases import NOBODY, SECONDS, TEXT, Cases, answer_of, by_file, refusal, run_captured
 from cases.modes import OLD, mode, wanted_mode, with_output
-from cases.samples import SALT_WORDS, Sample, samples
+from cases.samples import SALT_WORDS, Sample, each_command, each_of_file, each_to_output, sample_of, samples
 from lib.processes import open_to_read, open_to_write, read_to_end, started
 from model.faults import Fault
 from model.vaults import ENVELOPE_LIMIT, MAGIC, seal
@@ -23,39 +25,41 @@ def to_output(sample: Sample) -> list[str]:
     return [] if sample.command == "view" else ["--output", "-"]
 
 
-def test_inputs(cases: Cases) -> None:
-    for sample in with_files(cases):
-        path, out = cases.file(sample.stdin), to_output(sample)
-        link = cases.path()
-        os.symlink(path, link)
-        for words in ([path, *out], [*out, path], [*out, "--", path], [os.path.relpath(path), *out], [link, *out]):
-            cases.run(f"{sample.command} {words}", [*sample.words, *words], NOT_ASKED, 0, sample.output)
-        for words in (["-"], ["-", *out], ["--", "-"]):
-            cases.run(f"{sample.command} {words}", [*sample.words, *words], sample.stdin, 0, sample.output)
-        refused = [
-            ("a missing file", cases.path(), Fault.INPUT_NOT_OPENED),
-            ("an empty path", "", Fault.INPUT_NOT_OPENED),
-            ("a file in the place of a folder", f"{path}/x", Fault.INPUT_NOT_OPENED),
-            ("a folder", str(cases.folder), Fault.INPUT_NOT_READ),
-            ("zeros without end", "/dev/zero", Fault.TOO_LONG),
-        ]
-        for name, file, fault in refused:
-            cases.refused(f"{sample.command} of {name}", [*sample.words, file, *out], fault, NOT_ASKED)
-        cases.check(f"{sample.command}: the input stays", Path(path).read_bytes(), sample.stdin)
+@each_of_file
+def test_inputs(cases: Cases, command: str) -> None:
+    sample = sample_of(cases, command)
+    path, out = cases.file(sample.stdin), to_output(sample)
+    link = cases.path()
+    os.symlink(path, link)
+    for words in ([path, *out], [*out, path], [*out, "--", path], [os.path.relpath(path), *out], [link, *out]):
+        cases.run(f"{sample.command} {words}", [*sample.words, *words], NOT_ASKED, 0, sample.output)
+    for words in (["-"], ["-", *out], ["--", "-"]):
+        cases.run(f"{sample.command} {words}", [*sample.words, *words], sample.stdin, 0, sample.output)
+    refused = [
+        ("a missing file", cases.path(), Fault.INPUT_NOT_OPENED),
+        ("an empty path", "", Fault.INPUT_NOT_OPENED),
+        ("a file in the place of a folder", f"{path}/x", Fault.INPUT_NOT_OPENED),
+        ("a folder", str(cases.folder), Fault.INPUT_NOT_READ),
+        ("zeros without end", "/dev/zero", Fault.TOO_LONG),
+    ]
+    for name, file, fault in refused:
+        cases.refused(f"{sample.command} of {name}", [*sample.words, file, *out], fault, NOT_ASKED)
+    assert Path(path).read_bytes() == sample.stdin, f"{sample.command}: the input stays"
 
 
-def test_input_pipes(cases: Cases) -> None:
+@each_of_file
+def test_input_pipes(cases: Cases, command: str) -> None:
     """FILE is a pipe of the file system, into which single bytes are written."""
-    for sample in with_files(cases):
-        path = cases.path()
-        os.mkfifo(path)
-        words = [cases.program, *sample.words, path, *to_output(sample)]
-        with open(cases.file(NOT_ASKED), "rb") as stdin:
-            pipes = {"stdin": stdin, "stdout": subprocess.PIPE, "stderr": subprocess.PIPE}
-            with started(words, **pipes) as child:
-                write_singly(open_to_write(path, child), sample.stdin)
-                output, message = child.communicate(timeout=SECONDS)
-        cases.check(f"{sample.command} of a pipe", (child.returncode, output, message), (0, sample.output, b""))
+    sample = sample_of(cases, command)
+    path = cases.path()
+    os.mkfifo(path)
+    words = [cases.program, *sample.words, path, *to_output(sample)]
+    with open(cases.file(NOT_ASKED), "rb") as stdin:
+        pipes = {"stdin": stdin, "stdout": subprocess.PIPE, "stderr": subprocess.PIPE}
+        with started(words, **pipes) as child:
+            write_singly(open_to_write(path, child), sample.stdin)
+            output, message = child.communicate(timeout=SECONDS)
+    assert (child.returncode, output, message) == (0, sample.output, b""), f"{sample.command} of a pipe"
 
 
 def write_singly(writer: int | None, content: bytes) -> None:
@@ -66,53 +70,49 @@ def write_singly(writer: int | None, content: bytes) -> None:
                 pipe.write(bytes([byte]))
 
 
-def test_output_needed(cases: Cases) -> None:
-    for sample in with_files(cases):
-        if sample.command == "view":
-            continue
-        path, plain = cases.file(sample.stdin), sample.words[:3]
-        needed = [[], ["--salt", ""], ["--salt", "a", "--salt-file", "b"]] if SALT_WORDS[0] in sample.words else [[]]
-        new = [word for word in sample.words if "prod@" in word]
-        for words in needed:
-            options = ["--new-vault-id", *new, *words] if new else words
-            cases.refused(f"{sample.command} FILE {words}", [*plain, path, *options], Fault.OUTPUT_NEEDED, NOT_ASKED)
-        missing = [
-            sample.command,
-            "--vault-password-file",
-            cases.path(),
-            path,
-            *(["--new-vault-id", *new] if new else []),
-        ]
-        cases.refused(f"{sample.command} FILE, missing password", missing, Fault.OUTPUT_NEEDED, NOT_ASKED)
+@each_of_file
+def test_output_needed(cases: Cases, command: str) -> None:
+    sample = sample_of(cases, command)
+    if sample.command == "view":
+        return
+    path, plain = cases.file(sample.stdin), sample.words[:3]
+    needed = [[], ["--salt", ""], ["--salt", "a", "--salt-file", "b"]] if SALT_WORDS[0] in sample.words else [[]]
+    new = [word for word in sample.words if "prod@" in word]
+    for words in needed:
+        options = ["--new-vault-id", *new, *words] if new else words
+        cases.refused(f"{sample.command} FILE {words}", [*plain, path, *options], Fault.OUTPUT_NEEDED, NOT_ASKED)
+    missing = [sample.command, "--vault-password-file", cases.path(), path, *(["--new-vault-id", *new] if new else [])]
+    cases.refused(f"{sample.command} FILE, missing password", missing, Fault.OUTPUT_NEEDED, NOT_ASKED)
 
 
-def test_outputs(cases: Cases) -> None:
-    for sample in with_output(cases):
-        new, old, name = cases.path(), cases.file(OLD, 0o640), sample.command
-        check_written(cases, f"{name} to a new file", sample, new, oct(0o600))
-        check_written(cases, f"{name} to an old file", sample, old, wanted_mode(sample, 0o640))
-        cases.run(f"{name} to -", [*sample.words, "--output", "-"], sample.stdin, 0, sample.output)
-        cases.check(f"{name}: no file called -", os.path.exists("-"), False)
-        cases.run(f"{name} to a device", [*sample.words, "--output", cases.device("null")], sample.stdin)
-        cases.run(
-            f"{name} to standard output by name", [*sample.words, "--output=/dev/stdout"], sample.stdin, 0,
-            sample.output,
-        )
+@each_to_output
+def test_outputs(cases: Cases, command: str) -> None:
+    sample = sample_of(cases, command)
+    new, old, name = cases.path(), cases.file(OLD, 0o640), sample.command
+    check_written(cases, f"{name} to a new file", sample, new, oct(0o600))
+    check_written(cases, f"{name} to an old file", sample, old, wanted_mode(sample, 0o640))
+    cases.run(f"{name} to -", [*sample.words, "--output", "-"], sample.stdin, 0, sample.output)
+    assert not os.path.exists("-"), f"{name}: no file called -"
+    cases.run(f"{name} to a device", [*sample.words, "--output", cases.device("null")], sample.stdin)
+    cases.run(
+        f"{name} to standard output by name", [*sample.words, "--output=/dev/stdout"], sample.stdin, 0, sample.output
+    )
 
 
 def check_written(cases: Cases, name: str, sample: Sample, path: str, wanted: str) -> None:
     cases.run(name, [*sample.words, "--output", path], sample.stdin)
-    cases.check(f"{name}: content", Path(path).read_bytes(), sample.output)
-    cases.check(f"{name}: mode", mode(path), wanted)
+    assert Path(path).read_bytes() == sample.output, f"{name}: content"
+    assert mode(path) == wanted, f"{name}: mode"
 
 
-def test_output_pipes(cases: Cases) -> None:
-    for sample in with_output(cases):
-        path = cases.path()
-        os.mkfifo(path)
-        reader = open_to_read(path)
-        cases.run(f"{sample.command} to a pipe", [*sample.words, "--output", path], sample.stdin)
-        cases.check(f"{sample.command}: what the pipe gave", read_to_end(reader), sample.output)
+@each_to_output
+def test_output_pipes(cases: Cases, command: str) -> None:
+    sample = sample_of(cases, command)
+    path = cases.path()
+    os.mkfifo(path)
+    reader = open_to_read(path)
+    cases.run(f"{sample.command} to a pipe", [*sample.words, "--output", path], sample.stdin)
+    assert read_to_end(reader) == sample.output, f"{sample.command}: what the pipe gave"
 
 
 def test_unwritable(cases: Cases) -> None:
@@ -129,7 +129,7 @@ def test_unwritable(cases: Cases) -> None:
             cases.refused(
                 f"{sample.command} to {name}", [*sample.words, "--output", path], Fault.NOT_WRITTEN, sample.stdin
             )
-        cases.check(f"{sample.command}: the file stays", Path(file).read_bytes(), OLD)
+        assert Path(file).read_bytes() == OLD, f"{sample.command}: the file stays"
     for sample in samples(cases, b""):
         if sample.command == "decrypt":
             cases.run(
@@ -137,78 +137,82 @@ def test_unwritable(cases: Cases) -> None:
             )
 
 
-def test_onto_the_input(cases: Cases) -> None:
+@each_command
+@pytest.mark.parametrize("text", (TEXT, bytes(range(256)) * 1_000), ids=len)
+def test_onto_the_input(cases: Cases, text, command: str) -> None:
     """All input is read before the output is begun."""
-    for text in (TEXT, bytes(range(256)) * 1_000):
-        for sample in samples(cases, text):
-            if sample.command not in ("view", "encrypt_string"):
-                path = cases.file(sample.stdin, 0o644)
-                check_written(
-                    cases, f"{sample.command} onto its input", Sample([*sample.words, path], NOT_ASKED, sample.output),
-                    path, wanted_mode(sample, 0o644),
-                )
+    sample = sample_of(cases, command, text)
+    if sample.command not in ("view", "encrypt_string"):
+        path = cases.file(sample.stdin, 0o644)
+        check_written(
+            cases,
+            f"{sample.command} onto its input",
+            Sample([*sample.words, path], NOT_ASKED, sample.output),
+            path,
+            wanted_mode(sample, 0o644),
+        )
 
 
-def test_onto_a_password_file(cases: Cases) -> None:
-    for sample in with_output(cases):
-        path = sample.words[2]
-        cases.run(f"{sample.command} onto its password file", [*sample.words, "--output", path], sample.stdin)
-        cases.check(f"{sample.command}: content", Path(path).read_bytes(), sample.output)
+@each_to_output
+def test_onto_a_password_file(cases: Cases, command: str) -> None:
+    sample = sample_of(cases, command)
+    path = sample.words[2]
+    cases.run(f"{sample.command} onto its password file", [*sample.words, "--output", path], sample.stdin)
+    assert Path(path).read_bytes() == sample.output, f"{sample.command}: content"
 
 
-def test_refused_leaves_outputs(cases: Cases) -> None:
+@each_to_output
+def test_refused_leaves_outputs(cases: Cases, command: str) -> None:
     """A refusal neither makes nor cuts the output, and leaves an output that is the input."""
-    for sample in with_output(cases):
-        empty, missing = cases.file(b""), cases.path()
-        inputs = [MAGIC, b"\n" * (ENVELOPE_LIMIT + 1)] if sample.command != "decrypt" else [TEXT, seal(b"other", TEXT)]
-        runs = [(sample.words, stdin) for stdin in inputs]
-        runs += [([*sample.words, *by_file(path)], sample.stdin) for path in (empty, missing, "prompt")]
-        runs.append(([*sample.words, "--loud"], sample.stdin))
-        for index, (words, stdin) in enumerate(runs):
-            new, old = cases.path(), cases.file(OLD, 0o640)
-            for path in (new, old):
-                done = cases.done([*words, "--output", path], stdin)
-                cases.check(
-                    f"{sample.command}, refusal {index}: refused", (done.returncode != 0, done.stdout), (True, b"")
-                )
-            cases.check(f"{sample.command}, refusal {index}: no new file", os.path.exists(new), False)
-            cases.check(
-                f"{sample.command}, refusal {index}: the old file", (Path(old).read_bytes(), mode(old)),
-                (OLD, oct(0o640)),
-            )
+    sample = sample_of(cases, command)
+    empty, missing = cases.file(b""), cases.path()
+    inputs = [MAGIC, b"\n" * (ENVELOPE_LIMIT + 1)] if sample.command != "decrypt" else [TEXT, seal(b"other", TEXT)]
+    runs = [(sample.words, stdin) for stdin in inputs]
+    runs += [([*sample.words, *by_file(path)], sample.stdin) for path in (empty, missing, "prompt")]
+    runs.append(([*sample.words, "--loud"], sample.stdin))
+    for index, (words, stdin) in enumerate(runs):
+        new, old = cases.path(), cases.file(OLD, 0o640)
+        for path in (new, old):
+            done = cases.done([*words, "--output", path], stdin)
+            assert (done.returncode != 0, done.stdout) == (True, b""), f"{sample.command}, refusal {index}: refused"
+        assert not os.path.exists(new), f"{sample.command}, refusal {index}: no new file"
+        assert (Path(old).read_bytes(), mode(old)) == (
+            OLD,
+            oct(0o640),
+        ), f"{sample.command}, refusal {index}: the old file"
 
 
-def test_order(cases: Cases) -> None:
+@each_of_file
+def test_order(cases: Cases, command: str) -> None:
     """Which of two faults is reported."""
     empty, missing = cases.file(b""), cases.path()
-    for sample in with_files(cases):
-        out = [] if sample.command == "view" else ["--output", missing + "/x"]
-        bare = [word for word in sample.words if word not in SALT_WORDS]
-        runs = [
-            (
-                "a missing password, then a missing input", [*sample.words, *by_file(missing), missing],
-                Fault.SECRET_NOT_OPENED,
-            ),
-            (
-                "a folder as a password, then a missing one", [*sample.words, *by_file("/"), *by_file(missing)],
-                Fault.SECRET_NOT_READ,
-            ),
-            (
-                "a missing input, then an empty password", [*sample.words, *by_file(empty), missing],
-                Fault.INPUT_NOT_OPENED,
-            ),
-            ("an empty password, then a folder", [*sample.words, *by_file(empty), "/"], Fault.SECRET_EMPTY),
-            ("a folder, then an output in no folder", [*sample.words, "/"], Fault.INPUT_NOT_READ),
-        ]
-        if bare != sample.words:
-            salted = [*bare, "--salt-file", missing, missing]
-            runs.append(("a missing salt, then a missing input", salted, Fault.SALT_NOT_OPENED))
-            runs.append(
-                ("a missing input, then a short salt", [*bare, "--salt-file", empty, missing], Fault.INPUT_NOT_OPENED)
-            )
-            runs.append(("a short salt, then a folder", [*bare, "--salt-file", empty, "/"], Fault.SALT_SHORT))
-        for name, words, fault in runs:
-            cases.refused(f"{sample.command}, {name}", [*words, *out], fault, NOT_ASKED)
+    sample = sample_of(cases, command)
+    out = [] if sample.command == "view" else ["--output", missing + "/x"]
+    bare = [word for word in sample.words if word not in SALT_WORDS]
+    runs = [
+        (
+            "a missing password, then a missing input",
+            [*sample.words, *by_file(missing), missing],
+            Fault.SECRET_NOT_OPENED,
+        ),
+        (
+            "a folder as a password, then a missing one",
+            [*sample.words, *by_file("/"), *by_file(missing)],
+            Fault.SECRET_NOT_READ,
+        ),
+        ("a missing input, then an empty password", [*sample.words, *by_file(empty), missing], Fault.INPUT_NOT_OPENED),
+        ("an empty password, then a folder", [*sample.words, *by_file(empty), "/"], Fault.SECRET_EMPTY),
+        ("a folder, then an output in no folder", [*sample.words, "/"], Fault.INPUT_NOT_READ),
+    ]
+    if bare != sample.words:
+        salted = [*bare, "--salt-file", missing, missing]
+        runs.append(("a missing salt, then a missing input", salted, Fault.SALT_NOT_OPENED))
+        runs.append(
+            ("a missing input, then a short salt", [*bare, "--salt-file", empty, missing], Fault.INPUT_NOT_OPENED)
+        )
+        runs.append(("a short salt, then a folder", [*bare, "--salt-file", empty, "/"], Fault.SALT_SHORT))
+    for name, words, fault in runs:
+        cases.refused(f"{sample.command}, {name}", [*words, *out], fault, NOT_ASKED)
 
 
 def test_without_rights(cases: Cases) -> None:
@@ -217,21 +221,21 @@ def test_without_rights(cases: Cases) -> None:
     other = {"user": NOBODY, "group": NOBODY} if os.geteuid() == 0 else {}
     program = cases.program_for_all() if other else cases.program
     if program is None:
-        return cases.skip("files without rights", "nobody else may run the program where it lies")
+        pytest.skip("nobody else may run the program where it lies")
     runs = lambda words, stdin: run_captured([program, *words], stdin, **other)
     locked, folder = cases.file(OLD, 0), cases.path()
     os.mkdir(folder, 0o555)
     for sample in with_files(cases):
         fault = Fault.INPUT_NOT_OPENED
         done = runs([*sample.words, locked, *to_output(sample)], NOT_ASKED)
-        cases.check(f"{sample.command} of a locked file", answer_of(done), refusal(fault))
+        assert answer_of(done) == refusal(fault), f"{sample.command} of a locked file"
     for sample in with_output(cases):
         fault = Fault.NOT_WRITTEN
         for path in (locked, f"{folder}/new"):
             done = runs([*sample.words, "--output", path], sample.stdin)
-            cases.check(f"{sample.command} to a locked place", answer_of(done), refusal(fault))
+            assert answer_of(done) == refusal(fault), f"{sample.command} to a locked place"
         fault = Fault.SECRET_NOT_OPENED
         done = runs([*sample.words, *by_file(locked)], sample.stdin)
-        cases.check(f"{sample.command}, a locked password file", answer_of(done), refusal(fault))
+        assert answer_of(done) == refusal(fault), f"{sample.command}, a locked password file"
     os.chmod(locked, 0o600)
-    cases.check("the locked file stays", Path(locked).read_bytes(), OLD)
+    assert Path(locked).read_bytes() == OLD, "the locked file stays"

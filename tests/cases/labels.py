@@ -58,7 +58,8 @@ def test_several_secrets(cases: Cases) -> None:
     for password in (short, long):
         cases.decrypts(f"{password} of two alike", both, seal(password, TEXT, b"a"), TEXT)
     for name, stdin, fault in (
-        ("text", b"key: value\n", Fault.NOT_VAULT), ("odd digits", HEADER + b"\nabc", Fault.BAD_HEX),
+        ("text", b"key: value\n", Fault.NOT_VAULT),
+        ("odd digits", HEADER + b"\nabc", Fault.BAD_HEX),
         ("no parts", HEADER, Fault.BAD_PAYLOAD),
     ):
         cases.refuses(f"{name} with a secret", by_file(right), stdin, fault)

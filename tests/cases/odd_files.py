@@ -8,11 +8,14 @@ import shutil
 import subprocess
 from pathlib import Path
 
+import pytest
+
 from cases import TEXT, Cases, by_file
 from cases.files import NOT_ASKED, to_output, with_files
 from cases.modes import OLD, mode, with_output
 from cases.samples import SALT_TEXT, SALT_WORDS, Sample
-from lib.mounts import PAGE, tmpfs, remount_read_only
+from lib.mounts import PAGE, remount_read_only, tmpfs
+from lib.needs import TAKES_ROOT
 from model.faults import Fault
 from model.vaults import SALT, seal
 
@@ -62,15 +65,16 @@ def check_opened(cases: Cases, name: str, path: str) -> None:
         if sample.command == "encrypt":
             place.write_bytes(SALT)
             cases.run(
-                f"encrypt, {name} as a salt file", salted_by(sample, path).words, TEXT, 0,
+                f"encrypt, {name} as a salt file",
+                salted_by(sample, path).words,
+                TEXT,
+                0,
                 seal(b"right", TEXT, salt=SALT),
             )
         place.unlink()
     for sample in with_output(cases):
         cases.run(f"{sample.command} to {name}", [*sample.words, "--output", path], sample.stdin)
-        cases.check(
-            f"{sample.command} to {name}: content", place.read_bytes() if place.exists() else None, sample.output
-        )
+        assert (place.read_bytes() if place.exists() else None) == sample.output, f"{sample.command} to {name}: content"
         place.unlink(missing_ok=True)
 
 
@@ -80,7 +84,7 @@ def test_sparse_files(cases: Cases) -> None:
     try:
         os.truncate(path, SPARSE_SIZE)
     except OSError:
-        return cases.skip("a sparse file", "the file system has none that is so large")
+        pytest.skip("the file system has none that is so large")
     for sample in with_files(cases):
         name = f"{sample.command}, a sparse file"
         cases.refused(f"{name} as FILE", [*sample.words, path, *to_output(sample)], Fault.TOO_LONG, NOT_ASKED)
@@ -94,8 +98,8 @@ def test_sparse_files(cases: Cases) -> None:
     for sample in with_output(cases):
         os.truncate(path, SPARSE_SIZE)
         cases.run(f"{sample.command} to a sparse file", [*sample.words, "--output", path], sample.stdin)
-        cases.check(f"{sample.command} to a sparse file: size", os.path.getsize(path), len(sample.output))
-        cases.check(f"{sample.command} to a sparse file: content", Path(path).read_bytes(), sample.output)
+        assert os.path.getsize(path) == len(sample.output), f"{sample.command} to a sparse file: size"
+        assert Path(path).read_bytes() == sample.output, f"{sample.command} to a sparse file: content"
 
 
 def test_loops_of_links(cases: Cases) -> None:
@@ -113,13 +117,15 @@ def test_running_program(cases: Cases) -> None:
     with subprocess.Popen([path, "600"]) as running:
         try:
             if opens_to_write(path):
-                return cases.skip("a program that runs", "this system lets it be written")
+                pytest.skip("this system lets it be written")
             for sample in with_output(cases):
                 cases.refused(
-                    f"{sample.command} to a program that runs", [*sample.words, "--output", path], Fault.NOT_WRITTEN,
+                    f"{sample.command} to a program that runs",
+                    [*sample.words, "--output", path],
+                    Fault.NOT_WRITTEN,
                     sample.stdin,
                 )
-                cases.check(f"{sample.command}: the program stays", Path(path).read_bytes(), content)
+                assert Path(path).read_bytes() == content, f"{sample.command}: the program stays"
             words = ["encrypt", *by_file(cases.file(b"right\n")), *SALT_WORDS, "--output", "-", path]
             cases.run("encrypt of a program that runs", words, NOT_ASKED, 0, seal(b"right", content, salt=SALT_TEXT))
         finally:
@@ -144,17 +150,20 @@ def test_read_only(cases: Cases) -> None:
             old.write_bytes(OLD)
             old.chmod(0o644)
         if not is_mounted or not remount_read_only(folder):
-            return cases.skip("a file system that is read only", "none can be mounted here", takes_root=True)
+            pytest.skip(TAKES_ROOT)
         for sample in with_output(cases):
             for path in (old, new):
                 cases.refused(
-                    f"{sample.command} to a file system that is read only", [*sample.words, "--output", str(path)],
-                    Fault.NOT_WRITTEN, sample.stdin,
+                    f"{sample.command} to a file system that is read only",
+                    [*sample.words, "--output", str(path)],
+                    Fault.NOT_WRITTEN,
+                    sample.stdin,
                 )
-            cases.check(
-                f"{sample.command}: it stays", (os.listdir(folder), old.read_bytes(), mode(str(old))),
-                (["old"], OLD, oct(0o644)),
-            )
+            assert (os.listdir(folder), old.read_bytes(), mode(str(old))) == (
+                ["old"],
+                OLD,
+                oct(0o644),
+            ), f"{sample.command}: it stays"
         words = ["encrypt", *by_file(cases.file(b"right\n")), *SALT_WORDS, "--output", "-", str(old)]
         cases.run("encrypt of a file that cannot be written", words, NOT_ASKED, 0, seal(b"right", OLD, salt=SALT_TEXT))
 

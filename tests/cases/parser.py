@@ -2,8 +2,10 @@
 
 import subprocess
 
+import pytest
+
 from cases import SECONDS, Cases
-from cases.texts import MISTAKES, PROGRAM, help_path, mistakes_path, stored_mistakes
+from cases.texts import MISTAKES, PROGRAM, Mistake, help_path, mistakes_path, stored_mistakes
 from lib.paths import version
 from lib.processes import started
 from model.faults import Fault
@@ -18,28 +20,30 @@ def test_helps(cases: Cases) -> None:
         for words in (["--help"], ["-h"], ["--help", "--loud"], ["-h", "--version"]):
             cases.run(f"help of {name} by {words}", [*command, *words], out=text)
         named = OPTIONS if name == PROGRAM else COMMON | OPTIONS[name]
-        cases.check(f"the help of {name} names all", [each for each in named if each.encode() not in text], [])
+        assert [each for each in named if each.encode() not in text] == [], f"the help of {name} names all"
     with open("/dev/full", "wb") as full:
         cases.run_streams(
             "help to a full device", ["--help"], 3, Fault.NOT_WRITTEN.line, stdin=subprocess.DEVNULL, stdout=full
         )
 
 
-def test_versions(cases: Cases) -> None:
+@pytest.mark.parametrize("words", (["--version"], ["-V"], ["--version", "--loud"], ["-V", "--help"], ["-Vh"]))
+def test_versions(cases: Cases, words) -> None:
     text = f"ansible-vault {version()}\n".encode()
-    for words in (["--version"], ["-V"], ["--version", "--loud"], ["-V", "--help"], ["-Vh"]):
-        cases.run(f"version by {words}", words, out=text)
+    cases.run(f"version by {words}", words, out=text)
 
 
-def test_mistakes(cases: Cases) -> None:
+@pytest.mark.parametrize("name", MISTAKES)
+def test_stored_mistakes(name: str) -> None:
+    assert list(stored_mistakes(name)) == [each.line for each in MISTAKES[name]], mistakes_path(name).name
+
+
+@pytest.mark.parametrize("name, mistake", [(name, each) for name in MISTAKES for each in MISTAKES[name]], ids=str)
+def test_mistakes(cases: Cases, name: str, mistake: Mistake) -> None:
     """Each has the stored text, which names the word that is wrong."""
-    for name, each_mistake in MISTAKES.items():
-        stored = stored_mistakes(name)
-        cases.check(f"{mistakes_path(name).name} has each line", list(stored), [each.line for each in each_mistake])
-        for mistake in each_mistake:
-            text = stored.get(mistake.line, "")
-            cases.holds(f"the text of `{mistake.line}` names {mistake.named!r}", mistake.named in text, text)
-            cases.run(f"`{mistake.line}`", mistake.words, status=2, err=text.encode())
+    text = stored_mistakes(name)[mistake.line]
+    assert mistake.named in text
+    cases.run(mistake.line, mistake.words, status=2, err=text.encode())
 
 
 def test_not_utf8(cases: Cases) -> None:
@@ -50,4 +54,4 @@ def test_endless_pipe(cases: Cases) -> None:
     """An invalid command line reads no input."""
     streams = {"stdin": subprocess.PIPE, "stderr": subprocess.DEVNULL}
     with started([cases.program, "view", "--loud"], **streams) as child:
-        cases.check("no input is asked for", child.wait(SECONDS), 2)
+        assert child.wait(SECONDS) == 2, "no input is asked for"

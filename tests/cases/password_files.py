@@ -11,9 +11,20 @@ from model.vaults import ENVELOPE_LIMIT, HEADER, seal
 def test_passwords(cases: Cases) -> None:
     """Whitespace around a password is no part of it, and all else is."""
     kept = [
-        b"pw", b"p w", b"first\n\nlast", b"#pw", b"$ANSIBLE_VAUL", b"k" * 64, b"k" * 65,
+        b"pw",
+        b"p w",
+        b"first\n\nlast",
+        b"#pw",
+        b"$ANSIBLE_VAUL",
+        b"k" * 64,
+        b"k" * 65,
         # No whitespace either: the bytes 00, 1c, 1f and 85, and a no-break space.
-        b"\x00", b"\x00pw", b"pw \x00", b"\x1cpw\x1f", b"\xc2\xa0pw\x85", b"\xff\xfe",
+        b"\x00",
+        b"\x00pw",
+        b"pw \x00",
+        b"\x1cpw\x1f",
+        b"\xc2\xa0pw\x85",
+        b"\xff\xfe",
     ]
     around = [(b"", b""), (b"", b"\n"), (b" ", b" \r\n"), (b"\t\n\x0b\x0c\r ", b" \r\x0c\x0b\n\t")]
     files = [(before + password + after, password) for password in kept for before, after in around]

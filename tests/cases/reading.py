@@ -1,10 +1,20 @@
 """Envelopes: whole ones in every layout, malformed ones, damaged ones."""
 
+import pytest
+
 from cases import TEXT, Cases, by_file, by_id
 from lib.paths import FIXTURES
 from model.faults import Fault
 from model.vaults import (
-    CIPHERTEXT_LIMIT, ENVELOPE, ENVELOPE_LIMIT, HEADER, PLAINTEXT_LIMIT, padded, parts, seal, serialized
+    CIPHERTEXT_LIMIT,
+    ENVELOPE,
+    ENVELOPE_LIMIT,
+    HEADER,
+    PLAINTEXT_LIMIT,
+    padded,
+    parts,
+    seal,
+    serialized,
 )
 
 
@@ -57,22 +67,24 @@ def test_well_formed(cases: Cases) -> None:
         cases.refused(f"no secret for {vault.name}", ["view"], Fault.NO_SECRET_FITS, vault.read_bytes())
 
 
-def test_fixtures(cases: Cases) -> None:
-    made = [
-        ("format-1.1", "one", b"a" * 16),
-        ("format-1.2", "two", b"a" * 16),
-        ("spaces-and-umlaut", "spaces-and-umlaut", b'secret: "value"\n'),
-        ("empty", "one", b""),
-    ]
-    for name, password, plaintext in made:
-        vault = (FIXTURES / f"{name}.vault").read_bytes()
-        path = str(FIXTURES / f"{password}.password")
-        for options in (by_file(path), by_id(path), by_id(path, "dev"), by_id(path, "other")):
-            cases.decrypts(f"Ansible's {name} with {options[0]}", options, vault, plaintext)
-        wrong = by_file(str(FIXTURES / ("two.password" if password == "one" else "one.password")))
-        cases.refuses(f"Ansible's {name} under another password", wrong, vault, Fault.NO_SECRET_FITS)
-        for spelling, stdin in spellings(vault):
-            cases.decrypts(f"Ansible's {name} with {spelling}", by_file(path), stdin, plaintext)
+MADE = [
+    ("format-1.1", "one", b"a" * 16),
+    ("format-1.2", "two", b"a" * 16),
+    ("spaces-and-umlaut", "spaces-and-umlaut", b'secret: "value"\n'),
+    ("empty", "one", b""),
+]
+
+
+@pytest.mark.parametrize("name, password, plaintext", MADE)
+def test_fixtures(cases: Cases, name, password, plaintext) -> None:
+    vault = (FIXTURES / f"{name}.vault").read_bytes()
+    path = str(FIXTURES / f"{password}.password")
+    for options in (by_file(path), by_id(path), by_id(path, "dev"), by_id(path, "other")):
+        cases.decrypts(f"Ansible's {name} with {options[0]}", options, vault, plaintext)
+    wrong = by_file(str(FIXTURES / ("two.password" if password == "one" else "one.password")))
+    cases.refuses(f"Ansible's {name} under another password", wrong, vault, Fault.NO_SECRET_FITS)
+    for spelling, stdin in spellings(vault):
+        cases.decrypts(f"Ansible's {name} with {spelling}", by_file(path), stdin, plaintext)
 
 
 def test_plaintexts(cases: Cases) -> None:

@@ -1,5 +1,7 @@
 """`--require-id-match` for every command that has it."""
 
+import pytest
+
 from cases import READING, TEXT, Cases, by_file, by_id
 from cases.rekeying import SALT, SALT_WORDS
 from model.faults import Fault
@@ -35,12 +37,12 @@ def test_required_label(cases: Cases) -> None:
             cases.decrypts(f"not required: {name}", options, vault, TEXT)
 
 
-def test_required_in_rekey(cases: Cases) -> None:
+@pytest.mark.parametrize("command", READING)
+def test_required_in_rekey(cases: Cases, command) -> None:
     one, two = cases.file(b"one\n"), cases.file(b"two\n")
     words = ["rekey", FLAG, *by_file(one), "--new-vault-id", f"prod@{two}", *SALT_WORDS]
     vault = cases.run("required: rekey", words, seal(b"one", TEXT), 0, seal(b"two", TEXT, b"prod", SALT))
     cases.decrypts("required: the new label", [*by_id(two, "prod"), FLAG], vault, TEXT)
     cases.refuses("required: the new secret under another label", [*by_file(two), FLAG], vault, Fault.NO_SECRET_FITS)
     cases.refused("required: rekey of another label", words, Fault.NO_SECRET_FITS, seal(b"one", TEXT, b"dev"))
-    for command in READING:
-        cases.refused(f"{command}, required without secrets", [command, FLAG], Fault.NO_SECRET_FITS, ENVELOPE)
+    cases.refused(f"{command}, required without secrets", [command, FLAG], Fault.NO_SECRET_FITS, ENVELOPE)

@@ -2,11 +2,20 @@
 
 from typing import NamedTuple
 
+import pytest
+
 from cases import TEXT, Cases, by_file, by_id
 from model.vaults import seal, yaml_block
 
 SALT_TEXT = b"a salt"
 SALT_WORDS = ["--salt", SALT_TEXT.decode()]
+
+
+COMMANDS = ["encrypt", "decrypt", "view", "rekey", "encrypt_string"]
+each_command = pytest.mark.parametrize("command", COMMANDS)
+# Those with an option --output, and those with a FILE.
+each_to_output = pytest.mark.parametrize("command", [each for each in COMMANDS if each != "view"])
+each_of_file = pytest.mark.parametrize("command", [each for each in COMMANDS if each != "encrypt_string"])
 
 
 class Sample(NamedTuple):
@@ -32,3 +41,8 @@ def samples(cases: Cases, text: bytes = TEXT) -> list[Sample]:
         Sample(["rekey", *right(), "--new-vault-id", f"prod@{new}", *SALT_WORDS], vault, rekeyed),
         Sample(["encrypt_string", *right(), *SALT_WORDS, "--stdin-name", "k"], text, yaml_block(sealed, b"k")),
     ]
+
+
+def sample_of(cases: Cases, command: str, text: bytes = TEXT) -> Sample:
+    [sample] = [each for each in samples(cases, text) if each.command == command]
+    return sample

@@ -1,9 +1,11 @@
 """`encrypt` and `encrypt_string`: sizes, salts, also that of `rekey`, labels, and what both refuse."""
 
 import os
-import shutil
+
+import pytest
 
 from cases import TEXT, Cases, answer_of, by_file, by_id
+from lib.needs import needs
 from lib.preloaded import build_library
 from model.faults import Fault
 from model.vaults import ENVELOPE, HEADER, MAGIC, PLAINTEXT_LIMIT, SALT, seal, yaml_block
@@ -34,18 +36,16 @@ def test_sizes(cases: Cases) -> None:
 def test_worked(cases: Cases) -> None:
     """Lengths and lines worked out by hand from the format."""
     right, options = by_file(cases.file(b"right\n")), with_salt(cases)
-    run = lambda name, words, stdin=b"": cases.run(name, ["encrypt", *words], stdin, 0, lambda _: True).split(b"\n")
+    run = lambda name, words, stdin=b"": cases.run(name, ["encrypt", *words], stdin, 0, None).split(b"\n")
     lines = run("encrypt nothing", options)
-    cases.check("nothing: lines", [len(line) for line in lines], [25, 80, 80, 80, 80, 4, 0])
-    cases.check("nothing: first lines", (lines[0], lines[1], lines[2][:50]), (HEADER, b"30" * 40, b"30" * 24 + b"0a"))
+    assert [len(line) for line in lines] == [25, 80, 80, 80, 80, 4, 0], "nothing: lines"
+    assert (lines[0], lines[1], lines[2][:50]) == (HEADER, b"30" * 40, b"30" * 24 + b"0a"), "nothing: first lines"
     for size, length in ((15, 355), (16, 419)):
-        cases.check(
-            f"{size} bytes: length", len(b"\n".join(run(f"encrypt {size} bytes", options, b"a" * size))), length
-        )
+        assert len(b"\n".join(run(f"encrypt {size} bytes", options, b"a" * size))) == length, f"{size} bytes: length"
     longest = run("encrypt all that is taken", options, b"a" * PLAINTEXT_LIMIT)[1:-1]
-    cases.check("the longest: lines and digits", (len(longest), sum(map(len, longest))), (838_865, 67_109_188))
+    assert (len(longest), sum(map(len, longest))) == (838_865, 67_109_188), "the longest: lines and digits"
     labelled = run("encrypt for dev", [*by_id(right[1], "dev"), *options[2:]], b"a" * 15)
-    cases.check("dev: length and header", (len(b"\n".join(labelled)), labelled[0]), (359, MAGIC + b";1.2;AES256;dev"))
+    assert (len(b"\n".join(labelled)), labelled[0]) == (359, MAGIC + b";1.2;AES256;dev"), "dev: length and header"
     texts = [
         ("abc", 48, [25] + [80] * 5 + [0]),
         ("a", 0, [25, 80, 80, 40, 0]),
@@ -53,9 +53,9 @@ def test_worked(cases: Cases) -> None:
     ]
     for text, size, lengths in texts:
         lines = run(f"salt text of {len(text)}", [*right, "--salt", text], b"a" * size)
-        cases.check(f"salt text of {len(text)}: lines", [len(line) for line in lines], lengths)
+        assert [len(line) for line in lines] == lengths, f"salt text of {len(text)}: lines"
         first = (text.encode().hex().encode() + b"\n").hex().encode()[:80]
-        cases.check(f"salt text of {len(text)}: first line", lines[1].startswith(first), True)
+        assert lines[1].startswith(first), f"salt text of {len(text)}: first line"
 
 
 def test_salt_texts(cases: Cases) -> None:
@@ -106,18 +106,15 @@ def test_salt_files(cases: Cases) -> None:
 def test_two_runs(cases: Cases) -> None:
     """The salt is really read: each run has its own."""
     right = by_file(cases.file(b"right\n"))
-    vaults = [
-        cases.run("encrypt with a salt of its own", ["encrypt", *right], TEXT, 0, lambda _: True) for _ in range(2)
-    ]
-    cases.check("two runs differ", vaults[0] == vaults[1], False)
+    vaults = [cases.run("encrypt with a salt of its own", ["encrypt", *right], TEXT, 0, None) for _ in range(2)]
+    assert vaults[0] != vaults[1], "two runs differ"
     for vault in vaults:
         cases.decrypts("a vault with a salt of its own", right, vault, TEXT)
 
 
 def test_bytes_of_the_salt(cases: Cases) -> None:
     """All 32 are those of /dev/urandom, for which a library that is loaded before the program's opens a file."""
-    if shutil.which("cc") is None:
-        return cases.skip("the bytes of a salt", "no C compiler is installed (Debian's package gcc)")
+    needs("cc")
     library = build_library(str(cases.folder), "known_random")
     right, known = cases.file(b"right\n"), bytes(range(200, 232))
     variables = {"LD_PRELOAD": library, "KNOWN_RANDOM": cases.file(known + b"more")}
@@ -129,7 +126,7 @@ def test_bytes_of_the_salt(cases: Cases) -> None:
     ]
     for words, stdin, wanted in runs:
         done = cases.done(words, stdin, env=variables)
-        cases.check(f"{words[0]}: the bytes of the salt", answer_of(done), (0, wanted, b""))
+        assert answer_of(done) == (0, wanted, b""), f"{words[0]}: the bytes of the salt"
 
 
 def test_choices(cases: Cases) -> None:
@@ -146,8 +143,10 @@ def test_choices(cases: Cases) -> None:
         ("a label with signs", by_id(one, "a b~!#"), RIGHT, b"a b~!#"),
         ("a label with capitals", by_id(one, "Prod"), RIGHT, b"Prod"),
         (
-            "labels that differ in a capital", [*by_id(two, "prod"), *by_id(one, "Prod"), "--encrypt-vault-id", "Prod"],
-            RIGHT, b"Prod",
+            "labels that differ in a capital",
+            [*by_id(two, "prod"), *by_id(one, "Prod"), "--encrypt-vault-id", "Prod"],
+            RIGHT,
+            b"Prod",
         ),
         ("a label of 128 bytes", by_id(one, "a" * 128), RIGHT, b"a" * 128),
     ]
@@ -170,18 +169,19 @@ def test_choices(cases: Cases) -> None:
             cases.refused(f"{command}, {name}", [command, *options, *salt], fault, TEXT)
 
 
-def test_plaintexts(cases: Cases) -> None:
+@pytest.mark.parametrize("command", SEALING)
+def test_plaintexts(cases: Cases, command) -> None:
     right, salt = by_file(cases.file(b"right\n")), ["--salt", "abc"]
-    for command in SEALING:
-        for text in (ENVELOPE, MAGIC, MAGIC + b" and more"):
-            cases.refused(f"{command} of {text!r:.20}", [command, *right, *salt], Fault.ALREADY_VAULT, text)
-        for text in (MAGIC[:-1], b" " + MAGIC, b"\n" + ENVELOPE, MAGIC.lower(), b"\x00", b"\xff" * 40):
-            vault = seal(RIGHT, text, salt=b"abc")
-            whole = vault if command == "encrypt" else yaml_block(vault)
-            cases.run(f"{command} of {text!r:.20}", [command, *right, *salt], text, 0, whole)
+    for text in (ENVELOPE, MAGIC, MAGIC + b" and more"):
+        cases.refused(f"{command} of {text!r:.20}", [command, *right, *salt], Fault.ALREADY_VAULT, text)
+    for text in (MAGIC[:-1], b" " + MAGIC, b"\n" + ENVELOPE, MAGIC.lower(), b"\x00", b"\xff" * 40):
+        vault = seal(RIGHT, text, salt=b"abc")
+        whole = vault if command == "encrypt" else yaml_block(vault)
+        cases.run(f"{command} of {text!r:.20}", [command, *right, *salt], text, 0, whole)
 
 
-def test_order(cases: Cases) -> None:
+@pytest.mark.parametrize("command", SEALING)
+def test_order(cases: Cases, command) -> None:
     """Which of two faults is reported."""
     right, empty, missing = cases.file(b"right\n"), cases.file(b""), cases.path()
     short = ["--salt-file", cases.file(bytes(31))]
@@ -189,18 +189,24 @@ def test_order(cases: Cases) -> None:
     twice = by_file(right) * 2
     refused = [
         (
-            "17 secrets, then a bad choice", by_file(right) * 17 + ["--encrypt-vault-id", ""], Fault.TOO_MANY_SECRETS,
+            "17 secrets, then a bad choice",
+            by_file(right) * 17 + ["--encrypt-vault-id", ""],
+            Fault.TOO_MANY_SECRETS,
             b"",
         ),
         ("a prompt, then a bad choice", ["--vault-id", "prompt", "--encrypt-vault-id", ""], Fault.PROMPT_SOURCE, b""),
         ("a bad choice, then a bad salt", ["--encrypt-vault-id", "", "--salt", ""], Fault.BAD_LABEL, b""),
         ("a bad salt, then a missing file", [*by_file(missing), "--salt", ""], Fault.BAD_SALT, b""),
         (
-            "a missing password, then a missing salt", [*by_file(missing), "--salt-file", missing],
-            Fault.SECRET_NOT_OPENED, b"",
+            "a missing password, then a missing salt",
+            [*by_file(missing), "--salt-file", missing],
+            Fault.SECRET_NOT_OPENED,
+            b"",
         ),
         (
-            "a missing salt, then an empty password", [*by_file(empty), "--salt-file", missing], Fault.SALT_NOT_OPENED,
+            "a missing salt, then an empty password",
+            [*by_file(empty), "--salt-file", missing],
+            Fault.SALT_NOT_OPENED,
             b"",
         ),
         ("a folder as salt, then an empty password", [*by_file(empty), "--salt-file", "/"], Fault.SALT_NOT_READ, b""),
@@ -210,9 +216,8 @@ def test_order(cases: Cases) -> None:
         ("a short salt, then a vault", [*by_file(right), *short], Fault.SALT_SHORT, ENVELOPE),
         ("long input that is a vault", by_file(right), Fault.TOO_LONG, ENVELOPE.ljust(PLAINTEXT_LIMIT + 1)),
     ]
-    for command in SEALING:
-        for name, options, fault, stdin in refused:
-            cases.refused(f"{command}, {name}", [command, *options], fault, stdin)
+    for name, options, fault, stdin in refused:
+        cases.refused(f"{command}, {name}", [command, *options], fault, stdin)
 
 
 def test_input_not_asked(cases: Cases) -> None:

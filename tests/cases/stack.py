@@ -12,7 +12,7 @@ from typing import NamedTuple
 import pytest
 
 from cases import SECONDS, TEXT, Cases, by_file
-from cases.samples import Sample, samples
+from cases.samples import Sample, each_command, sample_of, samples
 
 KIB = 1 << 10
 PAGE = resource.getpagesize()
@@ -49,7 +49,10 @@ class Run(NamedTuple):
         limits = (stack, resource.RLIM_INFINITY)
         try:
             return subprocess.run(
-                [program, *self.words], env=self.environment, capture_output=True, timeout=SECONDS,
+                [program, *self.words],
+                env=self.environment,
+                capture_output=True,
+                timeout=SECONDS,
                 preexec_fn=lambda: resource.setrlimit(resource.RLIMIT_STACK, limits),
             ).returncode
         except OSError as error:
@@ -78,8 +81,11 @@ def in_place(cases: Cases, sample: Sample, environment: int) -> Run:
         words = [*sample.words, str(path)]
     is_written = sample.command != "view"
     return Run(
-        [*words, "--output", str(path)] if is_written else words, {"X": "x" * environment} if environment else {},
-        path, before, sample.output if is_written else before,
+        [*words, "--output", str(path)] if is_written else words,
+        {"X": "x" * environment} if environment else {},
+        path,
+        before,
+        sample.output if is_written else before,
     )
 
 
@@ -93,17 +99,18 @@ def with_long_words(run: Run, name: str, right: str) -> Run:
 
 def check_each_stack(cases: Cases, name: str, run: Run) -> None:
     least = run.least(cases.program)
-    cases.holds(f"{name}: the least stack", PAGE < least < ENOUGH, f"{least // KIB} KiB")
+    assert PAGE < least < ENOUGH, (f"{name}: the least stack", f"{least // KIB} KiB")
     for stack in (*range(max(PAGE, least - BELOW), least, PAGE), *range(least, ENOUGH, ABOVE)):
         found = run.outcome(cases.program, stack)
-        cases.holds(f"{name}, {stack // KIB} KiB of stack", found in ("whole", "untouched"), found)
-    cases.check(f"{name}, {ENOUGH // KIB} KiB of stack", run.outcome(cases.program, ENOUGH), "whole")
+        assert found in ("whole", "untouched"), f"{name}, {stack // KIB} KiB of stack"
+    assert run.outcome(cases.program, ENOUGH) == "whole", f"{name}, {ENOUGH // KIB} KiB of stack"
 
 
+@each_command
 @pytest.mark.parametrize("environment", ENVIRONMENT)
-def test_small_stacks(cases: Cases, environment: int) -> None:
-    for sample in samples(cases, TEXT * 400):
-        check_each_stack(cases, sample.command, in_place(cases, sample, environment))
+def test_small_stacks(cases: Cases, environment: int, command: str) -> None:
+    sample = sample_of(cases, command, TEXT * 400)
+    check_each_stack(cases, sample.command, in_place(cases, sample, environment))
 
 
 def test_small_stacks_with_long_words(cases: Cases) -> None:

@@ -6,7 +6,7 @@ import subprocess
 import tempfile
 
 from cases import SECONDS, TEXT, Cases, by_file, run_captured
-from cases.samples import Sample, samples
+from cases.samples import Sample, each_command, sample_of, samples
 from lib.processes import started
 from model.faults import Fault
 from model.vaults import ENVELOPE_LIMIT, HEADER, PLAINTEXT_LIMIT, seal
@@ -24,7 +24,7 @@ def test_without_secrets(cases: Cases) -> None:
     closed = [("standard input", "<&-", 3), ("standard output", ">&-", 1), ("standard error", "2>&-", 1)]
     for name, descriptor, status in closed:
         done = shell(cases, ["view"], descriptor, b"")
-        cases.check(f"closed {name}: status", done.returncode, status)
+        assert done.returncode == status, f"closed {name}: status"
 
 
 def shell(cases: Cases, words: list[str], redirections: str, stdin: bytes) -> subprocess.CompletedProcess:
@@ -32,13 +32,14 @@ def shell(cases: Cases, words: list[str], redirections: str, stdin: bytes) -> su
     return run_captured(["sh", "-c", script, cases.program, *words], stdin)
 
 
-def test_folder_as_input(cases: Cases) -> None:
-    for sample in samples(cases):
-        folder = os.open("/", os.O_RDONLY)
-        cases.run_streams(
-            f"{sample.command}, a folder as standard input", sample.words, 3, Fault.INPUT_NOT_READ.line, stdin=folder
-        )
-        os.close(folder)
+@each_command
+def test_folder_as_input(cases: Cases, command: str) -> None:
+    sample = sample_of(cases, command)
+    folder = os.open("/", os.O_RDONLY)
+    cases.run_streams(
+        f"{sample.command}, a folder as standard input", sample.words, 3, Fault.INPUT_NOT_READ.line, stdin=folder
+    )
+    os.close(folder)
 
 
 def test_failing_outputs(cases: Cases) -> None:
@@ -61,60 +62,63 @@ def test_failing_outputs(cases: Cases) -> None:
         os.close(writer)
 
 
-def test_nothing_to_write(cases: Cases) -> None:
-    for sample in samples(cases, b""):
-        if sample.output == b"":
-            with open(FULL, "wb") as full:
-                cases.run_streams(
-                    f"{sample.command}, nothing to a full device", sample.words, 0, b"", input=sample.stdin, stdout=full
-                )
-
-
-def test_bounded_reading(cases: Cases) -> None:
-    """Of a file that is too long, one byte more than the limit is read."""
-    for sample in samples(cases):
-        plain = sample.command.startswith("encrypt")
-        limit = PLAINTEXT_LIMIT if plain else ENVELOPE_LIMIT
-        with tempfile.TemporaryFile() as stdin:
-            stdin.write((b"" if plain else HEADER + b"\nzz").ljust(limit + 10_000, b"\n"))
-            stdin.seek(0)
-            cases.run_streams(f"{sample.command} of too long a file", sample.words, 1, Fault.TOO_LONG.line, stdin=stdin)
-            cases.check(f"{sample.command}: bytes read", os.lseek(stdin.fileno(), 0, os.SEEK_CUR), limit + 1)
-
-
-def test_full_standard_error(cases: Cases) -> None:
-    for sample in samples(cases):
+@each_command
+def test_nothing_to_write(cases: Cases, command: str) -> None:
+    sample = sample_of(cases, command, b"")
+    if sample.output == b"":
         with open(FULL, "wb") as full:
-            done = subprocess.run(
-                [cases.program, *sample.words], input=sample.stdin, stdout=subprocess.PIPE, stderr=full, timeout=SECONDS
+            cases.run_streams(
+                f"{sample.command}, nothing to a full device", sample.words, 0, b"", input=sample.stdin, stdout=full
             )
-        cases.check(f"{sample.command}, full standard error", (done.returncode, done.stdout), (0, sample.output))
 
 
-def test_single_bytes(cases: Cases) -> None:
+@each_command
+def test_bounded_reading(cases: Cases, command: str) -> None:
+    """Of a file that is too long, one byte more than the limit is read."""
+    sample = sample_of(cases, command)
+    plain = sample.command.startswith("encrypt")
+    limit = PLAINTEXT_LIMIT if plain else ENVELOPE_LIMIT
+    with tempfile.TemporaryFile() as stdin:
+        stdin.write((b"" if plain else HEADER + b"\nzz").ljust(limit + 10_000, b"\n"))
+        stdin.seek(0)
+        cases.run_streams(f"{sample.command} of too long a file", sample.words, 1, Fault.TOO_LONG.line, stdin=stdin)
+        assert os.lseek(stdin.fileno(), 0, os.SEEK_CUR) == limit + 1, f"{sample.command}: bytes read"
+
+
+@each_command
+def test_full_standard_error(cases: Cases, command: str) -> None:
+    sample = sample_of(cases, command)
+    with open(FULL, "wb") as full:
+        done = subprocess.run(
+            [cases.program, *sample.words], input=sample.stdin, stdout=subprocess.PIPE, stderr=full, timeout=SECONDS
+        )
+    assert (done.returncode, done.stdout) == (0, sample.output), f"{sample.command}, full standard error"
+
+
+@each_command
+def test_single_bytes(cases: Cases, command: str) -> None:
     """Input from a pipe into which each byte is written alone."""
-    for sample in samples(cases):
-        pipes = {"stdin": subprocess.PIPE, "stdout": subprocess.PIPE}
-        with started([cases.program, *sample.words], **pipes, bufsize=0) as child:
-            for byte in sample.stdin:
-                child.stdin.write(bytes([byte]))
-            output, _ = child.communicate(timeout=SECONDS)
-        cases.check(f"{sample.command}, single bytes", (child.returncode, output), (0, sample.output))
+    sample = sample_of(cases, command)
+    pipes = {"stdin": subprocess.PIPE, "stdout": subprocess.PIPE}
+    with started([cases.program, *sample.words], **pipes, bufsize=0) as child:
+        for byte in sample.stdin:
+            child.stdin.write(bytes([byte]))
+        output, _ = child.communicate(timeout=SECONDS)
+    assert (child.returncode, output) == (0, sample.output), f"{sample.command}, single bytes"
 
 
-def test_leaving_reader(cases: Cases) -> None:
+@each_command
+def test_leaving_reader(cases: Cases, command: str) -> None:
     """The reader of the output goes away after its first byte."""
-    for sample in samples(cases, bytes(LARGE)):
-        with tempfile.TemporaryFile() as stdin:
-            stdin.write(sample.stdin)
-            stdin.seek(0)
-            pipes = {"stdin": stdin, "stdout": subprocess.PIPE, "stderr": subprocess.PIPE}
-            with started([cases.program, *sample.words], **pipes, bufsize=0) as child:
-                has_begun, _, _ = select.select([child.stdout], [], [], SECONDS)
-                first = child.stdout.read(1) if has_begun else b""
-                cases.check(f"{sample.command}, a reader that leaves: first byte", first, sample.output[:1])
-                child.stdout.close()
-                _, message = child.communicate(timeout=SECONDS)
-            cases.check(
-                f"{sample.command}, a reader that leaves", (child.returncode, message), (3, Fault.NOT_WRITTEN.line)
-            )
+    sample = sample_of(cases, command, bytes(LARGE))
+    with tempfile.TemporaryFile() as stdin:
+        stdin.write(sample.stdin)
+        stdin.seek(0)
+        pipes = {"stdin": stdin, "stdout": subprocess.PIPE, "stderr": subprocess.PIPE}
+        with started([cases.program, *sample.words], **pipes, bufsize=0) as child:
+            has_begun, _, _ = select.select([child.stdout], [], [], SECONDS)
+            first = child.stdout.read(1) if has_begun else b""
+            assert first == sample.output[:1], f"{sample.command}, a reader that leaves: first byte"
+            child.stdout.close()
+            _, message = child.communicate(timeout=SECONDS)
+        assert (child.returncode, message) == (3, Fault.NOT_WRITTEN.line), f"{sample.command}, a reader that leaves"

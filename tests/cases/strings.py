@@ -33,8 +33,8 @@ def test_strings(cases: Cases) -> None:
         cases.run(
             f"standard input {words}", ["encrypt_string", *right, *words], b"secret\n", 0, block(b"secret\n", name)
         )
-    worked = cases.run("a block", ["encrypt_string", *with_salt(cases), "-n", "k", "secret"], b"", 0, lambda _: True)
-    cases.check("a block: length", (len(worked), len(worked.splitlines()), worked[:13]), (427, 7, b"k: !vault |\n "))
+    worked = cases.run("a block", ["encrypt_string", *with_salt(cases), "-n", "k", "secret"], b"", 0, None)
+    assert (len(worked), len(worked.splitlines()), worked[:13]) == (427, 7, b"k: !vault |\n "), "a block: length"
 
 
 def test_refused_strings(cases: Cases) -> None:

@@ -4,14 +4,16 @@ import ctypes
 import itertools
 import os
 import resource
-import shutil
 import subprocess
 from pathlib import Path
+
+import pytest
 
 from cases import SECONDS, TEXT, Cases, answer_of, by_file, by_id, refusal, run_captured
 from cases.files import to_output, with_files
 from cases.modes import with_output
-from cases.samples import Sample, samples
+from cases.samples import Sample, each_command, each_of_file, sample_of, samples
+from lib.needs import needs
 from model.faults import Fault
 from model.vaults import seal, yaml_block
 
@@ -59,17 +61,18 @@ def test_without_words(cases: Cases) -> None:
         [cases.program], preexec_fn=start, stdin=subprocess.DEVNULL, capture_output=True, timeout=SECONDS
     )
     wanted = cases.done([])
-    cases.check("no words at all", answer_of(done), (2, b"", wanted.stderr))
+    assert answer_of(done) == (2, b"", wanted.stderr), "no words at all"
 
 
-def test_program_names(cases: Cases) -> None:
+@each_command
+def test_program_names(cases: Cases, command: str) -> None:
     """Another name changes nothing; one that is not UTF-8 is refused as any argument is."""
-    for sample in samples(cases):
-        for name in ("", "other", "-x", "two words", "a\nb", "view"):
-            done = run_captured([name, *sample.words], sample.stdin, executable=cases.program)
-            cases.check(f"{sample.command} under the name {name!r}", answer_of(done), (0, sample.output, b""))
-        done = run_captured([b"\xff", *sample.words], sample.stdin, executable=cases.program)
-        cases.check(f"{sample.command} under a name that is not UTF-8", answer_of(done), (2, b"", NOT_UTF8))
+    sample = sample_of(cases, command)
+    for name in ("", "other", "-x", "two words", "a\nb", "view"):
+        done = run_captured([name, *sample.words], sample.stdin, executable=cases.program)
+        assert answer_of(done) == (0, sample.output, b""), f"{sample.command} under the name {name!r}"
+    done = run_captured([b"\xff", *sample.words], sample.stdin, executable=cases.program)
+    assert answer_of(done) == (2, b"", NOT_UTF8), f"{sample.command} under a name that is not UTF-8"
 
 
 def test_names_of_files(cases: Cases) -> None:
@@ -86,14 +89,18 @@ def test_names_of_files(cases: Cases) -> None:
             cases.run(
                 f"{sample.command}, {role} that is not UTF-8", [*sample.words, *words], sample.stdin, 2, b"", NOT_UTF8
             )
-        cases.check(f"{sample.command}: the file stays", Path(os.fsdecode(path)).read_bytes(), sample.stdin)
+        assert Path(os.fsdecode(path)).read_bytes() == sample.stdin, f"{sample.command}: the file stays"
     os.unlink(path)
     for sample in with_output(cases):
         cases.run(
-            f"{sample.command}, an output that is not UTF-8", [*sample.words, "--output", path], sample.stdin, 2, b"",
+            f"{sample.command}, an output that is not UTF-8",
+            [*sample.words, "--output", path],
+            sample.stdin,
+            2,
+            b"",
             NOT_UTF8,
         )
-        cases.check(f"{sample.command}: no file of that name", os.path.exists(path), False)
+        assert not os.path.exists(path), f"{sample.command}: no file of that name"
 
 
 def variables_of_ansible(cases: Cases) -> dict[str, str]:
@@ -132,7 +139,7 @@ def test_environments(cases: Cases) -> None:
     for given, (words, stdin, wanted) in itertools.product(settings, runs):
         done = cases.done(words, stdin, env=given)
         name = f"{words[:1]} with {' '.join(f'{name}={value}' for name, value in given.items())!r:.100}"
-        cases.check(name, answer_of(done), wanted)
+        assert answer_of(done) == wanted, name
 
 
 def test_salt_in_the_environment(cases: Cases) -> None:
@@ -145,17 +152,16 @@ def test_salt_in_the_environment(cases: Cases) -> None:
     ]
     for words, stdin, wrong in runs:
         done = cases.done(words, stdin, env=variables)
-        cases.check(f"{words[0]}: the end", (done.returncode, done.stderr), (0, b""))
-        cases.holds(f"{words[0]}: another salt", done.stdout != wrong)
+        assert (done.returncode, done.stderr) == (0, b""), f"{words[0]}: the end"
+        assert done.stdout != wrong, f"{words[0]}: another salt"
 
 
 def test_calls_that_read_variables(cases: Cases) -> None:
-    if shutil.which("nm") is None:
-        return cases.skip("the calls that read variables", "nm is not installed (Debian's package binutils)")
+    needs("nm")
     listed = run_captured(["nm", "--dynamic", "--format=posix", cases.program], check=True).stdout.decode()
     names = {line.split()[0].partition("@")[0] for line in listed.splitlines()}
-    cases.holds("the program's calls are listed", "open" in names, sorted(names))
-    cases.check("none of them reads a variable", names & READERS, set())
+    assert "open" in names, ("the program's calls are listed", sorted(names))
+    assert names & READERS == set(), "none of them reads a variable"
 
 
 def run_under(cases: Cases, limit: int, amount: int, words: list[str], stdin: bytes) -> tuple:
@@ -164,22 +170,23 @@ def run_under(cases: Cases, limit: int, amount: int, words: list[str], stdin: by
     return done.returncode, done.stdout, done.stderr
 
 
-def test_few_files(cases: Cases) -> None:
+@pytest.mark.parametrize("amount", range(STARTS, ENOUGH + 2))
+@each_of_file
+def test_few_files(cases: Cases, command: str, amount) -> None:
     """If no more files may be open, a run says which file it could not open, and changes none."""
     faults = [Fault.SECRET_NOT_OPENED, Fault.INPUT_NOT_OPENED, Fault.NOT_WRITTEN]
     refusals = [(fault.status, b"", fault.line, None) for fault in faults]
-    for sample in with_files(cases):
-        given = cases.file(sample.stdin)
-        for amount in range(STARTS, ENOUGH + 2):
-            path = Path(cases.path())
-            output = [] if sample.command == "view" else ["--output", str(path)]
-            answer = run_under(cases, resource.RLIMIT_NOFILE, amount, [*sample.words, given, *output], b"")
-            written = path.read_bytes() if path.exists() else None
-            name = f"{sample.command} with {amount} files"
-            whole = (0, b"", b"", sample.output) if output else (0, sample.output, b"", None)
-            allowed = [whole, *(refusals if amount < ENOUGH else [])]
-            cases.holds(name, (*answer, written) in allowed, f"got {answer!r:.300}, written {written!r:.100}")
-            cases.check(f"{name}: FILE stays", Path(given).read_bytes(), sample.stdin)
+    sample = sample_of(cases, command)
+    given = cases.file(sample.stdin)
+    path = Path(cases.path())
+    output = [] if sample.command == "view" else ["--output", str(path)]
+    answer = run_under(cases, resource.RLIMIT_NOFILE, amount, [*sample.words, given, *output], b"")
+    written = path.read_bytes() if path.exists() else None
+    name = f"{sample.command} with {amount} files"
+    whole = (0, b"", b"", sample.output) if output else (0, sample.output, b"", None)
+    allowed = [whole, *(refusals if amount < ENOUGH else [])]
+    assert (*answer, written) in allowed, name
+    assert Path(given).read_bytes() == sample.stdin, f"{name}: FILE stays"
 
 
 def run_on_stack(cases: Cases, words: list[str], stdin: bytes) -> tuple:
@@ -197,8 +204,8 @@ def test_small_stack(cases: Cases) -> None:
     runs += [(f"{len(text)} bytes", sample) for text in (TEXT, bytes(LARGE)) for sample in samples(cases, text)]
     for name, sample in runs:
         answer = run_on_stack(cases, sample.words, sample.stdin)
-        cases.check(f"{sample.command}, {name} with a small stack", answer, (0, sample.output, b""))
+        assert answer == (0, sample.output, b""), f"{sample.command}, {name} with a small stack"
     for words, status in ((["--help"], 0), (["rekey", "--help"], 0), (["view", "--loud"], 2), ([], 2)):
         usual = cases.done(words)
         answer = run_on_stack(cases, words, b"")
-        cases.check(f"{words} with a small stack", answer, (status, usual.stdout, usual.stderr))
+        assert answer == (status, usual.stdout, usual.stderr), f"{words} with a small stack"

@@ -14,17 +14,12 @@ from typing import NamedTuple
 
 from cases import SECONDS
 from lib.paths import ROOT
-from model.options import COMMON, FLAGS, OPTIONS
+from model.options import OPTIONS
 
 FOLDER = ROOT / "tests" / "texts"
 PROMPT = "$ ansible-vault"
 # The name under which the texts of the program without a command stand.
 PROGRAM = "program"
-EVERY = sorted(COMMON.union(*OPTIONS.values()))
-# What Ansible's tool has and this one has not: commands, options of each, options of some.
-OTHER_COMMANDS = ["create", "edit"]
-OTHER_OPTIONS = ["--ask-vault-password", "--ask-vault-pass", "-J", "--vault-pass-file=x", "--vault-pass=x", "-v"]
-OTHER_OPTIONS_OF = {"rekey": ["--encrypt-vault-id=x"], "encrypt_string": ["--prompt", "-p", "--show-input"]}
 
 
 class Mistake(NamedTuple):
@@ -39,74 +34,43 @@ class Mistake(NamedTuple):
 
 
 def of_program() -> list[Mistake]:
-    unknown = [
-        "show",
-        "help",
-        "encryp",
-        "VIEW",
-        "rekey ",
-        "",
-        "-",
-        "--loud",
-        "-x",
-        "--output",
-        "--vault-id=x",
-        *OTHER_COMMANDS,
+    """No command, an unknown one and one that resembles a command; an unknown option, and a value for one that has
+    none."""
+    return [
+        Mistake([], "subcommand"),
+        Mistake(["show"], "show"),
+        Mistake(["encryp"], "encryp"),
+        Mistake(["--loud"], "--loud"),
+        Mistake(["--version=x"], "--version"),
     ]
-    found = [Mistake([], "subcommand"), Mistake(["--"], "subcommand")]
-    found += [Mistake([word], word.partition("=")[0]) for word in unknown]
-    found += [Mistake([f"{option}=x"], option) for option in ("--help", "--version")]
-    return found + [Mistake(["--loud", "show"], "--loud"), Mistake(["show", "--loud"], "show")]
-
-
-def of_option(command: str, option: str) -> list[Mistake]:
-    """An option without its value, with one that it doesn't take, cut short, and given twice."""
-    short = Mistake([command, option[:-1]], option[:-1])
-    if option in FLAGS:
-        return [short, Mistake([command, f"{option}=x"], option), Mistake([command, option, option], option)]
-    alone = Mistake([command, option], option)
-    before_other = Mistake([command, option, "--loud"], "--loud")
-    twice = [] if option in COMMON else [Mistake([command, option, "x", option, "y"], option)]
-    return [short, alone, before_other, *twice]
-
-
-def of_several(command: str) -> list[Mistake]:
-    """Several mistakes in one line: an option that is not known is named before one that is given twice,
-    which is named before a word too many; else the first one in the line."""
-    several = [
-        (["--loud", "x", "y"], "--loud"),
-        (["x", "y", "--loud"], "'y'"),
-        (["x", "y", "z"], "'y'"),
-        (["--loud", "--quiet"], "--loud"),
-        (["--vault-id=a", "x", "y", "--vault-id"], "'y'"),
-        (["x", "--vault-id"], "--vault-id"),
-        (["--loud", "--help"], "--loud"),
-        (["x", "y", "--help"], "'y'"),
-    ]
-    if "--output" in OPTIONS[command]:
-        twice = ["--output", "a", "--output", "b"]
-        several += [
-            ([*twice, "--loud"], "--loud"),
-            ([*twice, "x", "y"], "--output"),
-            ([*twice, "--vault-id"], "--output"),
-        ]
-        several += [(["--vault-id", *twice], "--vault-id")]
-    return [Mistake([command, *words], named) for words, named in several]
 
 
 def of_command(command: str) -> list[Mistake]:
-    own = COMMON | OPTIONS[command]
-    unknown = ["--loud", "--loud=x", "-x", "-V", "--version", *OTHER_OPTIONS, *OTHER_OPTIONS_OF.get(command, [])]
-    found = [Mistake([command, word], word.partition("=")[0]) for word in unknown]
-    found += [Mistake([command, *words], "'y'") for words in (["x", "y"], ["-", "y"], ["--", "x", "y"])]
-    found += [mistake for option in sorted(own) for mistake in of_option(command, option)]
-    found += [Mistake([command, option, "x"], option) for option in EVERY if option not in own]
-    if "--name" in own:
-        found += [Mistake([command, "-n"], "--name"), Mistake([command, "-n", "x", "--name", "y"], "--name")]
-    return found + of_several(command)
+    """An unknown option and one that resembles an option, a word too many, and an option without its value or twice."""
+    twice = ["--output", "a", "--output", "b"] if "--output" in OPTIONS[command] else ["--require-id-match"] * 2
+    mistakes = [
+        (["--loud"], "--loud"),
+        (["--ask-vault-password"], "--ask-vault-password"),
+        (["x", "y"], "'y'"),
+        (["--vault-id"], "--vault-id"),
+        (twice, twice[0]),
+    ]
+    return [Mistake([command, *words], named) for words, named in mistakes]
+
+
+def of_several(command: str) -> list[Mistake]:
+    """Several mistakes in one line: the first one is named, but an unknown option before one that is given twice."""
+    twice = ["--output", "a", "--output", "b"]
+    several = [
+        ([*twice, "--loud"], "--loud"),
+        ([*twice, "x", "y"], "--output"),
+        (["x", "y", "--help"], "'y'"),
+    ]
+    return [Mistake([command, *words], named) for words, named in several]
 
 
 MISTAKES = {PROGRAM: of_program()} | {command: of_command(command) for command in OPTIONS}
+MISTAKES["rekey"] += of_several("rekey")
 
 
 def help_path(name: str) -> Path:

@@ -8,8 +8,10 @@ import fcntl
 import os
 import subprocess
 
+import pytest
+
 from cases import SECONDS, TEXT, Cases, answer_of, by_file, by_id, run_captured
-from cases.samples import samples
+from cases.samples import each_command, sample_of
 from lib.processes import read_to_end, started
 from lib.resident import wait_for_sleep
 from model.faults import Fault
@@ -53,47 +55,48 @@ def refusals(cases: Cases) -> list[tuple[list[str], bytes, Fault]]:
 def test_lines_of_messages(cases: Cases) -> None:
     for words, stdin, fault in refusals(cases):
         found = packets([cases.program, *words], stdin, "stderr")
-        cases.check(f"the writes of `{fault.text}`", found, (fault.status, [fault.line]))
+        assert found == (fault.status, [fault.line]), f"the writes of `{fault.text}`"
 
 
-def test_refused_beside(cases: Cases) -> None:
+@pytest.mark.parametrize("number", range(ROUNDS))
+def test_refused_beside(cases: Cases, number) -> None:
     """Runs beside each other that wait for the end of one input, and have one pipe as standard error."""
     fault = Fault.NOT_VAULT
-    for number in range(ROUNDS):
-        stdin, to_end = os.pipe()
-        reader, stderr = os.pipe()
-        with contextlib.ExitStack() as running:
-            runs = [started([cases.program, "view"], stdin=stdin, stderr=stderr) for _ in range(BESIDE)]
-            children = [running.enter_context(run) for run in runs]
-            os.close(stdin)
-            os.close(stderr)
-            for child in children:
-                wait_for_sleep(child.pid)
-            os.close(to_end)
-            statuses = [child.wait(SECONDS) for child in children]
-        lines = read_to_end(reader).splitlines(keepends=True)
-        wanted = [fault.status] * BESIDE, [fault.line] * BESIDE
-        cases.check(f"runs beside each other, round {number}", (statuses, lines), wanted)
+    stdin, to_end = os.pipe()
+    reader, stderr = os.pipe()
+    with contextlib.ExitStack() as running:
+        runs = [started([cases.program, "view"], stdin=stdin, stderr=stderr) for _ in range(BESIDE)]
+        children = [running.enter_context(run) for run in runs]
+        os.close(stdin)
+        os.close(stderr)
+        for child in children:
+            wait_for_sleep(child.pid)
+        os.close(to_end)
+        statuses = [child.wait(SECONDS) for child in children]
+    lines = read_to_end(reader).splitlines(keepends=True)
+    wanted = [fault.status] * BESIDE, [fault.line] * BESIDE
+    assert (statuses, lines) == wanted, f"runs beside each other, round {number}"
 
 
-def test_header_lines(cases: Cases) -> None:
+@each_command
+@pytest.mark.parametrize("size", (1, 1_000))
+def test_header_lines(cases: Cases, size, command: str) -> None:
     """The header line and the first line of digits go out in one write."""
-    for size in (1, 1_000):
-        for sample in samples(cases, (TEXT * size)[:size]):
-            if sample.command in ("encrypt", "rekey"):
-                status, given = packets([cases.program, *sample.words], sample.stdin, "stdout")
-                name = f"{sample.command} of {size} bytes"
-                cases.check(f"{name}: all writes", (status, b"".join(given)), (0, sample.output))
-                first_lines = b"".join(sample.output.splitlines(keepends=True)[:2])
-                cases.holds(f"{name}: the first write", given[0].startswith(first_lines), f"got {given[0]!r:.300}")
+    sample = sample_of(cases, command, (TEXT * size)[:size])
+    if sample.command in ("encrypt", "rekey"):
+        status, given = packets([cases.program, *sample.words], sample.stdin, "stdout")
+        name = f"{sample.command} of {size} bytes"
+        assert (status, b"".join(given)) == (0, sample.output), f"{name}: all writes"
+        first_lines = b"".join(sample.output.splitlines(keepends=True)[:2])
+        assert given[0].startswith(first_lines), f"{name}: the first write"
 
 
-def test_head_of_envelope(cases: Cases) -> None:
+@pytest.mark.parametrize("number", range(ROUNDS))
+def test_head_of_envelope(cases: Cases, number) -> None:
     """`encrypt .. | head -n 1` gives the header line, and says nothing."""
     vault = seal(b"right", TEXT)
     header = vault.splitlines(keepends=True)[0]
     pipeline = 'set -o pipefail; "$@" | head -n 1'
     words = ["encrypt", *by_file(cases.file(b"right\n"))]
-    for number in range(ROUNDS):
-        done = run_captured(["bash", "-c", pipeline, "bash", cases.program, *words], TEXT)
-        cases.check(f"the head of an envelope, round {number}", answer_of(done), (0, header, b""))
+    done = run_captured(["bash", "-c", pipeline, "bash", cases.program, *words], TEXT)
+    assert answer_of(done) == (0, header, b""), f"the head of an envelope, round {number}"

@@ -9,13 +9,10 @@ import os
 import shutil
 import stat
 import subprocess
-from contextlib import contextmanager
-from importlib.util import find_spec
 from pathlib import Path
-from typing import Iterator
 
 from lib.limits import SECONDS
-from lib.outcome import Outcome
+from lib.lines_run import note_lines
 from lib.paths import ROOT
 from model.vaults import apply_keystream, seal, tag_of, yaml_block
 
@@ -163,48 +160,34 @@ class Place:
         return self.run(*words)
 
 
-class Companions(Outcome):
+class Companions:
     """Runs copies of the companions and of the program, which everybody may read wherever the repository is."""
 
-    def __init__(self, program: str, folder: Path, vaults: int, comparisons: int) -> None:
-        super().__init__()
+    def __init__(self, program: str, folder: Path) -> None:
         self.folder = folder
-        self.vaults = vaults
-        self.comparisons = comparisons
         self.places = 0
         self.companions = folder / "companions"
         self.program = folder / "ansible-vault"
         shutil.copytree(COMPANIONS, self.companions)
+        note_lines(self.companions)
         shutil.copyfile(program, self.program)
         self.program.chmod(0o755)
         subprocess.run(["chmod", "-R", "go=rX", str(self.companions)], check=True)
 
-    @contextmanager
-    def place(self) -> Iterator[Place]:
+    def place(self) -> Place:
         self.places += 1
         path = self.folder / f"place{self.places}"
         path.mkdir()
-        yield Place(path, self.program, self.companions)
+        return Place(path, self.program, self.companions)
 
-    def ended(self, what: str, done: subprocess.CompletedProcess, status: int, *parts: str) -> None:
-        """Checks the status, and that each part is printed, on either stream."""
-        output = done.stdout + done.stderr
-        self.check(f"{what}: status ({output!r:.400})", done.returncode, status)
-        for part in parts:
-            self.holds(f"{what}: `{part}` is printed", part in output, repr(output))
 
-    def silent(self, what: str, done: subprocess.CompletedProcess) -> None:
-        self.check(f"{what}: it ends well and in silence", (done.returncode, done.stdout, done.stderr), (0, "", ""))
+def ended(what: str, done: subprocess.CompletedProcess, status: int, *parts: str) -> None:
+    """The status, and that each part is printed, on either stream."""
+    output = done.stdout + done.stderr
+    missing = [part for part in parts if part not in output]
+    assert (done.returncode, missing) == (status, []), (what, output)
 
-    def needs(self, what: str, *tools: str) -> bool:
-        """Whether the tools are there; else what needs them is left out by its name."""
-        missing = [tool for tool in tools if not shutil.which(tool)]
-        if missing:
-            self.skip(what, f"without {', '.join(missing)}")
-        return not missing
 
-    def needs_pyyaml(self, what: str) -> bool:
-        is_there = find_spec("yaml") is not None
-        if not is_there:
-            self.skip(what, "without PyYAML")
-        return is_there
+def silent(what: str, done: subprocess.CompletedProcess) -> None:
+    """It ends well and prints nothing."""
+    assert (done.returncode, done.stdout, done.stderr) == (0, "", ""), what

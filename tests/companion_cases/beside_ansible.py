@@ -1,16 +1,15 @@
 """A repository that Ansible's tool made, rotated: that tool decrypts all of it, and a playbook prints what
-it printed before. And how long a rotation takes, compared with that tool.
+it printed before.
 """
 
 import os
 import re
 import subprocess
-import time
 from pathlib import Path
 
-from companion_cases import CHECK, ROTATE, SECONDS, TEXT, Companions, Place, decrypted, sealed
-from companion_cases.rotating import summary, to_new
-from lib.ansible import ansible_vault
+from companion_cases import CHECK, ROTATE, SECONDS, Place, ended
+from companion_cases.rotating import summary
+from lib.needs import needs, needs_ansible
 
 # The old and the new password of each label.
 LABELS = {"default": ("old", "new"), "dev": ("dev", "dev2"), "prod": ("prod", "prod2")}
@@ -92,55 +91,30 @@ def played(place: Place, playbook: str, which: int) -> list[str]:
     return [*re.findall(r'"msg": "(.*)"', done.stdout.decode()), (place.path / "copied").read_text()]
 
 
-def a_repository(cases: Companions) -> None:
-    ansible = ansible_vault()
-    playbook = ansible and Path(ansible).with_name("ansible-playbook")
-    if not ansible or not playbook.exists():
-        cases.skip("a repository of Ansible's tool", "it is not installed")
-        return
-    with cases.place() as place:
-        files, names = make_repository(place, ansible)
-        listed = ", ".join(name for name in files if name.startswith("vars/"))
-        place.put("play.yml", PLAYBOOK.format(files=listed, names=", ".join(names)).encode())
-        cases.check("how many files the repository has", len(files), 34)
-        before = played(place, str(playbook), 0)
-        cases.check("the playbook reads each", len(before), len(names) + 1)
-        # Vaults, the whole file, blocks, and the vaults with a block within.
-        total = 3 * FILES_OF_A_LABEL + 1 + 3 * 3 + 3 * 2
-        done = place.run(ROTATE, *secrets(place, 0), *secrets(place, 1, "new-"), ".")
-        cases.ended("the rotation", done, 0, summary(total))
-        cases.check("the playbook says the same", played(place, str(playbook), 1), before)
-        cases.ended("the check", place.run(CHECK, *secrets(place, 1), "."), 0, f"{total} decrypted, 0 not")
-        # Blocks within a vault are not found if the vault cannot be decrypted.
-        counts = f"0 decrypted, {total - len(LABELS)} not"
-        cases.ended("the old secrets decrypt none", place.run(CHECK, *secrets(place, 0), "."), 1, counts)
-        for label, (_, new) in LABELS.items():
-            vaults = [name for name in files if re.match(rf"vars/{label}\d", name)]
-            header = "1.1;AES256" if label == "default" else f"1.2;AES256;{label}"
-            first_lines = {place.get(name).partition(b"\n")[0] for name in vaults}
-            cases.check(f"{label}: the label", first_lines, {f"$ANSIBLE_VAULT;{header}".encode()})
-            shown = theirs(place, ansible, "view", *place.by_id(label, new), *vaults).stdout.decode()
-            wanted = [f"{label}{number}: text {number} of {label}" for number in range(FILES_OF_A_LABEL)]
-            cases.check(f"{label}: Ansible's tool decrypts each", shown.split("\n")[:-1], wanted)
-
-
-def many_vaults(cases: Companions) -> None:
-    """Prints how long it takes, and checks that a sample of the vaults is under the new secret."""
-    with cases.place() as place:
-        names = [f"{number}.yml" for number in range(cases.vaults)]
-        for name in names:
-            place.put(name, sealed("old", TEXT * 38))
-        begun = time.monotonic()
-        done = place.run(ROTATE, *to_new(place), ".")
-        took = time.monotonic() - begun
-        cases.ended("many vaults", done, 0, summary(len(names)))
-        sampled = names[:: max(1, len(names) // 10)]
-        cases.check("are rotated", {decrypted("new", place.get(name)) for name in sampled}, {TEXT * 38})
-        print(f"{len(names)} vaults of 1 KiB were rotated in {took:.1f} s")
-        if ansible := ansible_vault():
-            begun = time.monotonic()
-            theirs(place, ansible, "rekey", *place.by_file("new"), *place.by_file("old", "new-"), *names)
-            print(f"Ansible's tool rekeyed them in {time.monotonic() - begun:.1f} s, in one run")
-
-
-TESTS = [a_repository, many_vaults]
+def test_a_repository(place: Place) -> None:
+    ansible = needs_ansible()
+    playbook = Path(ansible).with_name("ansible-playbook")
+    needs(str(playbook))
+    files, names = make_repository(place, ansible)
+    listed = ", ".join(name for name in files if name.startswith("vars/"))
+    place.put("play.yml", PLAYBOOK.format(files=listed, names=", ".join(names)).encode())
+    assert len(files) == 34, "how many files the repository has"
+    before = played(place, str(playbook), 0)
+    assert len(before) == len(names) + 1, "the playbook reads each"
+    # Vaults, the whole file, blocks, and the vaults with a block within.
+    total = 3 * FILES_OF_A_LABEL + 1 + 3 * 3 + 3 * 2
+    done = place.run(ROTATE, *secrets(place, 0), *secrets(place, 1, "new-"), ".")
+    ended("the rotation", done, 0, summary(total))
+    assert played(place, str(playbook), 1) == before, "the playbook says the same"
+    ended("the check", place.run(CHECK, *secrets(place, 1), "."), 0, f"{total} decrypted, 0 not")
+    # Blocks within a vault are not found if the vault cannot be decrypted.
+    counts = f"0 decrypted, {total - len(LABELS)} not"
+    ended("the old secrets decrypt none", place.run(CHECK, *secrets(place, 0), "."), 1, counts)
+    for label, (_, new) in LABELS.items():
+        vaults = [name for name in files if re.match(rf"vars/{label}\d", name)]
+        header = "1.1;AES256" if label == "default" else f"1.2;AES256;{label}"
+        first_lines = {place.get(name).partition(b"\n")[0] for name in vaults}
+        assert first_lines == {f"$ANSIBLE_VAULT;{header}".encode()}, f"{label}: the label"
+        shown = theirs(place, ansible, "view", *place.by_id(label, new), *vaults).stdout.decode()
+        wanted = [f"{label}{number}: text {number} of {label}" for number in range(FILES_OF_A_LABEL)]
+        assert shown.split("\n")[:-1] == wanted, f"{label}: Ansible's tool decrypts each"

@@ -3,7 +3,9 @@
 import os
 import re
 
-from companion_cases import CHECK, ROTATE, TEXT, TEXTCONV, Companions, block, decrypted, sealed
+import pytest
+
+from companion_cases import CHECK, ROTATE, TEXT, TEXTCONV, Companions, Place, block, decrypted, ended, sealed
 from companion_cases.rotating import summary, to_new
 
 
@@ -22,7 +24,7 @@ FILES = {
     "CR LF": (b"---\r\na: !vault |\r\n" + lines_of(sealed("old"), 6, b"\r\n") + b"\r\nb: 1\r\n", 1),
     "CR LF and no last line end": (b"a: !vault |\r\n" + lines_of(sealed("old"), 2, b"\r\n"), 1),
     "lists": (b"a:\n  - !vault |\n" + lines_of(sealed("old"), 4) + b"\n  - b\n  - - !vault |\n" + BODY + b"\n", 2),
-    "quoted keys": (b"\"a: b\": !vault |\n" + BODY + b"\n'it''s': !vault |\n" + BODY + b"\n", 2),
+    "quoted keys": (b'"a: b": !vault |\n' + BODY + b"\n'it''s': !vault |\n" + BODY + b"\n", 2),
     "any depth": (DEEP + b" " * 30 + b"b: !vault |\n" + lines_of(sealed("old"), 31) + b"\n", 1),
     "marks": (
         b"a: !vault |-\n" + BODY + b"\nb: !vault |+\n" + BODY + b"\nc: !vault |2-   # why\n" + LABELLED + b"\n",
@@ -59,36 +61,34 @@ def texts(data: bytes, password: str) -> list[bytes | None]:
     return [decrypted(password, each + b"\n") for each in found]
 
 
-def around(cases: Companions) -> None:
-    with cases.place() as place:
-        for name, (content, count) in FILES.items():
-            place.put(name, content)
-        done = place.run(ROTATE, *to_new(place), ".")
-        cases.ended("blocks", done, 0, summary(sum(count for _, count in FILES.values())))
-        for name, (content, count) in FILES.items():
-            after = place.get(name)
-            around = without_digits(content).replace(b"1.2;AES256;default", b"1.1;AES256")
-            cases.check(f"{name}: all around stays", without_digits(after), around)
-            cases.check(f"{name}: the blocks are rotated", texts(after, "new"), [TEXT] * count)
+def test_around(place: Place) -> None:
+    for name, (content, count) in FILES.items():
+        place.put(name, content)
+    done = place.run(ROTATE, *to_new(place), ".")
+    ended("blocks", done, 0, summary(sum(count for _, count in FILES.values())))
+    for name, (content, count) in FILES.items():
+        after = place.get(name)
+        around = without_digits(content).replace(b"1.2;AES256;default", b"1.1;AES256")
+        assert without_digits(after) == around, f"{name}: all around stays"
+        assert texts(after, "new") == [TEXT] * count, f"{name}: the blocks are rotated"
 
 
-def mixed(cases: Companions) -> None:
+def test_mixed(place: Place) -> None:
     """A block that cannot be decrypted stays, and the others are still rotated."""
     stray = block("dev", name="stray")
     content = block("old", name="a") + stray + block("prod", label="prod", name="b") + block("old", name="c") + b"d: 1"
-    with cases.place() as place:
-        place.put("vars.yml", content)
-        done = place.run(ROTATE, *to_new(place), "vars.yml")
-        line = 1 + block("old").count(b"\n") + 1
-        parts = [f"vars.yml:{line}: no secret decrypts this vault", "vars.yml: 2 blocks rotated"]
-        cases.ended("a stray block", done, 1, *parts, summary(2, 0, 1, " (prod 1)", 1))
-        after = place.get("vars.yml")
-        cases.check("all around stays", without_digits(after), without_digits(content))
-        cases.holds("the strays stay", stray in after and block("prod", label="prod", name="b") in after)
-        cases.check("the others are rotated", [texts(after, "new")[index] for index in (0, 3)], [TEXT, TEXT])
+    place.put("vars.yml", content)
+    done = place.run(ROTATE, *to_new(place), "vars.yml")
+    line = 1 + block("old").count(b"\n") + 1
+    parts = [f"vars.yml:{line}: no secret decrypts this vault", "vars.yml: 2 blocks rotated"]
+    ended("a stray block", done, 1, *parts, summary(2, 0, 1, " (prod 1)", 1))
+    after = place.get("vars.yml")
+    assert without_digits(after) == without_digits(content), "all around stays"
+    assert stray in after and block("prod", label="prod", name="b") in after, "the strays stay"
+    assert [texts(after, "new")[index] for index in (0, 3)] == [TEXT, TEXT], "the others are rotated"
 
 
-def no_blocks_of_lines(cases: Companions) -> None:
+def test_no_blocks_of_lines(cases: Companions) -> None:
     """Envelopes that cannot be put back as they stand are reported, and left as they are."""
     quoted = sealed("old", label="prod").replace(b"\n", b"\\n")
     wrapped = sealed("old").replace(b"\n", b"\n\n  ")
@@ -102,17 +102,17 @@ def no_blocks_of_lines(cases: Companions) -> None:
         "a merge": b"a: !vault |\n" + BODY[:300] + b"\n<<<<<<< ours\n" + BODY[300:] + b"\n",
     }
     for name, content in forms.items():
-        with cases.place() as place:
-            place.put("vars.yml", content)
-            both = [*to_new(place), *place.by_id("prod", "new", "new-")]
-            cases.ended(name, place.run(ROTATE, *both, "."), 1, "./vars.yml:", summary(0, failed=1))
-            cases.check(f"{name}: it stays", place.get("vars.yml"), content)
-            if b";prod" in content:
-                place.put("a.yml", sealed("old"))
-                done = place.run(ROTATE, *to_new(place), ".")
-                cases.ended(f"{name}: another label", done, 0, summary(1, 0, 1, " (prod 1)"))
-            done = place.run(CHECK, *place.by_file("old"), "vars.yml")
-            cases.ended(f"{name}: it is not passed over", done, 1, "0 decrypted, 1 not")
+        place = cases.place()
+        place.put("vars.yml", content)
+        both = [*to_new(place), *place.by_id("prod", "new", "new-")]
+        ended(name, place.run(ROTATE, *both, "."), 1, "./vars.yml:", summary(0, failed=1))
+        assert place.get("vars.yml") == content, f"{name}: it stays"
+        if b";prod" in content:
+            place.put("a.yml", sealed("old"))
+            done = place.run(ROTATE, *to_new(place), ".")
+            ended(f"{name}: another label", done, 0, summary(1, 0, 1, " (prod 1)"))
+        done = place.run(CHECK, *place.by_file("old"), "vars.yml")
+        ended(f"{name}: it is not passed over", done, 1, "0 decrypted, 1 not")
 
 
 # A run of this command waits for another one.
@@ -124,29 +124,25 @@ if [ "$1" = {} ]; then
 fi"""
 
 
-def at_once(cases: Companions) -> None:
+def test_at_once(cases: Companions) -> None:
     """Blocks of one file are decrypted and encrypted at once; a secret that is refused is reported once."""
     content = b"".join(block("old", b"text", name=f"n{number}") for number in range(8))
-    with cases.place() as place:
-        place.put("vars.yml", content)
-        place.wrap_tool(MEET.format("encrypt"))
-        done = place.run(ROTATE, *to_new(place), "--jobs", "2", ".")
-        cases.ended("rotate", done, 0, "./vars.yml: 8 blocks rotated", summary(8))
-        cases.check("they are rotated", texts(place.get("vars.yml"), "new"), [b"text"] * 8)
+    place = cases.place()
+    place.put("vars.yml", content)
+    place.wrap_tool(MEET.format("encrypt"))
+    done = place.run(ROTATE, *to_new(place), "--jobs", "2", ".")
+    ended("rotate", done, 0, "./vars.yml: 8 blocks rotated", summary(8))
+    assert texts(place.get("vars.yml"), "new") == [b"text"] * 8, "they are rotated"
     if len(os.sched_getaffinity(0)) < 2:
-        cases.skip("textconv at once", "there is one processor")
-        return
+        pytest.skip("there is one processor")
     shown = "".join(f"n{number}: !vault |-\n  text\n" for number in range(8))
-    with cases.place() as place:
-        place.put("vars.yml", content)
-        place.wrap_tool(MEET.format("view"))
-        done = place.run(TEXTCONV, *place.by_file("old"), "vars.yml")
-        cases.check("textconv", (done.returncode, done.stdout), (0, shown))
-    with cases.place() as place:
-        place.put("vars.yml", content)
-        done = place.run(TEXTCONV, *place.by_file("missing"), *place.by_file("old"), "vars.yml")
-        cases.check("textconv with a secret that is missing", (done.returncode, done.stdout), (0, shown))
-        cases.check("what is refused", done.stderr.count("missing: a password file cannot be opened"), 1)
-
-
-TESTS = [around, mixed, no_blocks_of_lines, at_once]
+    place = cases.place()
+    place.put("vars.yml", content)
+    place.wrap_tool(MEET.format("view"))
+    done = place.run(TEXTCONV, *place.by_file("old"), "vars.yml")
+    assert (done.returncode, done.stdout) == (0, shown), "textconv"
+    place = cases.place()
+    place.put("vars.yml", content)
+    done = place.run(TEXTCONV, *place.by_file("missing"), *place.by_file("old"), "vars.yml")
+    assert (done.returncode, done.stdout) == (0, shown), "textconv with a secret that is missing"
+    assert done.stderr.count("missing: a password file cannot be opened") == 1, "what is refused"

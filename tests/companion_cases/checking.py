@@ -1,93 +1,84 @@
 """ansible-vault-check, the help of all, and what they say of themselves."""
 
-from companion_cases import CHECK, COMPANIONS, TEXT, Companions, block, sealed
+from companion_cases import CHECK, COMPANIONS, TEXT, Place, block, ended, sealed
 from lib.paths import version
 
 
-def labels_and_secrets(cases: Companions) -> None:
-    with cases.place() as place:
-        place.put("a.yml", sealed("old"))
-        place.put("b.yml", sealed("prod", label="prod"))
-        place.put("c.yml", b"x: 1\n" + block("dev", label="dev") + block("prod", label="strange"))
-        place.put("d.yml", sealed("old", label="prod"))
-        secrets = [*place.by_id("dev", "dev"), *place.by_id("prod", "prod"), *place.by_file("old")]
-        before = place.files()
-        done = place.run(CHECK, *secrets, ".")
-        dev, prod, old = secrets[1::2]
-        line = 3 + block("dev", label="dev").count(b"\n")
-        wanted = [
-            f"./a.yml: default: decrypted by {old}",
-            f"./b.yml: prod: decrypted by {prod}",
-            f"./c.yml:3: secret: dev: decrypted by {dev}",
-            f"./c.yml:{line}: secret: strange: decrypted by {prod}",
-            f"./d.yml: prod: decrypted by {old}",
-            "5 decrypted, 0 not",
-        ]
-        cases.check("labels and secrets", (done.returncode, done.stdout.splitlines(), done.stderr), (0, wanted, ""))
-        cases.check("nothing is written", place.files(), before)
+def test_labels_and_secrets(place: Place) -> None:
+    place.put("a.yml", sealed("old"))
+    place.put("b.yml", sealed("prod", label="prod"))
+    place.put("c.yml", b"x: 1\n" + block("dev", label="dev") + block("prod", label="strange"))
+    place.put("d.yml", sealed("old", label="prod"))
+    secrets = [*place.by_id("dev", "dev"), *place.by_id("prod", "prod"), *place.by_file("old")]
+    before = place.files()
+    done = place.run(CHECK, *secrets, ".")
+    dev, prod, old = secrets[1::2]
+    line = 3 + block("dev", label="dev").count(b"\n")
+    wanted = [
+        f"./a.yml: default: decrypted by {old}",
+        f"./b.yml: prod: decrypted by {prod}",
+        f"./c.yml:3: secret: dev: decrypted by {dev}",
+        f"./c.yml:{line}: secret: strange: decrypted by {prod}",
+        f"./d.yml: prod: decrypted by {old}",
+        "5 decrypted, 0 not",
+    ]
+    assert (done.returncode, done.stdout.splitlines(), done.stderr) == (0, wanted, ""), "labels and secrets"
+    assert place.files() == before, "nothing is written"
 
 
-def the_label_comes_first(cases: Companions) -> None:
+def test_the_label_comes_first(place: Place) -> None:
     """If two secrets decrypt a vault, the one with its label is reported, since the tool tries that first."""
-    with cases.place() as place:
-        place.put("a.yml", sealed("prod", label="prod"))
-        done = place.run(CHECK, *place.by_file("prod"), *place.by_id("prod", "prod"), "a.yml")
-        cases.ended("the label first", done, 0, f"a.yml: prod: decrypted by prod@{place.secret('prod')}\n")
+    place.put("a.yml", sealed("prod", label="prod"))
+    done = place.run(CHECK, *place.by_file("prod"), *place.by_id("prod", "prod"), "a.yml")
+    ended("the label first", done, 0, f"a.yml: prod: decrypted by prod@{place.secret('prod')}\n")
 
 
-def what_cannot_be_decrypted(cases: Companions) -> None:
-    with cases.place() as place:
-        place.put("a.yml", sealed("old"))
-        place.put("b.yml", block("dev", label="dev"))
-        done = place.run(CHECK, *place.by_file("old"), ".")
-        why = "./b.yml:2: secret: dev: no secret decrypts this vault\n"
-        cases.ended("a wrong password", done, 1, why, "1 decrypted, 1 not\n")
-        cases.check("is reported on standard error", done.stderr, why)
-        done = place.run(CHECK, *place.by_file("old"), "a.yml", "missing")
-        cases.ended("what is not there", done, 1, "missing: No such file or directory", "1 decrypted, 1 not")
-        done = place.run(CHECK, *place.by_file("missing"), ".")
-        cases.ended("a password file that is not there", done, 1, "missing: a password file cannot be opened")
-        place.put("closed.yml", sealed("old"), 0o000)
-        done = place.as_nobody(CHECK, *place.by_file("old"), ".")
-        cases.ended("what cannot be read", done, 1, "closed.yml: Permission")
-        place.put("header.yml", b"$ANSIBLE_VAULT\x1b[31m;1.1\n")
-        cases.ended("a header", place.run(CHECK, *place.by_file("old"), "header.yml"), 1, "header.yml: no label: vault")
+def test_what_cannot_be_decrypted(place: Place) -> None:
+    place.put("a.yml", sealed("old"))
+    place.put("b.yml", block("dev", label="dev"))
+    done = place.run(CHECK, *place.by_file("old"), ".")
+    why = "./b.yml:2: secret: dev: no secret decrypts this vault\n"
+    ended("a wrong password", done, 1, why, "1 decrypted, 1 not\n")
+    assert done.stderr == why, "is reported on standard error"
+    done = place.run(CHECK, *place.by_file("old"), "a.yml", "missing")
+    ended("what is not there", done, 1, "missing: No such file or directory", "1 decrypted, 1 not")
+    done = place.run(CHECK, *place.by_file("missing"), ".")
+    ended("a password file that is not there", done, 1, "missing: a password file cannot be opened")
+    place.put("closed.yml", sealed("old"), 0o000)
+    done = place.as_nobody(CHECK, *place.by_file("old"), ".")
+    ended("what cannot be read", done, 1, "closed.yml: Permission")
+    place.put("header.yml", b"$ANSIBLE_VAULT\x1b[31m;1.1\n")
+    ended("a header", place.run(CHECK, *place.by_file("old"), "header.yml"), 1, "header.yml: no label: vault")
 
 
-def nothing(cases: Companions) -> None:
-    with cases.place() as place:
-        place.put("plain.yml", TEXT)
-        done = place.run(CHECK, *place.by_file("old"), ".")
-        cases.check("nothing", (done.returncode, done.stdout, done.stderr), (0, "0 decrypted, 0 not\n", ""))
-        for words in ([], ["."], place.by_file("old"), [*place.by_file("old"), "--loud", "."]):
-            cases.ended(f"{words}", place.run(CHECK, *words), 2, "usage: ansible-vault-check")
+def test_nothing(place: Place) -> None:
+    place.put("plain.yml", TEXT)
+    done = place.run(CHECK, *place.by_file("old"), ".")
+    assert (done.returncode, done.stdout, done.stderr) == (0, "0 decrypted, 0 not\n", ""), "nothing"
+    for words in ([], ["."], place.by_file("old"), [*place.by_file("old"), "--loud", "."]):
+        ended(f"{words}", place.run(CHECK, *words), 2, "usage: ansible-vault-check")
 
 
-def no_plaintext(cases: Companions) -> None:
-    with cases.place() as place:
-        place.put("a.yml", sealed("old"))
-        place.put("b.yml", sealed("old", label="\x1b[2J"))
-        done = place.run(CHECK, *place.by_file("old"), ".")
-        cases.check("no plaintext is printed", "horse" in done.stdout + done.stderr, False)
-        cases.check("and nothing that a terminal would obey", "\x1b" in done.stdout + done.stderr, False)
+def test_no_plaintext(place: Place) -> None:
+    place.put("a.yml", sealed("old"))
+    place.put("b.yml", sealed("old", label="\x1b[2J"))
+    done = place.run(CHECK, *place.by_file("old"), ".")
+    assert "horse" not in done.stdout + done.stderr, "no plaintext is printed"
+    assert "\x1b" not in done.stdout + done.stderr, "and nothing that a terminal would obey"
 
 
-def help_of_each(cases: Companions) -> None:
-    with cases.place() as place:
-        names = sorted(each.name for each in COMPANIONS.glob("ansible-vault-*"))
-        cases.check("there are seven", len(names), 7)
-        for name in names:
-            for word in ("--help", "-h"):
-                done = place.run(name, word)
-                example = f"Example:\n  {name} "
-                parts = [f"usage: {name}", example, "Exit status: 0", "This program is tested, not proved"]
-                cases.ended(f"{name} {word}", done, 0, *parts)
-                wide = [line for line in done.stdout.splitlines() if len(line) > 80]
-                cases.check(f"{name}: the help is no wider than a terminal", (wide, done.stderr), ([], ""))
-            for word in ("--version", "-V"):
-                done = place.run(name, word)
-                found = (done.returncode, done.stdout, done.stderr)
-                cases.check(f"{name} {word}", found, (0, f"{name} {version()}\n", ""))
-
-
-TESTS = [labels_and_secrets, the_label_comes_first, what_cannot_be_decrypted, nothing, no_plaintext, help_of_each]
+def test_help_of_each(place: Place) -> None:
+    names = sorted(each.name for each in COMPANIONS.glob("ansible-vault-*"))
+    assert len(names) == 7, "there are seven"
+    for name in names:
+        for word in ("--help", "-h"):
+            done = place.run(name, word)
+            example = f"Example:\n  {name} "
+            parts = [f"usage: {name}", example, "Exit status: 0", "This program is tested, not proved"]
+            ended(f"{name} {word}", done, 0, *parts)
+            wide = [line for line in done.stdout.splitlines() if len(line) > 80]
+            assert (wide, done.stderr) == ([], ""), f"{name}: the help is no wider than a terminal"
+        for word in ("--version", "-V"):
+            done = place.run(name, word)
+            found = (done.returncode, done.stdout, done.stderr)
+            assert found == (0, f"{name} {version()}\n", ""), f"{name} {word}"

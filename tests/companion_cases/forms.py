@@ -1,9 +1,11 @@
 """In which forms an envelope may stand in a file, and that none is passed over in silence."""
 
-import sys
 import time
 
-from companion_cases import CHECK, COMPANIONS, ROTATE, TEXT, Companions, block, decrypted, sealed
+import pytest
+
+from ansible_vault_companions import envelopes, leaks
+from companion_cases import CHECK, ROTATE, TEXT, Place, block, decrypted, ended, sealed
 from companion_cases.blocks import BODY, lines_of, texts
 from companion_cases.rotating import summary, to_new
 
@@ -27,46 +29,43 @@ REPORTED = {
 }
 
 
-def reported(cases: Companions) -> None:
-    for name, (content, why) in REPORTED.items():
-        with cases.place() as place:
-            place.put("vars.yml", content)
-            done = place.run(ROTATE, *to_new(place), ".")
-            cases.ended(f"{name}: rotated", done, 1, "./vars.yml", why, summary(0, failed=1))
-            cases.check(f"{name}: it stays", place.get("vars.yml"), content)
-            done = place.run(CHECK, *place.by_file("old"), ".")
-            cases.ended(f"{name}: checked", done, 1, "./vars.yml", why, "0 decrypted, 1 not")
+@pytest.mark.parametrize("name", REPORTED)
+def test_reported(place: Place, name: str) -> None:
+    content, why = REPORTED[name]
+    place.put("vars.yml", content)
+    done = place.run(ROTATE, *to_new(place), ".")
+    ended(f"{name}: rotated", done, 1, "./vars.yml", why, summary(0, failed=1))
+    assert place.get("vars.yml") == content, f"{name}: it stays"
+    done = place.run(CHECK, *place.by_file("old"), ".")
+    ended(f"{name}: checked", done, 1, "./vars.yml", why, "0 decrypted, 1 not")
 
 
-def several_in_a_line(cases: Companions) -> None:
+def test_several_in_a_line(place: Place) -> None:
     """Each is looked at, with its own label."""
     lines = [LINE, sealed("prod", label="prod").decode().replace("\n", "\\n")]
-    with cases.place() as place:
-        for name, order in (("a.json", lines), ("b.json", lines[::-1])):
-            place.put(name, "{{{}}}".format(", ".join(f'"x": "{line}"' for line in order)).encode())
-        place.put("c.json", f'{{"x": "{LINE}", "y": "{LINE}"}}'.encode())
-        done = place.run(ROTATE, *to_new(place), ".")
-        counts = summary(0, 0, 2, " (prod 2)", 4)
-        cases.ended("minified JSON", done, 1, "./a.json:1: ", "./b.json:1: ", "./c.json:1: ", counts)
+    for name, order in (("a.json", lines), ("b.json", lines[::-1])):
+        place.put(name, "{{{}}}".format(", ".join(f'"x": "{line}"' for line in order)).encode())
+    place.put("c.json", f'{{"x": "{LINE}", "y": "{LINE}"}}'.encode())
+    done = place.run(ROTATE, *to_new(place), ".")
+    counts = summary(0, 0, 2, " (prod 2)", 4)
+    ended("minified JSON", done, 1, "./a.json:1: ", "./b.json:1: ", "./c.json:1: ", counts)
 
 
-def taken_as_blocks(cases: Companions) -> None:
+def test_taken_as_blocks(place: Place) -> None:
     """A block within another text is one, too."""
     text = b"script: |\n  x: !vault |\n" + lines_of(sealed("old"), 6) + b"\n  y: 1\n"
-    with cases.place() as place:
-        place.put("vars.yml", text)
-        cases.ended("within a text", place.run(ROTATE, *to_new(place), "."), 0, "1 block rotated", summary(1))
-        cases.check("it is rotated", texts(place.get("vars.yml"), "new"), [TEXT])
+    place.put("vars.yml", text)
+    ended("within a text", place.run(ROTATE, *to_new(place), "."), 0, "1 block rotated", summary(1))
+    assert texts(place.get("vars.yml"), "new") == [TEXT], "it is rotated"
 
 
-def line_ends(cases: Companions) -> None:
+def test_line_ends(place: Place) -> None:
     """A vault keeps its line ends."""
-    with cases.place() as place:
-        place.put("a.yml", sealed("old").replace(b"\n", b"\r\n"))
-        cases.ended("CR LF", place.run(ROTATE, *to_new(place), "."), 0, summary(1))
-        after = place.get("a.yml")
-        cases.check("each line ends so", after.count(b"\r\n"), after.count(b"\n"))
-        cases.check("it is rotated", decrypted("new", after.replace(b"\r\n", b"\n")), TEXT)
+    place.put("a.yml", sealed("old").replace(b"\n", b"\r\n"))
+    ended("CR LF", place.run(ROTATE, *to_new(place), "."), 0, summary(1))
+    after = place.get("a.yml")
+    assert after.count(b"\r\n") == after.count(b"\n"), "each line ends so"
+    assert decrypted("new", after.replace(b"\r\n", b"\n")) == TEXT, "it is rotated"
 
 
 # Pieces of hostile files, of which each is repeated.
@@ -108,11 +107,9 @@ def seconds(work, data: bytes) -> float:
     return min(taken)
 
 
-def linear_time(cases: Companions) -> None:
+@pytest.mark.parametrize("piece", PIECES, ids=lambda piece: repr(piece[:40]))
+def test_linear_time(piece) -> None:
     """Eight times as long a file takes eight times as long, whatever it holds."""
-    sys.path.insert(0, str(COMPANIONS))
-    from ansible_vault_companions import envelopes, leaks
-
     start = b"x: !vault |\n  $ANSIBLE_VAULT;1.1;AES256\n  61\n"
     works = {
         "the envelopes": envelopes.envelopes,
@@ -122,12 +119,8 @@ def linear_time(cases: Companions) -> None:
         "a whole vault": lambda data: leaks.is_whole(b"$ANSIBLE_VAULT;1.1;AES256\n" + data),
         "conflict markers": leaks.is_unmerged,
     }
-    for piece in PIECES:
-        small = (piece * (SMALL // len(piece) + 1))[:SMALL]
-        for name, work in works.items():
-            times = [seconds(work, small), seconds(work, small * TIMES)]
-            # Below a few milliseconds the clock says little.
-            cases.holds(f"{name}: {piece[:30]!r}", times[1] < 0.02 or times[1] < MOST * times[0], repr(times))
-
-
-TESTS = [reported, several_in_a_line, taken_as_blocks, line_ends, linear_time]
+    small = (piece * (SMALL // len(piece) + 1))[:SMALL]
+    for name, work in works.items():
+        times = [seconds(work, small), seconds(work, small * TIMES)]
+        # Below a few milliseconds the clock says little.
+        assert times[1] < 0.02 or times[1] < MOST * times[0], f"{name}: {piece[:30]!r}"

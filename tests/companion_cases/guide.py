@@ -6,11 +6,13 @@ Each row of a table says what both do. Where they differ, as a row says then, An
 import re
 from typing import NamedTuple
 
+import pytest
+
 from companion_cases import PASSWORDS, TEXT, WITH, Companions, Place, sealed
 from companion_cases.both import for_ansible
 from companion_cases.running import described
 from companion_cases.terminal import Session, at_terminal
-from lib.ansible import ansible_vault
+from lib.needs import needs, needs_ansible
 
 # Password files of the guide.
 FILES = {"a_password_file": "dev", "multi_password_file": "prod", "ppold": "old", "dev-password": "dev", "new": "new"}
@@ -87,10 +89,7 @@ ROWS = [
     Row("rekey --encrypt-vault-id prod foo.yml", "takes the new secret of the settings", "dev", before=LIST),
     Row("decrypt foo.yml bar.yml baz.yml", "asks once, and decrypts all in place", "old", [(OLD, "old")]),
     Row("decrypt --vault-id dev@a_password_file --output - foo.yml", "writes to standard output", "dev"),
-    Row(
-        "encrypt_string --vault-password-file a_password_file 'foobar' --name 'the_secret'",
-        "makes a block",
-    ),
+    Row("encrypt_string --vault-password-file a_password_file 'foobar' --name 'the_secret'", "makes a block"),
     Row(f"encrypt_string {DEV} 'foooodev' --name 'the_dev_secret'", "makes a block with a label"),
     Row(f"encrypt_string {DEV} --stdin-name 'db_password' <<< letmein", "reads standard input"),
     Row(f"encrypt_string {DEV} 'first' 'second' --name one --name two", "makes two blocks"),
@@ -158,27 +157,20 @@ def blocks(data: bytes) -> list[tuple]:
     return [(part.partition(b"\n")[0] if b"!vault" in part else b"", described(part)) for part in parts if part]
 
 
-def lines(cases: Companions) -> None:
-    ansible = ansible_vault()
-    if not ansible:
-        cases.skip("what Ansible's tool does", "it is not installed")
-    if not cases.needs("an alias", "bash"):
-        return
-    for row in ROWS:
-        what = f"{row.line}: {row.does}"
-        with cases.place() as place:
-            session = run(place, WITH, row)
-            ours = outcome(place, session)
-            cases.check(f"{what}: status ({session.stderr} {session.shown})", ours[0], True)
-        if not ansible:
-            continue
-        with cases.place() as place, for_ansible(place):
-            session = run(place, ansible, row._replace(typed=[]) if row.refused else row)
-            theirs = outcome(place, session)
-        if row.refused:
-            cases.holds(f"{row.line}: Ansible's tool refuses it", row.refused in session.stderr, session.stderr)
-        else:
-            cases.check(f"{what}: as Ansible's tool ({session.stderr})", ours, theirs)
-
-
-TESTS = [lines]
+@pytest.mark.parametrize("row", ROWS)
+def test_lines(cases: Companions, row) -> None:
+    needs("bash")
+    what = f"{row.line}: {row.does}"
+    place = cases.place()
+    session = run(place, WITH, row)
+    ours = outcome(place, session)
+    assert ours[0] is True, f"{what}: status ({session.stderr} {session.shown})"
+    ansible = needs_ansible()
+    place = cases.place()
+    with for_ansible(place):
+        session = run(place, ansible, row._replace(typed=[]) if row.refused else row)
+        theirs = outcome(place, session)
+    if row.refused:
+        assert row.refused in session.stderr, f"{row.line}: Ansible's tool refuses it"
+    else:
+        assert ours == theirs, f"{what}: as Ansible's tool ({session.stderr})"

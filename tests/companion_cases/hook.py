@@ -2,8 +2,12 @@
 
 import os
 
-from companion_cases import AWKWARD, HOOK, TEXT, Companions, Place, block, sealed
+import pytest
+
+from companion_cases import AWKWARD, HOOK, TEXT, Place, block, ended, sealed, silent
 from companion_cases.repository import add_and_commit, commit, under_git
+
+pytestmark = pytest.mark.usefixtures("git")
 
 ATTRIBUTES = "*.vault.yml diff=ansible-vault\nsecrets/** ansible-vault\n"
 
@@ -14,10 +18,10 @@ def with_hook(place: Place) -> None:
     (place.tree / ".git/hooks/pre-commit").symlink_to(place.tools / HOOK)
 
 
-def refused(cases: Companions, what: str, done, *names: str, why: str = "is not encrypted", hint: str = "") -> None:
+def refused(what: str, done, *names: str, why: str = "is not encrypted", hint: str = "") -> None:
     """Each name with the reason, and with the hint below it."""
     lines = [line for name in names for line in (f"ansible-vault-hook: {name} {why}", hint) if line]
-    cases.check(what, (done.returncode, done.stderr.splitlines()), (1, lines))
+    assert (done.returncode, done.stderr.splitlines()) == (1, lines), what
 
 
 def unmarking(name: str) -> str:
@@ -25,114 +29,96 @@ def unmarking(name: str) -> str:
     return f"  encrypt it, or unmark it by a last line of .gitattributes: /{name} !diff !ansible-vault"
 
 
-def what_is_refused(cases: Companions) -> None:
+def test_what_is_refused(place: Place) -> None:
     damaged = {
         "plaintext below": sealed("old") + TEXT,
         "a merge": sealed("old").replace(b"\n", b"\n<<<<<<< ours\n", 1),
         "a word alone": b"$ANSIBLE_VAULT\npassword: plain\n",
     }
-    with cases.place() as place:
-        with_hook(place)
-        place.put("db.vault.yml", TEXT)
-        place.put("secrets/key", b"key\n")
-        place.put("other.yml", TEXT)
-        refused(cases, "plaintext at first", add_and_commit(place), "db.vault.yml", "secrets/key")
-        place.put("db.vault.yml", sealed("old"))
-        place.put("secrets/key", sealed("old").replace(b"\n", b"\r\n"))
-        cases.silent("vaults", add_and_commit(place))
-        for what, content in damaged.items():
-            place.put("db.vault.yml", content)
-            refused(cases, what, add_and_commit(place), "db.vault.yml", why="is a damaged vault")
-        place.put("db.vault.yml", b"")
-        refused(cases, "an empty file", add_and_commit(place), "db.vault.yml")
+    with_hook(place)
+    place.put("db.vault.yml", TEXT)
+    place.put("secrets/key", b"key\n")
+    place.put("other.yml", TEXT)
+    refused("plaintext at first", add_and_commit(place), "db.vault.yml", "secrets/key")
+    place.put("db.vault.yml", sealed("old"))
+    place.put("secrets/key", sealed("old").replace(b"\n", b"\r\n"))
+    silent("vaults", add_and_commit(place))
+    for what, content in damaged.items():
+        place.put("db.vault.yml", content)
+        refused(what, add_and_commit(place), "db.vault.yml", why="is a damaged vault")
+    place.put("db.vault.yml", b"")
+    refused("an empty file", add_and_commit(place), "db.vault.yml")
 
 
-def what_is_staged(cases: Companions) -> None:
+def test_what_is_staged(place: Place) -> None:
     """Not what stands in the folder."""
-    with cases.place() as place:
-        with_hook(place)
-        place.put("a.vault.yml", TEXT)
-        place.shell("git add -A")
-        place.put("a.vault.yml", sealed("old"))
-        refused(cases, "plaintext is staged", commit(place), "a.vault.yml")
-        place.shell("git add -A")
-        place.put("a.vault.yml", TEXT)
-        cases.silent("a vault is staged", commit(place))
-        refused(cases, "commit -a", commit(place, "-a"), "a.vault.yml")
-        refused(cases, "a path", commit(place, "a.vault.yml"), "a.vault.yml")
-        place.shell("git checkout -q . && git rm -q a.vault.yml")
-        cases.silent("a removal", commit(place))
-        place.put(".gitattributes", b"")
-        place.put("b.vault.yml", TEXT)
-        place.shell("git add -A")
-        place.put(".gitattributes", ATTRIBUTES.encode())
-        cases.silent("attributes are those that are staged", commit(place))
+    with_hook(place)
+    place.put("a.vault.yml", TEXT)
+    place.shell("git add -A")
+    place.put("a.vault.yml", sealed("old"))
+    refused("plaintext is staged", commit(place), "a.vault.yml")
+    place.shell("git add -A")
+    place.put("a.vault.yml", TEXT)
+    silent("a vault is staged", commit(place))
+    refused("commit -a", commit(place, "-a"), "a.vault.yml")
+    refused("a path", commit(place, "a.vault.yml"), "a.vault.yml")
+    place.shell("git checkout -q . && git rm -q a.vault.yml")
+    silent("a removal", commit(place))
+    place.put(".gitattributes", b"")
+    place.put("b.vault.yml", TEXT)
+    place.shell("git add -A")
+    place.put(".gitattributes", ATTRIBUTES.encode())
+    silent("attributes are those that are staged", commit(place))
 
 
-def links(cases: Companions) -> None:
+def test_links(place: Place) -> None:
     """git keeps the name in a link, and no content."""
-    with cases.place() as place:
-        with_hook(place)
-        place.put("all.vault.yml", sealed("old"))
-        (place.tree / "link.vault.yml").symlink_to("all.vault.yml")
-        (place.tree / "dangling.vault.yml").symlink_to("nowhere")
-        cases.silent("links", add_and_commit(place))
-        os.unlink(place.tree / "link.vault.yml")
-        place.put("link.vault.yml", TEXT)
-        hint = unmarking("link.vault.yml")
-        refused(cases, "a file in the place of a link", add_and_commit(place), "link.vault.yml", hint=hint)
+    with_hook(place)
+    place.put("all.vault.yml", sealed("old"))
+    (place.tree / "link.vault.yml").symlink_to("all.vault.yml")
+    (place.tree / "dangling.vault.yml").symlink_to("nowhere")
+    silent("links", add_and_commit(place))
+    os.unlink(place.tree / "link.vault.yml")
+    place.put("link.vault.yml", TEXT)
+    hint = unmarking("link.vault.yml")
+    refused("a file in the place of a link", add_and_commit(place), "link.vault.yml", hint=hint)
 
 
-def blocks(cases: Companions) -> None:
+def test_blocks(place: Place) -> None:
     """YAML with blocks is refused where only a vault will do."""
-    with cases.place() as place:
-        with_hook(place)
-        place.put("vars.vault.yml", b"plain: 1\n" + block("old"))
-        cases.silent("diff=ansible-vault", add_and_commit(place))
-        place.put("secrets/vars.yml", block("old"))
-        refused(cases, "ansible-vault", add_and_commit(place), "secrets/vars.yml")
+    with_hook(place)
+    place.put("vars.vault.yml", b"plain: 1\n" + block("old"))
+    silent("diff=ansible-vault", add_and_commit(place))
+    place.put("secrets/vars.yml", block("old"))
+    refused("ansible-vault", add_and_commit(place), "secrets/vars.yml")
 
 
-def awkward_names(cases: Companions) -> None:
-    with cases.place() as place:
-        with_hook(place)
-        for name in AWKWARD:
-            place.put(f"secrets/{name}", TEXT)
-        done = add_and_commit(place)
-        lines = done.stderr.splitlines()
-        cases.check("each is refused", (done.returncode, len(lines)), (1, len(AWKWARD)))
-        is_spelled = any("'secrets/a\\nline.yml' is not" in line for line in lines)
-        cases.holds("a line end is spelled out", is_spelled, done.stderr)
-        for name in AWKWARD:
-            place.put(f"secrets/{name}", sealed("old"))
-        cases.silent("each is let through", add_and_commit(place))
+def test_awkward_names(place: Place) -> None:
+    with_hook(place)
+    for name in AWKWARD:
+        place.put(f"secrets/{name}", TEXT)
+    done = add_and_commit(place)
+    lines = done.stderr.splitlines()
+    assert (done.returncode, len(lines)) == (1, len(AWKWARD)), "each is refused"
+    is_spelled = any("'secrets/a\\nline.yml' is not" in line for line in lines)
+    assert is_spelled, ("a line end is spelled out", done.stderr)
+    for name in AWKWARD:
+        place.put(f"secrets/{name}", sealed("old"))
+    silent("each is let through", add_and_commit(place))
 
 
-def where_it_runs(cases: Companions) -> None:
-    with cases.place() as place:
-        with_hook(place)
-        place.put("inner/a.vault.yml", TEXT)
-        place.shell("git add -A")
-        refused(cases, "below the top", commit(place, folder="inner"), "inner/a.vault.yml")
-        refused(cases, "by hand", place.shell(HOOK, folder="inner"), "inner/a.vault.yml")
-        place.shell("git config diff.relative true && git config diff.renames copies && git config core.quotePath true")
-        refused(cases, "with other settings", place.shell(HOOK, folder="inner"), "inner/a.vault.yml")
-        place.put("inner/a.vault.yml", sealed("old"))
-        cases.silent("a vault", add_and_commit(place))
-        place.shell("git mv inner b.vault && git worktree add -q ../second && echo plain > ../second/c.vault.yml")
-        done = place.shell("cd ../second && git add c.vault.yml && git commit -qm second")
-        refused(cases, "another worktree", done, "c.vault.yml")
-        cases.ended("no repository", place.shell(f"cd .. && {HOOK}"), 1, "git rev-parse failed")
-        cases.ended("a word", place.run(HOOK, "word"), 2, "usage: ansible-vault-hook")
-
-
-def all_of_git(group):
-    def with_git(cases: Companions) -> None:
-        if cases.needs(f"the hook: {group.__name__}", "git"):
-            group(cases)
-
-    with_git.__name__ = group.__name__
-    return with_git
-
-
-TESTS = [*map(all_of_git, [what_is_refused, what_is_staged, links, blocks, awkward_names, where_it_runs])]
+def test_where_it_runs(place: Place) -> None:
+    with_hook(place)
+    place.put("inner/a.vault.yml", TEXT)
+    place.shell("git add -A")
+    refused("below the top", commit(place, folder="inner"), "inner/a.vault.yml")
+    refused("by hand", place.shell(HOOK, folder="inner"), "inner/a.vault.yml")
+    place.shell("git config diff.relative true && git config diff.renames copies && git config core.quotePath true")
+    refused("with other settings", place.shell(HOOK, folder="inner"), "inner/a.vault.yml")
+    place.put("inner/a.vault.yml", sealed("old"))
+    silent("a vault", add_and_commit(place))
+    place.shell("git mv inner b.vault && git worktree add -q ../second && echo plain > ../second/c.vault.yml")
+    done = place.shell("cd ../second && git add c.vault.yml && git commit -qm second")
+    refused("another worktree", done, "c.vault.yml")
+    ended("no repository", place.shell(f"cd .. && {HOOK}"), 1, "git rev-parse failed")
+    ended("a word", place.run(HOOK, "word"), 2, "usage: ansible-vault-hook")

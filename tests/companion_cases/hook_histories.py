@@ -8,10 +8,14 @@ import os
 import random
 from collections import Counter
 
+import pytest
+
 from companion_cases import HOOK, Companions, Place
 from companion_cases.histories import Commit, History, Secret
-from companion_cases.hook import all_of_git
 from companion_cases.repository import under_git
+from lib.needs import needs_pyyaml
+
+pytestmark = pytest.mark.usefixtures("git")
 
 SEED = 61
 HISTORIES = int(os.environ.get("HISTORIES", "20"))
@@ -19,7 +23,7 @@ HISTORIES = int(os.environ.get("HISTORIES", "20"))
 COMMITS = 3
 
 
-def check_history(cases: Companions, place: Place, number: int, counts: Counter[str]) -> None:
+def check_history(place: Place, number: int, counts: Counter[str]) -> None:
     history = History(place, random.Random(f"{SEED} {number}"))
     first = history.start()
     ours, theirs = history.grow(first, COMMITS), history.grow(first, COMMITS)
@@ -29,14 +33,14 @@ def check_history(cases: Companions, place: Place, number: int, counts: Counter[
     lines = refusals(place, "--since", first.name)
     refused = {line.partition(":")[0] for line in lines if line.endswith("in the parent commit")}
     for commit in history.commits[1:]:
-        judge(cases, what, commit, commit.name[:10] in refused, counts)
+        judge(what, commit, commit.name[:10] in refused, counts)
     for name in {*now_plain(first, last)}:
         counts["plaintext at the end of a range"] += 1
-        cases.holds(f"{what}: --since refuses {name}", any(f": {name} " in line for line in lines), f"{lines}")
+        assert any(f": {name} " in line for line in lines), (f"{what}: --since refuses {name}", f"{lines}")
     lines = refusals(place, "--all")
     for name in {each for commit in ancestors(last) for each in now_plain(commit, last, with_values=False)}:
         counts["plaintext where a vault was in an ancestor"] += 1
-        cases.holds(f"{what}: --all refuses {name}", any(line.startswith(f"{name} ") for line in lines), f"{lines}")
+        assert any(line.startswith(f"{name} ") for line in lines), (f"{what}: --all refuses {name}", f"{lines}")
 
 
 def refusals(place: Place, *words: str) -> list[str]:
@@ -47,20 +51,20 @@ def refusals(place: Place, *words: str) -> list[str]:
     return lines
 
 
-def judge(cases: Companions, what: str, commit: Commit, is_refused: bool, counts: Counter[str]) -> None:
+def judge(what: str, commit: Commit, is_refused: bool, counts: Counter[str]) -> None:
     """A commit by what the oracle knows of it."""
     operations = {commit.leaked_by.get(each, "a merge") for each in commit.leaks()}
     about = f"{what}, {commit.name[:10]}, {', '.join(commit.operations)}"
     if any(each.startswith("leak_") and each != "leak_in_two_commits" for each in operations):
         counts["leaks"] += 1
-        cases.holds(f"{about}: it leaks and is refused", is_refused)
+        assert is_refused, f"{about}: it leaks and is refused"
     elif operations:
         counts[f"leaks that are listed as not seen, {'' if is_refused else 'not '}refused"] += 1
     elif any(each.startswith("leak_") for each in commit.operations) or len(commit.parents) > 1:
         counts[f"merges, and what leaked before, {'' if is_refused else 'not '}refused"] += 1
     elif len(commit.operations) == 1:
         counts["single changes without a leak"] += 1
-        cases.holds(f"{about}: it leaks nothing and passes", not is_refused)
+        assert not is_refused, f"{about}: it leaks nothing and passes"
     else:
         counts[f"several changes without a leak, {'' if is_refused else 'not '}refused"] += 1
 
@@ -83,17 +87,13 @@ def ancestors(commit: Commit) -> list[Commit]:
     return [commit, *(each for parent in commit.parents for each in ancestors(parent))]
 
 
-def random_histories(cases: Companions) -> None:
-    if not cases.needs_pyyaml("random histories"):
-        return
+def test_random_histories(cases: Companions) -> None:
+    needs_pyyaml()
     counts = Counter()
     for number in range(HISTORIES):
-        with cases.place() as place:
-            under_git(place, "")
-            check_history(cases, place, number, counts)
+        place = cases.place()
+        under_git(place, "")
+        check_history(place, number, counts)
     kinds = ("leaks", "single changes without a leak", "plaintext at the end of a range")
-    cases.holds("there is some of each", all(counts[each] for each in kinds))
+    assert all(counts[each] for each in kinds), "there is some of each"
     print(*(f"{what}: {count}" for what, count in sorted(counts.items())), sep="\n")
-
-
-TESTS = [*map(all_of_git, [random_histories])]

@@ -2,12 +2,17 @@
 
 import os
 
-from companion_cases import HOOK, TEXT, Companions, Place, block, sealed
-from companion_cases.hook import all_of_git, refused
+import pytest
+
+from companion_cases import HOOK, TEXT, Companions, Place, block, sealed, silent
+from companion_cases.hook import refused
 from companion_cases.hook_commits import committed
 from companion_cases.leaks import IN_PART, again, meant, with_hooks
 from companion_cases.repository import add_and_commit
 from companion_cases.without_pyyaml import hide_pyyaml
+from lib.needs import needs_pyyaml
+
+pytestmark = pytest.mark.usefixtures("git")
 
 GONE = "is not encrypted, and {} is gone, which was a vault in the parent commit"
 PASSWORD = block("old", name="password")
@@ -59,60 +64,53 @@ def stage(place: Place, contents: dict[str, bytes]) -> None:
     place.shell("git add -A")
 
 
-def values(cases: Companions) -> None:
-    if not cases.needs_pyyaml("values by their keys"):
-        return
-    with cases.place() as place:
-        with_hooks(place)
-        stage(place, {what: before for what, (before, _, _) in LEAKS.items()})
-        cases.silent("encrypted", add_and_commit(place))
-        stage(place, {what: after for what, (_, after, _) in LEAKS.items()})
-        done = place.run(HOOK)
-        whys = {f"{what}.yml": IN_PART.format(path) for what, (_, _, path) in sorted(LEAKS.items())}
-        lines = [line for name, why in whys.items() for line in (f"{HOOK}: {name} {why}", meant(name))]
-        cases.check("leaks", (done.returncode, done.stderr.splitlines()), (1, lines))
+def test_values(place: Place) -> None:
+    needs_pyyaml()
+    with_hooks(place)
+    stage(place, {what: before for what, (before, _, _) in LEAKS.items()})
+    silent("encrypted", add_and_commit(place))
+    stage(place, {what: after for what, (_, after, _) in LEAKS.items()})
+    done = place.run(HOOK)
+    whys = {f"{what}.yml": IN_PART.format(path) for what, (_, _, path) in sorted(LEAKS.items())}
+    lines = [line for name, why in whys.items() for line in (f"{HOOK}: {name} {why}", meant(name))]
+    assert (done.returncode, done.stderr.splitlines()) == (1, lines), "leaks"
 
 
-def no_leaks(cases: Companions) -> None:
-    if not cases.needs_pyyaml("values by their keys"):
-        return
-    with cases.place() as place:
-        with_hooks(place)
-        stage(place, {what: before for what, (before, _) in HARMLESS.items()})
-        cases.silent("encrypted", add_and_commit(place))
-        stage(place, {what: after for what, (_, after) in HARMLESS.items()})
-        cases.silent("no leaks", add_and_commit(place))
+def test_no_leaks(place: Place) -> None:
+    needs_pyyaml()
+    with_hooks(place)
+    stage(place, {what: before for what, (before, _) in HARMLESS.items()})
+    silent("encrypted", add_and_commit(place))
+    stage(place, {what: after for what, (_, after) in HARMLESS.items()})
+    silent("no leaks", add_and_commit(place))
 
 
-def without_pyyaml(cases: Companions) -> None:
+def test_without_pyyaml(cases: Companions, place: Place) -> None:
     """Variables of a name are counted."""
-    with cases.place() as place:
-        hide_pyyaml(place, cases)
-        with_hooks(place)
-        cases.silent("at first", again(place, "vars.yml", A + B))
-        done = again(place, "vars.yml", A_PLAIN + B)
-        refused(cases, "one of two", done, "vars.yml", why=IN_PART.format("password"), hint=meant("vars.yml"))
-        cases.silent("one that goes", again(place, "vars.yml", B))
-        place.put("vars.yml", TEXT)
-        cases.silent("all", add_and_commit(place))
+    hide_pyyaml(place, cases)
+    with_hooks(place)
+    silent("at first", again(place, "vars.yml", A + B))
+    done = again(place, "vars.yml", A_PLAIN + B)
+    refused("one of two", done, "vars.yml", why=IN_PART.format("password"), hint=meant("vars.yml"))
+    silent("one that goes", again(place, "vars.yml", B))
+    place.put("vars.yml", TEXT)
+    silent("all", add_and_commit(place))
 
 
-def from_file_to_file(cases: Companions) -> None:
-    if not cases.needs_pyyaml("values by their keys"):
-        return
-    with cases.place() as place:
-        with_hooks(place)
-        place.put("a.yml", A + b"x: 1\n")
-        cases.silent("at first", again(place, "b.yml", b"y: 1\n"))
-        place.put("a.yml", b"x: 1\n")
-        done = again(place, "b.yml", b"y: 1\n" + A_PLAIN)
-        refused(cases, "a value", done, "b.yml", why=IN_PART.format("a.password of a.yml"), hint=meant("b.yml"))
-        cases.silent("one that stays encrypted", again(place, "b.yml", below("a", block("new", name="password"))))
-        place.shell("git mv b.yml c.yml")
-        done = again(place, "c.yml", A_PLAIN)
-        refused(cases, "a file", done, "c.yml", why=IN_PART.format("a.password of b.yml"), hint=meant("c.yml"))
-        place.put("c.yml", B_PLAIN)
-        cases.silent("another value", add_and_commit(place))
+def test_from_file_to_file(place: Place) -> None:
+    needs_pyyaml()
+    with_hooks(place)
+    place.put("a.yml", A + b"x: 1\n")
+    silent("at first", again(place, "b.yml", b"y: 1\n"))
+    place.put("a.yml", b"x: 1\n")
+    done = again(place, "b.yml", b"y: 1\n" + A_PLAIN)
+    refused("a value", done, "b.yml", why=IN_PART.format("a.password of a.yml"), hint=meant("b.yml"))
+    silent("one that stays encrypted", again(place, "b.yml", below("a", block("new", name="password"))))
+    place.shell("git mv b.yml c.yml")
+    done = again(place, "c.yml", A_PLAIN)
+    refused("a file", done, "c.yml", why=IN_PART.format("a.password of b.yml"), hint=meant("c.yml"))
+    place.put("c.yml", B_PLAIN)
+    silent("another value", add_and_commit(place))
 
 
 # Where a vault is before, and its plaintext after.
@@ -125,121 +123,109 @@ MOVES = {
 }
 
 
-def vaults(cases: Companions) -> None:
-    with cases.place() as place:
-        with_hooks(place)
-        for what, (before, after) in MOVES.items():
-            cases.silent(f"{what}: at first", again(place, before, sealed("old")))
-            place.shell(f"git rm -q {before}")
-            done = again(place, after, TEXT)
-            refused(cases, what, done, after, why=GONE.format(before), hint=meant(after))
-            place.put(after, sealed("new"))
-            place.shell("git add -A")
-            cases.silent(f"{what}, encrypted", place.run(HOOK))
-            place.shell("git rm -qrf . && git commit -qm none")
+@pytest.mark.parametrize("what", MOVES)
+def test_vaults(place: Place, what: str) -> None:
+    with_hooks(place)
+    before, after = MOVES[what]
+    silent(f"{what}: at first", again(place, before, sealed("old")))
+    place.shell(f"git rm -q {before}")
+    done = again(place, after, TEXT)
+    refused(what, done, after, why=GONE.format(before), hint=meant(after))
+    place.put(after, sealed("new"))
+    place.shell("git add -A")
+    silent(f"{what}, encrypted", place.run(HOOK))
+    place.shell("git rm -qrf . && git commit -qm none")
 
 
-def renamed_folders(cases: Companions) -> None:
+def test_renamed_folders(place: Place) -> None:
     """git finds the other files again, and so the folder."""
-    with cases.place() as place:
-        with_hooks(place)
-        for number in range(3):
-            place.put(f"host_vars/web/{number}.yml", f"number: {number}\n".encode() * 9)
-        cases.silent("at first", again(place, "host_vars/web/vault.yml", sealed("old")))
-        place.shell("git mv host_vars/web host_vars/www && git mv host_vars/www/vault.yml host_vars/www/secret.yml")
-        cases.silent("encrypted", place.run(HOOK))
-        done = again(place, "host_vars/www/secret.yml", TEXT)
-        refused(
-            cases,
-            "decrypted",
-            done,
-            "host_vars/www/secret.yml",
-            why=GONE.format("host_vars/web/vault.yml"),
-            hint=meant("host_vars/www/secret.yml"),
-        )
+    with_hooks(place)
+    for number in range(3):
+        place.put(f"host_vars/web/{number}.yml", f"number: {number}\n".encode() * 9)
+    silent("at first", again(place, "host_vars/web/vault.yml", sealed("old")))
+    place.shell("git mv host_vars/web host_vars/www && git mv host_vars/www/vault.yml host_vars/www/secret.yml")
+    silent("encrypted", place.run(HOOK))
+    done = again(place, "host_vars/www/secret.yml", TEXT)
+    refused(
+        "decrypted",
+        done,
+        "host_vars/www/secret.yml",
+        why=GONE.format("host_vars/web/vault.yml"),
+        hint=meant("host_vars/www/secret.yml"),
+    )
 
 
-def no_moves(cases: Companions) -> None:
+def test_no_moves(place: Place) -> None:
     """What comes where a vault goes, and is none of it."""
-    with cases.place() as place:
-        with_hooks(place)
-        place.put("one/vault.yml", sealed("old"))
-        cases.silent("at first", again(place, "two/vault.yml", sealed("new")))
-        place.shell("git rm -q one/vault.yml")
-        cases.silent("a longer file", again(place, "one/README.md", b"# one\n" * 99))
-        place.put("three/vault.yml", place.get("two/vault.yml"))
-        place.shell("git rm -q two/vault.yml")
-        cases.silent("a vault that has moved, and plaintext", again(place, "two/secrets.yml", TEXT))
-        place.shell("git rm -q three/vault.yml")
-        cases.silent("an empty file", again(place, "four/vault.yml", b""))
+    with_hooks(place)
+    place.put("one/vault.yml", sealed("old"))
+    silent("at first", again(place, "two/vault.yml", sealed("new")))
+    place.shell("git rm -q one/vault.yml")
+    silent("a longer file", again(place, "one/README.md", b"# one\n" * 99))
+    place.put("three/vault.yml", place.get("two/vault.yml"))
+    place.shell("git rm -q two/vault.yml")
+    silent("a vault that has moved, and plaintext", again(place, "two/secrets.yml", TEXT))
+    place.shell("git rm -q three/vault.yml")
+    silent("an empty file", again(place, "four/vault.yml", b""))
 
 
-def links(cases: Companions) -> None:
+def test_links(place: Place) -> None:
     """A link in the place of a vault, to what is in the repository."""
-    with cases.place() as place:
-        with_hooks(place)
-        place.put("deep/plain.yml", TEXT)
-        place.put("deep/other.yml", sealed("new"))
-        (place.tree / "link.yml").symlink_to("deep/plain.yml")
-        cases.silent("at first", again(place, "deep/vault.yml", sealed("old")))
-        why = "leads to deep/plain.yml, and is not a vault, but was one in the parent commit"
-        for target in ("plain.yml", "../deep/plain.yml", "../link.yml"):
-            os.unlink(place.tree / "deep/vault.yml")
-            (place.tree / "deep/vault.yml").symlink_to(target)
-            done = add_and_commit(place)
-            refused(cases, target, done, "deep/vault.yml", why=why, hint=meant("deep/vault.yml"))
-        outside = ("/etc/hostname", "../..", "../../outside")
-        for target in ("other.yml", "nowhere.yml", "vault.yml", *outside):
-            os.unlink(place.tree / "deep/vault.yml")
-            (place.tree / "deep/vault.yml").symlink_to(target)
-            place.shell("git add -A")
-            cases.silent(target, place.run(HOOK))
+    with_hooks(place)
+    place.put("deep/plain.yml", TEXT)
+    place.put("deep/other.yml", sealed("new"))
+    (place.tree / "link.yml").symlink_to("deep/plain.yml")
+    silent("at first", again(place, "deep/vault.yml", sealed("old")))
+    why = "leads to deep/plain.yml, and is not a vault, but was one in the parent commit"
+    for target in ("plain.yml", "../deep/plain.yml", "../link.yml"):
+        os.unlink(place.tree / "deep/vault.yml")
+        (place.tree / "deep/vault.yml").symlink_to(target)
+        done = add_and_commit(place)
+        refused(target, done, "deep/vault.yml", why=why, hint=meant("deep/vault.yml"))
+    outside = ("/etc/hostname", "../..", "../../outside")
+    for target in ("other.yml", "nowhere.yml", "vault.yml", *outside):
+        os.unlink(place.tree / "deep/vault.yml")
+        (place.tree / "deep/vault.yml").symlink_to(target)
+        place.shell("git add -A")
+        silent(target, place.run(HOOK))
 
 
-def in_two_commits(cases: Companions) -> None:
+def test_in_two_commits(place: Place) -> None:
     """What no single commit does."""
-    with cases.place() as place:
-        with_hooks(place)
-        place.put("vars.yml", A)
-        first = committed(place, "all.yml", sealed("old"))
-        place.shell("git rm -q all.yml vars.yml && git commit -qm none")
-        cases.silent("nothing comes", place.run(HOOK, "--since", first))
-        place.put("vars.yml", A_PLAIN)
-        cases.silent("the hook sees one commit", again(place, "all.yml", TEXT))
-        head = place.shell("git rev-parse HEAD").stdout[:10]
-        whys = {"all.yml": "is not a vault, but was one", "vars.yml": "has a.password in plaintext, encrypted"}
-        lines = [
-            line
-            for name, why in whys.items()
-            for line in (f"{HOOK}: {head}: {name} {why} in {first[:10]}", meant(name))
-        ]
-        done = place.run(HOOK, "--since", first)
-        cases.check("--since", (done.returncode, done.stderr.splitlines()), (1, lines))
-        done = place.run(HOOK, "--all")
-        lines = [f"{HOOK}: all.yml is not a vault, but was one in an earlier commit", meant("all.yml")]
-        cases.check("--all", (done.returncode, done.stderr.splitlines()), (1, lines))
-        committed(place, "other.yml", b"a: 1\n")
-        cases.check("--all, later", place.run(HOOK, "--all").stderr.splitlines(), lines)
-        committed(place, ".gitattributes", b"/all.yml -ansible-vault\n")
-        cases.silent("--all, where plaintext is meant", place.run(HOOK, "--all"))
-        committed(place, ".gitattributes", b"")
-        committed(place, "all.yml", sealed("new"))
-        cases.silent("--all, encrypted again", place.run(HOOK, "--all"))
+    with_hooks(place)
+    place.put("vars.yml", A)
+    first = committed(place, "all.yml", sealed("old"))
+    place.shell("git rm -q all.yml vars.yml && git commit -qm none")
+    silent("nothing comes", place.run(HOOK, "--since", first))
+    place.put("vars.yml", A_PLAIN)
+    silent("the hook sees one commit", again(place, "all.yml", TEXT))
+    head = place.shell("git rev-parse HEAD").stdout[:10]
+    whys = {"all.yml": "is not a vault, but was one", "vars.yml": "has a.password in plaintext, encrypted"}
+    lines = [
+        line for name, why in whys.items() for line in (f"{HOOK}: {head}: {name} {why} in {first[:10]}", meant(name))
+    ]
+    done = place.run(HOOK, "--since", first)
+    assert (done.returncode, done.stderr.splitlines()) == (1, lines), "--since"
+    done = place.run(HOOK, "--all")
+    lines = [f"{HOOK}: all.yml is not a vault, but was one in an earlier commit", meant("all.yml")]
+    assert (done.returncode, done.stderr.splitlines()) == (1, lines), "--all"
+    committed(place, "other.yml", b"a: 1\n")
+    assert place.run(HOOK, "--all").stderr.splitlines() == lines, "--all, later"
+    committed(place, ".gitattributes", b"/all.yml -ansible-vault\n")
+    silent("--all, where plaintext is meant", place.run(HOOK, "--all"))
+    committed(place, ".gitattributes", b"")
+    committed(place, "all.yml", sealed("new"))
+    silent("--all, encrypted again", place.run(HOOK, "--all"))
 
 
-def ranges(cases: Companions) -> None:
+def test_ranges(place: Place) -> None:
     """--since compares with where the branch began, whatever the other one has become since."""
-    with cases.place() as place:
-        with_hooks(place)
-        committed(place, "a.yml", TEXT)
-        place.shell("git checkout -qb branch")
-        committed(place, "b.yml", TEXT)
-        committed(place, "c.yml", TEXT)
-        place.shell("git checkout -q -")
-        committed(place, "a.yml", sealed("old"))
-        place.shell("git checkout -q branch")
-        cases.silent("the other one encrypts", place.run(HOOK, "--since", "@{-1}"))
-
-
-TESTS = [values, no_leaks, without_pyyaml, from_file_to_file, vaults, renamed_folders, no_moves, links]
-TESTS = [*map(all_of_git, [*TESTS, in_two_commits, ranges])]
+    with_hooks(place)
+    committed(place, "a.yml", TEXT)
+    place.shell("git checkout -qb branch")
+    committed(place, "b.yml", TEXT)
+    committed(place, "c.yml", TEXT)
+    place.shell("git checkout -q -")
+    committed(place, "a.yml", sealed("old"))
+    place.shell("git checkout -q branch")
+    silent("the other one encrypts", place.run(HOOK, "--since", "@{-1}"))

@@ -2,9 +2,13 @@
 
 import re
 
-from companion_cases import AWKWARD, HOOK, TEXT, Companions, Place, block, sealed
-from companion_cases.hook import all_of_git, refused, unmarking
+import pytest
+
+from companion_cases import AWKWARD, HOOK, TEXT, Companions, Place, block, ended, sealed, silent
+from companion_cases.hook import refused, unmarking
 from companion_cases.repository import add_and_commit, commit, under_git
+
+pytestmark = pytest.mark.usefixtures("git")
 
 WHOLE = "is not a vault, but was one in the parent commit"
 IN_PART = "has {} in plaintext, encrypted in the parent commit"
@@ -27,38 +31,37 @@ def again(place: Place, name: str, content: bytes):
     return add_and_commit(place)
 
 
-def unmarked_vaults(cases: Companions) -> None:
+def test_unmarked_vaults(place: Place) -> None:
     """The first of the usual leaks: a vault that was decrypted to be looked at, and is committed."""
-    with cases.place() as place:
-        with_hooks(place)
-        place.put("plain.yml", TEXT)
-        cases.silent("a vault", again(place, "group_vars/all.yml", sealed("old")))
-        done = again(place, "group_vars/all.yml", TEXT)
-        refused(cases, "plaintext", done, "group_vars/all.yml", why=WHOLE, hint=meant("group_vars/all.yml"))
-        for what, content in {
-            "a part of it": sealed("old")[:-100],
-            "conflict markers": sealed("old").replace(b"\n", b"\n<<<<<<< ours\n", 1),
-            "plaintext below": sealed("old") + TEXT,
-            "plaintext with a block": TEXT + block("old"),
-        }.items():
-            done = again(place, "group_vars/all.yml", content)
-            refused(cases, what, done, "group_vars/all.yml", why=WHOLE, hint=meant("group_vars/all.yml"))
-        cases.silent("another vault", again(place, "group_vars/all.yml", sealed("new")))
-        cases.silent("plaintext elsewhere", again(place, "plain.yml", TEXT * 2))
-        place.shell("git rm -q group_vars/all.yml")
-        cases.silent("a removal", commit(place))
-        cases.silent("and plaintext after it", again(place, "group_vars/all.yml", TEXT))
-        place.put("old.yml", b"$ANSIBLE_VAULT;1.0;AES\n" + b"61" * 40 + b"\n")
-        place.put("cut.yml", sealed("old")[:-100])
-        cases.silent("vaults that the tool does not read", add_and_commit(place))
-        place.put("old.yml", TEXT)
-        place.put("cut.yml", TEXT)
-        done = add_and_commit(place)
-        lines = [line for name in ("cut.yml", "old.yml") for line in (f"{HOOK}: {name} {WHOLE}", meant(name))]
-        cases.check("their plaintext", (done.returncode, done.stderr.splitlines()), (1, lines))
+    with_hooks(place)
+    place.put("plain.yml", TEXT)
+    silent("a vault", again(place, "group_vars/all.yml", sealed("old")))
+    done = again(place, "group_vars/all.yml", TEXT)
+    refused("plaintext", done, "group_vars/all.yml", why=WHOLE, hint=meant("group_vars/all.yml"))
+    for what, content in {
+        "a part of it": sealed("old")[:-100],
+        "conflict markers": sealed("old").replace(b"\n", b"\n<<<<<<< ours\n", 1),
+        "plaintext below": sealed("old") + TEXT,
+        "plaintext with a block": TEXT + block("old"),
+    }.items():
+        done = again(place, "group_vars/all.yml", content)
+        refused(what, done, "group_vars/all.yml", why=WHOLE, hint=meant("group_vars/all.yml"))
+    silent("another vault", again(place, "group_vars/all.yml", sealed("new")))
+    silent("plaintext elsewhere", again(place, "plain.yml", TEXT * 2))
+    place.shell("git rm -q group_vars/all.yml")
+    silent("a removal", commit(place))
+    silent("and plaintext after it", again(place, "group_vars/all.yml", TEXT))
+    place.put("old.yml", b"$ANSIBLE_VAULT;1.0;AES\n" + b"61" * 40 + b"\n")
+    place.put("cut.yml", sealed("old")[:-100])
+    silent("vaults that the tool does not read", add_and_commit(place))
+    place.put("old.yml", TEXT)
+    place.put("cut.yml", TEXT)
+    done = add_and_commit(place)
+    lines = [line for name in ("cut.yml", "old.yml") for line in (f"{HOOK}: {name} {WHOLE}", meant(name))]
+    assert (done.returncode, done.stderr.splitlines()) == (1, lines), "their plaintext"
 
 
-def decrypted_blocks(cases: Companions) -> None:
+def test_decrypted_blocks(place: Place) -> None:
     item = b"- " + block("old", name="")
     before = b"a: 1\n" + block("old", name="b") + b"c:\n  d:\n" + block("old", name="e") + b"f:\n" + item
     stays = {
@@ -75,57 +78,56 @@ def decrypted_blocks(cases: Companions) -> None:
         "b, e": before.replace(block("old", name="b"), b'"b": plain\n').replace(block("old", name="e"), b"e: x\n"),
         "f[]": re.sub(rb"- !vault \|\n(?: .*\n)*", b"- plain\n", before),
     }
-    with cases.place() as place:
-        with_hooks(place)
-        for what, content in stays.items():
-            again(place, "vars.yml", before)
-            place.put("vars.yml", content)
-            place.shell("git add -A")
-            cases.silent(what, place.run(HOOK))
+    with_hooks(place)
+    for what, content in stays.items():
         again(place, "vars.yml", before)
-        for name, content in plain.items():
-            done = again(place, "vars.yml", content)
-            refused(cases, name, done, "vars.yml", why=IN_PART.format(name), hint=meant("vars.yml"))
+        place.put("vars.yml", content)
+        place.shell("git add -A")
+        silent(what, place.run(HOOK))
+    again(place, "vars.yml", before)
+    for name, content in plain.items():
+        done = again(place, "vars.yml", content)
+        refused(name, done, "vars.yml", why=IN_PART.format(name), hint=meant("vars.yml"))
 
 
-def merges(cases: Companions) -> None:
+def test_merges(cases: Companions) -> None:
     """The third: what comes by a merge, clean or with a conflict, from either side."""
-    with cases.place() as place:
-        with_hooks(place)
-        again(place, "vars.yml", sealed("old"))
-        place.shell("git checkout -qb branch")
-        place.put("vars.yml", TEXT)
-        place.shell("git add -A && git commit -qm plain --no-verify && git checkout -q -")
-        again(place, "other.yml", b"a: 1\n")
-        done = place.shell("git merge --no-edit -q branch")
-        cases.holds("a clean merge is refused", done.returncode != 0, done.stderr)
-        cases.holds("with the reason", f"{HOOK}: vars.yml {WHOLE}\n" in done.stderr, done.stderr)
-        place.shell("git merge --abort || git reset -q --hard")
-    with cases.place() as place:
-        with_hooks(place)
-        again(place, "a.yml", b"a: 1\n")
-        place.shell("git checkout -qb branch")
-        again(place, "vars.yml", sealed("old"))
-        place.shell("git checkout -q -")
-        again(place, "other.yml", b"a: 1\n")
-        # Theirs is the vault, and what is committed in its place is plaintext.
-        place.shell("git merge --no-commit branch")
-        done = again(place, "vars.yml", TEXT)
-        refused(cases, "theirs in plaintext", done, "vars.yml", why=WHOLE, hint=meant("vars.yml"))
-        place.put("vars.yml", sealed("new"))
-        cases.silent("theirs encrypted", add_and_commit(place))
-    with cases.place() as place:
-        with_hooks(place)
-        again(place, "vars.yml", sealed("old"))
-        for branch, password in (("ours", "new"), ("theirs", "dev")):
-            place.shell(f"git checkout -qb {branch} master 2>/dev/null || git checkout -qb {branch} main")
-            again(place, "vars.yml", sealed(password))
-        place.shell("git merge -q ours")
-        done = add_and_commit(place)
-        refused(cases, "conflict markers in a vault", done, "vars.yml", why=WHOLE, hint=meant("vars.yml"))
+    place = cases.place()
+    with_hooks(place)
+    again(place, "vars.yml", sealed("old"))
+    place.shell("git checkout -qb branch")
+    place.put("vars.yml", TEXT)
+    place.shell("git add -A && git commit -qm plain --no-verify && git checkout -q -")
+    again(place, "other.yml", b"a: 1\n")
+    done = place.shell("git merge --no-edit -q branch")
+    assert done.returncode != 0, ("a clean merge is refused", done.stderr)
+    assert f"{HOOK}: vars.yml {WHOLE}\n" in done.stderr, "with the reason"
+    place.shell("git merge --abort || git reset -q --hard")
+    place = cases.place()
+    with_hooks(place)
+    again(place, "a.yml", b"a: 1\n")
+    place.shell("git checkout -qb branch")
+    again(place, "vars.yml", sealed("old"))
+    place.shell("git checkout -q -")
+    again(place, "other.yml", b"a: 1\n")
+    # Theirs is the vault, and what is committed in its place is plaintext.
+    place.shell("git merge --no-commit branch")
+    done = again(place, "vars.yml", TEXT)
+    refused("theirs in plaintext", done, "vars.yml", why=WHOLE, hint=meant("vars.yml"))
+    place.put("vars.yml", sealed("new"))
+    silent("theirs encrypted", add_and_commit(place))
+    place = cases.place()
+    with_hooks(place)
+    again(place, "vars.yml", sealed("old"))
+    for branch, password in (("ours", "new"), ("theirs", "dev")):
+        place.shell(f"git checkout -qb {branch} master 2>/dev/null || git checkout -qb {branch} main")
+        again(place, "vars.yml", sealed(password))
+    place.shell("git merge -q ours")
+    done = add_and_commit(place)
+    refused("conflict markers in a vault", done, "vars.yml", why=WHOLE, hint=meant("vars.yml"))
 
 
-def marked_content(cases: Companions) -> None:
+def test_marked_content(place: Place) -> None:
     """What is marked needs the digits of an envelope, and neither conflict markers nor plaintext between them."""
     digits = sealed("old").partition(b"\n")[2]
     damaged = {
@@ -143,63 +145,54 @@ def marked_content(cases: Companions) -> None:
         "digits that end early": b"".join(lines[:3]) + b"b: 1\n",
         "a header alone": b"".join(lines[:2]),
     }
-    with cases.place() as place:
-        with_hooks(place, "*.vault.yml diff=ansible-vault\n")
-        for what, content in damaged.items():
-            refused(cases, what, again(place, "a.vault.yml", content), "a.vault.yml", why="is a damaged vault")
-        for what, content in between.items():
-            why = "has a damaged block in line 3"
-            done = again(place, "a.vault.yml", b"x: 1\n" + content)
-            refused(cases, what, done, "a.vault.yml", why=why)
-        marks = block("old") + b"<<<<<<< HEAD\nb: 1\n=======\nb: 2\n>>>>>>> branch\n"
-        refused(cases, "markers", again(place, "a.vault.yml", marks), "a.vault.yml", why="has git's conflict markers")
-        cases.silent("blocks", again(place, "a.vault.yml", block("old") + b"x: 1\n\n" + block("old", name="b") + b"\n"))
+    with_hooks(place, "*.vault.yml diff=ansible-vault\n")
+    for what, content in damaged.items():
+        refused(what, again(place, "a.vault.yml", content), "a.vault.yml", why="is a damaged vault")
+    for what, content in between.items():
+        why = "has a damaged block in line 3"
+        done = again(place, "a.vault.yml", b"x: 1\n" + content)
+        refused(what, done, "a.vault.yml", why=why)
+    marks = block("old") + b"<<<<<<< HEAD\nb: 1\n=======\nb: 2\n>>>>>>> branch\n"
+    refused("markers", again(place, "a.vault.yml", marks), "a.vault.yml", why="has git's conflict markers")
+    silent("blocks", again(place, "a.vault.yml", block("old") + b"x: 1\n\n" + block("old", name="b") + b"\n"))
 
 
-def plain_beside_vaults(cases: Companions) -> None:
+def test_plain_beside_vaults(place: Place) -> None:
     """The usual layout has both in one folder: it is said what to do."""
-    with cases.place() as place:
-        with_hooks(place, "group_vars/** diff=ansible-vault\n")
-        place.put("group_vars/all/vault.yml", sealed("old"))
-        place.put("group_vars/web/vars.yml", TEXT)
-        done = again(place, "group_vars/all/vars.yml", TEXT)
-        lines = [f"{HOOK}: group_vars/{name}/vars.yml is not encrypted" for name in ("all", "web")]
-        wanted = [lines[0], unmarking("group_vars/all/vars.yml"), lines[1]]
-        cases.check("beside a vault", (done.returncode, done.stderr.splitlines()), (1, wanted))
-        place.put(".gitattributes", b"group_vars/** diff=ansible-vault\n/group_vars/*/vars.yml !diff !ansible-vault\n")
-        cases.silent("what it says helps", add_and_commit(place))
+    with_hooks(place, "group_vars/** diff=ansible-vault\n")
+    place.put("group_vars/all/vault.yml", sealed("old"))
+    place.put("group_vars/web/vars.yml", TEXT)
+    done = again(place, "group_vars/all/vars.yml", TEXT)
+    lines = [f"{HOOK}: group_vars/{name}/vars.yml is not encrypted" for name in ("all", "web")]
+    wanted = [lines[0], unmarking("group_vars/all/vars.yml"), lines[1]]
+    assert (done.returncode, done.stderr.splitlines()) == (1, wanted), "beside a vault"
+    place.put(".gitattributes", b"group_vars/** diff=ansible-vault\n/group_vars/*/vars.yml !diff !ansible-vault\n")
+    silent("what it says helps", add_and_commit(place))
 
 
-def modes_and_renames(cases: Companions) -> None:
-    with cases.place() as place:
-        with_hooks(place, "*.vault.yml diff=ansible-vault\n")
-        place.put("a.vault.yml", TEXT, 0o755)
-        refused(cases, "a program", add_and_commit(place), "a.vault.yml")
-        place.shell("git config diff.renames true && git commit -qm plain --no-verify")
-        place.shell("git mv a.vault.yml b.vault.yml")
-        refused(cases, "a file with another name", commit(place), "b.vault.yml")
-        cases.silent("a removal", place.shell("git rm -qf b.vault.yml && git commit -qm none"))
+def test_modes_and_renames(place: Place) -> None:
+    with_hooks(place, "*.vault.yml diff=ansible-vault\n")
+    place.put("a.vault.yml", TEXT, 0o755)
+    refused("a program", add_and_commit(place), "a.vault.yml")
+    place.shell("git config diff.renames true && git commit -qm plain --no-verify")
+    place.shell("git mv a.vault.yml b.vault.yml")
+    refused("a file with another name", commit(place), "b.vault.yml")
+    silent("a removal", place.shell("git rm -qf b.vault.yml && git commit -qm none"))
 
 
-def outside_of_git(cases: Companions) -> None:
-    with cases.place() as place:
-        for words in (["--all"], ["--since", "HEAD"], ["--install"], []):
-            cases.ended(f"{words}", place.run(HOOK, *words), 1, "ansible-vault-hook: git rev-parse failed")
-        for words in (["--all", "--install"], ["--since"]):
-            cases.ended(f"{words}", place.run(HOOK, *words), 2, "usage: ansible-vault-hook")
+def test_outside_of_git(place: Place) -> None:
+    for words in (["--all"], ["--since", "HEAD"], ["--install"], []):
+        ended(f"{words}", place.run(HOOK, *words), 1, "ansible-vault-hook: git rev-parse failed")
+    for words in (["--all", "--install"], ["--since"]):
+        ended(f"{words}", place.run(HOOK, *words), 2, "usage: ansible-vault-hook")
 
 
-def awkward_names(cases: Companions) -> None:
-    with cases.place() as place:
-        with_hooks(place)
-        for name in AWKWARD:
-            place.put(f"group_vars/{name}", sealed("old"))
-        cases.silent("vaults", add_and_commit(place))
-        for name in AWKWARD:
-            place.put(f"group_vars/{name}", TEXT)
-        done = add_and_commit(place)
-        cases.check("each is refused", (done.returncode, done.stderr.count(WHOLE)), (1, len(AWKWARD)))
-
-
-TESTS = [unmarked_vaults, decrypted_blocks, merges, marked_content, plain_beside_vaults, modes_and_renames]
-TESTS = [*map(all_of_git, [*TESTS, outside_of_git, awkward_names])]
+def test_awkward_names(place: Place) -> None:
+    with_hooks(place)
+    for name in AWKWARD:
+        place.put(f"group_vars/{name}", sealed("old"))
+    silent("vaults", add_and_commit(place))
+    for name in AWKWARD:
+        place.put(f"group_vars/{name}", TEXT)
+    done = add_and_commit(place)
+    assert (done.returncode, done.stderr.count(WHOLE)) == (1, len(AWKWARD)), "each is refused"

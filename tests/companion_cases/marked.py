@@ -2,15 +2,18 @@
 
 import subprocess
 
-from companion_cases import CHECK, TEXT, TEXTCONV, Companions, block, sealed
-from companion_cases.hook import all_of_git
+import pytest
+
+from companion_cases import CHECK, TEXT, TEXTCONV, Place, block, ended, sealed
 from companion_cases.repository import under_git
+from lib.needs import needs
 
 ATTRIBUTES = "*.vault.yml diff=ansible-vault\nsecrets/** ansible-vault\n*.vault.md diff=ansible-vault\n"
 MERGE = b"<<<<<<< HEAD\na: 1\n=======\na: 2\n>>>>>>> branch\n"
 
 
-def marked_files(cases: Companions) -> None:
+@pytest.mark.usefixtures("git")
+def test_marked_files(place: Place) -> None:
     """One that is marked and is no vault is a failure, also where it holds nothing that is one."""
     plain = {
         "a.vault.yml": (TEXT, "is not encrypted"),
@@ -20,67 +23,65 @@ def marked_files(cases: Companions) -> None:
         "c.vault.yml": (block("old") + MERGE, "has git's conflict markers"),
         "d.yml": (MERGE + block("old"), "has git's conflict markers"),
     }
-    with cases.place() as place:
-        under_git(place, ATTRIBUTES)
-        place.put("ok.vault.yml", sealed("old"))
-        place.put("ok.vault.md", block("old"))
-        place.put("secrets/ok", sealed("old"))
-        place.put("plain.yml", TEXT)
-        cases.ended("all is well", place.run(CHECK, *place.by_file("old"), "."), 0, "3 decrypted, 0 not")
-        for name, (content, why) in plain.items():
-            place.put(name, content)
-            for path in (".", name, str(place.tree / name)):
-                done = place.run(CHECK, *place.by_file("old"), path)
-                cases.ended(f"{name} by {path}", done, 1, f"{name}: {why}\n", "1 not\n")
-            (place.tree / name).unlink()
-        cases.ended("all is well again", place.run(CHECK, *place.by_file("old"), "."), 0, "3 decrypted, 0 not")
+    under_git(place, ATTRIBUTES)
+    place.put("ok.vault.yml", sealed("old"))
+    place.put("ok.vault.md", block("old"))
+    place.put("secrets/ok", sealed("old"))
+    place.put("plain.yml", TEXT)
+    ended("all is well", place.run(CHECK, *place.by_file("old"), "."), 0, "3 decrypted, 0 not")
+    for name, (content, why) in plain.items():
+        place.put(name, content)
+        for path in (".", name, str(place.tree / name)):
+            done = place.run(CHECK, *place.by_file("old"), path)
+            ended(f"{name} by {path}", done, 1, f"{name}: {why}\n", "1 not\n")
+        (place.tree / name).unlink()
+    ended("all is well again", place.run(CHECK, *place.by_file("old"), "."), 0, "3 decrypted, 0 not")
 
 
-def several_repositories(cases: Companions) -> None:
+@pytest.mark.usefixtures("git")
+def test_several_repositories(place: Place) -> None:
     """Each file is marked by its own repository, and by none outside of any."""
-    with cases.place() as place:
-        place.put("outside.vault.yml", TEXT)
-        for name in ("one", "two"):
-            place.shell(f"git init -q {name}")
-            place.put(f"{name}/a.vault.yml", TEXT)
-        place.put("one/.gitattributes", ATTRIBUTES.encode())
-        done = place.run(CHECK, *place.by_file("old"), ".")
-        cases.check("one alone marks it", done.stderr, "./one/a.vault.yml: is not encrypted\n")
-        place.put("one/.git/config", b"[no config\n")
-        done = place.run(CHECK, *place.by_file("old"), ".")
-        cases.ended("git fails", done, 1, "which files are marked is not known: git check-attr failed")
+    place.put("outside.vault.yml", TEXT)
+    for name in ("one", "two"):
+        place.shell(f"git init -q {name}")
+        place.put(f"{name}/a.vault.yml", TEXT)
+    place.put("one/.gitattributes", ATTRIBUTES.encode())
+    done = place.run(CHECK, *place.by_file("old"), ".")
+    assert done.stderr == "./one/a.vault.yml: is not encrypted\n", "one alone marks it"
+    place.put("one/.git/config", b"[no config\n")
+    done = place.run(CHECK, *place.by_file("old"), ".")
+    ended("git fails", done, 1, "which files are marked is not known: git check-attr failed")
 
 
-def some_labels(cases: Companions) -> None:
+def test_some_labels(place: Place) -> None:
     """For those who have some of the secrets: what has another label is counted, and no failure."""
-    with cases.place() as place:
-        place.put("a.yml", sealed("dev", label="dev"))
-        place.put("b.yml", sealed("prod", label="prod"))
-        place.put("c.yml", block("dev", label="dev") + block("old") + block("old", label="prod", name="x"))
-        dev = place.by_id("dev", "dev")
-        reported = "2 decrypted, 0 not, 3 of other labels (default 1, prod 2)\n"
-        cases.ended("one label", place.run(CHECK, *dev, "--label", "dev", "."), 0, reported)
-        done = place.run(CHECK, *dev, "--label", "dev", "--label", "prod", ".")
-        counts = "2 decrypted, 2 not, 1 of other labels (default 1)"
-        cases.ended("two labels", done, 1, "./b.yml: prod: no secret", counts)
-        place.put("d.yml", sealed("old", label="dev"))
-        done = place.run(CHECK, *dev, "--label", "dev", ".")
-        counts = "2 decrypted, 1 not, 3 of other labels"
-        cases.ended("one that cannot be decrypted", done, 1, "./d.yml: dev: no secret", counts)
-        done = place.run(CHECK, *dev, "--label", "prdo", "--label", "prod", "--label", "none", "b.yml")
-        nothing = [f"{CHECK}: nothing has the label {label}" for label in ("none", "prdo")]
-        wanted = ["b.yml: prod: no secret decrypts this vault", *nothing]
-        cases.check("labels that nothing has", (done.returncode, done.stderr.splitlines()), (1, wanted))
-        place.put("within.yml", sealed("dev", block("old"), "dev"))
-        done = place.run(CHECK, *dev, *place.by_file("old"), "--label", "dev", "--label", "default", "within.yml")
-        cases.ended("a label that a block within a vault has", done, 0, "2 decrypted, 0 not")
-        (place.tree / "within.yml").unlink()
-        place.put("d.yml", b"$ANSIBLE_VAULT;1.1\n")
-        done = place.run(CHECK, *dev, "--label", "dev", ".")
-        cases.ended("one without a header", done, 1, "./d.yml: no label: vault header line is malformed")
+    place.put("a.yml", sealed("dev", label="dev"))
+    place.put("b.yml", sealed("prod", label="prod"))
+    place.put("c.yml", block("dev", label="dev") + block("old") + block("old", label="prod", name="x"))
+    dev = place.by_id("dev", "dev")
+    reported = "2 decrypted, 0 not, 3 of other labels (default 1, prod 2)\n"
+    ended("one label", place.run(CHECK, *dev, "--label", "dev", "."), 0, reported)
+    done = place.run(CHECK, *dev, "--label", "dev", "--label", "prod", ".")
+    counts = "2 decrypted, 2 not, 1 of other labels (default 1)"
+    ended("two labels", done, 1, "./b.yml: prod: no secret", counts)
+    place.put("d.yml", sealed("old", label="dev"))
+    done = place.run(CHECK, *dev, "--label", "dev", ".")
+    counts = "2 decrypted, 1 not, 3 of other labels"
+    ended("one that cannot be decrypted", done, 1, "./d.yml: dev: no secret", counts)
+    done = place.run(CHECK, *dev, "--label", "prdo", "--label", "prod", "--label", "none", "b.yml")
+    nothing = [f"{CHECK}: nothing has the label {label}" for label in ("none", "prdo")]
+    wanted = ["b.yml: prod: no secret decrypts this vault", *nothing]
+    assert (done.returncode, done.stderr.splitlines()) == (1, wanted), "labels that nothing has"
+    place.put("within.yml", sealed("dev", block("old"), "dev"))
+    done = place.run(CHECK, *dev, *place.by_file("old"), "--label", "dev", "--label", "default", "within.yml")
+    ended("a label that a block within a vault has", done, 0, "2 decrypted, 0 not")
+    (place.tree / "within.yml").unlink()
+    place.put("d.yml", b"$ANSIBLE_VAULT;1.1\n")
+    done = place.run(CHECK, *dev, "--label", "dev", ".")
+    ended("one without a header", done, 1, "./d.yml: no label: vault header line is malformed")
 
 
-def names_of_variables(cases: Companions) -> None:
+def test_names_of_variables(place: Place) -> None:
     lines = {
         "a": b"a: !vault |\n",
         "my_key": b"my_key: &x !vault |\n",
@@ -89,23 +90,21 @@ def names_of_variables(cases: Companions) -> None:
         "nested": b"x:\n  nested:    !vault-encrypted |\n",
     }
     rows = block("old").partition(b"\n")[2]
-    with cases.place() as place:
-        for name, line in lines.items():
-            place.put("vars.yml", line + rows)
-            done = place.run(CHECK, *place.by_file("old"), "vars.yml")
-            number = line.count(b"\n") + 1
-            wanted = f"vars.yml:{number}: {name}: default: decrypted by {place.secret('old')}\n1 decrypted, 0 not\n"
-            cases.check(f"{name}: the line", done.stdout, wanted)
-        place.put("vars.yml", b"- !vault |\n" + rows + b'"\x1b[2J": !vault |\n' + rows)
+    for name, line in lines.items():
+        place.put("vars.yml", line + rows)
         done = place.run(CHECK, *place.by_file("old"), "vars.yml")
-        cases.ended("an item of a list", done, 0, f"vars.yml:2: default: decrypted by {place.secret('old')}\n")
-        cases.check("nothing that a terminal would obey", "\x1b" in done.stdout, False)
+        number = line.count(b"\n") + 1
+        wanted = f"vars.yml:{number}: {name}: default: decrypted by {place.secret('old')}\n1 decrypted, 0 not\n"
+        assert done.stdout == wanted, f"{name}: the line"
+    place.put("vars.yml", b"- !vault |\n" + rows + b'"\x1b[2J": !vault |\n' + rows)
+    done = place.run(CHECK, *place.by_file("old"), "vars.yml")
+    ended("an item of a list", done, 0, f"vars.yml:2: default: decrypted by {place.secret('old')}\n")
+    assert "\x1b" not in done.stdout, "nothing that a terminal would obey"
 
 
-def starts_of_the_tool(cases: Companions) -> None:
+def test_starts_of_the_tool(place: Place) -> None:
     """ansible-vault-textconv starts the tool once for each secret that is tried."""
-    if not cases.needs("starts of the tool", "strace"):
-        return
+    needs("strace")
     files = {
         "one.yml": (sealed("old"), ["old"], 1),
         "second.yml": (sealed("old"), ["dev", "old"], 2),
@@ -115,27 +114,21 @@ def starts_of_the_tool(cases: Companions) -> None:
         "missing.yml": (block("old") + block("old", name="b"), ["missing", "old"], 3),
         "plain.yml": (TEXT, ["old"], 0),
     }
-    with cases.place() as place:
-        for name, (content, secrets, count) in files.items():
-            place.put(name, content)
-            words = [word for each in secrets for word in place.by_id("prod" if each == "prod" else "default", each)]
-            trace = place.path / "trace"
-            companion = str(place.tools / TEXTCONV)
-            tracer = ["strace", "-f", "-o", str(trace), "-e", "trace=execve", companion]
-            cases.check(f"{name}: status", place.run(*tracer, *words, name).returncode, 0)
-            starts = [line for line in trace.read_text().splitlines() if '/ansible-vault", ' in line]
-            cases.check(f"{name}: starts of the tool", len(starts), count)
+    for name, (content, secrets, count) in files.items():
+        place.put(name, content)
+        words = [word for each in secrets for word in place.by_id("prod" if each == "prod" else "default", each)]
+        trace = place.path / "trace"
+        companion = str(place.tools / TEXTCONV)
+        tracer = ["strace", "-f", "-o", str(trace), "-e", "trace=execve", companion]
+        assert place.run(*tracer, *words, name).returncode == 0, f"{name}: status"
+        starts = [line for line in trace.read_text().splitlines() if '/ansible-vault", ' in line]
+        assert len(starts) == count, f"{name}: starts of the tool"
 
 
-def files_behind_dashes(cases: Companions) -> None:
-    with cases.place() as place:
-        for name in ("a.yml", "--", "-h.yml", "--version"):
-            place.put(name, sealed("old"))
-            for words in (["--", name], [name]):
-                command = [TEXTCONV, *place.by_file("old"), *words]
-                done = subprocess.run(command, cwd=place.tree, env=place.environment, capture_output=True)
-                cases.check(f"{words}", (done.returncode, done.stdout, done.stderr), (0, TEXT, b""))
-
-
-TESTS = [*map(all_of_git, [marked_files, several_repositories]), some_labels, names_of_variables]
-TESTS += [starts_of_the_tool, files_behind_dashes]
+@pytest.mark.parametrize("name", ("a.yml", "--", "-h.yml", "--version"))
+def test_files_behind_dashes(place: Place, name) -> None:
+    place.put(name, sealed("old"))
+    for words in (["--", name], [name]):
+        command = [TEXTCONV, *place.by_file("old"), *words]
+        done = subprocess.run(command, cwd=place.tree, env=place.environment, capture_output=True)
+        assert (done.returncode, done.stdout, done.stderr) == (0, TEXT, b""), f"{words}"

@@ -6,10 +6,11 @@ import re
 import subprocess
 from typing import Iterator
 
-from companion_cases import CHECK, MERGE, PASSWORDS, Companions, Place, decrypted
+from companion_cases import CHECK, MERGE, PASSWORDS, Place, decrypted, ended, silent
 from companion_cases.blocks import texts
 from companion_cases.merging import versions
 from companion_cases.repository import under_git
+from lib.needs import needs
 from model.vaults import SALT, seal, yaml_block
 
 STYLES = [("", b"\n"), ("", b"\r\n"), ("diff3", b"\n"), ("zdiff3", b"\n")]
@@ -65,25 +66,23 @@ def merges(place: Place, texts: dict[str, tuple]) -> Iterator[tuple[str, bytes, 
                 yield f"{style} {name} {end!r}", end, plain, wanted, conflicts
 
 
-def check_merge(cases: Companions, place: Place, what: str, merge: list[str], conflicts: int) -> None:
+def check_merge(place: Place, what: str, merge: list[str], conflicts: int) -> None:
     done = place.run(MERGE, *place.by_file("old"), *merge)
     count = f"{conflicts} conflict{'s' if conflicts > 1 else ''}"
     message = f"{MERGE}: a.yml: {count}, to be resolved with ansible-vault-edit\n"
     found = (done.returncode, done.stdout, done.stderr)
-    cases.check(f"{what}: the status", found, (1, "", message) if conflicts else (0, "", ""))
+    assert found == ((1, "", message) if conflicts else (0, "", "")), f"{what}: the status"
     if conflicts:
         checked = place.run(CHECK, *place.by_file("old"), "a.yml")
-        cases.holds(f"{what}: the check sees the markers", "conflict markers" in checked.stderr, checked.stderr)
+        assert "conflict markers" in checked.stderr, f"{what}: the check sees the markers"
 
 
-def of_vaults(cases: Companions) -> None:
-    if not cases.needs("styles of conflicts", "git"):
-        return
-    with cases.place() as place:
-        for what, _, plain, wanted, conflicts in merges(place, TEXTS | COMMON):
-            merge = versions(place, "a.yml", *(seal(PASSWORDS["old"], each) for each in plain))
-            check_merge(cases, place, what, merge, conflicts)
-            cases.check(f"{what}: the plaintext", decrypted("old", place.get("a.yml")), wanted)
+def test_of_vaults(place: Place) -> None:
+    needs("git")
+    for what, _, plain, wanted, conflicts in merges(place, TEXTS | COMMON):
+        merge = versions(place, "a.yml", *(seal(PASSWORDS["old"], each) for each in plain))
+        check_merge(place, what, merge, conflicts)
+        assert decrypted("old", place.get("a.yml")) == wanted, f"{what}: the plaintext"
 
 
 def encrypted(content: bytes, end: bytes, salt: bytes) -> bytes:
@@ -107,36 +106,30 @@ def with_plaintexts(content: bytes) -> bytes:
     return BLOCK.sub(value, content)
 
 
-def of_values(cases: Companions) -> None:
+def test_of_values(place: Place) -> None:
     """Each has another envelope on each side."""
-    if not cases.needs("styles of conflicts", "git"):
-        return
+    needs("git")
     salts = [SALT, SALT[::-1], SALT[1:] + b"s"]
-    with cases.place() as place:
-        for what, end, plain, wanted, conflicts in merges(place, TEXTS):
-            sides = [encrypted(each, end, salt) for each, salt in zip(plain, salts)]
-            check_merge(cases, place, what, versions(place, "a.yml", *sides), conflicts)
-            found = place.get("a.yml")
-            cases.check(f"{what}: the text", with_plaintexts(found), wanted)
-            cases.check(f"{what}: no value is torn", found.count(b"ANSIBLE_VAULT"), len(BLOCK.findall(found)))
+    for what, end, plain, wanted, conflicts in merges(place, TEXTS):
+        sides = [encrypted(each, end, salt) for each, salt in zip(plain, salts)]
+        check_merge(place, what, versions(place, "a.yml", *sides), conflicts)
+        found = place.get("a.yml")
+        assert with_plaintexts(found) == wanted, f"{what}: the text"
+        assert found.count(b"ANSIBLE_VAULT") == len(BLOCK.findall(found)), f"{what}: no value is torn"
 
 
-def labels_of_values(cases: Companions) -> None:
+def test_labels_of_values(place: Place) -> None:
     """One side gives a value another label, and both do."""
     block = lambda label: yaml_block(seal(PASSWORDS["old"], b"text", label), b"a") + b"z: 1\n"
-    with cases.place() as place:
-        under_git(place, "")
-        secrets = [*place.by_file("old"), *place.by_id("dev", "old"), *place.by_id("prod", "old")]
-        for base, ours, other in ((b"", b"", b"dev"), (b"", b"dev", b""), (b"", b"dev", b"dev")):
-            merge = versions(place, "a.yml", block(base), block(ours), block(other))
-            cases.silent(f"{ours} and {other}", place.run(MERGE, *secrets, *merge))
-            cases.check(f"{ours} and {other}: the label", place.get("a.yml"), block(b"dev"))
-        merge = versions(place, "a.yml", block(b""), block(b"dev"), block(b"prod"))
-        cases.ended("two labels", place.run(MERGE, *secrets, *merge), 1, "a.yml: 1 conflict")
-        found = place.get("a.yml")
-        cases.check("both are there", texts(found, "old"), [b"text", b"text"])
-        headers = [found.count(f"AES256;{label}\n".encode()) for label in ("dev", "prod")]
-        cases.check("with their labels", headers, [1, 1])
-
-
-TESTS = [of_vaults, of_values, labels_of_values]
+    under_git(place, "")
+    secrets = [*place.by_file("old"), *place.by_id("dev", "old"), *place.by_id("prod", "old")]
+    for base, ours, other in ((b"", b"", b"dev"), (b"", b"dev", b""), (b"", b"dev", b"dev")):
+        merge = versions(place, "a.yml", block(base), block(ours), block(other))
+        silent(f"{ours} and {other}", place.run(MERGE, *secrets, *merge))
+        assert place.get("a.yml") == block(b"dev"), f"{ours} and {other}: the label"
+    merge = versions(place, "a.yml", block(b""), block(b"dev"), block(b"prod"))
+    ended("two labels", place.run(MERGE, *secrets, *merge), 1, "a.yml: 1 conflict")
+    found = place.get("a.yml")
+    assert texts(found, "old") == [b"text", b"text"], "both are there"
+    headers = [found.count(f"AES256;{label}\n".encode()) for label in ("dev", "prod")]
+    assert headers == [1, 1], "with their labels"

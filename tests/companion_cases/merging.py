@@ -3,7 +3,10 @@
 from contextlib import contextmanager
 from typing import Iterator
 
-from companion_cases import CHECK, EDIT, HOOK, MERGE, PASSWORDS, Companions, Place, block, decrypted, sealed
+import pytest
+
+from companion_cases import CHECK, EDIT, HOOK, MERGE, PASSWORDS
+from companion_cases import Companions, Place, block, decrypted, ended, sealed, silent
 from companion_cases.beside_ansible import theirs
 from companion_cases.blocks import texts
 from companion_cases.editing import edit
@@ -37,66 +40,62 @@ def versions(place: Place, name: str, base: bytes, ours: bytes, other: bytes) ->
     return [f"../versions/base-{name}", name, f"../versions/theirs-{name}", name]
 
 
-def without_conflict(cases: Companions) -> None:
+def test_without_conflict(place: Place) -> None:
     a, b = block("old", b"a", name="a"), block("old", b"b", name="b")
     ours = {"whole.yml": sealed("old", OURS), "vars.yml": block("old", b"A", name="a") + b + b"z: 1\n"}
     other = {"whole.yml": sealed("old", THEIRS), "vars.yml": a + block("old", b"B", name="b") + b"z: 1\n"}
-    with cases.place() as place:
-        done = branches(place, {"whole.yml": sealed("old", BASE), "vars.yml": a + b + b"z: 1\n"}, ours, other)
-        cases.ended("no conflict", done, 0)
-        both = b"one: I\n2: 2\n3: 3\nfour: IV\n"
-        cases.check("both changes are in the vault", decrypted("old", place.get("whole.yml")), both)
-        wanted = block("old", b"A", name="a") + block("old", b"B", name="b") + b"z: 1\n"
-        cases.check("values keep the envelopes of their sides", place.get("vars.yml"), wanted)
-        if ansible := ansible_vault():
-            shown = theirs(place, ansible, "view", *place.by_file("old"), "whole.yml").stdout
-            cases.check("Ansible's tool reads it", shown.strip(), both.strip())
+    done = branches(place, {"whole.yml": sealed("old", BASE), "vars.yml": a + b + b"z: 1\n"}, ours, other)
+    ended("no conflict", done, 0)
+    both = b"one: I\n2: 2\n3: 3\nfour: IV\n"
+    assert decrypted("old", place.get("whole.yml")) == both, "both changes are in the vault"
+    wanted = block("old", b"A", name="a") + block("old", b"B", name="b") + b"z: 1\n"
+    assert place.get("vars.yml") == wanted, "values keep the envelopes of their sides"
+    if ansible := ansible_vault():
+        shown = theirs(place, ansible, "view", *place.by_file("old"), "whole.yml").stdout
+        assert shown.strip() == both.strip(), "Ansible's tool reads it"
 
 
-def with_conflict(cases: Companions) -> None:
+def test_with_conflict(place: Place) -> None:
     ours = {"whole.yml": sealed("old", b"x: ours\n"), "vars.yml": block("old", b"ours", name="a") + b"z: 1\n"}
     other = {"whole.yml": sealed("old", b"x: theirs\n"), "vars.yml": block("old", b"theirs", name="a") + b"z: 1\n"}
-    with cases.place() as place:
-        base = {"whole.yml": sealed("old", b"x: 1\n"), "vars.yml": block("old", b"base", name="a") + b"z: 1\n"}
-        done = branches(place, base, ours, other)
-        cases.ended("a conflict", done, 1, "whole.yml: 1 conflict", "vars.yml: 1 conflict")
-        marked = decrypted("old", place.get("whole.yml"))
-        cases.check("the markers are within", marked, b"<<<<<<< ours\nx: ours\n=======\nx: theirs\n>>>>>>> theirs\n")
-        cases.check("both values stay encrypted", texts(place.get("vars.yml"), "old"), [b"ours", b"theirs"])
-        cases.holds("around them are markers", place.get("vars.yml").startswith(b"<<<<<<< ours\na: !vault |\n"))
-        checked = place.run(CHECK, *place.by_file("old"), ".")
-        cases.ended("the check", checked, 1, "its plaintext has git's conflict markers")
-        place.shell(f"git add -A; {HOOK} --install")
-        done = place.shell("git commit -qm merged")
-        cases.ended("the hook", done, 1, "whole.yml has git's conflict markers", "vars.yml has git's conflict markers")
-        for name in ("whole.yml", "vars.yml"):
-            done = edit(place, TAKE_THEIRS, *place.by_file("old"), name)
-            cases.ended(f"{EDIT} {name}", done, 0, "it has git's conflict markers")
-        cases.check("the vault", decrypted("old", place.get("whole.yml")), b"x: theirs\n")
-        cases.check("the value keeps its envelope", place.get("vars.yml"), other["vars.yml"])
-        cases.silent("the commit", add_and_commit(place))
+    base = {"whole.yml": sealed("old", b"x: 1\n"), "vars.yml": block("old", b"base", name="a") + b"z: 1\n"}
+    done = branches(place, base, ours, other)
+    ended("a conflict", done, 1, "whole.yml: 1 conflict", "vars.yml: 1 conflict")
+    marked = decrypted("old", place.get("whole.yml"))
+    assert marked == b"<<<<<<< ours\nx: ours\n=======\nx: theirs\n>>>>>>> theirs\n", "the markers are within"
+    assert texts(place.get("vars.yml"), "old") == [b"ours", b"theirs"], "both values stay encrypted"
+    assert place.get("vars.yml").startswith(b"<<<<<<< ours\na: !vault |\n"), "around them are markers"
+    checked = place.run(CHECK, *place.by_file("old"), ".")
+    ended("the check", checked, 1, "its plaintext has git's conflict markers")
+    place.shell(f"git add -A; {HOOK} --install")
+    done = place.shell("git commit -qm merged")
+    ended("the hook", done, 1, "whole.yml has git's conflict markers", "vars.yml has git's conflict markers")
+    for name in ("whole.yml", "vars.yml"):
+        done = edit(place, TAKE_THEIRS, *place.by_file("old"), name)
+        ended(f"{EDIT} {name}", done, 0, "it has git's conflict markers")
+    assert decrypted("old", place.get("whole.yml")) == b"x: theirs\n", "the vault"
+    assert place.get("vars.yml") == other["vars.yml"], "the value keeps its envelope"
+    silent("the commit", add_and_commit(place))
 
 
-def labels(cases: Companions) -> None:
-    with cases.place() as place:
-        words = [*place.by_file("old"), *place.by_id("prod", "prod")]
-        ours, other = sealed("old", OURS), sealed("prod", THEIRS, "prod")
-        done = branches(place, {"a.yml": sealed("old", BASE)}, {"a.yml": ours}, {"a.yml": other}, *words)
-        why = "a.yml: not merged, ours is left as it was: the labels differ: default in ours, prod in theirs"
-        cases.ended("labels", done, 1, why)
-        cases.check("ours stays", place.get("a.yml"), ours)
+def test_labels(place: Place) -> None:
+    words = [*place.by_file("old"), *place.by_id("prod", "prod")]
+    ours, other = sealed("old", OURS), sealed("prod", THEIRS, "prod")
+    done = branches(place, {"a.yml": sealed("old", BASE)}, {"a.yml": ours}, {"a.yml": other}, *words)
+    why = "a.yml: not merged, ours is left as it was: the labels differ: default in ours, prod in theirs"
+    ended("labels", done, 1, why)
+    assert place.get("a.yml") == ours, "ours stays"
 
 
-def rotated(cases: Companions) -> None:
+def test_rotated(place: Place) -> None:
     """What one side put under a new secret stays under it."""
-    with cases.place() as place:
-        words = [*place.by_file("old"), *place.by_file("new")]
-        base = {"a.yml": sealed("old", BASE), "b.yml": block("old", b"1", name="b") + block("old", b"2", name="c")}
-        other = {"a.yml": sealed("new", BASE), "b.yml": block("new", b"1", name="b") + block("new", b"2", name="c")}
-        ours = {"a.yml": sealed("old", OURS), "b.yml": block("old", b"I", name="b") + block("old", b"2", name="c")}
-        cases.ended("a rotation", branches(place, base, ours, other, *words), 0)
-        cases.check("the vault", decrypted("new", place.get("a.yml")), OURS)
-        cases.check("the values", texts(place.get("b.yml"), "new"), [b"I", b"2"])
+    words = [*place.by_file("old"), *place.by_file("new")]
+    base = {"a.yml": sealed("old", BASE), "b.yml": block("old", b"1", name="b") + block("old", b"2", name="c")}
+    other = {"a.yml": sealed("new", BASE), "b.yml": block("new", b"1", name="b") + block("new", b"2", name="c")}
+    ours = {"a.yml": sealed("old", OURS), "b.yml": block("old", b"I", name="b") + block("old", b"2", name="c")}
+    ended("a rotation", branches(place, base, ours, other, *words), 0)
+    assert decrypted("new", place.get("a.yml")) == OURS, "the vault"
+    assert texts(place.get("b.yml"), "new") == [b"I", b"2"], "the values"
 
 
 # Versions that are not merged, and why.
@@ -115,32 +114,31 @@ REFUSED = {
 }
 
 
-def those_that_fail(cases: Companions) -> None:
+def test_those_that_fail(place: Place) -> None:
     """Ours stays to the byte, no other file is left, and the message says why."""
-    with cases.place() as place:
-        secrets = [*place.by_file("old"), *place.by_file("new"), *place.by_file("prod")]
-        where = f"{MERGE}: a.yml: not merged, ours is left as it was: "
-        for why, contents in REFUSED.items():
-            done = place.run(MERGE, *secrets, *versions(place, "a.yml", *contents))
-            cases.check(why, (done.returncode, done.stdout, done.stderr), (1, "", f"{where}{why}\n"))
-            cases.check(f"{why}: ours stays", place.files(), {"a.yml": contents[1]})
-        changes = [sealed("old", text) for text in (BASE, OURS, THEIRS)]
-        words = versions(place, "a.yml", *changes)
-        for number in range(3):
-            names = [*words[:number], "../missing", *words[number + 1 :]]
-            cases.ended(f"version {number} is missing", place.run(MERGE, *secrets, *names), 1, "is missing")
-        done = place.run(MERGE, "--vault-password-file", "../missing", *words)
-        cases.ended("no password file", done, 1, f"{where}../missing: a password file cannot be opened")
-        place.wrap_tool('[ "$1" != encrypt ] || echo other > a.yml')
-        done = place.run(MERGE, *secrets, *words)
-        cases.ended("changed meanwhile", done, 1, f"{where}it was changed meanwhile")
-        cases.check("what somebody wrote stays", place.files(), {"a.yml": b"other\n"})
-        place.wrap_tool('[ "$1" != encrypt ] || exit 4')
-        words = versions(place, "a.yml", *changes)
-        cases.ended("the tool fails", place.run(MERGE, *secrets, *words), 1, "ansible-vault ended with status 4")
-        place.wrap_tool("exit 255", "git")
-        cases.ended("git fails", place.run(MERGE, *secrets, *words), 1, "git merge-file cannot merge it")
-        cases.check("ours stays", place.files(), {"a.yml": changes[1]})
+    secrets = [*place.by_file("old"), *place.by_file("new"), *place.by_file("prod")]
+    where = f"{MERGE}: a.yml: not merged, ours is left as it was: "
+    for why, contents in REFUSED.items():
+        done = place.run(MERGE, *secrets, *versions(place, "a.yml", *contents))
+        assert (done.returncode, done.stdout, done.stderr) == (1, "", f"{where}{why}\n"), why
+        assert place.files() == {"a.yml": contents[1]}, f"{why}: ours stays"
+    changes = [sealed("old", text) for text in (BASE, OURS, THEIRS)]
+    words = versions(place, "a.yml", *changes)
+    for number in range(3):
+        names = [*words[:number], "../missing", *words[number + 1 :]]
+        ended(f"version {number} is missing", place.run(MERGE, *secrets, *names), 1, "is missing")
+    done = place.run(MERGE, "--vault-password-file", "../missing", *words)
+    ended("no password file", done, 1, f"{where}../missing: a password file cannot be opened")
+    place.wrap_tool('[ "$1" != encrypt ] || echo other > a.yml')
+    done = place.run(MERGE, *secrets, *words)
+    ended("changed meanwhile", done, 1, f"{where}it was changed meanwhile")
+    assert place.files() == {"a.yml": b"other\n"}, "what somebody wrote stays"
+    place.wrap_tool('[ "$1" != encrypt ] || exit 4')
+    words = versions(place, "a.yml", *changes)
+    ended("the tool fails", place.run(MERGE, *secrets, *words), 1, "ansible-vault ended with status 4")
+    place.wrap_tool("exit 255", "git")
+    ended("git fails", place.run(MERGE, *secrets, *words), 1, "git merge-file cannot merge it")
+    assert place.files() == {"a.yml": changes[1]}, "ours stays"
 
 
 NOT_MERGED = "is not merged: the merge driver failed, and the file has nothing of theirs"
@@ -150,69 +148,67 @@ AGAIN = "  run `git checkout --merge a.yml` with a secret for each side; to keep
 @contextmanager
 def failed_merge(cases: Companions, *words: str, tool: str = "") -> Iterator[Place]:
     """Where the driver has failed, with the hooks installed."""
-    with cases.place() as place:
-        if tool:
-            place.wrap_tool(tool)
-        ours, other = {"a.yml": sealed("old", OURS)}, {"a.yml": sealed("new", THEIRS)}
-        done = branches(place, {"a.yml": sealed("old", BASE)}, ours, other, *words)
-        cases.ended("the driver fails", done, 1, "Merge conflict in a.yml")
-        cases.check("ours stays", place.get("a.yml"), ours["a.yml"])
-        place.run(HOOK, "--install")
-        yield place
+    place = cases.place()
+    if tool:
+        place.wrap_tool(tool)
+    ours, other = {"a.yml": sealed("old", OURS)}, {"a.yml": sealed("new", THEIRS)}
+    done = branches(place, {"a.yml": sealed("old", BASE)}, ours, other, *words)
+    ended("the driver fails", done, 1, "Merge conflict in a.yml")
+    assert place.get("a.yml") == ours["a.yml"], "ours stays"
+    place.run(HOOK, "--install")
+    yield place
 
 
-def refused_by_hook(cases: Companions, what: str, done) -> None:
-    cases.check(what, (done.returncode, done.stderr.splitlines()), (1, [f"{HOOK}: a.yml {NOT_MERGED}", AGAIN]))
+def refused_by_hook(what: str, done) -> None:
+    assert (done.returncode, done.stderr.splitlines()) == (1, [f"{HOOK}: a.yml {NOT_MERGED}", AGAIN]), what
 
 
-def not_merged(cases: Companions) -> None:
+@pytest.mark.parametrize(
+    "what, name, tool", (("no secret", "old", ""), ("no file", "missing", ""), ("killed", "old", "kill -9 $PPID"))
+)
+def test_not_merged(cases: Companions, what, name, tool) -> None:
     """The hook and the check refuse what the driver could not merge, which git commits as ours, without theirs."""
-    for what, name, tool in (("no secret", "old", ""), ("no file", "missing", ""), ("killed", "old", "kill -9 $PPID")):
-        secrets = ["--vault-password-file", f"../secrets/{name}"]
-        with failed_merge(cases, *secrets, tool=tool) as place:
-            both = [*place.by_file("old"), *place.by_file("new")]
-            place.wrap_tool("")
-            done = place.run(CHECK, *both, ".")
-            cases.check(f"{what}: the check", (done.returncode, done.stderr), (1, f"./a.yml: {NOT_MERGED}\n"))
-            refused_by_hook(cases, f"{what}: commit -a", commit(place, "-a"))
-            refused_by_hook(cases, f"{what}: add", add_and_commit(place))
-            place.run("git", "config", "merge.ansible-vault.driver", f"{MERGE} {' '.join(both)} %O %A %B %P")
-            place.shell("git checkout --merge -- a.yml")
-            cases.ended(f"{what}: the check again", place.run(CHECK, *both, "."), 0)
-            cases.silent(f"{what}: the commit", add_and_commit(place))
-            found = decrypted("new", place.get("a.yml"))
-            cases.check(f"{what}: both changes are there", found, OURS.replace(b"four: 4", b"four: IV"))
+    secrets = ["--vault-password-file", f"../secrets/{name}"]
+    with failed_merge(cases, *secrets, tool=tool) as place:
+        both = [*place.by_file("old"), *place.by_file("new")]
+        place.wrap_tool("")
+        done = place.run(CHECK, *both, ".")
+        assert (done.returncode, done.stderr) == (1, f"./a.yml: {NOT_MERGED}\n"), f"{what}: the check"
+        refused_by_hook(f"{what}: commit -a", commit(place, "-a"))
+        refused_by_hook(f"{what}: add", add_and_commit(place))
+        place.run("git", "config", "merge.ansible-vault.driver", f"{MERGE} {' '.join(both)} %O %A %B %P")
+        place.shell("git checkout --merge -- a.yml")
+        ended(f"{what}: the check again", place.run(CHECK, *both, "."), 0)
+        silent(f"{what}: the commit", add_and_commit(place))
+        found = decrypted("new", place.get("a.yml"))
+        assert found == OURS.replace(b"four: 4", b"four: IV"), f"{what}: both changes are there"
 
 
-def left_as_ours(cases: Companions) -> None:
+def test_left_as_ours(cases: Companions) -> None:
     """Where that is meant, and where the merge is given up."""
     secrets = ["--vault-password-file", "../secrets/old"]
     with failed_merge(cases, *secrets) as place:
-        cases.silent("what is meant", commit(place, "-a", "--no-verify"))
-        cases.ended("the check", place.run(CHECK, *secrets, "."), 0)
+        silent("what is meant", commit(place, "-a", "--no-verify"))
+        ended("the check", place.run(CHECK, *secrets, "."), 0)
         place.put("b.yml", b"b: 1\n")
-        cases.silent("the next commit", add_and_commit(place))
+        silent("the next commit", add_and_commit(place))
     with failed_merge(cases, *secrets) as place:
         place.shell("git merge --abort && git checkout -qb other HEAD~1")
         place.put("b.yml", b"b: 1\n")
         place.shell("git add b.yml && git commit -qm b && git checkout -q - && git merge -q --no-commit other")
-        cases.silent("another merge", commit(place))
-        cases.ended("a cherry-pick", place.shell("git cherry-pick theirs"), 1, "no secret decrypts theirs")
-        refused_by_hook(cases, "and its commit", commit(place, "-a"))
+        silent("another merge", commit(place))
+        ended("a cherry-pick", place.shell("git cherry-pick theirs"), 1, "no secret decrypts theirs")
+        refused_by_hook("and its commit", commit(place, "-a"))
 
 
-def same_as_ours(cases: Companions) -> None:
+def test_same_as_ours(place: Place) -> None:
     """A result that is ours to the byte is merged."""
-    with cases.place() as place:
-        base, other = sealed("old", BASE), seal(PASSWORDS["old"], BASE, b"", SALT[::-1])
-        ours = {"a.yml": sealed("old", OURS), "b.yml": block("old", b"1", name="b")}
-        theirs = {"a.yml": other, "b.yml": block("old", b"2", name="b")}
-        done = branches(place, {"a.yml": base, "b.yml": block("old", b"0", name="b")}, ours, theirs)
-        cases.ended("b.yml has a conflict", done, 1, "b.yml: 1 conflict")
-        cases.check("a.yml is merged", place.get("a.yml"), ours["a.yml"])
-        place.run(HOOK, "--install")
-        place.put("b.yml", block("old", b"3", name="b"))
-        cases.silent("the commit", add_and_commit(place))
-
-
-TESTS = [without_conflict, with_conflict, labels, rotated, those_that_fail, not_merged, left_as_ours, same_as_ours]
+    base, other = sealed("old", BASE), seal(PASSWORDS["old"], BASE, b"", SALT[::-1])
+    ours = {"a.yml": sealed("old", OURS), "b.yml": block("old", b"1", name="b")}
+    theirs = {"a.yml": other, "b.yml": block("old", b"2", name="b")}
+    done = branches(place, {"a.yml": base, "b.yml": block("old", b"0", name="b")}, ours, theirs)
+    ended("b.yml has a conflict", done, 1, "b.yml: 1 conflict")
+    assert place.get("a.yml") == ours["a.yml"], "a.yml is merged"
+    place.run(HOOK, "--install")
+    place.put("b.yml", block("old", b"3", name="b"))
+    silent("the commit", add_and_commit(place))

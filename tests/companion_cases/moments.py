@@ -30,9 +30,7 @@ SAVED = re.compile(rb"saved (\d)")
 SAVING, SECOND = 0.4, 0.5
 
 
-def signalled(
-    place: Place, words: list[str], chance: random.Random, seconds: float, after: Path | None = None
-) -> int:
+def signalled(place: Place, words: list[str], chance: random.Random, seconds: float, after: Path | None = None) -> int:
     """The status of a run that is signalled within a time, or that long after a file is there."""
     streams = {"stdin": subprocess.DEVNULL, "stdout": subprocess.DEVNULL, "stderr": subprocess.DEVNULL}
     process = subprocess.Popen(words, cwd=place.tree, env=place.environment, start_new_session=True, **streams)
@@ -72,62 +70,58 @@ def last_save(text: bytes) -> int:
     return max((int(each) for each in SAVED.findall(text)), default=0)
 
 
-def check_edit(cases: Companions, what: str, place: Place, is_vault: bool, status: int) -> str:
+def check_edit(what: str, place: Place, is_vault: bool, status: int) -> str:
     """How an edit ended: in one of three ways."""
     noted = place.path / "saved"
     wanted = int(noted.read_text()) if noted.exists() else 0
     files = place.files()
     vault = last_save(read(files["a.yml"], is_vault))
     copies = [last_save(read(content, is_vault)) for name, content in files.items() if name != "a.yml"]
-    cases.holds(f"{what}: the last save is kept", max([vault, *copies]) >= wanted, f"{vault} {copies} {wanted}")
-    cases.holds(f"{what}: in the vault or in a copy", not (vault and copies), f"{vault} {copies}")
+    assert max([vault, *copies]) >= wanted, (f"{what}: the last save is kept", f"{vault} {copies} {wanted}")
+    assert not (vault and copies), (f"{what}: in the vault or in a copy", f"{vault} {copies}")
     plain = [name for name, content in files.items() if b"saved" in content]
     left = plain + place.left() + os.listdir(place.path / "temporary")
-    cases.check(f"{what}: no plaintext is left", left, [])
-    cases.holds(f"{what}: the status", status in (0, -signal.SIGTERM, -signal.SIGHUP), str(status))
+    assert left == [], f"{what}: no plaintext is left"
+    assert status in (0, -signal.SIGTERM, -signal.SIGHUP), f"{what}: the status"
     known = re.compile(r"a\.yml|\.ansible-vault-saved-a\.yml-\w{8}(-sed\w+|-before)?")
     names = [name for name in files if not known.fullmatch(name)]
-    cases.check(f"{what}: no other file is left", names, [])
+    assert names == [], f"{what}: no other file is left"
     return "replaced" if vault else "a copy" if copies else "nothing was saved"
 
 
-def edits(cases: Companions) -> None:
+def test_edits(cases: Companions) -> None:
     chance, ends = random.Random(SEED), Counter()
     for is_vault in (True, False):
-        with cases.place() as place:
-            place.environment |= {"EDITOR": place.script(EDITOR, "editor"), "TMPDIR": str(place.path / "temporary")}
-            (place.path / "temporary").mkdir()
-            words = [EDIT, *place.by_file("old"), "a.yml"]
+        place = cases.place()
+        place.environment |= {"EDITOR": place.script(EDITOR, "editor"), "TMPDIR": str(place.path / "temporary")}
+        (place.path / "temporary").mkdir()
+        words = [EDIT, *place.by_file("old"), "a.yml"]
+        edited(place, is_vault)
+        seconds = time_of(place, words)
+        for number in range(OF_EDITS):
+            for name in place.names():
+                (place.tree / name).unlink()
+            (place.path / "saved").unlink(missing_ok=True)
             edited(place, is_vault)
-            seconds = time_of(place, words)
-            for number in range(OF_EDITS):
-                for name in place.names():
-                    (place.tree / name).unlink()
-                (place.path / "saved").unlink(missing_ok=True)
-                edited(place, is_vault)
-                is_late = number % 2 == 1
-                moment = (SAVING, place.path / "saved") if is_late else (seconds, None)
-                status = signalled(place, words, chance, *moment)
-                kind = "a vault" if is_vault else "values"
-                ends[check_edit(cases, f"{kind}, moment {number}", place, is_vault, status)] += 1
-    cases.holds("some were ended after a save", ends["a copy"] > 0, str(ends))
+            is_late = number % 2 == 1
+            moment = (SAVING, place.path / "saved") if is_late else (seconds, None)
+            status = signalled(place, words, chance, *moment)
+            kind = "a vault" if is_vault else "values"
+            ends[check_edit(f"{kind}, moment {number}", place, is_vault, status)] += 1
+    assert ends["a copy"] > 0, "some were ended after a save"
 
 
-def others(cases: Companions) -> None:
+def test_others(place: Place) -> None:
     chance, ends = random.Random(SEED), Counter()
-    with cases.place() as place:
-        runs = {name: words for name, words in runs_of(place).items() if name in (ROTATE, "merge", "rekey", "decrypt")}
-        for name, words in runs.items():
+    runs = {name: words for name, words in runs_of(place).items() if name in (ROTATE, "merge", "rekey", "decrypt")}
+    for name, words in runs.items():
+        tree(place)
+        seconds = time_of(place, words)
+        for number in range(OF_OTHERS):
             tree(place)
-            seconds = time_of(place, words)
-            for number in range(OF_OTHERS):
-                tree(place)
-                status = signalled(place, words, chance, seconds)
-                what = f"{name}, moment {number}"
-                cases.holds(f"{what}: the status", status in (0, -signal.SIGTERM, -signal.SIGHUP), str(status))
-                check_whole(cases, what, place)
-                ends[status] += 1
-    cases.holds("some were ended", sum(ends.values()) - ends[0] > OF_OTHERS, str(ends))
-
-
-TESTS = [edits, others]
+            status = signalled(place, words, chance, seconds)
+            what = f"{name}, moment {number}"
+            assert status in (0, -signal.SIGTERM, -signal.SIGHUP), f"{what}: the status"
+            check_whole(what, place)
+            ends[status] += 1
+    assert sum(ends.values()) - ends[0] > OF_OTHERS, "some were ended"

@@ -5,12 +5,12 @@ values of encrypt_string. Scripts and client scripts give both of them the passw
 import json
 from pathlib import Path
 
-from companion_cases import ROTATE, WITH, Companions, Place, block, sealed
+from companion_cases import ROTATE, WITH, Place, block, ended, sealed, silent
 from companion_cases.both import theirs
 from companion_cases.editing import edit
 from companion_cases.merging import TAKE_THEIRS, branches
 from companion_cases.repository import add_and_commit
-from lib.ansible import ansible_vault
+from lib.needs import needs, needs_ansible
 
 PLAYBOOK = """\
 - hosts: localhost
@@ -34,7 +34,7 @@ STRINGS = ["word", "größe", " two\nlines ", "last\n", "# no comment", "a: b", 
 Variables = dict[str, str]
 
 
-def merged(cases: Companions, place: Place) -> Variables:
+def merged(place: Place) -> Variables:
     """Two branches of a vault and of values in YAML, with a conflict in each that is solved."""
     vault = lambda text: sealed("dev", text, "dev")
     value = lambda name, text: block("dev", text, "dev", name)
@@ -57,87 +57,80 @@ def merged(cases: Companions, place: Place) -> Variables:
         "solved_values.yml": value("solved_value", b"theirs") + b"z: 1\n",
     }
     done = branches(place, base, ours, other, *DEV)
-    cases.ended("the merge", done, 1, "solved.yml: 1 conflict", "solved_values.yml: 1 conflict")
+    ended("the merge", done, 1, "solved.yml: 1 conflict", "solved_values.yml: 1 conflict")
     for name in ("solved.yml", "solved_values.yml"):
-        cases.ended(f"the solution of {name}", edit(place, TAKE_THEIRS, *DEV, name), 0)
-    cases.silent("the commit", add_and_commit(place))
+        ended(f"the solution of {name}", edit(place, TAKE_THEIRS, *DEV, name), 0)
+    silent("the commit", add_and_commit(place))
     texts = {"merged_one": "I", "merged_two": "II", "merged_a": "A", "merged_b": "B", "plain": "2"}
     return texts | {"solved": "theirs", "solved_value": "theirs"}
 
 
-def encrypted(cases: Companions, place: Place) -> Variables:
+def encrypted(place: Place) -> Variables:
     """Files in place, two in a run, by a client script, and one each by a script and by a file."""
     runs = {"client": DEV, "second": DEV, "script": CI, "file": OLD}
     for name in runs:
         place.put(f"encrypted_{name}.yml", f"encrypted_{name}: by {name}\n".encode())
-    cases.silent("two files", place.run(WITH, "encrypt", *DEV, "encrypted_client.yml", "encrypted_second.yml"))
+    silent("two files", place.run(WITH, "encrypt", *DEV, "encrypted_client.yml", "encrypted_second.yml"))
     for name in ("script", "file"):
-        cases.silent(name, place.run(WITH, "encrypt", *runs[name], f"encrypted_{name}.yml"))
+        silent(name, place.run(WITH, "encrypt", *runs[name], f"encrypted_{name}.yml"))
     return {f"encrypted_{name}": f"by {name}" for name in runs}
 
 
-def rekeyed(cases: Companions, place: Place) -> Variables:
+def rekeyed(place: Place) -> Variables:
     """In place by ansible-vault-with, and by ansible-vault-rotate, where values are rekeyed, too."""
     place.put("rekeyed.yml", sealed("old", b"rekeyed: in place\n"))
     place.put("rotated.yml", sealed("prod2", b"rotated: a vault\n", "prod"))
     place.put("rotated_value.yml", block("prod2", b"a value", "prod", "rotated_value"))
-    cases.silent("rekey", place.run(WITH, "rekey", *OLD, "--new-vault-id", "dev@../keys-client", "rekeyed.yml"))
+    silent("rekey", place.run(WITH, "rekey", *OLD, "--new-vault-id", "dev@../keys-client", "rekeyed.yml"))
     secrets = [*place.by_id("prod", "prod2"), "--new-vault-id", "prod@../keys-client"]
-    cases.ended("rotate", place.run(ROTATE, *secrets, "rotated.yml", "rotated_value.yml"), 0, "2 rotated")
+    ended("rotate", place.run(ROTATE, *secrets, "rotated.yml", "rotated_value.yml"), 0, "2 rotated")
     return {"rekeyed": "in place", "rotated": "a vault", "rotated_value": "a value"}
 
 
-def edited(cases: Companions, place: Place) -> Variables:
+def edited(place: Place) -> Variables:
     """A vault, a new vault, and values of which one is changed, one is new and one stays."""
     place.put("edited.yml", sealed("prod", b"edited: before\n", "prod"))
     values = block("dev", b"before", "dev", "edited_value") + block("prod", b"as it was", "prod", "edited_not")
     place.put("edited_values.yml", values)
-    cases.silent("a vault", edit(place, 'sed -i s/before/after/ "$1"', *PROD, "edited.yml"))
-    cases.silent("a new vault", edit(place, 'echo "edited_new: made" > "$1"', *CI, "edited_new.yml"))
+    silent("a vault", edit(place, 'sed -i s/before/after/ "$1"', *PROD, "edited.yml"))
+    silent("a new vault", edit(place, 'echo "edited_new: made" > "$1"', *CI, "edited_new.yml"))
     typed = """sed -i -e 's/before/after\\n  and more/' -e '$a edited_added: !vault "a\\\\tb"' "$1" """
     words = [*DEV, *PROD, "--encrypt-vault-id", "prod"]
-    cases.silent("values", edit(place, typed, *words, "edited_values.yml"))
+    silent("values", edit(place, typed, *words, "edited_values.yml"))
     texts = {"edited": "after", "edited_new": "made", "edited_value": "after\nand more"}
     return texts | {"edited_not": "as it was", "edited_added": "a\tb"}
 
 
-def strings(cases: Companions, place: Place) -> Variables:
+def strings(place: Place) -> Variables:
     """Of encrypt_string, as an argument and by standard input."""
     texts = {}
     for number, text in enumerate(STRINGS):
         words = [DEV, CI, OLD][number % 3]
         name = f"string{number}"
         done = place.run(WITH, "encrypt_string", *words, f"--name={name}", "--", text)
-        cases.check(f"{text!r}: the status ({done.stderr})", done.returncode, 0)
+        assert done.returncode == 0, f"{text!r}: the status ({done.stderr})"
         (place.path / "typed").write_text(text)
         line = f"{WITH} encrypt_string {' '.join(words)} --stdin-name {name}_read < ../typed"
         read = place.shell(line)
-        cases.check(f"{text!r} by standard input: the status ({read.stderr})", read.returncode, 0)
+        assert read.returncode == 0, f"{text!r} by standard input: the status ({read.stderr})"
         place.put(f"{name}.yml", f"{done.stdout}{read.stdout}".encode())
         texts |= {name: text, f"{name}_read": text}
     return texts
 
 
-def every_result(cases: Companions) -> None:
-    ansible = ansible_vault()
-    playbook = ansible and Path(ansible).with_name("ansible-playbook")
-    if not playbook or not playbook.exists():
-        cases.skip("what ansible-playbook reads", "it is not installed")
-        return
-    with cases.place() as place:
-        place.script(CLIENT, "keys-client")
-        place.script(SCRIPT)
-        texts: Variables = {}
-        for make in (merged, encrypted, rekeyed, edited, strings):
-            texts |= make(cases, place)
-        files = [name for name in place.files() if name.endswith(".yml")]
-        place.put("play.yml", PLAYBOOK.format(files=json.dumps(files), names=[*texts]).encode())
-        done = theirs(place, str(playbook), *DEV, *PROD, *CI, *OLD, "-i", "localhost,", "-c", "local", "play.yml")
-        cases.check(f"the status ({done.stdout[-400:]}{done.stderr[-400:]})", done.returncode, 0)
-        played = place.path / "played"
-        found = json.loads(played.read_text()) if played.exists() else []
-        for (name, wanted), text in zip(texts.items(), found + [None] * len(texts)):
-            cases.check(name, text, wanted)
-
-
-TESTS = [every_result]
+def test_every_result(place: Place) -> None:
+    playbook = Path(needs_ansible()).with_name("ansible-playbook")
+    needs(str(playbook))
+    place.script(CLIENT, "keys-client")
+    place.script(SCRIPT)
+    texts: Variables = {}
+    for make in (merged, encrypted, rekeyed, edited, strings):
+        texts |= make(place)
+    files = [name for name in place.files() if name.endswith(".yml")]
+    place.put("play.yml", PLAYBOOK.format(files=json.dumps(files), names=[*texts]).encode())
+    done = theirs(place, str(playbook), *DEV, *PROD, *CI, *OLD, "-i", "localhost,", "-c", "local", "play.yml")
+    assert done.returncode == 0, f"the status ({done.stdout[-400:]}{done.stderr[-400:]})"
+    played = place.path / "played"
+    found = json.loads(played.read_text()) if played.exists() else []
+    for (name, wanted), text in zip(texts.items(), found + [None] * len(texts)):
+        assert text == wanted, name

@@ -10,10 +10,12 @@ from pathlib import Path
 from random import Random
 from typing import NamedTuple
 
-from companion_cases import PASSWORDS, SECONDS, TEXT, WITH, Companions, Place, decrypted, sealed
+import pytest
+
+from companion_cases import PASSWORDS, SECONDS, TEXT, WITH, Place, decrypted, sealed
 from companion_cases.running import envelope_of
-from lib.ansible import ansible_vault
 from lib.ansible_runs import AnsibleRuns
+from lib.needs import needs_ansible
 
 SEED = 62
 # How long command lines are compared, in seconds, where their number is not given.
@@ -219,9 +221,7 @@ def what_counts(case: Case) -> Case | None:
         return None
     # The new secret of the options counts before the label of the settings.
     remove = lambda settings: settings._replace(encrypt="")
-    return case._replace(
-        line=line._replace(label=""), variables=remove(case.variables), file=remove(case.file)
-    )
+    return case._replace(line=line._replace(label=""), variables=remove(case.variables), file=remove(case.file))
 
 
 def without_folder(case: Case) -> Settings:
@@ -290,24 +290,19 @@ def opened(content: bytes, passwords: list[str]) -> tuple:
     return envelope.partition(b"\n")[0], next(((name, text) for name, text in texts if text is not None), None)
 
 
-def command_lines(cases: Companions) -> None:
+def test_command_lines(place: Place, pytestconfig: pytest.Config) -> None:
     """Prints how many were compared."""
-    ansible = ansible_vault()
-    if not ansible:
-        cases.skip("random command lines", "Ansible's tool is not installed")
-        return
+    ansible = needs_ansible()
+    most = pytestconfig.getoption("--comparisons")
     random, counts = Random(SEED), {"succeed in both": 0, "refused by both": 0, "refused only here, as documented": 0}
     end = time.monotonic() + SHARE
-    with cases.place() as place, AnsibleRuns(ansible, place.runtime) as runs:
+    with AnsibleRuns(ansible, place.runtime) as runs:
         both = Both(place, runs)
-        while sum(counts.values()) < cases.comparisons or not cases.comparisons and time.monotonic() < end:
+        while sum(counts.values()) < most or not most and time.monotonic() < end:
             case = random_case(random, place.secrets)
             ours, theirs, messages = both.outcome(case)
             what = f"{sum(counts.values())}: {case.line.words(case.abbreviate)} {case}: {messages}"
-            cases.check(what, ours, theirs or (False, None, {}))
+            assert ours == (theirs or (False, None, {})), what
             kind = 2 if theirs is None else 0 if theirs[0] else 1
             counts[[*counts][kind]] += 1
     print(f"random command lines: {', '.join(f'{count} {what}' for what, count in counts.items())}")
-
-
-TESTS = [command_lines]

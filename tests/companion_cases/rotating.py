@@ -2,7 +2,9 @@
 
 import os
 
-from companion_cases import NOBODY, ROTATE, TEXT, Companions, Place, block, decrypted, sealed
+import pytest
+
+from companion_cases import NOBODY, ROTATE, TEXT, Companions, Place, block, decrypted, ended, sealed
 
 SUMMARY = "{} rotated, {} under the new secret already, {} of other labels{}, {} failed"
 
@@ -25,70 +27,66 @@ def labelled_tree(place: Place) -> None:
     place.put("plain.yml", TEXT)
 
 
-def by_label(cases: Companions) -> None:
+def test_by_label(place: Place) -> None:
     """A label that is not named keeps its secret, to the byte."""
-    with cases.place() as place:
-        labelled_tree(place)
-        before = place.files()
-        old = [*place.by_file("old"), *place.by_id("dev", "dev"), *place.by_id("prod", "prod")]
-        done = place.run(ROTATE, *old, *place.by_id("prod", "prod2", "new-"), ".")
-        counts = summary(3, 0, 3, " (default 1, dev 2)")
-        cases.ended("prod alone", done, 0, "./prod/vars.yml: rotated\n", "./blocks.yml: 1 block rotated\n", counts)
-        after = place.files()
-        stays = [name for name in before if before[name] == after[name]]
-        cases.check("the others stay", sorted(stays), ["all.yml", "dev/vars.yml", "plain.yml"])
-        for name in ("prod/vars.yml", "prod/more.yml"):
-            cases.check(f"{name} is under the new secret", decrypted("prod2", after[name]), TEXT)
-            cases.holds(f"{name} keeps its label", after[name].startswith(b"$ANSIBLE_VAULT;1.2;AES256;prod\n"))
-        cases.holds("the block of dev stays", after["blocks.yml"].startswith(block("dev", label="dev", name="a")))
-        new = [*place.by_file("new", "new-"), *place.by_id("dev", "dev2", "new-")]
-        done = place.run(ROTATE, *old, *new, ".")
-        cases.ended("two labels at once", done, 0, summary(3, 0, 3, " (prod 3)"))
-        cases.check("default has its own", decrypted("new", place.get("all.yml")), TEXT)
-        cases.check("dev has its own", decrypted("dev2", place.get("dev/vars.yml")), TEXT)
+    labelled_tree(place)
+    before = place.files()
+    old = [*place.by_file("old"), *place.by_id("dev", "dev"), *place.by_id("prod", "prod")]
+    done = place.run(ROTATE, *old, *place.by_id("prod", "prod2", "new-"), ".")
+    counts = summary(3, 0, 3, " (default 1, dev 2)")
+    ended("prod alone", done, 0, "./prod/vars.yml: rotated\n", "./blocks.yml: 1 block rotated\n", counts)
+    after = place.files()
+    stays = [name for name in before if before[name] == after[name]]
+    assert sorted(stays) == ["all.yml", "dev/vars.yml", "plain.yml"], "the others stay"
+    for name in ("prod/vars.yml", "prod/more.yml"):
+        assert decrypted("prod2", after[name]) == TEXT, f"{name} is under the new secret"
+        assert after[name].startswith(b"$ANSIBLE_VAULT;1.2;AES256;prod\n"), f"{name} keeps its label"
+    assert after["blocks.yml"].startswith(block("dev", label="dev", name="a")), "the block of dev stays"
+    new = [*place.by_file("new", "new-"), *place.by_id("dev", "dev2", "new-")]
+    done = place.run(ROTATE, *old, *new, ".")
+    ended("two labels at once", done, 0, summary(3, 0, 3, " (prod 3)"))
+    assert decrypted("new", place.get("all.yml")) == TEXT, "default has its own"
+    assert decrypted("dev2", place.get("dev/vars.yml")) == TEXT, "dev has its own"
 
 
-def default_is_a_label(cases: Companions) -> None:
+def test_default_is_a_label(place: Place) -> None:
     """A new password without a label takes no vault of another label with it."""
-    with cases.place() as place:
-        labelled_tree(place)
-        old = [*place.by_file("old"), *place.by_file("dev"), *place.by_file("prod")]
-        done = place.run(ROTATE, *old, *place.by_file("new", "new-"), ".")
-        cases.ended("the label default", done, 0, summary(1, 0, 5, " (dev 2, prod 3)"))
-        cases.check("dev stays", decrypted("dev", place.get("dev/vars.yml")), TEXT)
+    labelled_tree(place)
+    old = [*place.by_file("old"), *place.by_file("dev"), *place.by_file("prod")]
+    done = place.run(ROTATE, *old, *place.by_file("new", "new-"), ".")
+    ended("the label default", done, 0, summary(1, 0, 5, " (dev 2, prod 3)"))
+    assert decrypted("dev", place.get("dev/vars.yml")) == TEXT, "dev stays"
 
 
-def again(cases: Companions) -> None:
+def test_again(place: Place) -> None:
     """What is under the new secret already is left as it is, whether the old secrets decrypt it or not."""
-    with cases.place() as place:
-        place.put("one.yml", sealed("new"))
-        place.put("two.yml", sealed("old"))
-        place.put("blocks.yml", block("new") + block("old", name="b"))
-        cases.ended("half is done", place.run(ROTATE, *to_new(place), "."), 0, summary(2, 2))
-        cases.check("what has it stays", place.get("one.yml"), sealed("new"))
-        cases.holds("and a block that has it", place.get("blocks.yml").startswith(block("new")))
-        before = place.files()
-        for words in (to_new(place), [*place.by_file("new"), *to_new(place)]):
-            cases.ended("all is done", place.run(ROTATE, *words, "."), 0, summary(0, 4))
-            cases.check("all stays", place.files(), before)
+    place.put("one.yml", sealed("new"))
+    place.put("two.yml", sealed("old"))
+    place.put("blocks.yml", block("new") + block("old", name="b"))
+    ended("half is done", place.run(ROTATE, *to_new(place), "."), 0, summary(2, 2))
+    assert place.get("one.yml") == sealed("new"), "what has it stays"
+    assert place.get("blocks.yml").startswith(block("new")), "and a block that has it"
+    before = place.files()
+    for words in (to_new(place), [*place.by_file("new"), *to_new(place)]):
+        ended("all is done", place.run(ROTATE, *words, "."), 0, summary(0, 4))
+        assert place.files() == before, "all stays"
 
 
-def nothing(cases: Companions) -> None:
+def test_nothing(place: Place) -> None:
     """A new secret whose label nothing has may be a slip."""
     why = "ansible-vault-rotate: nothing has the label "
-    with cases.place() as place:
-        cases.ended("an empty tree", place.run(ROTATE, *to_new(place), "."), 1, summary(0), f"{why}default\n")
-        place.put("plain.yml", TEXT)
-        place.put("empty.yml", b"")
-        cases.ended("no vault", place.run(ROTATE, *to_new(place), "."), 1, summary(0), f"{why}default\n")
-        place.put("a.yml", sealed("old"))
-        slip = [*to_new(place), *place.by_id("prd", "prod2", "new-")]
-        done = place.run(ROTATE, *slip, ".")
-        cases.ended("a label that nothing has", done, 1, summary(1), f"{why}prd\n")
-        cases.check("the others are rotated", decrypted("new", place.get("a.yml")), TEXT)
+    ended("an empty tree", place.run(ROTATE, *to_new(place), "."), 1, summary(0), f"{why}default\n")
+    place.put("plain.yml", TEXT)
+    place.put("empty.yml", b"")
+    ended("no vault", place.run(ROTATE, *to_new(place), "."), 1, summary(0), f"{why}default\n")
+    place.put("a.yml", sealed("old"))
+    slip = [*to_new(place), *place.by_id("prd", "prod2", "new-")]
+    done = place.run(ROTATE, *slip, ".")
+    ended("a label that nothing has", done, 1, summary(1), f"{why}prd\n")
+    assert decrypted("new", place.get("a.yml")) == TEXT, "the others are rotated"
 
 
-def failures(cases: Companions) -> None:
+def test_failures(cases: Companions) -> None:
     """Each failure is reported, the other files are still rotated, and the status is 1."""
     strays = {
         "stray.yml": (sealed("dev"), "no secret decrypts this vault"),
@@ -98,106 +96,104 @@ def failures(cases: Companions) -> None:
         "block.yml": (b"a: 1\nb: !vault |\n  $ANSIBLE_VAULT;1.1;AES256\nc: 2\n", "block.yml:3: vault"),
     }
     for name, (content, part) in strays.items():
-        with cases.place() as place:
-            place.put("a.yml", sealed("old"))
-            place.put(name, content)
-            place.put("z.yml", sealed("old"))
-            done = place.run(ROTATE, *to_new(place), ".")
-            cases.ended(name, done, 1, f"./{name}", part, summary(2, failed=1))
-            cases.check(f"{name} stays", place.get(name), content)
-            others = [decrypted("new", place.get(each)) for each in ("a.yml", "z.yml")]
-            cases.check("the others are done", others, [TEXT] * 2)
-            cases.check("no other file is left", place.names(), sorted(["a.yml", name, "z.yml"]))
-
-
-def wrong_passwords(cases: Companions) -> None:
-    with cases.place() as place:
+        place = cases.place()
         place.put("a.yml", sealed("old"))
-        place.put("b.yml", block("old"))
-        (place.path / "empty").write_bytes(b" \n")
-        before = place.files()
-        new = place.by_file("new", "new-")
-        refused = [
-            ([*place.by_file("dev"), *new], "b.yml:2: no secret decrypts this vault\n"),
-            ([*place.by_file("missing"), *new], "missing: a password file cannot be opened"),
-            ([*place.by_file("old"), "--new-vault-password-file", "../empty"], "../empty: a password is empty"),
-            ([*place.by_file("old"), "--new-vault-id", "dev;@../empty"], "a vault id label is not allowed"),
-        ]
-        for words, part in refused:
-            cases.ended(part, place.run(ROTATE, *words, "."), 1, part)
-            cases.check("all stays", place.files(), before)
+        place.put(name, content)
+        place.put("z.yml", sealed("old"))
+        done = place.run(ROTATE, *to_new(place), ".")
+        ended(name, done, 1, f"./{name}", part, summary(2, failed=1))
+        assert place.get(name) == content, f"{name} stays"
+        others = [decrypted("new", place.get(each)) for each in ("a.yml", "z.yml")]
+        assert others == [TEXT] * 2, "the others are done"
+        assert place.names() == sorted(["a.yml", name, "z.yml"]), "no other file is left"
 
 
-def unreadable(cases: Companions) -> None:
+def test_wrong_passwords(place: Place) -> None:
+    place.put("a.yml", sealed("old"))
+    place.put("b.yml", block("old"))
+    (place.path / "empty").write_bytes(b" \n")
+    before = place.files()
+    new = place.by_file("new", "new-")
+    refused = [
+        ([*place.by_file("dev"), *new], "b.yml:2: no secret decrypts this vault\n"),
+        ([*place.by_file("missing"), *new], "missing: a password file cannot be opened"),
+        ([*place.by_file("old"), "--new-vault-password-file", "../empty"], "../empty: a password is empty"),
+        ([*place.by_file("old"), "--new-vault-id", "dev;@../empty"], "a vault id label is not allowed"),
+    ]
+    for words, part in refused:
+        ended(part, place.run(ROTATE, *words, "."), 1, part)
+        assert place.files() == before, "all stays"
+
+
+def test_unreadable(cases: Companions) -> None:
     """What cannot be read may be a vault under an old secret; what cannot be written stays."""
-    with cases.place() as place:
-        place.put("closed.yml", sealed("old"), 0o000)
-        place.put("folder/a.yml", sealed("old"))
-        (place.tree / "folder").chmod(0o000)
-        done = place.as_nobody(ROTATE, *to_new(place), ".")
-        parts = ["./closed.yml: Permission denied", "./folder: Permission denied"]
-        cases.ended("what cannot be read", done, 1, *parts, summary(0, failed=2))
-        (place.tree / "folder").chmod(0o755)
-    with cases.place() as place:
-        place.put("folder/a.yml", sealed("old"))
-        (place.tree / "folder").chmod(0o555)
-        done = place.as_nobody(ROTATE, *to_new(place), ".")
-        cases.ended("what cannot be written", done, 1, "./folder/a.yml: Permission denied", summary(0, failed=1))
-        (place.tree / "folder").chmod(0o755)
-        cases.check("it stays", place.files(), {"folder/a.yml": sealed("old")})
-    with cases.place() as place:
-        done = place.run(ROTATE, *to_new(place), "missing")
-        cases.ended("what is not there", done, 1, "missing: No such file or directory")
+    place = cases.place()
+    place.put("closed.yml", sealed("old"), 0o000)
+    place.put("folder/a.yml", sealed("old"))
+    (place.tree / "folder").chmod(0o000)
+    done = place.as_nobody(ROTATE, *to_new(place), ".")
+    parts = ["./closed.yml: Permission denied", "./folder: Permission denied"]
+    ended("what cannot be read", done, 1, *parts, summary(0, failed=2))
+    (place.tree / "folder").chmod(0o755)
+    place = cases.place()
+    place.put("folder/a.yml", sealed("old"))
+    (place.tree / "folder").chmod(0o555)
+    done = place.as_nobody(ROTATE, *to_new(place), ".")
+    ended("what cannot be written", done, 1, "./folder/a.yml: Permission denied", summary(0, failed=1))
+    (place.tree / "folder").chmod(0o755)
+    assert place.files() == {"folder/a.yml": sealed("old")}, "it stays"
+    place = cases.place()
+    done = place.run(ROTATE, *to_new(place), "missing")
+    ended("what is not there", done, 1, "missing: No such file or directory")
 
 
-def owners_and_modes(cases: Companions) -> None:
-    with cases.place() as place:
-        modes = {"a.yml": 0o600, "b.yml": 0o664, "c.yml": 0o444, "d.yml": 0o2755}
-        for name, mode in modes.items():
-            place.put(name, sealed("old"), mode)
-            if os.geteuid() == 0:
-                os.chown(place.tree / name, NOBODY, NOBODY)
-                os.chmod(place.tree / name, mode)
-        owners = [(place.tree / name).stat()[4:6] for name in modes]
-        try:
-            os.setxattr(place.tree / "a.yml", "user.note", b"kept")
-            attributes = {"user.note": b"kept"}
-        except OSError:
-            cases.skip("extended attributes", "the file system has none")
-            attributes = {}
-        cases.ended("modes", place.run(ROTATE, *to_new(place), "."), 0, summary(4))
-        cases.check("modes stay", [place.mode(name) for name in modes], [oct(mode) for mode in modes.values()])
-        cases.check("owners stay", [(place.tree / name).stat()[4:6] for name in modes], owners)
-        found = {name: os.getxattr(place.tree / "a.yml", name) for name in attributes}
-        cases.check("attributes stay", found, attributes)
+def test_owners_and_modes(place: Place) -> None:
+    modes = {"a.yml": 0o600, "b.yml": 0o664, "c.yml": 0o444, "d.yml": 0o2755}
+    for name, mode in modes.items():
+        place.put(name, sealed("old"), mode)
         if os.geteuid() == 0:
-            place.tree.chmod(0o777)
-            os.chown(place.tree / "a.yml", 0, 0)
-            (place.tree / "a.yml").chmod(0o644)
-            words = [*place.by_file("new"), *place.by_file("old", "new-")]
-            done = place.as_nobody(ROTATE, *words, "a.yml")
-            cases.ended("an owner that cannot be kept", done, 1, "a.yml: Operation not permitted", summary(0, failed=1))
-            cases.check("its file stays", decrypted("new", place.get("a.yml")), TEXT)
-            cases.check("nothing is left", place.names(), sorted(modes))
+            os.chown(place.tree / name, NOBODY, NOBODY)
+            os.chmod(place.tree / name, mode)
+    owners = [(place.tree / name).stat()[4:6] for name in modes]
+    try:
+        os.setxattr(place.tree / "a.yml", "user.note", b"kept")
+        attributes = {"user.note": b"kept"}
+    except OSError:
+        attributes = {}
+    ended("modes", place.run(ROTATE, *to_new(place), "."), 0, summary(4))
+    assert [place.mode(name) for name in modes] == [oct(mode) for mode in modes.values()], "modes stay"
+    assert [(place.tree / name).stat()[4:6] for name in modes] == owners, "owners stay"
+    found = {name: os.getxattr(place.tree / "a.yml", name) for name in attributes}
+    assert found == attributes, "attributes stay"
+    if os.geteuid() == 0:
+        place.tree.chmod(0o777)
+        os.chown(place.tree / "a.yml", 0, 0)
+        (place.tree / "a.yml").chmod(0o644)
+        words = [*place.by_file("new"), *place.by_file("old", "new-")]
+        done = place.as_nobody(ROTATE, *words, "a.yml")
+        ended("an owner that cannot be kept", done, 1, "a.yml: Operation not permitted", summary(0, failed=1))
+    if not attributes:
+        pytest.skip("the file system has no extended attributes")
+        assert decrypted("new", place.get("a.yml")) == TEXT, "its file stays"
+        assert place.names() == sorted(modes), "nothing is left"
 
 
-def dry_run(cases: Companions) -> None:
-    with cases.place() as place:
-        place.put("a.yml", sealed("old"))
-        place.put("b.yml", block("old") + block("new", name="c"))
-        before = place.files()
-        parts = ["./a.yml: would be rotated", "./b.yml: 1 block would be rotated", "2 to be rotated, 1 under"]
-        cases.ended("something is left", place.run(ROTATE, "--dry-run", *to_new(place), "."), 1, *parts)
-        cases.check("nothing is written", place.files(), before)
-        place.put("c.yml", sealed("dev"))
-        done = place.run(ROTATE, "--dry-run", *to_new(place), ".")
-        cases.ended("one cannot be decrypted", done, 1, "./c.yml: no secret decrypts this vault", "1 failed")
-        place.run(ROTATE, *to_new(place), "a.yml", "b.yml")
-        done = place.run(ROTATE, "--dry-run", *to_new(place), "a.yml", "b.yml")
-        cases.ended("nothing is left", done, 0, "0 to be rotated, 3 under the new secret already")
+def test_dry_run(place: Place) -> None:
+    place.put("a.yml", sealed("old"))
+    place.put("b.yml", block("old") + block("new", name="c"))
+    before = place.files()
+    parts = ["./a.yml: would be rotated", "./b.yml: 1 block would be rotated", "2 to be rotated, 1 under"]
+    ended("something is left", place.run(ROTATE, "--dry-run", *to_new(place), "."), 1, *parts)
+    assert place.files() == before, "nothing is written"
+    place.put("c.yml", sealed("dev"))
+    done = place.run(ROTATE, "--dry-run", *to_new(place), ".")
+    ended("one cannot be decrypted", done, 1, "./c.yml: no secret decrypts this vault", "1 failed")
+    place.run(ROTATE, *to_new(place), "a.yml", "b.yml")
+    done = place.run(ROTATE, "--dry-run", *to_new(place), "a.yml", "b.yml")
+    ended("nothing is left", done, 0, "0 to be rotated, 3 under the new secret already")
 
 
-def documents(cases: Companions) -> None:
+def test_documents(cases: Companions) -> None:
     """What an old secret decrypts in a document is not rotated, and counted; an example is neither."""
     left = "it is in a document, so it is not rotated; --skip-documents ignores it\n"
     line = sealed("old").decode().replace("\n", "\\n")
@@ -210,65 +206,58 @@ def documents(cases: Companions) -> None:
     others = {"c.md": block("dev"), "d.md": block("new"), "e.md": block("prod", label="prod")}
     others["f.md"] = b"As $ANSIBLE_VAULT;1.1\n"
     for name, (content, place_in_it) in prose.items():
-        with cases.place() as place:
-            place.put("a.yml", sealed("old"))
-            place.put("vault.md", sealed("old"))
-            for other, text in {name: content, **others}.items():
-                place.put(other, text)
-            counts = f"{summary(2)}, 1 left in documents\n"
-            done = place.run(ROTATE, *to_new(place), ".")
-            cases.ended(name, done, 1, f"./{name}{place_in_it}{left}", counts)
-            cases.check(f"{name}: no other is named", done.stderr.count(left), 1)
-            cases.check(f"{name}: it stays", place.get(name), content)
-            cases.check("a document that is a vault is rotated", decrypted("new", place.get("vault.md")), TEXT)
-            again = place.run(ROTATE, "--dry-run", *to_new(place), ".")
-            cases.ended(f"{name}: again", again, 1, left, ", 1 left in documents\n")
-            done = place.run(ROTATE, "--skip-documents", *to_new(place), ".")
-            cases.check(f"{name}: ignored", (done.returncode, done.stdout, done.stderr), (0, f"{summary(0, 2)}\n", ""))
-
-
-def changed_meanwhile(cases: Companions) -> None:
-    with cases.place() as place:
-        place.put("a.yml", block("old"))
-        place.wrap_tool('[ "$1" = encrypt ] && echo "b: theirs" >> a.yml')
-        done = place.run(ROTATE, *to_new(place), ".")
-        cases.ended("changed meanwhile", done, 1, "./a.yml: it was changed meanwhile", summary(0, failed=1))
-        cases.check("their change stays", place.files(), {"a.yml": block("old") + b"b: theirs\n"})
-
-
-def closed_output(cases: Companions) -> None:
-    """Where nobody reads on, the files are whole, and nothing is left."""
-    with cases.place() as place:
-        for number in range(12):
-            place.put(f"{number}.yml", sealed("old"))
-        done = place.shell(f"{ROTATE} --jobs 1 {' '.join(to_new(place))} . | :; echo ${{PIPESTATUS[0]}}", "bash")
-        why = "ansible-vault-rotate: standard output cannot be written: Broken pipe\n"
-        cases.check("it fails, and says why", (done.stdout, done.stderr), ("1\n", why))
-        whole = [TEXT in (decrypted("old", content), decrypted("new", content)) for content in place.files().values()]
-        cases.check("each vault is whole", whole, [True] * 12)
-        is_old = [decrypted("old", content) == TEXT for content in place.files().values()]
-        cases.holds("and those that were not begun are not", True in is_old, repr(is_old))
-
-
-def command_line(cases: Companions) -> None:
-    with cases.place() as place:
-        old, new = place.by_file("old"), place.by_file("new", "new-")
-        lines = [
-            [],
-            [*old, "."],
-            [*new, "."],
-            [*old, *new],
-            [*old, *new, *place.by_file("dev", "new-"), "."],
-            [*old, *new, "--jobs", "0", "."],
-            [*old, *new, "--jobs", "many", "."],
-            [*old, *new, "--dry", "."],
-        ]
-        for words in lines:
-            cases.ended(f"{words}", place.run(ROTATE, *words), 2, "usage: ansible-vault-rotate")
+        place = cases.place()
         place.put("a.yml", sealed("old"))
-        for jobs in ("1", "7"):
-            cases.ended(f"{jobs} at once", place.run(ROTATE, *old, *new, "--jobs", jobs, "."), 0)
+        place.put("vault.md", sealed("old"))
+        for other, text in {name: content, **others}.items():
+            place.put(other, text)
+        counts = f"{summary(2)}, 1 left in documents\n"
+        done = place.run(ROTATE, *to_new(place), ".")
+        ended(name, done, 1, f"./{name}{place_in_it}{left}", counts)
+        assert done.stderr.count(left) == 1, f"{name}: no other is named"
+        assert place.get(name) == content, f"{name}: it stays"
+        assert decrypted("new", place.get("vault.md")) == TEXT, "a document that is a vault is rotated"
+        again = place.run(ROTATE, "--dry-run", *to_new(place), ".")
+        ended(f"{name}: again", again, 1, left, ", 1 left in documents\n")
+        done = place.run(ROTATE, "--skip-documents", *to_new(place), ".")
+        assert (done.returncode, done.stdout, done.stderr) == (0, f"{summary(0, 2)}\n", ""), f"{name}: ignored"
 
 
-TESTS = [by_label, default_is_a_label, again, nothing, failures, wrong_passwords, unreadable, owners_and_modes]
-TESTS += [dry_run, documents, changed_meanwhile, closed_output, command_line]
+def test_changed_meanwhile(place: Place) -> None:
+    place.put("a.yml", block("old"))
+    place.wrap_tool('[ "$1" = encrypt ] && echo "b: theirs" >> a.yml')
+    done = place.run(ROTATE, *to_new(place), ".")
+    ended("changed meanwhile", done, 1, "./a.yml: it was changed meanwhile", summary(0, failed=1))
+    assert place.files() == {"a.yml": block("old") + b"b: theirs\n"}, "their change stays"
+
+
+def test_closed_output(place: Place) -> None:
+    """Where nobody reads on, the files are whole, and nothing is left."""
+    for number in range(12):
+        place.put(f"{number}.yml", sealed("old"))
+    done = place.shell(f"{ROTATE} --jobs 1 {' '.join(to_new(place))} . | :; echo ${{PIPESTATUS[0]}}", "bash")
+    why = "ansible-vault-rotate: standard output cannot be written: Broken pipe\n"
+    assert (done.stdout, done.stderr) == ("1\n", why), "it fails, and says why"
+    whole = [TEXT in (decrypted("old", content), decrypted("new", content)) for content in place.files().values()]
+    assert whole == [True] * 12, "each vault is whole"
+    is_old = [decrypted("old", content) == TEXT for content in place.files().values()]
+    assert True in is_old, "and those that were not begun are not"
+
+
+def test_command_line(place: Place) -> None:
+    old, new = place.by_file("old"), place.by_file("new", "new-")
+    lines = [
+        [],
+        [*old, "."],
+        [*new, "."],
+        [*old, *new],
+        [*old, *new, *place.by_file("dev", "new-"), "."],
+        [*old, *new, "--jobs", "0", "."],
+        [*old, *new, "--jobs", "many", "."],
+        [*old, *new, "--dry", "."],
+    ]
+    for words in lines:
+        ended(f"{words}", place.run(ROTATE, *words), 2, "usage: ansible-vault-rotate")
+    place.put("a.yml", sealed("old"))
+    for jobs in ("1", "7"):
+        ended(f"{jobs} at once", place.run(ROTATE, *old, *new, "--jobs", jobs, "."), 0)

@@ -3,9 +3,12 @@
 import os
 import subprocess
 
-from companion_cases import AWKWARD, EDIT, NOBODY, PASSWORDS, SECONDS, TEXT, WITH, Companions, Place, decrypted, sealed
+import pytest
+
+from companion_cases import AWKWARD, EDIT, NOBODY, PASSWORDS, SECONDS, TEXT, WITH
+from companion_cases import Companions, Place, decrypted, ended, sealed, silent
 from companion_cases.both import for_ansible, ours, theirs
-from lib.ansible import ansible_vault
+from lib.needs import needs, needs_ansible
 
 # Command lines with a secret, as the tool has them too; and what is read.
 SAME = [
@@ -61,272 +64,261 @@ def run(place: Place, words: list[str], data: bytes) -> tuple:
     return done.returncode, done.stdout, done.stderr, files
 
 
-def the_answers_of_the_tool(cases: Companions) -> None:
+@pytest.mark.parametrize("option", ["--vault-password-file={}", "--vault-id=default@{}"])
+@pytest.mark.parametrize("words, data", SAME, ids=lambda value: repr(value)[:60])
+def test_the_answers_of_the_tool(place: Place, words: list[str], data: bytes, option: str) -> None:
     """Output, message, status and files are the same, wherever the secret stands."""
-    with cases.place() as place:
-        path = place.secret("old")
-        for words, data in SAME:
-            command, *others = words
-            for option in (f"--vault-password-file={path}", f"--vault-id=default@{path}"):
-                wanted = run(place, ["ansible-vault", command, option, *others], data)
-                pair = option.split("=")
-                lines = [[option, command, *others], [*pair, command, *others], [command, *pair, *others]]
-                if wanted[0] != WRONG_COMMAND_LINE and "--" not in others:
-                    lines.append([command, *others, *pair])
-                for line in lines:
-                    cases.check(f"{line}", run(place, [WITH, *line], data), wanted)
-        for words in BARE:
-            cases.check(f"{words}", run(place, [WITH, *words], b""), run(place, ["ansible-vault", *words], b""))
+    option, (command, *others) = option.format(place.secret("old")), words
+    wanted = run(place, ["ansible-vault", command, option, *others], data)
+    pair = option.split("=")
+    lines = [[option, command, *others], [*pair, command, *others], [command, *pair, *others]]
+    if wanted[0] != WRONG_COMMAND_LINE and "--" not in others:
+        lines.append([command, *others, *pair])
+    for line in lines:
+        assert run(place, [WITH, *line], data) == wanted, f"{line}"
 
 
-def command_lines(cases: Companions) -> None:
-    with cases.place() as place:
-        prepare(place)
-        before = place.files()
-        cases.ended("no word", place.run(WITH), 2, f"usage: {WITH}", "no command is given")
-        cases.ended("no command", place.run(WITH, *place.by_file("old")), 2, "no command is given")
-        refused = {
-            "--vault-password-file=../missing": (3, "../missing: a password file cannot be opened"),
-            "--vault-password-file=.": (3, ".: a password file cannot be read"),
-            "--vault-id=a;b@../secrets/old": (1, "a;b@../secrets/old: a vault id label is not allowed"),
-            "--vault-id=dev@/dev/null": (1, "dev@/dev/null: a password is empty"),
-        }
-        for option, (status, part) in refused.items():
-            done = place.run(WITH, "decrypt", *place.by_file("old"), option, "a.yml")
-            expected = (status, "", f"{WITH}: {part}\n")
-            cases.check(option, (done.returncode, done.stdout, done.stderr), expected)
-        unreadable = {
-            "missing.yml": "missing.yml: No such file or directory",
-            "nowhere/a.yml": "nowhere/a.yml: No such file or directory",
-            "a\nline.yml": "'a\\nline.yml': No such file or directory",
-            ".": ".: Is a directory",
-        }
-        for name, part in unreadable.items():
-            for words in (["view"], ["decrypt", "--output", "out.yml"]):
-                done = place.run(WITH, *words, *place.by_file("old"), name)
-                expected = (3, "", f"{WITH}: {part}\n")
-                cases.check(f"{words} {name}", (done.returncode, done.stdout, done.stderr), expected)
-        salted = [*place.by_file("old"), "--salt", "salt"]
-        done = place.run(WITH, "encrypt", *salted, "plain.yml", "plain.yml")
-        cases.ended("one salt for two", done, 2, "--salt is for one FILE or STRING")
-        cases.check("all files stay", place.files(), before)
+@pytest.mark.parametrize("words", BARE, ids=repr)
+def test_without_a_secret(place: Place, words: list[str]) -> None:
+    assert run(place, [WITH, *words], b"") == run(place, ["ansible-vault", *words], b"")
 
 
-def in_place(cases: Companions) -> None:
+def test_command_lines(place: Place) -> None:
+    prepare(place)
+    before = place.files()
+    ended("no word", place.run(WITH), 2, f"usage: {WITH}", "no command is given")
+    ended("no command", place.run(WITH, *place.by_file("old")), 2, "no command is given")
+    refused = {
+        "--vault-password-file=../missing": (3, "../missing: a password file cannot be opened"),
+        "--vault-password-file=.": (3, ".: a password file cannot be read"),
+        "--vault-id=a;b@../secrets/old": (1, "a;b@../secrets/old: a vault id label is not allowed"),
+        "--vault-id=dev@/dev/null": (1, "dev@/dev/null: a password is empty"),
+    }
+    for option, (status, part) in refused.items():
+        done = place.run(WITH, "decrypt", *place.by_file("old"), option, "a.yml")
+        expected = (status, "", f"{WITH}: {part}\n")
+        assert (done.returncode, done.stdout, done.stderr) == expected, option
+    unreadable = {
+        "missing.yml": "missing.yml: No such file or directory",
+        "nowhere/a.yml": "nowhere/a.yml: No such file or directory",
+        "a\nline.yml": "'a\\nline.yml': No such file or directory",
+        ".": ".: Is a directory",
+    }
+    for name, part in unreadable.items():
+        for words in (["view"], ["decrypt", "--output", "out.yml"]):
+            done = place.run(WITH, *words, *place.by_file("old"), name)
+            expected = (3, "", f"{WITH}: {part}\n")
+            assert (done.returncode, done.stdout, done.stderr) == expected, f"{words} {name}"
+    salted = [*place.by_file("old"), "--salt", "salt"]
+    done = place.run(WITH, "encrypt", *salted, "plain.yml", "plain.yml")
+    ended("one salt for two", done, 2, "--salt is for one FILE or STRING")
+    assert place.files() == before, "all files stay"
+
+
+def test_in_place(place: Place) -> None:
     """Several files, under names that a shell or an option would break."""
-    with cases.place() as place:
-        names = [*AWKWARD, "folder/a.yml"]
-        for number, name in enumerate(names):
-            place.put(name, TEXT * number, 0o640 if number % 2 else 0o600)
-            if os.geteuid() == 0:
-                os.chown(place.tree / name, NOBODY, NOBODY)
-        about = lambda: [(place.mode(name), (place.tree / name).stat().st_uid) for name in names]
-        before = about()
-        steps = [
-            ("encrypt", place.by_id("dev", "dev"), "dev", "dev"),
-            ("rekey", [*place.by_file("dev"), *place.by_id("prod", "prod", "new-")], "prod", "prod"),
-            ("rekey", ["--vault-pass-file", place.secret("prod"), *place.by_file("new", "new-")], "new", ""),
-        ]
-        for command, words, password, label in steps:
-            cases.silent(command, place.run(WITH, command, *words, "--", *names))
-            texts = [decrypted(password, place.get(name)) for name in names]
-            cases.check(f"{command}: all are under it", texts, [TEXT * number for number in range(len(names))])
-            header = f"$ANSIBLE_VAULT;1.2;AES256;{label}\n" if label else "$ANSIBLE_VAULT;1.1;AES256\n"
-            headers = {place.get(name).partition(b"\n")[0].decode() + "\n" for name in names}
-            cases.check(f"{command}: labels, modes and owners", (headers, about()), ({header}, before))
-        cases.silent("decrypt", place.run(WITH, "decrypt", *place.by_file("new"), "--", *names))
-        cases.check("it is plaintext again", [place.get(name) for name in names], [TEXT * n for n in range(len(names))])
-        owners = [uid for _, uid in before]
-        cases.check("for its owner alone", about(), [("0o600", uid) for uid in owners])
-        cases.check("no other file is left", sorted(place.files()), sorted(names))
+    names = [*AWKWARD, "folder/a.yml"]
+    for number, name in enumerate(names):
+        place.put(name, TEXT * number, 0o640 if number % 2 else 0o600)
+        if os.geteuid() == 0:
+            os.chown(place.tree / name, NOBODY, NOBODY)
+    about = lambda: [(place.mode(name), (place.tree / name).stat().st_uid) for name in names]
+    before = about()
+    steps = [
+        ("encrypt", place.by_id("dev", "dev"), "dev", "dev"),
+        ("rekey", [*place.by_file("dev"), *place.by_id("prod", "prod", "new-")], "prod", "prod"),
+        ("rekey", ["--vault-pass-file", place.secret("prod"), *place.by_file("new", "new-")], "new", ""),
+    ]
+    for command, words, password, label in steps:
+        silent(command, place.run(WITH, command, *words, "--", *names))
+        texts = [decrypted(password, place.get(name)) for name in names]
+        assert texts == [TEXT * number for number in range(len(names))], f"{command}: all are under it"
+        header = f"$ANSIBLE_VAULT;1.2;AES256;{label}\n" if label else "$ANSIBLE_VAULT;1.1;AES256\n"
+        headers = {place.get(name).partition(b"\n")[0].decode() + "\n" for name in names}
+        assert (headers, about()) == ({header}, before), f"{command}: labels, modes and owners"
+    silent("decrypt", place.run(WITH, "decrypt", *place.by_file("new"), "--", *names))
+    assert [place.get(name) for name in names] == [TEXT * n for n in range(len(names))], "it is plaintext again"
+    owners = [uid for _, uid in before]
+    assert about() == [("0o600", uid) for uid in owners], "for its owner alone"
+    assert sorted(place.files()) == sorted(names), "no other file is left"
 
 
-def links_and_acls(cases: Companions) -> None:
-    with cases.place() as place:
-        place.put("vaults/a.yml", TEXT, 0o644)
-        (place.tree / "link.yml").symlink_to("vaults/a.yml")
-        cases.silent("by a link", place.run(WITH, "encrypt", *place.by_file("old"), "link.yml"))
-        cases.check("the link stays", os.readlink(place.tree / "link.yml"), "vaults/a.yml")
-        cases.check("its file is encrypted", decrypted("old", place.get("vaults/a.yml")), TEXT)
-        os.link(place.tree / "vaults/a.yml", place.tree / "second.yml")
-        before = place.files()
-        done = place.run(WITH, "decrypt", *place.by_file("old"), "second.yml")
-        cases.ended("two names", done, 1, "second.yml: it has 2 names (hard links), and one alone would change")
-        cases.check("both stay", place.files(), before)
-        (place.tree / "second.yml").unlink()
-        if not cases.needs("access control lists", "setfacl", "getfacl"):
-            return
-        place.run("setfacl", "-m", f"u:{NOBODY}:r", "vaults/a.yml")
-        words = [*place.by_file("old"), *place.by_file("new", "new-")]
-        cases.silent("with an ACL", place.run(WITH, "rekey", *words, "link.yml"))
-        listed = place.run("getfacl", "-cn", "vaults/a.yml").stdout
-        cases.holds("an encrypted file keeps it", f"user:{NOBODY}:r--" in listed, listed)
-        cases.silent("decrypted", place.run(WITH, "decrypt", *place.by_file("new"), "link.yml"))
-        listed = place.run("getfacl", "-cn", "vaults/a.yml").stdout
-        cases.check("plaintext has none", listed.split(), ["user::rw-", "group::---", "other::---"])
+def test_links_and_acls(place: Place) -> None:
+    place.put("vaults/a.yml", TEXT, 0o644)
+    (place.tree / "link.yml").symlink_to("vaults/a.yml")
+    silent("by a link", place.run(WITH, "encrypt", *place.by_file("old"), "link.yml"))
+    assert os.readlink(place.tree / "link.yml") == "vaults/a.yml", "the link stays"
+    assert decrypted("old", place.get("vaults/a.yml")) == TEXT, "its file is encrypted"
+    os.link(place.tree / "vaults/a.yml", place.tree / "second.yml")
+    before = place.files()
+    done = place.run(WITH, "decrypt", *place.by_file("old"), "second.yml")
+    ended("two names", done, 1, "second.yml: it has 2 names (hard links), and one alone would change")
+    assert place.files() == before, "both stay"
+    (place.tree / "second.yml").unlink()
+    needs("setfacl", "getfacl")
+    place.run("setfacl", "-m", f"u:{NOBODY}:r", "vaults/a.yml")
+    words = [*place.by_file("old"), *place.by_file("new", "new-")]
+    silent("with an ACL", place.run(WITH, "rekey", *words, "link.yml"))
+    listed = place.run("getfacl", "-cn", "vaults/a.yml").stdout
+    assert f"user:{NOBODY}:r--" in listed, "an encrypted file keeps it"
+    silent("decrypted", place.run(WITH, "decrypt", *place.by_file("new"), "link.yml"))
+    listed = place.run("getfacl", "-cn", "vaults/a.yml").stdout
+    assert listed.split() == ["user::rw-", "group::---", "other::---"], "plaintext has none"
 
 
-def those_that_fail(cases: Companions) -> None:
+def test_those_that_fail(place: Place) -> None:
     """They stay as they are, and the others go on; the status is the highest."""
-    with cases.place() as place:
-        prepare(place)
-        (place.tree / "folder").mkdir()
-        before = place.files()
-        words = [*place.by_file("old"), *place.by_file("dev", "new-")]
-        done = place.run(WITH, "rekey", *words, "new.yml", "missing.yml", "plain.yml", "folder", "a.yml")
-        messages = [
-            f"{WITH}: new.yml: no secret decrypts this vault",
-            f"{WITH}: missing.yml: No such file or directory",
-            f"{WITH}: plain.yml: input is not vault encrypted data",
-            f"{WITH}: folder: Is a directory",
-        ]
-        cases.check("the messages", (done.returncode, done.stdout, done.stderr.splitlines()), (1, "", messages))
-        after = place.files()
-        cases.check("the others go on", decrypted("dev", after.pop("a.yml")), TEXT)
-        del before["a.yml"]
-        cases.check("and these stay", after, before)
-        done = place.run(WITH, "encrypt", *place.by_file("old"), "--loud", "plain.yml", "a.yml")
-        cases.ended("a fault of the command line", done, 2, "error: unexpected argument '--loud' found")
-        cases.check("is reported once", (done.stderr.count("--help"), place.get("plain.yml")), (1, TEXT))
-        place.put("big.yml", bytes(16_777_217))
-        done = place.run(WITH, "encrypt", *place.by_file("old"), "big.yml")
-        cases.ended("too long", done, 1, f"{WITH}: big.yml: input is longer than the limit")
-        cases.check("stays", (place.tree / "big.yml").stat().st_size, 16_777_217)
+    prepare(place)
+    (place.tree / "folder").mkdir()
+    before = place.files()
+    words = [*place.by_file("old"), *place.by_file("dev", "new-")]
+    done = place.run(WITH, "rekey", *words, "new.yml", "missing.yml", "plain.yml", "folder", "a.yml")
+    messages = [
+        f"{WITH}: new.yml: no secret decrypts this vault",
+        f"{WITH}: missing.yml: No such file or directory",
+        f"{WITH}: plain.yml: input is not vault encrypted data",
+        f"{WITH}: folder: Is a directory",
+    ]
+    assert (done.returncode, done.stdout, done.stderr.splitlines()) == (1, "", messages), "the messages"
+    after = place.files()
+    assert decrypted("dev", after.pop("a.yml")) == TEXT, "the others go on"
+    del before["a.yml"]
+    assert after == before, "and these stay"
+    done = place.run(WITH, "encrypt", *place.by_file("old"), "--loud", "plain.yml", "a.yml")
+    ended("a fault of the command line", done, 2, "error: unexpected argument '--loud' found")
+    assert (done.stderr.count("--help"), place.get("plain.yml")) == (1, TEXT), "is reported once"
+    place.put("big.yml", bytes(16_777_217))
+    done = place.run(WITH, "encrypt", *place.by_file("old"), "big.yml")
+    ended("too long", done, 1, f"{WITH}: big.yml: input is longer than the limit")
+    assert (place.tree / "big.yml").stat().st_size == 16_777_217, "stays"
 
 
-def changed_meanwhile(cases: Companions) -> None:
+def test_changed_meanwhile(place: Place) -> None:
     """What somebody else wrote while the tool ran is not overwritten."""
-    with cases.place() as place:
-        prepare(place)
-        # Not before the run that looks at the command line alone.
-        place.wrap_tool('case "$*" in *=prompt*) ;; decrypt*) echo other > a.yml ;; esac')
-        done = place.run(WITH, "decrypt", *place.by_file("old"), "a.yml")
-        cases.ended("a change", done, 1, f"{WITH}: a.yml: it was changed meanwhile")
-        cases.check("stays", place.get("a.yml"), b"other\n")
-        cases.check("nothing is left", place.names(), ["a.yml", "new.yml", "plain.yml"])
+    prepare(place)
+    # Not before the run that looks at the command line alone.
+    place.wrap_tool('case "$*" in *=prompt*) ;; decrypt*) echo other > a.yml ;; esac')
+    done = place.run(WITH, "decrypt", *place.by_file("old"), "a.yml")
+    ended("a change", done, 1, f"{WITH}: a.yml: it was changed meanwhile")
+    assert place.get("a.yml") == b"other\n", "stays"
+    assert place.names() == ["a.yml", "new.yml", "plain.yml"], "nothing is left"
 
 
-def several_views(cases: Companions) -> None:
+def test_several_views(place: Place) -> None:
     """Each begins on a line of its own, and those that are refused do not stop the others."""
-    with cases.place() as place:
-        prepare(place)
-        place.put("b.yml", sealed("old", b"no line end"))
-        place.put("-c.yml", sealed("old", b""))
-        done = place.run(WITH, "view", *place.by_file("old"), "--", "b.yml", "-c.yml", "a.yml", "b.yml")
-        text = f"no line end\n{TEXT.decode()}no line end"
-        cases.check("all", (done.returncode, done.stdout, done.stderr), (0, text, ""))
-        done = place.run(WITH, "view", *place.by_file("old"), "new.yml", "a.yml", "missing.yml", "plain.yml")
-        messages = [
-            f"{WITH}: new.yml: no secret decrypts this vault",
-            f"{WITH}: missing.yml: No such file or directory",
-            f"{WITH}: plain.yml: input is not vault encrypted data",
-        ]
-        found = done.returncode, done.stdout, done.stderr.splitlines()
-        cases.check("some", found, (1, TEXT.decode(), messages))
-        place.script('echo run >> ../runs; cat ../secrets/old')
-        done = place.run(WITH, "view", "--vault-id", "../script", "a.yml", "a.yml")
-        cases.check("a script", (done.returncode, done.stdout), (0, TEXT.decode() * 2))
-        cases.check("is run once", (place.path / "runs").read_text(), "run\n")
+    prepare(place)
+    place.put("b.yml", sealed("old", b"no line end"))
+    place.put("-c.yml", sealed("old", b""))
+    done = place.run(WITH, "view", *place.by_file("old"), "--", "b.yml", "-c.yml", "a.yml", "b.yml")
+    text = f"no line end\n{TEXT.decode()}no line end"
+    assert (done.returncode, done.stdout, done.stderr) == (0, text, ""), "all"
+    done = place.run(WITH, "view", *place.by_file("old"), "new.yml", "a.yml", "missing.yml", "plain.yml")
+    messages = [
+        f"{WITH}: new.yml: no secret decrypts this vault",
+        f"{WITH}: missing.yml: No such file or directory",
+        f"{WITH}: plain.yml: input is not vault encrypted data",
+    ]
+    found = done.returncode, done.stdout, done.stderr.splitlines()
+    assert found == (1, TEXT.decode(), messages), "some"
+    place.script("echo run >> ../runs; cat ../secrets/old")
+    done = place.run(WITH, "view", "--vault-id", "../script", "a.yml", "a.yml")
+    assert (done.returncode, done.stdout) == (0, TEXT.decode() * 2), "a script"
+    assert (place.path / "runs").read_text() == "run\n", "is run once"
 
 
-def several_edits(cases: Companions) -> None:
-    with cases.place() as place:
-        prepare(place)
-        place.put("b.yml", sealed("old", b"b\n"))
-        place.script('echo run >> ../runs; cat ../secrets/old')
-        editor = place.script('echo more >> "$1"', "editor")
-        names = ["a.yml", "new.yml", "b.yml", "c.yml"]
-        done = place.run(WITH, "edit", "--vault-id", "../script", *names, EDITOR=editor)
-        cases.ended("edit", done, 1, f"{EDIT}: new.yml: no secret decrypts this vault")
-        texts = [decrypted("old", place.get(name)) for name in names if name != "new.yml"]
-        cases.check("the others are edited", texts, [TEXT + b"more\n", b"b\nmore\n", b"more\n"])
-        cases.check("the script is run once", (place.path / "runs").read_text(), "run\n")
-        done = place.run(WITH, "create", *place.by_file("old"), "x.yml", "y.yml", EDITOR=editor)
-        cases.ended("create", done, 2, "create takes one FILE")
+def test_several_edits(place: Place) -> None:
+    prepare(place)
+    place.put("b.yml", sealed("old", b"b\n"))
+    place.script("echo run >> ../runs; cat ../secrets/old")
+    editor = place.script('echo more >> "$1"', "editor")
+    names = ["a.yml", "new.yml", "b.yml", "c.yml"]
+    done = place.run(WITH, "edit", "--vault-id", "../script", *names, EDITOR=editor)
+    ended("edit", done, 1, f"{EDIT}: new.yml: no secret decrypts this vault")
+    texts = [decrypted("old", place.get(name)) for name in names if name != "new.yml"]
+    assert texts == [TEXT + b"more\n", b"b\nmore\n", b"more\n"], "the others are edited"
+    assert (place.path / "runs").read_text() == "run\n", "the script is run once"
+    done = place.run(WITH, "create", *place.by_file("old"), "x.yml", "y.yml", EDITOR=editor)
+    ended("create", done, 2, "create takes one FILE")
 
 
-def several_strings(cases: Companions) -> None:
+def test_several_strings(place: Place) -> None:
     """What is refused is refused before anything is written."""
-    with cases.place() as place:
-        secret = place.by_id("dev", "dev")
-        encrypt = [WITH, "encrypt_string", *secret]
-        lines = {
-            ("a", "b", "-n", "x", "-n", "y", "-n", "z"): (2, "there are more names than strings: x, y, z"),
-            ("a", ""): (1, "the string to encrypt is empty"),
-            ("a", "b", "-n", "x\ny"): (1, "a variable name holds a control byte"),
-            ("a", "b", "--loud"): (2, "error: unexpected argument '--loud' found"),
-            ("a", "b", "--salt", "salt"): (2, "--salt is for one FILE or STRING"),
-            ("a", "b", "--encrypt-vault-id", "prod"): (1, "no secret has the label of --encrypt-vault-id"),
-            ("a", "b", "--output", "nowhere/c.yml"): (1, "No such file or directory"),
-        }
-        for words, (status, part) in lines.items():
-            done = place.run(*encrypt, *words)
-            cases.ended(f"{words}", done, status, part)
-            cases.check(f"{words}: nothing is written", (done.stdout, place.names()), ("", []))
-        place.wrap_tool('echo "$@" >> ../seen')
-        done = place.run(*encrypt, "a word", "another", "--name", "x", "--output", "blocks.yml")
-        notes = [
-            "# There are fewer names than strings: those after x have none.",
-            "# Block 1 is the variable x, from the command line.",
-            "# Block 2 is a string without a name, from the command line.",
-        ]
-        cases.check("names", (done.returncode, done.stdout, done.stderr.splitlines()), (0, "", notes))
-        cases.check("the mode of the file", place.mode("blocks.yml"), "0o600")
-        blocks = place.get("blocks.yml").split(b"!vault |\n")[1:]
-        texts = [described(each.removesuffix(b"x: "))[1] for each in blocks]
-        cases.check("the strings", texts, [[("dev", b"a word")], [("dev", b"another")]])
-        seen = (place.path / "seen").read_text()
-        cases.check("strings are no arguments of the tool", ("word" in seen, "encrypt_string" in seen), (False, True))
+    secret = place.by_id("dev", "dev")
+    encrypt = [WITH, "encrypt_string", *secret]
+    lines = {
+        ("a", "b", "-n", "x", "-n", "y", "-n", "z"): (2, "there are more names than strings: x, y, z"),
+        ("a", ""): (1, "the string to encrypt is empty"),
+        ("a", "b", "-n", "x\ny"): (1, "a variable name holds a control byte"),
+        ("a", "b", "--loud"): (2, "error: unexpected argument '--loud' found"),
+        ("a", "b", "--salt", "salt"): (2, "--salt is for one FILE or STRING"),
+        ("a", "b", "--encrypt-vault-id", "prod"): (1, "no secret has the label of --encrypt-vault-id"),
+        ("a", "b", "--output", "nowhere/c.yml"): (1, "No such file or directory"),
+    }
+    for words, (status, part) in lines.items():
+        done = place.run(*encrypt, *words)
+        ended(f"{words}", done, status, part)
+        assert (done.stdout, place.names()) == ("", []), f"{words}: nothing is written"
+    place.wrap_tool('echo "$@" >> ../seen')
+    done = place.run(*encrypt, "a word", "another", "--name", "x", "--output", "blocks.yml")
+    notes = [
+        "# There are fewer names than strings: those after x have none.",
+        "# Block 1 is the variable x, from the command line.",
+        "# Block 2 is a string without a name, from the command line.",
+    ]
+    assert (done.returncode, done.stdout, done.stderr.splitlines()) == (0, "", notes), "names"
+    assert place.mode("blocks.yml") == "0o600", "the mode of the file"
+    blocks = place.get("blocks.yml").split(b"!vault |\n")[1:]
+    texts = [described(each.removesuffix(b"x: "))[1] for each in blocks]
+    assert texts == [[("dev", b"a word")], [("dev", b"another")]], "the strings"
+    seen = (place.path / "seen").read_text()
+    assert ("word" in seen, "encrypt_string" in seen) == (False, True), "strings are no arguments of the tool"
 
 
-def abbreviations(cases: Companions) -> None:
-    with cases.place() as place:
-        prepare(place)
-        wanted = place.run(WITH, "encrypt", *place.by_file("old"), "--salt=salt", "--output", "-", "plain.yml").stdout
-        lines = [
-            ["encrypt", "--vault-pass", place.secret("old"), "--salt=salt", "--ou", "-", "plain.yml"],
-            ["--vault-p", place.secret("old"), "encrypt", "--salt", "salt", "--out=-", "plain.yml"],
-            ["encrypt", f"--vault-i={place.secret('old')}", "--salt=salt", "--encrypt=default", "--o=-", "plain.yml"],
-        ]
-        for words in lines:
-            done = place.run(WITH, *words)
-            cases.check(f"{words}", (done.returncode, done.stdout, done.stderr), (0, wanted, ""))
-        done = place.run(WITH, "view", "--req", *place.by_file("old"), "a.yml")
-        cases.check("view --req", (done.returncode, done.stdout), (0, TEXT.decode()))
-        for word, others in {"--vault": "--vault-id, --vault-password-file", "--sa": "--salt, --salt-file"}.items():
-            done = place.run(WITH, "encrypt", word, "x", "plain.yml")
-            cases.ended(word, done, 2, f"{WITH}: error: ambiguous option: {word} could match {others}")
-        cases.ended("no option", place.run(WITH, "view", "--out", "x", "a.yml"), 2, "unexpected argument '--out'")
-        cases.check("the file stays", place.get("plain.yml"), TEXT)
+def test_abbreviations(place: Place) -> None:
+    prepare(place)
+    wanted = place.run(WITH, "encrypt", *place.by_file("old"), "--salt=salt", "--output", "-", "plain.yml").stdout
+    lines = [
+        ["encrypt", "--vault-pass", place.secret("old"), "--salt=salt", "--ou", "-", "plain.yml"],
+        ["--vault-p", place.secret("old"), "encrypt", "--salt", "salt", "--out=-", "plain.yml"],
+        ["encrypt", f"--vault-i={place.secret('old')}", "--salt=salt", "--encrypt=default", "--o=-", "plain.yml"],
+    ]
+    for words in lines:
+        done = place.run(WITH, *words)
+        assert (done.returncode, done.stdout, done.stderr) == (0, wanted, ""), f"{words}"
+    done = place.run(WITH, "view", "--req", *place.by_file("old"), "a.yml")
+    assert (done.returncode, done.stdout) == (0, TEXT.decode()), "view --req"
+    for word, others in {"--vault": "--vault-id, --vault-password-file", "--sa": "--salt, --salt-file"}.items():
+        done = place.run(WITH, "encrypt", word, "x", "plain.yml")
+        ended(word, done, 2, f"{WITH}: error: ambiguous option: {word} could match {others}")
+    ended("no option", place.run(WITH, "view", "--out", "x", "a.yml"), 2, "unexpected argument '--out'")
+    assert place.get("plain.yml") == TEXT, "the file stays"
 
 
-def without_rights(cases: Companions) -> None:
-    with cases.place() as place:
-        place.put("a.yml", sealed("old"))
-        before = place.files()
-        place.tree.chmod(0o555)
-        done = place.as_nobody(WITH, "decrypt", *place.by_file("old"), "a.yml")
-        cases.ended("a folder that cannot be written", done, 1, f"{WITH}: a.yml: Permission denied")
-        cases.check("it stays", place.files(), before)
+def test_without_rights(place: Place) -> None:
+    place.put("a.yml", sealed("old"))
+    before = place.files()
+    place.tree.chmod(0o555)
+    done = place.as_nobody(WITH, "decrypt", *place.by_file("old"), "a.yml")
+    ended("a folder that cannot be written", done, 1, f"{WITH}: a.yml: Permission denied")
+    assert place.files() == before, "it stays"
 
 
-def editing(cases: Companions) -> None:
-    with cases.place() as place:
-        editor = place.script('echo more >> "$1"', "editor")
-        cases.silent("create", place.run(WITH, "create", *place.by_id("dev", "dev"), "a.yml", EDITOR=editor))
-        cases.check("it is made", decrypted("dev", place.get("a.yml")), b"more\n")
-        cases.silent("edit", place.run(WITH, *place.by_id("dev", "dev"), "edit", "a.yml", EDITOR=editor))
-        cases.check("it is edited", decrypted("dev", place.get("a.yml")), b"more\n" * 2)
-        before = place.files()
-        done = place.run(WITH, "create", *place.by_id("dev", "dev"), "a.yml", EDITOR=editor)
-        cases.ended("create where one is", done, 1, "a.yml exists already; use `edit`")
-        choice = [*place.by_id("dev", "dev"), *place.by_id("prod", "prod"), "--encrypt-vault-id", "prod"]
-        cases.silent("a choice", place.run(WITH, "create", *choice, "b.yml", EDITOR=editor))
-        cases.check("is made", decrypted("prod", place.get("b.yml")), b"more\n")
-        done = place.run("setsid", "--wait", WITH, "edit", "a.yml", EDITOR=editor)
-        cases.ended("without a secret", done, 1, f"{EDIT}: --ask-vault-password: there is no terminal")
-        cases.check("nothing else is changed", place.get("a.yml"), before["a.yml"])
-        cases.ended("its help", place.run(WITH, "edit", "--help"), 0, f"usage: {EDIT}")
+def test_editing(place: Place) -> None:
+    editor = place.script('echo more >> "$1"', "editor")
+    silent("create", place.run(WITH, "create", *place.by_id("dev", "dev"), "a.yml", EDITOR=editor))
+    assert decrypted("dev", place.get("a.yml")) == b"more\n", "it is made"
+    silent("edit", place.run(WITH, *place.by_id("dev", "dev"), "edit", "a.yml", EDITOR=editor))
+    assert decrypted("dev", place.get("a.yml")) == b"more\n" * 2, "it is edited"
+    before = place.files()
+    done = place.run(WITH, "create", *place.by_id("dev", "dev"), "a.yml", EDITOR=editor)
+    ended("create where one is", done, 1, "a.yml exists already; use `edit`")
+    choice = [*place.by_id("dev", "dev"), *place.by_id("prod", "prod"), "--encrypt-vault-id", "prod"]
+    silent("a choice", place.run(WITH, "create", *choice, "b.yml", EDITOR=editor))
+    assert decrypted("prod", place.get("b.yml")) == b"more\n", "is made"
+    done = place.run("setsid", "--wait", WITH, "edit", "a.yml", EDITOR=editor)
+    ended("without a secret", done, 1, f"{EDIT}: --ask-vault-password: there is no terminal")
+    assert place.get("a.yml") == before["a.yml"], "nothing else is changed"
+    ended("its help", place.run(WITH, "edit", "--help"), 0, f"usage: {EDIT}")
 
 
 HABITS = [
@@ -343,32 +335,29 @@ HABITS = [
 ]
 
 
-def habits(cases: Companions) -> None:
+def test_habits(cases: Companions) -> None:
     """What Ansible's users type does what Ansible's tool does, by an alias."""
-    ansible = ansible_vault()
-    if not ansible:
-        cases.skip("the habits of Ansible's tool", "it is not installed")
-    if not cases.needs("an alias", "bash") or not ansible:
-        return
+    ansible = needs_ansible()
+    needs("bash")
     results = {}
     for tool in (WITH, ansible):
-        with cases.place() as place:
-            place.environment["EDITOR"] = place.script('echo more >> "$1"', "editor")
-            place.put("a.yml", TEXT)
-            place.put("b.yml", TEXT * 2)
-            results[tool] = []
-            for line in HABITS:
-                text = f"shopt -s expand_aliases\nalias ansible-vault={tool}\nansible-vault {line}\n"
-                if tool == ansible:
-                    with for_ansible(place):
-                        done = place.shell(text, "bash")
-                else:
+        place = cases.place()
+        place.environment["EDITOR"] = place.script('echo more >> "$1"', "editor")
+        place.put("a.yml", TEXT)
+        place.put("b.yml", TEXT * 2)
+        results[tool] = []
+        for line in HABITS:
+            text = f"shopt -s expand_aliases\nalias ansible-vault={tool}\nansible-vault {line}\n"
+            if tool == ansible:
+                with for_ansible(place):
                     done = place.shell(text, "bash")
-                cases.check(f"{tool} {line} ({done.stderr})", done.returncode, 0)
-                # Ansible's tool prints more with -v.
-                results[tool].append((line, line.endswith("-v") or done.stdout.strip(), contents(place)))
+            else:
+                done = place.shell(text, "bash")
+            assert done.returncode == 0, f"{tool} {line} ({done.stderr})"
+            # Ansible's tool prints more with -v.
+            results[tool].append((line, line.endswith("-v") or done.stdout.strip(), contents(place)))
     for mine, other in zip(results[WITH], results[ansible]):
-        cases.check(mine[0], mine, other)
+        assert mine == other, mine[0]
 
 
 def contents(place: Place) -> dict[str, tuple]:
@@ -390,58 +379,35 @@ def described(content: bytes) -> tuple:
     return (envelope.partition(b"\n")[0], [(name, text) for name, text in texts.items() if text is not None])
 
 
-def ansible_reads_it(cases: Companions) -> None:
-    ansible = ansible_vault()
-    if not ansible:
-        cases.skip("what is encrypted in place", "Ansible's tool is not installed")
-        return
-    with cases.place() as place:
-        place.put("a.yml", TEXT)
-        cases.silent("encrypt", ours(place, "encrypt", *place.by_id("dev", "dev"), "a.yml"))
-        done = theirs(place, ansible, "view", *place.by_id("dev", "dev"), "a.yml")
-        cases.check("Ansible's tool decrypts it", (done.returncode, done.stdout.strip()), (0, TEXT.decode().strip()))
-        theirs(place, ansible, "rekey", *place.by_id("dev", "dev"), *place.by_id("prod", "prod", "new-"), "a.yml")
-        cases.silent("decrypt", ours(place, "decrypt", *place.by_id("prod", "prod"), "a.yml"))
-        cases.check("and it is decrypted here", place.get("a.yml"), TEXT)
+def test_ansible_reads_it(place: Place) -> None:
+    ansible = needs_ansible()
+    place.put("a.yml", TEXT)
+    silent("encrypt", ours(place, "encrypt", *place.by_id("dev", "dev"), "a.yml"))
+    done = theirs(place, ansible, "view", *place.by_id("dev", "dev"), "a.yml")
+    assert (done.returncode, done.stdout.strip()) == (0, TEXT.decode().strip()), "Ansible's tool decrypts it"
+    theirs(place, ansible, "rekey", *place.by_id("dev", "dev"), *place.by_id("prod", "prod", "new-"), "a.yml")
+    silent("decrypt", ours(place, "decrypt", *place.by_id("prod", "prod"), "a.yml"))
+    assert place.get("a.yml") == TEXT, "and it is decrypted here"
 
 
-def streams(cases: Companions) -> None:
-    """The tool has the streams and the place of the companion: its endings are the same."""
-    if not cases.needs("streams", "bash"):
-        return
-    with cases.place() as place:
-        prepare(place)
-        place.put("long.yml", sealed("old", TEXT * 20_000))
-        secret = f"--vault-password-file {place.secret('old')}"
-        lines = [
-            "view {} long.yml | :; echo ${{PIPESTATUS[0]}}",
-            "view {} a.yml >&-; echo $?",
-            "view {} a.yml > /dev/full; echo $?",
-            "view {} <&-; echo $?",
-            "view {} >&- <&- 2>&-; echo $?",
-            "view --vault-password-file <(cat ../secrets/old) a.yml; echo $?",
-        ]
-        for line in lines:
-            wanted = place.shell(f"ansible-vault {line.format(secret)}", "bash")
-            done = place.shell(f"{WITH} {line.format(secret)}", "bash")
-            found = [(each.returncode, each.stdout, each.stderr) for each in (done, wanted)]
-            cases.check(line, found[0], found[1])
-
-
-TESTS = [
-    the_answers_of_the_tool,
-    command_lines,
-    in_place,
-    links_and_acls,
-    those_that_fail,
-    changed_meanwhile,
-    several_views,
-    several_edits,
-    several_strings,
-    abbreviations,
-    without_rights,
-    editing,
-    habits,
-    ansible_reads_it,
-    streams,
+LINES = [
+    "view {} long.yml | :; echo ${{PIPESTATUS[0]}}",
+    "view {} a.yml >&-; echo $?",
+    "view {} a.yml > /dev/full; echo $?",
+    "view {} <&-; echo $?",
+    "view {} >&- <&- 2>&-; echo $?",
+    "view --vault-password-file <(cat ../secrets/old) a.yml; echo $?",
 ]
+
+
+@pytest.mark.parametrize("line", LINES)
+def test_streams(place: Place, line) -> None:
+    """The tool has the streams and the place of the companion: its endings are the same."""
+    needs("bash")
+    prepare(place)
+    place.put("long.yml", sealed("old", TEXT * 20_000))
+    secret = f"--vault-password-file {place.secret('old')}"
+    wanted = place.shell(f"ansible-vault {line.format(secret)}", "bash")
+    done = place.shell(f"{WITH} {line.format(secret)}", "bash")
+    found = [(each.returncode, each.stdout, each.stderr) for each in (done, wanted)]
+    assert found[0] == found[1], line

@@ -6,61 +6,61 @@ import resource
 import shutil
 import sys
 
+import pytest
+
 from companion_cases import CHECK, EDIT, MERGE, PASSWORDS, ROTATE, TEXT, TEXTCONV, WITH
-from companion_cases import Companions, Place, block, decrypted, sealed
+from companion_cases import Place, block, decrypted, ended, sealed
 from companion_cases.merging import versions
 from companion_cases.rotating import to_new
+from lib.needs import needs
 
 # Notes what a run of the program can be seen to be.
 NOTE = "{ tr '\\0' '\\n' < /proc/$$/cmdline; tr '\\0' '\\n' < /proc/$$/environ; } >> ../seen; ulimit -c >> ../cores"
 
 
-def words_and_environment(cases: Companions) -> None:
+def test_words_and_environment(place: Place) -> None:
     """Each run gets only paths; neither it nor the editor may leave a core dump."""
-    with cases.place() as place:
-        place.put("a.yml", sealed("old"))
-        place.put("b.yml", block("old"))
-        place.environment["EDITOR"] = place.script(f'{NOTE}; echo "db: changed" > "$1"', "editor")
-        place.wrap_tool(NOTE)
-        old = place.by_file("old")
-        if resource.getrlimit(resource.RLIMIT_CORE)[1] == 0:
-            cases.skip("core dumps", "their hard limit is 0 here")
-        runs = [[EDIT, *old, "a.yml"], [CHECK, *old, "."], [TEXTCONV, *old, "b.yml"], [MERGE, *old, *["a.yml"] * 4]]
-        runs += [[ROTATE, *to_new(place), "."], [WITH, "view", *place.by_file("new"), "a.yml"]]
-        runs += [[WITH, "rekey", *place.by_file("new"), *place.by_file("new", "new-"), "a.yml"]]
-        for words in runs:
-            done = place.run("sh", "-c", 'ulimit -S -c "$(ulimit -H -c)"; exec "$@"', "sh", *words)
-            cases.ended(words[0], done, 0)
-        typed = f"{CHECK} --vault-password-file <(cat {place.secret('new')}) ."
-        cases.ended("a password that is typed", place.shell(typed, "bash"), 0)
-        seen = (place.path / "seen").read_bytes()
-        cases.holds("the runs were seen", seen.count(b"view") > 5 and b"--vault-id=default@" in seen)
-        secrets = [*PASSWORDS.values(), TEXT.strip(), b"correct horse", b"changed"]
-        cases.check("no secret is seen", [each for each in secrets if each in seen.replace(b"db: changed\"", b"")], [])
-        cases.check("core dumps are disabled", set((place.path / "cores").read_text().split()), {"0"})
+    place.put("a.yml", sealed("old"))
+    place.put("b.yml", block("old"))
+    place.environment["EDITOR"] = place.script(f'{NOTE}; echo "db: changed" > "$1"', "editor")
+    place.wrap_tool(NOTE)
+    old = place.by_file("old")
+    if resource.getrlimit(resource.RLIMIT_CORE)[1] == 0:
+        pytest.skip("the hard limit of core dumps is 0 here")
+    runs = [[EDIT, *old, "a.yml"], [CHECK, *old, "."], [TEXTCONV, *old, "b.yml"], [MERGE, *old, *["a.yml"] * 4]]
+    runs += [[ROTATE, *to_new(place), "."], [WITH, "view", *place.by_file("new"), "a.yml"]]
+    runs += [[WITH, "rekey", *place.by_file("new"), *place.by_file("new", "new-"), "a.yml"]]
+    for words in runs:
+        done = place.run("sh", "-c", 'ulimit -S -c "$(ulimit -H -c)"; exec "$@"', "sh", *words)
+        ended(words[0], done, 0)
+    typed = f"{CHECK} --vault-password-file <(cat {place.secret('new')}) ."
+    ended("a password that is typed", place.shell(typed, "bash"), 0)
+    seen = (place.path / "seen").read_bytes()
+    assert seen.count(b"view") > 5 and b"--vault-id=default@" in seen, "the runs were seen"
+    secrets = [*PASSWORDS.values(), TEXT.strip(), b"correct horse", b"changed"]
+    assert [each for each in secrets if each in seen.replace(b'db: changed"', b"")] == [], "no secret is seen"
+    assert set((place.path / "cores").read_text().split()) == {"0"}, "core dumps are disabled"
 
 
-def written_files(cases: Companions) -> None:
+def test_written_files(place: Place) -> None:
     """No plaintext is written but below the private folder of an edit."""
-    if not cases.needs("the files that are written", "strace"):
-        return
-    with cases.place() as place:
-        place.put("a.yml", sealed("old"))
-        place.put("b.yml", block("old"))
-        place.environment["EDITOR"] = place.script('echo "db: changed" > "$1"', "editor")
-        old = place.by_file("old")
-        runs = [[EDIT, *old, "a.yml"], [CHECK, *old, "."], [TEXTCONV, *old, "b.yml"], [ROTATE, *to_new(place), "."]]
-        trace = place.path / "trace"
-        for words in runs:
-            calls = "openat,open,creat,mkdir,mkdirat,memfd_create"
-            path = str(place.tools / words[0])
-            done = place.run("strace", "-f", "-s", "4096", "-o", str(trace), "-e", f"trace={calls}", path, *words[1:])
-            cases.ended(f"{words[0]} under strace", done, 0)
-            lines = [line for line in trace.read_text().splitlines() if "O_CREAT" in line or "mkdir" in line]
-            allowed = [str(place.runtime)] if words[0] == EDIT else []
-            allowed += [f"{place.tree}/.ansible-vault-", "./.ansible-vault-", "/dev/null", "/dev/tty"]
-            strange = [line for line in lines if not any(f'"{start}' in line for start in allowed)]
-            cases.check(f"{words[0]} writes nowhere else", strange, [])
+    needs("strace")
+    place.put("a.yml", sealed("old"))
+    place.put("b.yml", block("old"))
+    place.environment["EDITOR"] = place.script('echo "db: changed" > "$1"', "editor")
+    old = place.by_file("old")
+    runs = [[EDIT, *old, "a.yml"], [CHECK, *old, "."], [TEXTCONV, *old, "b.yml"], [ROTATE, *to_new(place), "."]]
+    trace = place.path / "trace"
+    for words in runs:
+        calls = "openat,open,creat,mkdir,mkdirat,memfd_create"
+        path = str(place.tools / words[0])
+        done = place.run("strace", "-f", "-s", "4096", "-o", str(trace), "-e", f"trace={calls}", path, *words[1:])
+        ended(f"{words[0]} under strace", done, 0)
+        lines = [line for line in trace.read_text().splitlines() if "O_CREAT" in line or "mkdir" in line]
+        allowed = [str(place.runtime)] if words[0] == EDIT else []
+        allowed += [f"{place.tree}/.ansible-vault-", "./.ansible-vault-", "/dev/null", "/dev/tty"]
+        strange = [line for line in lines if not any(f'"{start}' in line for start in allowed)]
+        assert strange == [], f"{words[0]} writes nowhere else"
 
 
 # Texts of three versions, which merge without a conflict and with one.
@@ -103,68 +103,62 @@ def writes_of(lines: list[str], hidden: list[str]) -> set[str]:
     return {re.sub(r"(?<=pipe:\[)\d+|(?<=/\.ansible-vault-).*", "", path) for path in paths}
 
 
-def merges_and_files_in_place(cases: Companions) -> None:
+def test_merges_and_files_in_place(place: Place) -> None:
     """No process is given plaintext or a password. Plaintext is written to memory alone, and by `decrypt` to a new
     file for its owner alone."""
-    if not cases.needs("what is written in merges", "strace", "git"):
-        return
-    with cases.place() as place:
-        beside, trace = f"{place.tree}/.ansible-vault-", place.path / "trace"
-        calls, seen = f"trace={STARTED},{WRITING},{CREATING}", set()
-        for what, (words, status) in runs_over_plaintext(place).items():
-            tracer = ["strace", "-f", "-v", "-y", "-s", "65536", "-o", str(trace), "-e", calls]
-            done = place.run(*tracer, str(place.tools / words[0]), *words[1:])
-            cases.check(f"{what}: the status ({done.stderr})", done.returncode, status)
-            lines = trace.read_text(errors="replace").splitlines()
-            passwords = [each.decode() for each in PASSWORDS.values()]
-            started = [line for line in lines if f" {STARTED}(" in line]
-            cases.holds(f"{what}: its processes are seen", len(started) > 2, started)
-            given = [line for line in started if any(word in line for word in [*HIDDEN, *passwords])]
-            cases.check(f"{what}: no process is given a secret", given, [])
-            cases.check(f"{what}: where passwords are written", writes_of(lines, passwords), {"/memfd:password"})
-            allowed = IN_MEMORY | ({beside} if what == "decrypt" else set())
-            found = writes_of(lines, HIDDEN)
-            cases.check(f"{what}: plaintext is written nowhere else", found - allowed, set())
-            seen |= found
-            created = [line for line in lines if re.search("O_CREAT|O_TMPFILE|mkdir", line)]
-            strange = [line for line in created if f'"{beside}' not in line and '"/dev/null"' not in line]
-            cases.check(f"{what}: nothing else is created", strange, [])
-            modes = [line for line in created if f'"{beside}' in line and "O_EXCL" in line and ", 0600)" in line]
-            cases.check(f"{what}: one file, for its owner alone", len(modes), 1)
-        cases.check("plaintext was seen in each of these places", seen, IN_MEMORY | {beside})
-        texts = {name: decrypted("old", place.get(name)) for name in ("merged.yml", "encrypted.yml")}
-        wanted = {"merged.yml": b"one: staple\nx: 1\ny: 2\ntwo: battery\n", "encrypted.yml": MERGED[0]}
-        cases.check("the runs did their work", texts, wanted)
-        cases.check("nothing is left", [name for name in place.names() if name.startswith(".")], [])
+    needs("strace", "git")
+    beside, trace = f"{place.tree}/.ansible-vault-", place.path / "trace"
+    calls, seen = f"trace={STARTED},{WRITING},{CREATING}", set()
+    for what, (words, status) in runs_over_plaintext(place).items():
+        tracer = ["strace", "-f", "-v", "-y", "-s", "65536", "-o", str(trace), "-e", calls]
+        done = place.run(*tracer, str(place.tools / words[0]), *words[1:])
+        assert done.returncode == status, f"{what}: the status ({done.stderr})"
+        lines = trace.read_text(errors="replace").splitlines()
+        passwords = [each.decode() for each in PASSWORDS.values()]
+        started = [line for line in lines if f" {STARTED}(" in line]
+        assert len(started) > 2, f"{what}: its processes are seen"
+        given = [line for line in started if any(word in line for word in [*HIDDEN, *passwords])]
+        assert given == [], f"{what}: no process is given a secret"
+        assert writes_of(lines, passwords) == {"/memfd:password"}, f"{what}: where passwords are written"
+        allowed = IN_MEMORY | ({beside} if what == "decrypt" else set())
+        found = writes_of(lines, HIDDEN)
+        assert found - allowed == set(), f"{what}: plaintext is written nowhere else"
+        seen |= found
+        created = [line for line in lines if re.search("O_CREAT|O_TMPFILE|mkdir", line)]
+        strange = [line for line in created if f'"{beside}' not in line and '"/dev/null"' not in line]
+        assert strange == [], f"{what}: nothing else is created"
+        modes = [line for line in created if f'"{beside}' in line and "O_EXCL" in line and ", 0600)" in line]
+        assert len(modes) == 1, f"{what}: one file, for its owner alone"
+    assert seen == IN_MEMORY | {beside}, "plaintext was seen in each of these places"
+    texts = {name: decrypted("old", place.get(name)) for name in ("merged.yml", "encrypted.yml")}
+    wanted = {"merged.yml": b"one: staple\nx: 1\ny: 2\ntwo: battery\n", "encrypted.yml": MERGED[0]}
+    assert texts == wanted, "the runs did their work"
+    assert [name for name in place.names() if name.startswith(".")] == [], "nothing is left"
 
 
-def other_tools(cases: Companions) -> None:
+def test_other_tools(place: Place) -> None:
     """A program of this name that is not the one meant gets no password."""
-    with cases.place() as place:
-        place.put("a.yml", sealed("old"))
-        (place.tools / "ansible-vault").unlink()
-        theirs = '[ "$1" = --version ] && echo "ansible-vault [core 2.14.18]"; echo run >> ../runs'
-        place.script(theirs, "tools/ansible-vault")
-        done = place.run(CHECK, *place.by_file("old"), ".")
-        cases.ended("Ansible's tool", done, 1, "is another tool of this name")
-        cases.check("is asked its version alone", (place.path / "runs").read_text(), "run\n")
-        (place.tools / "ansible-vault").unlink()
-        folders = os.pathsep.join(["/usr/sbin", str(place.tools)])
-        place.environment["PATH"] = f"{place.path / 'interpreter'}{os.pathsep}{folders}"
-        (place.path / "interpreter").mkdir()
-        for name, path in (("python3", sys.executable), ("env", shutil.which("env"))):
-            (place.path / "interpreter" / name).symlink_to(os.path.realpath(path))
-        done = place.run(CHECK, *place.by_file("old"), ".")
-        cases.ended("no tool", done, 1, "there is no ansible-vault")
-        (place.path / "interpreter" / "ansible-vault").symlink_to(place.program)
-        cases.ended("the one on PATH", place.run(CHECK, *place.by_file("old"), "."), 0, "decrypted by")
-        linked = place.path / "linked"
-        linked.symlink_to(place.tools / CHECK)
-        (place.path / "interpreter" / "ansible-vault").unlink()
-        (place.tools / "ansible-vault").symlink_to(place.program)
-        place.environment["PATH"] = str(place.path / "interpreter")
-        done = place.run(str(linked), *place.by_file("old"), ".")
-        cases.ended("the one beside, through a link", done, 0, "decrypted by")
-
-
-TESTS = [words_and_environment, written_files, merges_and_files_in_place, other_tools]
+    place.put("a.yml", sealed("old"))
+    (place.tools / "ansible-vault").unlink()
+    theirs = '[ "$1" = --version ] && echo "ansible-vault [core 2.14.18]"; echo run >> ../runs'
+    place.script(theirs, "tools/ansible-vault")
+    done = place.run(CHECK, *place.by_file("old"), ".")
+    ended("Ansible's tool", done, 1, "is another tool of this name")
+    assert (place.path / "runs").read_text() == "run\n", "is asked its version alone"
+    (place.tools / "ansible-vault").unlink()
+    folders = os.pathsep.join(["/usr/sbin", str(place.tools)])
+    place.environment["PATH"] = f"{place.path / 'interpreter'}{os.pathsep}{folders}"
+    (place.path / "interpreter").mkdir()
+    for name, path in (("python3", sys.executable), ("env", shutil.which("env"))):
+        (place.path / "interpreter" / name).symlink_to(os.path.realpath(path))
+    done = place.run(CHECK, *place.by_file("old"), ".")
+    ended("no tool", done, 1, "there is no ansible-vault")
+    (place.path / "interpreter" / "ansible-vault").symlink_to(place.program)
+    ended("the one on PATH", place.run(CHECK, *place.by_file("old"), "."), 0, "decrypted by")
+    linked = place.path / "linked"
+    linked.symlink_to(place.tools / CHECK)
+    (place.path / "interpreter" / "ansible-vault").unlink()
+    (place.tools / "ansible-vault").symlink_to(place.program)
+    place.environment["PATH"] = str(place.path / "interpreter")
+    done = place.run(str(linked), *place.by_file("old"), ".")
+    ended("the one beside, through a link", done, 0, "decrypted by")

@@ -4,23 +4,12 @@ import json
 import subprocess
 from random import Random
 
-from companion_cases import (
-    CHECK,
-    EDIT,
-    MERGE,
-    ROTATE,
-    SECONDS,
-    TEXT,
-    TEXTCONV,
-    WITH,
-    Companions,
-    Place,
-    block,
-    decrypted,
-    sealed,
-)
+import pytest
+
+from companion_cases import CHECK, EDIT, MERGE, ROTATE, SECONDS, TEXT, TEXTCONV, WITH
+from companion_cases import Companions, Place, block, decrypted, ended, sealed, silent
 from companion_cases.both import ours, theirs
-from lib.ansible import ansible_vault
+from lib.needs import needs_ansible
 
 OPEN = ("old", "dev", "prod")
 LIST = "[defaults]\nvault_identity_list = {}\n"
@@ -60,36 +49,24 @@ FILES = {
 }
 
 
-def compare(cases: Companions, rows: dict) -> None:
-    ansible = ansible_vault()
-    if not ansible:
-        cases.skip("what Ansible's tool finds", "it is not installed")
-    for what, (settings, files, wanted) in rows.items():
-        with cases.place() as place:
-            for name in OPEN:
-                place.put(f"{name}.yml", sealed(name))
-            for name, content in files.items():
-                (place.path / name).parent.mkdir(parents=True, exist_ok=True)
-                (place.path / name).write_text(content)
-            fill = lambda text: text.format(place.secrets, place.path)
-            prefix = lambda name: f"ANSIBLE_{name}" if name == "CONFIG" else f"ANSIBLE_VAULT_{name}"
-            variables = {prefix(name): fill(text) for name, text in settings.items()} | {"WHICH": "prod"}
-            for name in OPEN:
-                expected = (0, TEXT.decode()) if name in wanted else (1, "")
-                done = ours(place, "view", f"{name}.yml", **variables)
-                cases.check(f"{what}: {name} ({done.stderr})", (done.returncode, done.stdout), expected)
-                if ansible:
-                    done = theirs(place, ansible, "view", f"{name}.yml", **variables)
-                    found = (min(1, done.returncode), done.stdout.strip() and done.stdout)
-                    cases.check(f"{what}: {name}, by Ansible's tool ({done.stderr})", found, expected)
-
-
-def variables(cases: Companions) -> None:
-    compare(cases, VARIABLES)
-
-
-def files(cases: Companions) -> None:
-    compare(cases, FILES)
+@pytest.mark.parametrize("settings, files, wanted", [*VARIABLES.values(), *FILES.values()], ids=[*VARIABLES, *FILES])
+def test_variables_and_files(place: Place, settings: dict, files: dict, wanted: set) -> None:
+    """The secrets that they name open the same vaults as with Ansible's tool."""
+    for name in OPEN:
+        place.put(f"{name}.yml", sealed(name))
+    for name, content in files.items():
+        (place.path / name).parent.mkdir(parents=True, exist_ok=True)
+        (place.path / name).write_text(content)
+    fill = lambda text: text.format(place.secrets, place.path)
+    prefix = lambda name: f"ANSIBLE_{name}" if name == "CONFIG" else f"ANSIBLE_VAULT_{name}"
+    variables = {prefix(name): fill(text) for name, text in settings.items()} | {"WHICH": "prod"}
+    expected = {name: (0, TEXT.decode()) if name in wanted else (1, "") for name in OPEN}
+    ran = {name: ours(place, "view", f"{name}.yml", **variables) for name in OPEN}
+    assert {name: (done.returncode, done.stdout) for name, done in ran.items()} == expected
+    ansible = needs_ansible()
+    ran = {name: theirs(place, ansible, "view", f"{name}.yml", **variables) for name in OPEN}
+    found = {name: (min(1, done.returncode), done.stdout.strip() and done.stdout) for name, done in ran.items()}
+    assert found == expected, "by Ansible's tool"
 
 
 def by_settings(place: Place) -> None:
@@ -98,31 +75,29 @@ def by_settings(place: Place) -> None:
     place.put("a.yml", sealed("old"))
 
 
-def every_companion(cases: Companions) -> None:
-    with cases.place() as place:
-        by_settings(place)
-        place.put("b.yml", block("old"))
-        cases.ended("check", place.run(CHECK, "."), 0, "a.yml: default: decrypted by ../secrets/old", "2 decrypted")
-        done = place.run(TEXTCONV, "a.yml")
-        cases.check("textconv", (done.returncode, done.stdout, done.stderr), (0, TEXT.decode(), ""))
-        cases.silent("edit", place.run(EDIT, "a.yml", EDITOR=place.script('echo more >> "$1"', "editor")))
-        cases.check("what was edited", decrypted("old", place.get("a.yml")), TEXT + b"more\n")
-        cases.silent("a new one", place.run(EDIT, "new.yml", EDITOR=place.script('echo new > "$1"', "editor")))
-        cases.check("it is made", decrypted("old", place.get("new.yml")), b"new\n")
-        cases.ended("rotate", place.run(ROTATE, *place.by_file("new", "new-"), "."), 0, "3 rotated")
-        cases.check("what was rotated", decrypted("new", place.get("new.yml")), b"new\n")
-        done = place.run(WITH, "view", "--vault-password-file", place.secret("new"), "new.yml")
-        cases.check("with", (done.returncode, done.stdout, done.stderr), (0, "new\n", ""))
+def test_every_companion(place: Place) -> None:
+    by_settings(place)
+    place.put("b.yml", block("old"))
+    ended("check", place.run(CHECK, "."), 0, "a.yml: default: decrypted by ../secrets/old", "2 decrypted")
+    done = place.run(TEXTCONV, "a.yml")
+    assert (done.returncode, done.stdout, done.stderr) == (0, TEXT.decode(), ""), "textconv"
+    silent("edit", place.run(EDIT, "a.yml", EDITOR=place.script('echo more >> "$1"', "editor")))
+    assert decrypted("old", place.get("a.yml")) == TEXT + b"more\n", "what was edited"
+    silent("a new one", place.run(EDIT, "new.yml", EDITOR=place.script('echo new > "$1"', "editor")))
+    assert decrypted("old", place.get("new.yml")) == b"new\n", "it is made"
+    ended("rotate", place.run(ROTATE, *place.by_file("new", "new-"), "."), 0, "3 rotated")
+    assert decrypted("new", place.get("new.yml")) == b"new\n", "what was rotated"
+    done = place.run(WITH, "view", "--vault-password-file", place.secret("new"), "new.yml")
+    assert (done.returncode, done.stdout, done.stderr) == (0, "new\n", ""), "with"
 
 
-def options_come_first(cases: Companions) -> None:
+def test_options_come_first(place: Place) -> None:
     """Where an option names a secret, the settings of the folder are not looked at, and no fault of them counts."""
-    with cases.place() as place:
-        by_settings(place)
-        done = place.run(CHECK, *place.by_file("dev"), "a.yml")
-        cases.ended("another secret", done, 1, "a.yml: default: no secret decrypts this vault")
-        place.put("ansible.cfg", b"no section\n")
-        cases.ended("settings with a fault", place.run(CHECK, *place.by_file("old"), "a.yml"), 0, "1 decrypted")
+    by_settings(place)
+    done = place.run(CHECK, *place.by_file("dev"), "a.yml")
+    ended("another secret", done, 1, "a.yml: default: no secret decrypts this vault")
+    place.put("ansible.cfg", b"no section\n")
+    ended("settings with a fault", place.run(CHECK, *place.by_file("old"), "a.yml"), 0, "1 decrypted")
 
 
 # The files of a clone that is not trusted, and variables, which name its script; and whether it runs beside options.
@@ -138,106 +113,103 @@ STRANGE = {
 }
 
 
-def what_is_not_trusted(cases: Companions) -> None:
+@pytest.mark.parametrize("what", STRANGE)
+def test_what_is_not_trusted(place: Place, what: str) -> None:
     """Beside options, no companion runs a script of the current folder or encrypts with a secret that it names, unless
     ANSIBLE_CONFIG names its file."""
-    for what, (file, variables, runs) in STRANGE.items():
-        with cases.place() as place:
-            place.environment["EDITOR"] = place.script('echo more >> "$1"', "editor")
-            secret = place.by_file("old")
-            lines = [
-                [WITH, "view", *secret, "a.yml"],
-                [WITH, "encrypt", *secret, "--encrypt-vault-id", "default", "plain.yml"],
-                [WITH, "edit", *secret, "--encrypt-vault-id", "default", "a.yml"],
-                [EDIT, *secret, "--encrypt-vault-id", "default", "new.yml"],
-                [CHECK, *secret, "a.yml"],
-                [TEXTCONV, *secret, "a.yml"],
-                [MERGE, *secret, "a.yml", "a.yml", "a.yml", "a.yml"],
-                [ROTATE, *secret, *place.by_file("new", "new-"), "a.yml"],
-            ]
-            for line in lines:
-                place.put("a.yml", sealed("old"))
-                place.put("plain.yml", TEXT)
-                (place.tree / "new.yml").unlink(missing_ok=True)
-                (place.path / "ran").unlink(missing_ok=True)
-                place.put("ansible.cfg", file.encode())
-                place.script("touch ../ran; cat ../secrets/prod", "tree/script")
-                done = place.run(*line, **variables)
-                name = f"{what}: {' '.join(line[:2])} ({done.stderr})"
-                cases.check(f"{name}: the status", done.returncode, 0)
-                cases.check(f"{name}: whether the script is run", (place.path / "ran").exists(), runs)
-            if not runs:
-                cases.ended("without options", place.run(CHECK, "a.yml", **variables), 1)
-                cases.check(f"{what}: without options it is run", (place.path / "ran").exists(), True)
+    file, variables, runs = STRANGE[what]
+    place.environment["EDITOR"] = place.script('echo more >> "$1"', "editor")
+    secret = place.by_file("old")
+    lines = [
+        [WITH, "view", *secret, "a.yml"],
+        [WITH, "encrypt", *secret, "--encrypt-vault-id", "default", "plain.yml"],
+        [WITH, "edit", *secret, "--encrypt-vault-id", "default", "a.yml"],
+        [EDIT, *secret, "--encrypt-vault-id", "default", "new.yml"],
+        [CHECK, *secret, "a.yml"],
+        [TEXTCONV, *secret, "a.yml"],
+        [MERGE, *secret, "a.yml", "a.yml", "a.yml", "a.yml"],
+        [ROTATE, *secret, *place.by_file("new", "new-"), "a.yml"],
+    ]
+    for line in lines:
+        place.put("a.yml", sealed("old"))
+        place.put("plain.yml", TEXT)
+        (place.tree / "new.yml").unlink(missing_ok=True)
+        (place.path / "ran").unlink(missing_ok=True)
+        place.put("ansible.cfg", file.encode())
+        place.script("touch ../ran; cat ../secrets/prod", "tree/script")
+        done = place.run(*line, **variables)
+        name = f"{what}: {' '.join(line[:2])} ({done.stderr})"
+        assert done.returncode == 0, f"{name}: the status"
+        assert (place.path / "ran").exists() == runs, f"{name}: whether the script is run"
+    if not runs:
+        ended("without options", place.run(CHECK, "a.yml", **variables), 1)
+        assert (place.path / "ran").exists(), f"{what}: without options it is run"
 
 
-def beside_options(cases: Companions) -> None:
+def test_beside_options(place: Place) -> None:
     """One's own settings count beside options, as with Ansible; so does a file of the folder that is named."""
     label = "vault_encrypt_identity = prod\n"
     settings = LIST.format("dev@~/secrets/dev, prod@~/secrets/prod")
-    with cases.place() as place:
-        (place.path / ".ansible.cfg").write_text(settings + label)
-        place.put("a.yml", sealed("dev"))
-        done = ours(place, "view", *place.by_file("old"), "a.yml")
-        cases.check("a secret of the settings", (done.returncode, done.stdout), (0, TEXT.decode()))
-        place.put("b.yml", TEXT)
-        cases.silent("their label", ours(place, "encrypt", *place.by_id("old", "old"), "b.yml"))
-        cases.check("is the one to encrypt with", decrypted("prod", place.get("b.yml")), TEXT)
-        (place.path / ".ansible.cfg").unlink()
-        ids = [*place.by_id("dev", "dev"), *place.by_id("prod", "prod")]
-        for number, line in enumerate(([WITH, "encrypt", "c.yml"], [EDIT, "new.yml"])):
-            place.put("c.yml", TEXT)
-            words = [*line[:-1], *ids, line[-1]]
-            editor = place.script('echo new > "$1"', "editor")
-            cases.silent(f"{words}", place.run(*words, EDITOR=editor, ANSIBLE_VAULT_ENCRYPT_IDENTITY="prod"))
-            text = decrypted("prod", place.get(words[-1]))
-            cases.check(f"{words}: by the variable's label", text, [TEXT, b"new\n"][number])
-        place.put("ansible.cfg", settings.encode())
-        done = ours(place, "view", *place.by_file("old"), "a.yml")
-        cases.ended("the folder's file", done, 1, "no secret decrypts this vault")
-        done = ours(place, "view", *place.by_file("old"), "a.yml", ANSIBLE_CONFIG="ansible.cfg")
-        cases.check("the folder's file, if it is named", (done.returncode, done.stdout), (0, TEXT.decode()))
+    (place.path / ".ansible.cfg").write_text(settings + label)
+    place.put("a.yml", sealed("dev"))
+    done = ours(place, "view", *place.by_file("old"), "a.yml")
+    assert (done.returncode, done.stdout) == (0, TEXT.decode()), "a secret of the settings"
+    place.put("b.yml", TEXT)
+    silent("their label", ours(place, "encrypt", *place.by_id("old", "old"), "b.yml"))
+    assert decrypted("prod", place.get("b.yml")) == TEXT, "is the one to encrypt with"
+    (place.path / ".ansible.cfg").unlink()
+    ids = [*place.by_id("dev", "dev"), *place.by_id("prod", "prod")]
+    for number, line in enumerate(([WITH, "encrypt", "c.yml"], [EDIT, "new.yml"])):
+        place.put("c.yml", TEXT)
+        words = [*line[:-1], *ids, line[-1]]
+        editor = place.script('echo new > "$1"', "editor")
+        silent(f"{words}", place.run(*words, EDITOR=editor, ANSIBLE_VAULT_ENCRYPT_IDENTITY="prod"))
+        text = decrypted("prod", place.get(words[-1]))
+        assert text == [TEXT, b"new\n"][number], f"{words}: by the variable's label"
+    place.put("ansible.cfg", settings.encode())
+    done = ours(place, "view", *place.by_file("old"), "a.yml")
+    ended("the folder's file", done, 1, "no secret decrypts this vault")
+    done = ours(place, "view", *place.by_file("old"), "a.yml", ANSIBLE_CONFIG="ansible.cfg")
+    assert (done.returncode, done.stdout) == (0, TEXT.decode()), "the folder's file, if it is named"
 
 
-def matching_labels(cases: Companions) -> None:
+def test_matching_labels(place: Place) -> None:
     """By vault_id_match a secret decrypts only what has its label."""
-    with cases.place() as place:
-        place.put("a.yml", sealed("dev", label="prod"))
-        place.put("b.yml", sealed("dev", label="dev"))
-        secret = place.by_id("dev", "dev")
-        for variables in ({"ANSIBLE_VAULT_ID_MATCH": "True"}, {"ANSIBLE_VAULT_ID_MATCH": "False"}, {}):
-            status = 1 if variables else 0
-            for words in ([WITH, "view"], [WITH, "decrypt", "--output", "-"], [CHECK], [EDIT]):
-                done = place.run(*words, *secret, "a.yml", EDITOR="true", **variables)
-                cases.ended(f"{variables} {words}", done, status, *(["no secret decrypts"] if status else []))
-                done = place.run(*words, *secret, "b.yml", EDITOR="true", **variables)
-                cases.check(f"{variables} {words}: its label", done.returncode, 0)
-            done = place.run(TEXTCONV, *secret, "a.yml", **variables)
-            cases.check(f"{variables}: textconv", done.stdout == TEXT.decode(), not status)
-        place.put("ansible.cfg", (LIST.format("dev@../secrets/dev") + "vault_id_match = True\n").encode())
-        cases.ended("by the file", ours(place, "view", "a.yml"), 1, "no secret decrypts this vault")
+    place.put("a.yml", sealed("dev", label="prod"))
+    place.put("b.yml", sealed("dev", label="dev"))
+    secret = place.by_id("dev", "dev")
+    for variables in ({"ANSIBLE_VAULT_ID_MATCH": "True"}, {"ANSIBLE_VAULT_ID_MATCH": "False"}, {}):
+        status = 1 if variables else 0
+        for words in ([WITH, "view"], [WITH, "decrypt", "--output", "-"], [CHECK], [EDIT]):
+            done = place.run(*words, *secret, "a.yml", EDITOR="true", **variables)
+            ended(f"{variables} {words}", done, status, *(["no secret decrypts"] if status else []))
+            done = place.run(*words, *secret, "b.yml", EDITOR="true", **variables)
+            assert done.returncode == 0, f"{variables} {words}: its label"
+        done = place.run(TEXTCONV, *secret, "a.yml", **variables)
+        assert (done.stdout == TEXT.decode()) == (not status), f"{variables}: textconv"
+    place.put("ansible.cfg", (LIST.format("dev@../secrets/dev") + "vault_id_match = True\n").encode())
+    ended("by the file", ours(place, "view", "a.yml"), 1, "no secret decrypts this vault")
 
 
-def many_secrets(cases: Companions) -> None:
+def test_many_secrets(place: Place) -> None:
     """More than the tool takes at once are tried one after the other."""
-    with cases.place() as place:
-        (place.secrets / "wrong").write_text("no password\n")
-        wrong = ", ".join(f"w{number}@../secrets/wrong" for number in range(40))
-        variables = {"ANSIBLE_VAULT_IDENTITY_LIST": f"{wrong}, dev@../secrets/dev"}
-        place.put("a.yml", sealed("dev"))
-        done = ours(place, "view", "a.yml", **variables)
-        cases.check("view", (done.returncode, done.stdout, done.stderr), (0, TEXT.decode(), ""))
-        done = place.shell(f"{WITH} view < a.yml; echo $?", **variables)
-        cases.check("of standard input", (done.stdout, done.stderr), (f"{TEXT.decode()}0\n", ""))
-        done = ours(place, "view", "a.yml", ANSIBLE_VAULT_IDENTITY_LIST=wrong)
-        cases.ended("without the right one", done, 1, "ERROR! no secret decrypts this vault")
-        done = ours(place, "rekey", "--new-vault-id", "prod@../secrets/prod", "a.yml", **variables)
-        cases.check("rekey", (done.returncode, decrypted("prod", place.get("a.yml"))), (0, TEXT))
-        place.put("b.yml", TEXT)
-        cases.silent("encrypt", ours(place, "encrypt", "--encrypt-vault-id", "dev", "b.yml", **variables))
-        cases.check("by the last", decrypted("dev", place.get("b.yml")), TEXT)
-        done = ours(place, "encrypt", "b.yml", **variables)
-        cases.ended("without a label", done, 1, "several secrets were given; choose one with --encrypt-vault-id")
+    (place.secrets / "wrong").write_text("no password\n")
+    wrong = ", ".join(f"w{number}@../secrets/wrong" for number in range(40))
+    variables = {"ANSIBLE_VAULT_IDENTITY_LIST": f"{wrong}, dev@../secrets/dev"}
+    place.put("a.yml", sealed("dev"))
+    done = ours(place, "view", "a.yml", **variables)
+    assert (done.returncode, done.stdout, done.stderr) == (0, TEXT.decode(), ""), "view"
+    done = place.shell(f"{WITH} view < a.yml; echo $?", **variables)
+    assert (done.stdout, done.stderr) == (f"{TEXT.decode()}0\n", ""), "of standard input"
+    done = ours(place, "view", "a.yml", ANSIBLE_VAULT_IDENTITY_LIST=wrong)
+    ended("without the right one", done, 1, "ERROR! no secret decrypts this vault")
+    done = ours(place, "rekey", "--new-vault-id", "prod@../secrets/prod", "a.yml", **variables)
+    assert (done.returncode, decrypted("prod", place.get("a.yml"))) == (0, TEXT), "rekey"
+    place.put("b.yml", TEXT)
+    silent("encrypt", ours(place, "encrypt", "--encrypt-vault-id", "dev", "b.yml", **variables))
+    assert decrypted("dev", place.get("b.yml")) == TEXT, "by the last"
+    done = ours(place, "encrypt", "b.yml", **variables)
+    ended("without a label", done, 1, "several secrets were given; choose one with --encrypt-vault-id")
 
 
 # Lines of a file of settings, by which some are simple enough to be read without configparser, and others are not.
@@ -268,7 +240,7 @@ LINES = [
 ]
 
 
-def simple_files(cases: Companions) -> None:
+def test_simple_files(cases: Companions) -> None:
     """What is read without configparser is what that module reads."""
     program = (
         "import json, sys\n"
@@ -293,121 +265,98 @@ def simple_files(cases: Companions) -> None:
     pairs = json.loads(done.stdout)
     read = [(text, found, parsed) for text, (found, parsed) in zip(texts, pairs) if found is not None]
     wrong = [row for row in read if row[1] != row[2]]
-    cases.check(f"{len(read)} of {len(texts)} are simple", wrong, [])
-    cases.holds("some are simple, and some are not", 500 < len(read) < len(texts) - 500, str(len(read)))
+    assert wrong == [], f"{len(read)} of {len(texts)} are simple"
+    assert 500 < len(read) < len(texts) - 500, "some are simple, and some are not"
 
 
-def faults(cases: Companions) -> None:
+def test_faults(place: Place) -> None:
     """What cannot be read is named, and nothing is done without it."""
     malformed = {
         b"no section\n": "ansible.cfg: File contains no section headers",
         b"[defaults]\nvault_password_file = a\nvault_password_file = b\n": "ansible.cfg: While reading from",
         b"[defaults]\n# \xff\n": "ansible.cfg: it is not UTF-8",
     }
-    with cases.place() as place:
-        by_settings(place)
-        for content, part in malformed.items():
-            place.put("ansible.cfg", content)
-            cases.ended(f"{content}", place.run(CHECK, "."), 1, f"{CHECK}: {part}")
-        (place.path / "settings").write_text(FILE.format("secrets/old"))
-        done = place.run(CHECK, ".", ANSIBLE_CONFIG="../settings")
-        cases.ended("a name without suffix", done, 1, "../settings: its name does not end in .cfg or .ini")
-        place.put("ansible.cfg", FILE.format("../secrets/none").encode())
-        done = place.run(CHECK, ".")
-        cases.ended("a missing password file", done, 1, f"{CHECK}: ../secrets/none: a password file cannot be opened")
-        (place.tree / "ansible.cfg").unlink()
-        done = place.run(CHECK, ".")
-        parts = ("usage: ansible-vault-check", "no secret is given: name one by --vault-id", "ansible.cfg")
-        cases.ended("no secret", done, 2, *parts)
+    by_settings(place)
+    for content, part in malformed.items():
+        place.put("ansible.cfg", content)
+        ended(f"{content}", place.run(CHECK, "."), 1, f"{CHECK}: {part}")
+    (place.path / "settings").write_text(FILE.format("secrets/old"))
+    done = place.run(CHECK, ".", ANSIBLE_CONFIG="../settings")
+    ended("a name without suffix", done, 1, "../settings: its name does not end in .cfg or .ini")
+    place.put("ansible.cfg", FILE.format("../secrets/none").encode())
+    done = place.run(CHECK, ".")
+    ended("a missing password file", done, 1, f"{CHECK}: ../secrets/none: a password file cannot be opened")
+    (place.tree / "ansible.cfg").unlink()
+    done = place.run(CHECK, ".")
+    parts = ("usage: ansible-vault-check", "no secret is given: name one by --vault-id", "ansible.cfg")
+    ended("no secret", done, 2, *parts)
 
 
-def missing_secrets(cases: Companions) -> None:
+def test_missing_secrets(place: Place) -> None:
     """A secret of the settings that cannot be had is skipped with a warning, if there is another one."""
     listed = "dev@../secrets/dev, prod@../secrets/none, old@../secrets/failing, new@../secrets/empty"
-    with cases.place() as place:
-        place.put("a.yml", sealed("dev", label="dev"))
+    place.put("a.yml", sealed("dev", label="dev"))
+    place.put("plain.yml", TEXT)
+    place.script("exit 4", "secrets/failing")
+    (place.path / "secrets/empty").touch()
+    ignored = {
+        "prod@../secrets/none": "this password file cannot be read",
+        "old@../secrets/failing": "this script ended with status 4",
+        "new@../secrets/empty": "the password is empty",
+    }
+    warnings = lambda name: [f"{name}: {given}: {why}; it is ignored" for given, why in ignored.items()]
+    done = place.run(CHECK, "a.yml", ANSIBLE_VAULT_IDENTITY_LIST=listed)
+    ended("to decrypt", done, 0, "a.yml: dev: decrypted by dev@../secrets/dev")
+    assert done.stderr.splitlines() == warnings(CHECK), "what is ignored"
+    for words in (["--encrypt-vault-id", "dev"], []):
         place.put("plain.yml", TEXT)
-        place.script("exit 4", "secrets/failing")
-        (place.path / "secrets/empty").touch()
-        ignored = {
-            "prod@../secrets/none": "this password file cannot be read",
-            "old@../secrets/failing": "this script ended with status 4",
-            "new@../secrets/empty": "the password is empty",
-        }
-        warnings = lambda name: [f"{name}: {given}: {why}; it is ignored" for given, why in ignored.items()]
-        done = place.run(CHECK, "a.yml", ANSIBLE_VAULT_IDENTITY_LIST=listed)
-        cases.ended("to decrypt", done, 0, "a.yml: dev: decrypted by dev@../secrets/dev")
-        cases.check("what is ignored", done.stderr.splitlines(), warnings(CHECK))
-        for words in (["--encrypt-vault-id", "dev"], []):
-            place.put("plain.yml", TEXT)
-            done = ours(place, "encrypt", *words, "plain.yml", ANSIBLE_VAULT_IDENTITY_LIST=listed)
-            cases.check(f"to encrypt {words}", (done.returncode, done.stderr.splitlines()), (0, warnings(WITH)))
-            cases.check(f"{words}: it is encrypted", decrypted("dev", place.get("plain.yml")), TEXT)
-            header = place.get("plain.yml").partition(b"\n")[0]
-            cases.check(f"{words}: under its label", header, b"$ANSIBLE_VAULT;1.2;AES256;dev")
-        place.put("plain.yml", TEXT)
-        done = ours(place, "encrypt", "--encrypt-vault-id", "prod", "plain.yml", ANSIBLE_VAULT_IDENTITY_LIST=listed)
-        cases.ended("under a missing one", done, 1, *warnings(WITH), "no secret has the label of --encrypt-vault-id")
-        done = ours(place, "encrypt", "plain.yml", ANSIBLE_VAULT_IDENTITY_LIST="prod@../secrets/none")
-        cases.ended("none at all", done, 3, "prod@../secrets/none: a password file cannot be opened")
-        named = ["--vault-id", "prod@../secrets/none", *place.by_id("dev", "dev")]
-        done = ours(place, "encrypt", *named, "--encrypt-vault-id", "dev", "plain.yml")
-        cases.ended("one that an option names", done, 3, "prod@../secrets/none: a password file cannot be opened")
-        cases.check("nothing is encrypted", place.get("plain.yml"), TEXT)
+        done = ours(place, "encrypt", *words, "plain.yml", ANSIBLE_VAULT_IDENTITY_LIST=listed)
+        assert (done.returncode, done.stderr.splitlines()) == (0, warnings(WITH)), f"to encrypt {words}"
+        assert decrypted("dev", place.get("plain.yml")) == TEXT, f"{words}: it is encrypted"
+        header = place.get("plain.yml").partition(b"\n")[0]
+        assert header == b"$ANSIBLE_VAULT;1.2;AES256;dev", f"{words}: under its label"
+    place.put("plain.yml", TEXT)
+    done = ours(place, "encrypt", "--encrypt-vault-id", "prod", "plain.yml", ANSIBLE_VAULT_IDENTITY_LIST=listed)
+    ended("under a missing one", done, 1, *warnings(WITH), "no secret has the label of --encrypt-vault-id")
+    done = ours(place, "encrypt", "plain.yml", ANSIBLE_VAULT_IDENTITY_LIST="prod@../secrets/none")
+    ended("none at all", done, 3, "prod@../secrets/none: a password file cannot be opened")
+    named = ["--vault-id", "prod@../secrets/none", *place.by_id("dev", "dev")]
+    done = ours(place, "encrypt", *named, "--encrypt-vault-id", "dev", "plain.yml")
+    ended("one that an option names", done, 3, "prod@../secrets/none: a password file cannot be opened")
+    assert place.get("plain.yml") == TEXT, "nothing is encrypted"
 
 
-def the_label_to_encrypt_with(cases: Companions) -> None:
+def test_the_label_to_encrypt_with(place: Place) -> None:
     settings = "[defaults]\nvault_identity_list = dev@../secrets/dev, prod@../secrets/prod\n{}"
-    with cases.place() as place:
-        place.put("ansible.cfg", settings.format("").encode())
-        place.put("a.yml", TEXT)
-        done = ours(place, "encrypt", "a.yml")
-        cases.ended("two secrets", done, 1, "a.yml: several secrets were given; choose one with --encrypt-vault-id")
-        place.put("ansible.cfg", settings.format("vault_encrypt_identity = prod\n").encode())
-        cases.silent("one by the settings", ours(place, "encrypt", "a.yml"))
-        cases.check("it is encrypted", decrypted("prod", place.get("a.yml")), TEXT)
-        cases.holds("under its label", place.get("a.yml").startswith(b"$ANSIBLE_VAULT;1.2;AES256;prod\n"))
-        place.put("b.yml", TEXT)
-        cases.silent("another by an option", ours(place, "encrypt", "--encrypt-vault-id", "dev", "b.yml"))
-        cases.check("is the one", decrypted("dev", place.get("b.yml")), TEXT)
-        cases.silent("a new one", place.run(EDIT, "c.yml", EDITOR=place.script('echo new > "$1"', "editor")))
-        cases.check("is encrypted, too", decrypted("prod", place.get("c.yml")), b"new\n")
+    place.put("ansible.cfg", settings.format("").encode())
+    place.put("a.yml", TEXT)
+    done = ours(place, "encrypt", "a.yml")
+    ended("two secrets", done, 1, "a.yml: several secrets were given; choose one with --encrypt-vault-id")
+    place.put("ansible.cfg", settings.format("vault_encrypt_identity = prod\n").encode())
+    silent("one by the settings", ours(place, "encrypt", "a.yml"))
+    assert decrypted("prod", place.get("a.yml")) == TEXT, "it is encrypted"
+    assert place.get("a.yml").startswith(b"$ANSIBLE_VAULT;1.2;AES256;prod\n"), "under its label"
+    place.put("b.yml", TEXT)
+    silent("another by an option", ours(place, "encrypt", "--encrypt-vault-id", "dev", "b.yml"))
+    assert decrypted("dev", place.get("b.yml")) == TEXT, "is the one"
+    silent("a new one", place.run(EDIT, "c.yml", EDITOR=place.script('echo new > "$1"', "editor")))
+    assert decrypted("prod", place.get("c.yml")) == b"new\n", "is encrypted, too"
 
 
-def world_writable_folders(cases: Companions) -> None:
+def test_world_writable_folders(place: Place) -> None:
     """A configuration file in a world-writable folder is ignored with a warning."""
-    with cases.place() as place:
-        by_settings(place)
-        place.tree.chmod(0o777)
-        warning = f"{place.tree}/ansible.cfg is ignored, since its folder is world-writable"
-        cases.ended("the current folder", place.run(CHECK, "."), 2, f"{CHECK}: {warning}", "no secret is given")
-        (place.path / ".ansible.cfg").write_text(FILE.format("secrets/old"))
-        done = place.run(CHECK, ".")
-        cases.check("the next one counts", (done.returncode, done.stderr), (0, f"{CHECK}: {warning}\n"))
-        done = place.run(CHECK, ".", ANSIBLE_CONFIG="ansible.cfg")
-        cases.check("what is named counts", (done.returncode, done.stderr), (0, ""))
-        if ansible := ansible_vault():
-            (place.path / ".ansible.cfg").unlink()
-            named = {"ANSIBLE_CONFIG": "ansible.cfg"}
-            found = [theirs(place, ansible, "view", "a.yml", **each) for each in ({}, named)]
-            opens = [done.returncode == 0 for done in found]
-            cases.check("by Ansible's tool", (opens, "world writable" in found[0].stderr), ([False, True], True))
-        else:
-            cases.skip("what Ansible's tool ignores", "it is not installed")
-
-
-TESTS = [
-    variables,
-    files,
-    every_companion,
-    options_come_first,
-    what_is_not_trusted,
-    beside_options,
-    matching_labels,
-    many_secrets,
-    simple_files,
-    faults,
-    missing_secrets,
-    the_label_to_encrypt_with,
-    world_writable_folders,
-]
+    by_settings(place)
+    place.tree.chmod(0o777)
+    warning = f"{place.tree}/ansible.cfg is ignored, since its folder is world-writable"
+    ended("the current folder", place.run(CHECK, "."), 2, f"{CHECK}: {warning}", "no secret is given")
+    (place.path / ".ansible.cfg").write_text(FILE.format("secrets/old"))
+    done = place.run(CHECK, ".")
+    assert (done.returncode, done.stderr) == (0, f"{CHECK}: {warning}\n"), "the next one counts"
+    done = place.run(CHECK, ".", ANSIBLE_CONFIG="ansible.cfg")
+    assert (done.returncode, done.stderr) == (0, ""), "what is named counts"
+    ansible = needs_ansible()
+    (place.path / ".ansible.cfg").unlink()
+    named = {"ANSIBLE_CONFIG": "ansible.cfg"}
+    found = [theirs(place, ansible, "view", "a.yml", **each) for each in ({}, named)]
+    opens = [done.returncode == 0 for done in found]
+    assert (opens, "world writable" in found[0].stderr) == ([False, True], True), "by Ansible's tool"

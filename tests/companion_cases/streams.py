@@ -4,11 +4,13 @@ import os
 import signal
 import subprocess
 
-from companion_cases import CHECK, EDIT, HOOK, MERGE, ROTATE, TEXT, TEXTCONV, WITH, Companions, Place, decrypted, sealed
+from companion_cases import CHECK, EDIT, HOOK, MERGE, ROTATE, TEXT, TEXTCONV, WITH
+from companion_cases import Place, decrypted, ended, sealed, silent
 from companion_cases.editing import CHANGE, CHANGED
 from companion_cases.merging import versions
 from companion_cases.repository import under_git
 from companion_cases.rotating import summary, to_new
+from lib.needs import needs
 
 UNWRITTEN = "standard output cannot be written: {}\n"
 
@@ -24,132 +26,124 @@ def tree(place: Place) -> dict[str, str]:
     }
 
 
-def no_words_of_python(cases: Companions, what: str, done) -> None:
-    cases.check(f"{what}: no words of Python", [each for each in ("Traceback", "Exception") if each in done.stderr], [])
+def no_words_of_python(what: str, done) -> None:
+    assert [each for each in ("Traceback", "Exception") if each in done.stderr] == [], f"{what}: no words of Python"
 
 
-def outputs_that_fail(cases: Companions) -> None:
-    with cases.place() as place:
-        lines = tree(place)
-        names = (EDIT, HOOK, ROTATE, CHECK, TEXTCONV, WITH, MERGE)
-        helps = {f"{name} --help": f"{name} --help" for name in names}
-        for name, line in {**lines, **helps}.items():
-            for redirection, why in ((">&-", "Bad file descriptor"), ("> /dev/full", "No space left on device")):
-                done = place.shell(f"{line} {redirection}")
-                cases.ended(f"{name} {redirection}", done, 1, UNWRITTEN.format(why))
-                no_words_of_python(cases, f"{name} {redirection}", done)
-        old = " ".join(place.by_file("old"))
-        lines[WITH] = f"{WITH} decrypt {old} a.yml"
-        lines[MERGE] = f"{MERGE} {old} a.yml a.yml a.yml a.yml"
-        for name, line in lines.items():
-            wrong = line.replace(place.secret("old"), place.secret("dev"))
-            for redirection in ("2>&-", "2> /dev/full", ">&- 2>&-"):
-                done = place.shell(f"{wrong} {redirection}")
-                cases.check(f"{name} {redirection}: the status", done.returncode, 1)
-                no_words_of_python(cases, f"{name} {redirection}", done)
+def test_outputs_that_fail(place: Place) -> None:
+    lines = tree(place)
+    names = (EDIT, HOOK, ROTATE, CHECK, TEXTCONV, WITH, MERGE)
+    helps = {f"{name} --help": f"{name} --help" for name in names}
+    for name, line in {**lines, **helps}.items():
+        for redirection, why in ((">&-", "Bad file descriptor"), ("> /dev/full", "No space left on device")):
+            done = place.shell(f"{line} {redirection}")
+            ended(f"{name} {redirection}", done, 1, UNWRITTEN.format(why))
+            no_words_of_python(f"{name} {redirection}", done)
+    old = " ".join(place.by_file("old"))
+    lines[WITH] = f"{WITH} decrypt {old} a.yml"
+    lines[MERGE] = f"{MERGE} {old} a.yml a.yml a.yml a.yml"
+    for name, line in lines.items():
+        wrong = line.replace(place.secret("old"), place.secret("dev"))
+        for redirection in ("2>&-", "2> /dev/full", ">&- 2>&-"):
+            done = place.shell(f"{wrong} {redirection}")
+            assert done.returncode == 1, f"{name} {redirection}: the status"
+            no_words_of_python(f"{name} {redirection}", done)
 
 
-def readers_that_go(cases: Companions) -> None:
-    if not cases.needs("readers that go", "bash"):
-        return
-    with cases.place() as place:
-        for name, line in tree(place).items():
-            done = place.shell(f"{{ {line}; echo $? >&2; }} | :", "bash")
-            wanted = [f"{name}: {UNWRITTEN.format('Broken pipe').strip()}", "1"]
-            cases.check(f"{name}: the reader goes", done.stderr.splitlines(), wanted)
+def test_readers_that_go(place: Place) -> None:
+    needs("bash")
+    for name, line in tree(place).items():
+        done = place.shell(f"{{ {line}; echo $? >&2; }} | :", "bash")
+        wanted = [f"{name}: {UNWRITTEN.format('Broken pipe').strip()}", "1"]
+        assert done.stderr.splitlines() == wanted, f"{name}: the reader goes"
 
 
-def closed_inputs(cases: Companions) -> None:
+def test_closed_inputs(place: Place) -> None:
     """Neither the password's memory nor a file gets the number of a stream."""
-    if not cases.needs("a password that is typed", "bash"):
-        return
-    with cases.place() as place:
-        tree(place)
-        typed = f"--vault-password-file <(cat {place.secret('old')})"
-        for streams in ("<&-", "<&- >&- 2>&-", ">&-"):
-            place.put("a.yml", sealed("old"))
-            done = place.shell(f"{EDIT} {typed} a.yml {streams}", "bash")
-            cases.silent(f"{EDIT} {streams}", done)
-            cases.check(f"{streams}: the text is changed", decrypted("old", place.get("a.yml")), CHANGED)
-            place.put("a.yml", sealed("old"))
-            done = place.shell(f"{WITH} decrypt {typed} a.yml {streams}", "bash")
-            cases.silent(f"{WITH} {streams}", done)
-            cases.check(f"{streams}: it is decrypted", place.get("a.yml"), TEXT)
-            words = " ".join(versions(place, "b.yml", sealed("old"), sealed("old"), sealed("old", CHANGED)))
-            cases.silent(f"{MERGE} {streams}", place.shell(f"{MERGE} {typed} {words} {streams}", "bash"))
-            cases.check(f"{streams}: it is merged", decrypted("old", place.get("b.yml")), CHANGED)
+    needs("bash")
+    tree(place)
+    typed = f"--vault-password-file <(cat {place.secret('old')})"
+    for streams in ("<&-", "<&- >&- 2>&-", ">&-"):
         place.put("a.yml", sealed("old"))
-        done = place.shell(f"{CHECK} {typed} a.yml <&-", "bash")
-        cases.ended("a closed input", done, 0, "1 decrypted, 0 not")
+        done = place.shell(f"{EDIT} {typed} a.yml {streams}", "bash")
+        silent(f"{EDIT} {streams}", done)
+        assert decrypted("old", place.get("a.yml")) == CHANGED, f"{streams}: the text is changed"
+        place.put("a.yml", sealed("old"))
+        done = place.shell(f"{WITH} decrypt {typed} a.yml {streams}", "bash")
+        silent(f"{WITH} {streams}", done)
+        assert place.get("a.yml") == TEXT, f"{streams}: it is decrypted"
+        words = " ".join(versions(place, "b.yml", sealed("old"), sealed("old"), sealed("old", CHANGED)))
+        silent(f"{MERGE} {streams}", place.shell(f"{MERGE} {typed} {words} {streams}", "bash"))
+        assert decrypted("old", place.get("b.yml")) == CHANGED, f"{streams}: it is merged"
+    place.put("a.yml", sealed("old"))
+    done = place.shell(f"{CHECK} {typed} a.yml <&-", "bash")
+    ended("a closed input", done, 0, "1 decrypted, 0 not")
 
 
-def ignored_children(cases: Companions) -> None:
+def test_ignored_children(place: Place) -> None:
     """Whoever starts a companion may ignore SIGCHLD; a status is not taken for 0 then."""
-    with cases.place() as place:
-        tree(place)
-        ignoring = lambda *words: place.run("env", "--ignore-signal=CHLD", *words)
-        wrong = place.by_file("dev")
-        done = ignoring(CHECK, *wrong, "a.yml")
-        cases.ended("a wrong password", done, 1, "no secret decrypts this vault", "0 decrypted, 1 not")
-        done = ignoring(ROTATE, *to_new(place), ".")
-        cases.ended("a rotation", done, 0, summary(1))
-        cases.check("has done its work", decrypted("new", place.get("a.yml")), TEXT)
-        place.put("a.yml", sealed("old"))
-        done = ignoring(EDIT, *wrong, "a.yml")
-        cases.ended("an edit", done, 1, "no secret decrypts this vault")
-        cases.check("the vault stays", place.get("a.yml"), sealed("old"))
-        cases.ended("a text", ignoring(TEXTCONV, *wrong, "a.yml"), 0, "shown as it is")
-        done = ignoring(WITH, "decrypt", *wrong, "a.yml")
-        cases.ended("in place", done, 1, "no secret decrypts this vault")
-        words = versions(place, "b.yml", sealed("old", b"a\n"), sealed("old", b"b\n"), sealed("old", b"c\n"))
-        cases.ended("a merge", ignoring(MERGE, *wrong, *words), 1, "no secret decrypts ours, with the label default")
-        cases.check("both stay", (place.get("a.yml"), place.get("b.yml")), (sealed("old"), sealed("old", b"b\n")))
-        cases.ended("a conflict", ignoring(MERGE, *place.by_file("old"), *words), 1, "b.yml: 1 conflict")
-        (place.tree / "b.yml").unlink()
-        under_git(place, "*.yml diff=ansible-vault\n")
-        place.put("a.yml", TEXT)
-        place.shell("git add -A")
-        cases.ended("the hook", ignoring(HOOK), 1, "a.yml is not encrypted")
+    tree(place)
+    ignoring = lambda *words: place.run("env", "--ignore-signal=CHLD", *words)
+    wrong = place.by_file("dev")
+    done = ignoring(CHECK, *wrong, "a.yml")
+    ended("a wrong password", done, 1, "no secret decrypts this vault", "0 decrypted, 1 not")
+    done = ignoring(ROTATE, *to_new(place), ".")
+    ended("a rotation", done, 0, summary(1))
+    assert decrypted("new", place.get("a.yml")) == TEXT, "has done its work"
+    place.put("a.yml", sealed("old"))
+    done = ignoring(EDIT, *wrong, "a.yml")
+    ended("an edit", done, 1, "no secret decrypts this vault")
+    assert place.get("a.yml") == sealed("old"), "the vault stays"
+    ended("a text", ignoring(TEXTCONV, *wrong, "a.yml"), 0, "shown as it is")
+    done = ignoring(WITH, "decrypt", *wrong, "a.yml")
+    ended("in place", done, 1, "no secret decrypts this vault")
+    words = versions(place, "b.yml", sealed("old", b"a\n"), sealed("old", b"b\n"), sealed("old", b"c\n"))
+    ended("a merge", ignoring(MERGE, *wrong, *words), 1, "no secret decrypts ours, with the label default")
+    assert (place.get("a.yml"), place.get("b.yml")) == (sealed("old"), sealed("old", b"b\n")), "both stay"
+    ended("a conflict", ignoring(MERGE, *place.by_file("old"), *words), 1, "b.yml: 1 conflict")
+    (place.tree / "b.yml").unlink()
+    under_git(place, "*.yml diff=ansible-vault\n")
+    place.put("a.yml", TEXT)
+    place.shell("git add -A")
+    ended("the hook", ignoring(HOOK), 1, "a.yml is not encrypted")
 
 
-def ignored_interrupts(cases: Companions) -> None:
+def test_ignored_interrupts(place: Place) -> None:
     """SIGINT that is ignored from the beginning, as in the background of a script, stays ignored."""
-    with cases.place() as place:
-        tree(place)
-        place.wrap_tool("kill -INT $PPID; sleep 0.05")
-        done = place.shell(f"trap '' INT; {ROTATE} {' '.join(to_new(place))} .")
-        cases.ended("SIGINT", done, 0, summary(1))
-        new = " ".join(place.by_file("new"))
-        cases.silent("in place", place.shell(f"trap '' INT; {WITH} decrypt {new} a.yml"))
-        words = versions(place, "b.yml", sealed("new"), sealed("new"), sealed("new", CHANGED))
-        cases.silent("a merge", place.shell(f"trap '' INT; {MERGE} {new} {' '.join(words)}"))
-        cases.check("both are done", (place.get("a.yml"), decrypted("new", place.get("b.yml"))), (TEXT, CHANGED))
+    tree(place)
+    place.wrap_tool("kill -INT $PPID; sleep 0.05")
+    done = place.shell(f"trap '' INT; {ROTATE} {' '.join(to_new(place))} .")
+    ended("SIGINT", done, 0, summary(1))
+    new = " ".join(place.by_file("new"))
+    silent("in place", place.shell(f"trap '' INT; {WITH} decrypt {new} a.yml"))
+    words = versions(place, "b.yml", sealed("new"), sealed("new"), sealed("new", CHANGED))
+    silent("a merge", place.shell(f"trap '' INT; {MERGE} {new} {' '.join(words)}"))
+    assert (place.get("a.yml"), decrypted("new", place.get("b.yml"))) == (TEXT, CHANGED), "both are done"
 
 
-def all_ending_signals(cases: Companions) -> None:
+def test_all_ending_signals(place: Place) -> None:
     """Every signal that would end a program is noted, so that the plaintext goes and what was saved is kept."""
     not_ending = {"KILL", "STOP", "CHLD", "CONT", "URG", "WINCH", "TSTP", "TTIN", "TTOU"}
     # A fault of Python itself would come again at once; what Python ignores stays ignored.
     others = {"SEGV", "BUS", "FPE", "ILL", "PIPE", "XFSZ"}
     wanted = signal.valid_signals() - {getattr(signal, f"SIG{name}") for name in not_ending | others}
-    with cases.place() as place:
-        place.put("a.yml", sealed("old"))
-        companion = "$(cut -d ' ' -f 4 /proc/$PPID/stat)"
-        look = f"grep -h SigCgt /proc/{companion}/status > ../noted"
-        place.run(EDIT, *place.by_file("old"), "a.yml", EDITOR=place.script(look, "editor"))
-        mask = int((place.path / "noted").read_text().split()[1], 16)
-        noted = {number for number in signal.valid_signals() if mask >> (number - 1) & 1}
-        cases.check("all are noted", sorted(wanted - noted), [])
-        for number in (signal.SIGABRT, signal.SIGPWR, signal.SIGRTMIN, signal.SIGRTMAX):
-            editor = place.script(f"{CHANGE}; kill -{int(number)} {companion}; exec sleep 5", "editor")
-            done = place.run(EDIT, *place.by_file("old"), "a.yml", EDITOR=editor)
-            cases.check(f"signal {int(number)}: the status", done.returncode, -number)
-            copies = [place.tree / name for name in place.names() if name.startswith(".ansible-vault-saved-a.yml-")]
-            texts = [decrypted("old", copy.read_bytes()) for copy in copies]
-            cases.check(f"signal {int(number)}: what was saved is kept", texts, [CHANGED])
-            for copy in copies:
-                copy.unlink()
-            cases.check(f"signal {int(number)}: nothing is left", (place.names(), place.left()), (["a.yml"], []))
+    place.put("a.yml", sealed("old"))
+    companion = "$(cut -d ' ' -f 4 /proc/$PPID/stat)"
+    look = f"grep -h SigCgt /proc/{companion}/status > ../noted"
+    place.run(EDIT, *place.by_file("old"), "a.yml", EDITOR=place.script(look, "editor"))
+    mask = int((place.path / "noted").read_text().split()[1], 16)
+    noted = {number for number in signal.valid_signals() if mask >> (number - 1) & 1}
+    assert sorted(wanted - noted) == [], "all are noted"
+    for number in (signal.SIGABRT, signal.SIGPWR, signal.SIGRTMIN, signal.SIGRTMAX):
+        editor = place.script(f"{CHANGE}; kill -{int(number)} {companion}; exec sleep 5", "editor")
+        done = place.run(EDIT, *place.by_file("old"), "a.yml", EDITOR=editor)
+        assert done.returncode == -number, f"signal {int(number)}: the status"
+        copies = [place.tree / name for name in place.names() if name.startswith(".ansible-vault-saved-a.yml-")]
+        texts = [decrypted("old", copy.read_bytes()) for copy in copies]
+        assert texts == [CHANGED], f"signal {int(number)}: what was saved is kept"
+        for copy in copies:
+            copy.unlink()
+        assert (place.names(), place.left()) == (["a.yml"], []), f"signal {int(number)}: nothing is left"
 
 
 def merges_with(path: str) -> list[list[str]]:
@@ -157,22 +151,17 @@ def merges_with(path: str) -> list[list[str]]:
     return [[path if place == number else "a.yml" for place in range(3)] + ["a.yml"] for number in range(3)]
 
 
-def waiting_pipes(cases: Companions) -> None:
+def test_waiting_pipes(place: Place) -> None:
     """A pipe is no vault; opening it would wait for ever, deaf to signals."""
-    with cases.place() as place:
-        os.mkfifo(place.tree / "pipe")
-        old = place.by_file("old")
-        place.put("a.yml", sealed("old"))
-        runs = [[EDIT, *old, "pipe"], [TEXTCONV, *old, "pipe"], [WITH, "decrypt", *old, "pipe"]]
-        for words in [*runs, *([MERGE, *old, *merge] for merge in merges_with("pipe"))]:
-            try:
-                streams = {"capture_output": True, "text": True, "timeout": 20}
-                done = subprocess.run(words, cwd=place.tree, env=place.environment, **streams)
-            except subprocess.TimeoutExpired:
-                cases.holds(f"{words[0]} does not wait", False)
-                continue
-            cases.ended(words[0], done, 1, "it is not a regular file")
-
-
-TESTS = [outputs_that_fail, readers_that_go, closed_inputs, ignored_children, ignored_interrupts]
-TESTS += [all_ending_signals, waiting_pipes]
+    os.mkfifo(place.tree / "pipe")
+    old = place.by_file("old")
+    place.put("a.yml", sealed("old"))
+    runs = [[EDIT, *old, "pipe"], [TEXTCONV, *old, "pipe"], [WITH, "decrypt", *old, "pipe"]]
+    for words in [*runs, *([MERGE, *old, *merge] for merge in merges_with("pipe"))]:
+        try:
+            streams = {"capture_output": True, "text": True, "timeout": 20}
+            done = subprocess.run(words, cwd=place.tree, env=place.environment, **streams)
+        except subprocess.TimeoutExpired:
+            assert False, f"{words[0]} does not wait"
+            continue
+        ended(words[0], done, 1, "it is not a regular file")

@@ -2,8 +2,11 @@
 
 import re
 
-from companion_cases import AWKWARD, MERGE, TEXT, TEXTCONV, Companions, Place, block, sealed
+import pytest
+
+from companion_cases import AWKWARD, MERGE, TEXT, TEXTCONV, Companions, Place, block, ended, sealed, silent
 from companion_cases.repository import add_and_commit, under_git
+from lib.needs import needs
 
 ATTRIBUTES = "*.yml diff=ansible-vault\n* diff=ansible-vault\n"
 
@@ -17,25 +20,24 @@ def changed_lines(text: str) -> list[str]:
     return [line for line in text.splitlines() if re.match(r"[-+][^-+]", line)]
 
 
-def alone(cases: Companions) -> None:
+def test_alone(place: Place) -> None:
     around = "# größe\r\n".encode()
     shown = {
         "a vault": (sealed("old"), TEXT),
         "a vault of another label": (sealed("old", b"\x00\xff", "prod"), b"\x00\xff"),
         "blocks": (around + block("old", b"one") + block("new", b"two\nthree", name="x") + b"# end", None),
     }
-    with cases.place() as place:
-        for name, (content, wanted) in shown.items():
-            place.put("file", content)
-            command = [TEXTCONV, *place.by_file("old"), *place.by_file("new")]
-            done = place.run("sh", "-c", '"$@" > ../shown', "sh", *command, "file")
-            cases.silent(name, done)
-            found = (place.path / "shown").read_bytes()
-            lines = around + b"secret: !vault |-\n  one\nx: !vault |-\n  two\n  three\n# end"
-            cases.check(f"{name}: what is shown", found, lines if wanted is None else wanted)
+    for name, (content, wanted) in shown.items():
+        place.put("file", content)
+        command = [TEXTCONV, *place.by_file("old"), *place.by_file("new")]
+        done = place.run("sh", "-c", '"$@" > ../shown', "sh", *command, "file")
+        silent(name, done)
+        found = (place.path / "shown").read_bytes()
+        lines = around + b"secret: !vault |-\n  one\nx: !vault |-\n  two\n  three\n# end"
+        assert found == (lines if wanted is None else wanted), f"{name}: what is shown"
 
 
-def as_it_is(cases: Companions) -> None:
+def test_as_it_is(place: Place) -> None:
     """What cannot be decrypted is shown as it is, with the reason, and git continues."""
     files = {
         "unknown.yml": (sealed("dev"), "no secret decrypts this vault"),
@@ -44,72 +46,65 @@ def as_it_is(cases: Companions) -> None:
         "header.yml": (b"$ANSIBLE_VAULT;1.1\n", "vault header line is malformed"),
         "block.yml": (block("dev"), "block.yml:2: shown as it is: no secret decrypts this vault"),
     }
-    with cases.place() as place:
-        for name, (content, part) in files.items():
-            place.put(name, content)
-            done = place.run(TEXTCONV, *place.by_file("old"), name)
-            cases.check(f"{name}: as it is", (done.returncode, done.stdout.encode()), (0, content))
-            cases.holds(f"{name}: the reason is printed", part in done.stderr and name in done.stderr, done.stderr)
-        place.put("mixed.yml", block("dev") + block("old", b"shown"))
-        done = place.run(TEXTCONV, *place.by_file("old"), "mixed.yml")
-        wanted = block("dev").decode() + "secret: !vault |-\n  shown\n"
-        cases.check("the other blocks are shown", (done.returncode, done.stdout), (0, wanted))
-        place.put("a.yml", sealed("old"))
-        done = place.run(TEXTCONV, *place.by_file("missing"), *place.by_file("old"), "a.yml")
-        cases.check("a missing password file is no end", (done.returncode, done.stdout), (0, TEXT.decode()))
-        cases.holds("but it is reported", "missing: a password file cannot be opened" in done.stderr, done.stderr)
-        cases.ended("no file", place.run(TEXTCONV, *place.by_file("old"), "missing.yml"), 1, "missing.yml")
-        for words in ([], ["a.yml"], ["--loud", "a.yml"], place.by_file("old")[:1] + ["a.yml"]):
-            cases.ended(f"{words}", place.run(TEXTCONV, *words), 2, "usage: ansible-vault-textconv")
+    for name, (content, part) in files.items():
+        place.put(name, content)
+        done = place.run(TEXTCONV, *place.by_file("old"), name)
+        assert (done.returncode, done.stdout.encode()) == (0, content), f"{name}: as it is"
+        assert part in done.stderr and name in done.stderr, f"{name}: the reason is printed"
+    place.put("mixed.yml", block("dev") + block("old", b"shown"))
+    done = place.run(TEXTCONV, *place.by_file("old"), "mixed.yml")
+    wanted = block("dev").decode() + "secret: !vault |-\n  shown\n"
+    assert (done.returncode, done.stdout) == (0, wanted), "the other blocks are shown"
+    place.put("a.yml", sealed("old"))
+    done = place.run(TEXTCONV, *place.by_file("missing"), *place.by_file("old"), "a.yml")
+    assert (done.returncode, done.stdout) == (0, TEXT.decode()), "a missing password file is no end"
+    assert "missing: a password file cannot be opened" in done.stderr, "but it is reported"
+    ended("no file", place.run(TEXTCONV, *place.by_file("old"), "missing.yml"), 1, "missing.yml")
+    for words in ([], ["a.yml"], ["--loud", "a.yml"], place.by_file("old")[:1] + ["a.yml"]):
+        ended(f"{words}", place.run(TEXTCONV, *words), 2, "usage: ansible-vault-textconv")
 
 
-def differences(cases: Companions) -> None:
+def test_differences(place: Place) -> None:
     """A file that is at first plaintext, then under the old password, then under the new one."""
-    if not cases.needs("differences in git", "git"):
-        return
-    with cases.place() as place:
-        with_driver(place, *place.by_file("new"), *place.by_file("old"))
-        texts = [f"password: {each}\n".encode() for each in ("first", "second", "third")]
-        for content in (texts[0], sealed("old", texts[1]), sealed("new", texts[2])):
-            place.put("vars/db.yml", content)
-            add_and_commit(place)
-        wanted = ["-password: second", "+password: third", "-password: first", "+password: second", "+password: first"]
-        (place.tree / "vars/inner").mkdir()
-        for folder in (".", "vars/inner"):
-            shown = place.shell("git log -p --format= -- :/vars", folder=folder)
-            cases.check(f"in `{folder}`", (shown.returncode, changed_lines(shown.stdout)), (0, wanted))
+    needs("git")
+    with_driver(place, *place.by_file("new"), *place.by_file("old"))
+    texts = [f"password: {each}\n".encode() for each in ("first", "second", "third")]
+    for content in (texts[0], sealed("old", texts[1]), sealed("new", texts[2])):
+        place.put("vars/db.yml", content)
+        add_and_commit(place)
+    wanted = ["-password: second", "+password: third", "-password: first", "+password: second", "+password: first"]
+    (place.tree / "vars/inner").mkdir()
+    for folder in (".", "vars/inner"):
+        shown = place.shell("git log -p --format= -- :/vars", folder=folder)
+        assert (shown.returncode, changed_lines(shown.stdout)) == (0, wanted), f"in `{folder}`"
 
 
-def awkward_names(cases: Companions) -> None:
+def test_awkward_names(place: Place) -> None:
     """No name ends the differences of the others."""
-    if not cases.needs("awkward names in git", "git"):
-        return
-    with cases.place() as place:
-        with_driver(place, *place.by_file("old"))
-        for name in AWKWARD:
-            place.put(name, sealed("old", b"password: first\n"))
-        add_and_commit(place)
-        for name in AWKWARD:
-            place.put(name, sealed("old", b"password: second\n"))
-        for words in ("git diff", "git add -A && git diff --cached"):
-            done = place.shell(words)
-            found = (done.returncode, changed_lines(done.stdout), done.stderr)
-            cases.check(words, found, (0, ["-password: first", "+password: second"] * len(AWKWARD), ""))
+    needs("git")
+    with_driver(place, *place.by_file("old"))
+    for name in AWKWARD:
+        place.put(name, sealed("old", b"password: first\n"))
+    add_and_commit(place)
+    for name in AWKWARD:
+        place.put(name, sealed("old", b"password: second\n"))
+    for words in ("git diff", "git add -A && git diff --cached"):
+        done = place.shell(words)
+        found = (done.returncode, changed_lines(done.stdout), done.stderr)
+        assert found == (0, ["-password: first", "+password: second"] * len(AWKWARD), ""), words
 
 
-def untouched_differences(cases: Companions) -> None:
+def test_untouched_differences(place: Place) -> None:
     """A vault that cannot be decrypted does not stop git, and the reason is reported."""
-    if not cases.needs("an unknown vault in git", "git"):
-        return
-    with cases.place() as place:
-        with_driver(place, *place.by_file("old"))
-        place.put("a.yml", sealed("dev", b"one\n"))
-        place.put("b.yml", sealed("old", b"password: first\n"))
-        add_and_commit(place)
-        place.put("a.yml", sealed("dev", b"two\n"))
-        place.put("b.yml", sealed("old", b"password: second\n"))
-        done = place.shell("git diff")
-        cases.ended("an unknown vault", done, 0, "+password: second", "shown as it is: no secret decrypts this vault")
+    needs("git")
+    with_driver(place, *place.by_file("old"))
+    place.put("a.yml", sealed("dev", b"one\n"))
+    place.put("b.yml", sealed("old", b"password: first\n"))
+    add_and_commit(place)
+    place.put("a.yml", sealed("dev", b"two\n"))
+    place.put("b.yml", sealed("old", b"password: second\n"))
+    done = place.shell("git diff")
+    ended("an unknown vault", done, 0, "+password: second", "shown as it is: no secret decrypts this vault")
 
 
 # How a git that is set up for all clones names the secret, other settings, and whether a script of the clone is run.
@@ -124,37 +119,33 @@ SETTINGS_OF_ALL_CLONES = [
 ]
 
 
-def clones_of_others(cases: Companions) -> None:
+@pytest.mark.parametrize("words, variables, is_run", SETTINGS_OF_ALL_CLONES)
+def test_clones_of_others(cases: Companions, words, variables, is_run) -> None:
     """A clone whose `ansible.cfg` names a script, and which has an executable file named as a password file: as the
     manual page says, neither `git diff` nor `git merge` runs them, where options or ANSIBLE_CONFIG name the secret by
     an absolute path."""
-    if not cases.needs("clones of others", "git"):
-        return
-    for words, variables, is_run in SETTINGS_OF_ALL_CLONES:
-        with cases.place() as place:
-            under_git(place, "*.yml diff=ansible-vault merge=ansible-vault\n")
-            place.environment["GIT_CONFIG_GLOBAL"] = str(place.path / "config")
-            words = words.format(home=place.path)
-            for name, setting in (("diff.ansible-vault.textconv", ""), ("merge.ansible-vault.driver", "%O %A %B %P")):
-                tool = TEXTCONV if name.startswith("diff") else MERGE
-                place.run("git", "config", "--global", name, f"{tool} {words} {setting}")
-            script = b"#!/bin/sh\ntouch ../run\ncat ../secrets/old\n"
-            place.put("ansible.cfg", b"[defaults]\nvault_identity_list = x@old\n")
-            place.put("old", script, 0o755)
-            place.put("../own.cfg", b"[defaults]\nvault_identity_list = x@~/secrets/old\n")
-            changes = {b"first\n": "true", b"second\n": "git checkout -qb theirs", b"third\n": "git checkout -q -"}
-            for text, command in changes.items():
-                place.shell(command)
-                place.put("a.yml", sealed("old", text))
-                add_and_commit(place)
-            variables = {name: value.format(home=place.path) for name, value in variables.items()}
-            run = place.path / "run"
-            for command, status in (("git show --format=", 0), ("git merge --no-edit theirs", 1)):
-                done = place.shell(command, **variables)
-                what = f"{command} by `{words}` and {variables}"
-                cases.check(f"{what}: the status", (done.returncode, done.stderr.count("no secret")), (status, 0))
-                cases.check(f"{what}: a script of the clone is run", run.exists(), is_run)
-                run.unlink(missing_ok=True)
-
-
-TESTS = [alone, as_it_is, differences, awkward_names, untouched_differences, clones_of_others]
+    needs("git")
+    place = cases.place()
+    under_git(place, "*.yml diff=ansible-vault merge=ansible-vault\n")
+    place.environment["GIT_CONFIG_GLOBAL"] = str(place.path / "config")
+    words = words.format(home=place.path)
+    for name, setting in (("diff.ansible-vault.textconv", ""), ("merge.ansible-vault.driver", "%O %A %B %P")):
+        tool = TEXTCONV if name.startswith("diff") else MERGE
+        place.run("git", "config", "--global", name, f"{tool} {words} {setting}")
+    script = b"#!/bin/sh\ntouch ../run\ncat ../secrets/old\n"
+    place.put("ansible.cfg", b"[defaults]\nvault_identity_list = x@old\n")
+    place.put("old", script, 0o755)
+    place.put("../own.cfg", b"[defaults]\nvault_identity_list = x@~/secrets/old\n")
+    changes = {b"first\n": "true", b"second\n": "git checkout -qb theirs", b"third\n": "git checkout -q -"}
+    for text, command in changes.items():
+        place.shell(command)
+        place.put("a.yml", sealed("old", text))
+        add_and_commit(place)
+    variables = {name: value.format(home=place.path) for name, value in variables.items()}
+    run = place.path / "run"
+    for command, status in (("git show --format=", 0), ("git merge --no-edit theirs", 1)):
+        done = place.shell(command, **variables)
+        what = f"{command} by `{words}` and {variables}"
+        assert (done.returncode, done.stderr.count("no secret")) == (status, 0), f"{what}: the status"
+        assert run.exists() == is_run, f"{what}: a script of the clone is run"
+        run.unlink(missing_ok=True)

@@ -3,11 +3,12 @@
 import os
 import sys
 
-from companion_cases import COMPANIONS, Companions
+import pytest
 
-sys.path.insert(0, str(COMPANIONS))
-from ansible_vault_companions import yaml_nodes  # noqa: E402
-from ansible_vault_companions.yaml_nodes import NotYaml  # noqa: E402
+from ansible_vault_companions import yaml_nodes
+from ansible_vault_companions.yaml_nodes import NotYaml
+from companion_cases import Companions, Place, ended
+from lib.needs import needs_pyyaml
 
 ENVELOPE = "$ANSIBLE_VAULT;1.1;AES256\n6162\n"
 BLOCK = "!vault |\n   $ANSIBLE_VAULT;1.1;AES256\n   6162\n"
@@ -59,50 +60,40 @@ def as_bytes(text: str) -> bytes:
     return text.encode(errors="surrogatepass")
 
 
-def with_both_loaders(cases: Companions, work) -> None:
-    """Runs a test with libyaml, if PyYAML has it, and without."""
-    if not cases.needs_pyyaml("reading YAML"):
-        return
+@pytest.fixture(params=["libyaml", "PyYAML"])
+def loader(request: pytest.FixtureRequest, monkeypatch: pytest.MonkeyPatch) -> None:
+    """libyaml, if PyYAML has it, or PyYAML's own."""
+    needs_pyyaml()
     import yaml
 
-    if not yaml.__with_libyaml__:
-        cases.skip("reading YAML by libyaml", "PyYAML is without it")
-        work("PyYAML")
-        return
-    work("libyaml")
-    by_libyaml, yaml.CSafeLoader = yaml.CSafeLoader, yaml.SafeLoader
+    if not yaml.__with_libyaml__ and request.param == "libyaml":
+        pytest.skip("PyYAML is without libyaml")
+    if yaml.__with_libyaml__ and request.param == "PyYAML":
+        monkeypatch.setattr(yaml, "CSafeLoader", yaml.SafeLoader)
+
+
+@pytest.mark.parametrize("text, wanted", READ.items())
+def test_read(loader: None, text: str, wanted: list) -> None:
+    data = as_bytes(text)
+    characters = yaml_nodes.decoded(data)
+    found = [node for node in yaml_nodes.nodes(data) if node.is_value]
+    wanted = [(path, is_vault, yaml_nodes.decoded(as_bytes(part))) for path, is_vault, part in wanted]
+    assert [(node.path, node.is_vault, characters[node.start : node.end]) for node in found] == wanted
+
+
+@pytest.mark.parametrize("text, column", COLUMNS.items())
+def test_columns(loader: None, text: str, column: int) -> None:
+    [node] = [node for node in yaml_nodes.nodes(as_bytes(text)) if node.text == "x"]
+    assert node.container.column == column
+
+
+@pytest.mark.parametrize("text, wanted", REFUSED.items())
+def test_refused(loader: None, text: str, wanted: str) -> None:
     try:
-        work("PyYAML")
-    finally:
-        yaml.CSafeLoader = by_libyaml
-
-
-def read(cases: Companions) -> None:
-    def values(loader: str) -> None:
-        for text, wanted in READ.items():
-            data = as_bytes(text)
-            characters = yaml_nodes.decoded(data)
-            found = [node for node in yaml_nodes.nodes(data) if node.is_value]
-            wanted = [(path, is_vault, yaml_nodes.decoded(as_bytes(part))) for path, is_vault, part in wanted]
-            parts = [(node.path, node.is_vault, characters[node.start : node.end]) for node in found]
-            cases.check(f"{loader}: {text!r}", parts, wanted)
-        for text, column in COLUMNS.items():
-            [node] = [node for node in yaml_nodes.nodes(as_bytes(text)) if node.text == "x"]
-            cases.check(f"{loader}: {text!r}: the column", node.container.column, column)
-
-    with_both_loaders(cases, values)
-
-
-def refused(cases: Companions) -> None:
-    def faults(loader: str) -> None:
-        for text, wanted in REFUSED.items():
-            try:
-                found = repr([*yaml_nodes.nodes(as_bytes(text))])
-            except NotYaml as fault:
-                found = str(fault)
-            cases.holds(f"{loader}: {text!r}: {wanted}", found.startswith(wanted), found)
-
-    with_both_loaders(cases, faults)
+        found = repr([*yaml_nodes.nodes(as_bytes(text))])
+    except NotYaml as fault:
+        found = str(fault)
+    assert found.startswith(wanted)
 
 
 SHOW = """\
@@ -116,22 +107,18 @@ except yaml_nodes.NoPyYaml as fault:
 """
 
 
-def where_pyyaml_is(cases: Companions) -> None:
+def test_where_pyyaml_is(cases: Companions, place: Place) -> None:
     """It is found where the companions start without packages, but never in the current folder; and its package is
     named where it is missing."""
-    with cases.place() as place:
-        for name in ("yaml", "sitecustomize", "usercustomize"):
-            place.put(f"{name}.py", b"open('../imported', 'w')\n")
-            place.put(f"{name}/__init__.py", b"open('../imported', 'w')\n")
-        place.put("own.pth", b"import yaml\n")
-        program = place.path / "show"
-        program.write_text(SHOW.format(companions=str(cases.companions)))
-        words = [os.path.realpath(sys.executable), "-ESB", str(program)]
-        done = place.run(*words, PYTHONPATH=str(place.tree))
-        cases.check("it is found", (done.returncode, done.stdout, done.stderr), (0, "3\n", ""))
-        cases.check("nothing of the current folder is imported", (place.path / "imported").exists(), False)
-        program.write_text("import sys; sys.modules['yaml'] = None\n" + SHOW.format(companions=str(cases.companions)))
-        cases.ended("it is missing", place.run(*words), 0, "PyYAML is needed", "python3-yaml")
-
-
-TESTS = [read, refused, where_pyyaml_is]
+    for name in ("yaml", "sitecustomize", "usercustomize"):
+        place.put(f"{name}.py", b"open('../imported', 'w')\n")
+        place.put(f"{name}/__init__.py", b"open('../imported', 'w')\n")
+    place.put("own.pth", b"import yaml\n")
+    program = place.path / "show"
+    program.write_text(SHOW.format(companions=str(cases.companions)))
+    words = [os.path.realpath(sys.executable), "-ESB", str(program)]
+    done = place.run(*words, PYTHONPATH=str(place.tree))
+    assert (done.returncode, done.stdout, done.stderr) == (0, "3\n", ""), "it is found"
+    assert not (place.path / "imported").exists(), "nothing of the current folder is imported"
+    program.write_text("import sys; sys.modules['yaml'] = None\n" + SHOW.format(companions=str(cases.companions)))
+    ended("it is missing", place.run(*words), 0, "PyYAML is needed", "python3-yaml")

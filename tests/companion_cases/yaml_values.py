@@ -5,17 +5,16 @@ from __future__ import annotations
 
 import binascii
 import random
-import sys
 
-from companion_cases import COMPANIONS, Companions
+import pytest
 
-sys.path.insert(0, str(COMPANIONS))
-from ansible_vault_companions import inline, yaml_nodes  # noqa: E402
-from ansible_vault_companions.blocks import Change, changed  # noqa: E402
-from ansible_vault_companions.matching import Choice  # noqa: E402
-from ansible_vault_companions.program import Refused  # noqa: E402
-from ansible_vault_companions.sources import Secret, Source  # noqa: E402
-from ansible_vault_companions.yaml_values import Scan, Value  # noqa: E402
+from ansible_vault_companions import inline, yaml_nodes
+from ansible_vault_companions.blocks import Change, changed
+from ansible_vault_companions.matching import Choice
+from ansible_vault_companions.program import Refused
+from ansible_vault_companions.sources import Secret, Source
+from ansible_vault_companions.yaml_values import Scan, Value
+from lib.needs import needs_pyyaml
 
 SEED = 62
 STRUCTURED, UNSTRUCTURED = 700, 20_000
@@ -147,10 +146,9 @@ def scanned(data: bytes) -> list[tuple[tuple[str, ...], str]]:
     return [(value.path, value.content.decode()) for value in Scan(data).values if is_text(value)]
 
 
-def anything(cases: Companions) -> None:
+def test_anything() -> None:
     """Whatever PyYAML composes is read in the same way."""
-    if not cases.needs_pyyaml("random YAML"):
-        return
+    needs_pyyaml()
     generator = random.Random(SEED)
     count = 0
     for _ in range(UNSTRUCTURED):
@@ -161,13 +159,12 @@ def anything(cases: Companions) -> None:
         found = scanned(text.encode())
         count += len(wanted)
         if found != wanted:
-            cases.check(f"{text!r}", found, wanted)
-    cases.holds("many values are compared", count > 300, str(count))
+            assert found == wanted, f"{text!r}"
+    assert count > 300, "many values are compared"
 
 
-def shown_and_encrypted(cases: Companions) -> None:
-    if not cases.needs_pyyaml("random YAML"):
-        return
+def test_shown_and_encrypted() -> None:
+    needs_pyyaml()
     counts = {"values": 0, "shown": 0, "changed": 0}
     for number in range(STRUCTURED):
         text = Generator(number).text()
@@ -177,29 +174,29 @@ def shown_and_encrypted(cases: Companions) -> None:
             continue
         counts["values"] += len(wanted)
         if scanned(data) != wanted:
-            cases.check(f"{text!r}", scanned(data), wanted)
+            assert scanned(data) == wanted, f"{text!r}"
             continue
         showing = inline.showing(data, decrypt, with_notes=True)
         counts["shown"] += len(showing.decrypted)
-        check_shown(cases, showing, wanted)
-        counts["changed"] += check_changed(cases, showing, Generator(number).random)
+        check_shown(showing, wanted)
+        counts["changed"] += check_changed(showing, Generator(number).random)
     for what, count in counts.items():
-        cases.holds(f"many values are {what}", count > 300, str(counts))
+        assert count > 300, (f"many values are {what}", str(counts))
 
 
-def check_shown(cases: Companions, showing: inline.Showing, wanted: list) -> None:
+def check_shown(showing: inline.Showing, wanted: list) -> None:
     """Each that is shown is the plaintext by PyYAML, too; and what is not changed keeps every byte."""
     texts = iter(showing.contents())
     plain = [(path, next(texts).decode()) for path, _ in wanted]
     text = showing.text()
     if composed(text.decode()) != plain:
-        cases.check(f"{showing.data!r}: shown", composed(text.decode()), plain)
+        assert composed(text.decode()) == plain, f"{showing.data!r}: shown"
     kept = encrypted(showing, text)
     if kept != showing.data:
-        cases.check(f"{text!r}: nothing is changed", kept, showing.data)
+        assert kept == showing.data, f"{text!r}: nothing is changed"
 
 
-def check_changed(cases: Companions, showing: inline.Showing, generator: random.Random) -> int:
+def check_changed(showing: inline.Showing, generator: random.Random) -> int:
     """One value is typed anew."""
     found = [value for value in Scan(showing.text()).values if value.style == yaml_nodes.LITERAL]
     if not found:
@@ -214,7 +211,7 @@ def check_changed(cases: Companions, showing: inline.Showing, generator: random.
     found = isinstance(after, bytes) and [text.split() for _, text in composed(after.decode()) or []]
     envelopes = [text if text.startswith("$") else envelope(text.encode()).decode() for _, text in wanted]
     if found != [text.split() for text in envelopes]:
-        cases.check(f"{typed!r}: a value is typed", after, envelopes)
+        assert after == envelopes, f"{typed!r}: a value is typed"
     return 1
 
 
@@ -226,24 +223,19 @@ def encrypted(showing: inline.Showing, text: bytes) -> bytes | str:
         return str(fault)
 
 
-def no_place(cases: Companions) -> None:
+@pytest.mark.parametrize("text", (b"a: !vault new\n            # a comment\n", b"a: !vault new\xe2\x80\xa8b: 1"))
+def test_no_place(text) -> None:
     """What would not be read as it is meant is not written."""
-    if not cases.needs_pyyaml("values without a place"):
-        return
+    needs_pyyaml()
     data = b"a: !vault |\n  " + envelope(b"old").replace(b"\n", b"\n  ") + b"\n"
     showing = inline.showing(data, decrypt, with_notes=True)
-    for text in (b"a: !vault new\n            # a comment\n", b"a: !vault new\xe2\x80\xa8b: 1"):
-        cases.check(f"{text!r}", encrypted(showing, text), inline.NO_PLACE)
+    assert encrypted(showing, text) == inline.NO_PLACE, f"{text!r}"
 
 
-def conflicts(cases: Companions) -> None:
+def test_conflicts() -> None:
     """Each side of a conflict is read without the others."""
-    if not cases.needs_pyyaml("conflicts"):
-        return
+    needs_pyyaml()
     values = Scan(CONFLICT).values
-    cases.check("the values", [(value.path, value.content) for value in values], IN_CONFLICT)
+    assert [(value.path, value.content) for value in values] == IN_CONFLICT, "the values"
     parts = [CONFLICT[value.start : value.end] for value in values]
-    cases.check("their bytes", parts, [b"one", b"|-\n    two", b"three", "'fünf'".encode(), b"|\n  six"])
-
-
-TESTS = [anything, shown_and_encrypted, no_place, conflicts]
+    assert parts == [b"one", b"|-\n    two", b"three", "'fünf'".encode(), b"|\n  six"], "their bytes"

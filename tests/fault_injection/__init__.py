@@ -14,7 +14,6 @@ from typing import NamedTuple
 
 from lib.limits import SECONDS
 
-WORKERS = min(4, os.cpu_count() or 1)
 OUTPUT = "output"
 OLD = b"what stood here before\n" * 1_000
 OLD_MODE, OWNER_ONLY = 0o640, 0o600

@@ -6,13 +6,11 @@ call is about, and what has come of the output before it, is known from a run wi
 
 import tempfile
 from collections import Counter
-from concurrent.futures import ThreadPoolExecutor
 from pathlib import Path
 from random import Random
 from typing import Iterator, NamedTuple
 
-from cases import Cases
-from fault_injection import OWNER_ONLY, WORKERS, Left, Scenario, Target, run
+from fault_injection import OWNER_ONLY, Left, Scenario, Target, run
 from lib.system_calls import Call, own_calls, tracing
 from model.faults import Fault
 
@@ -111,15 +109,15 @@ def steps(scenario: Scenario, loading: list[Call], own: list[Call]) -> Iterator[
             mode = OWNER_ONLY
 
 
-def fault_free(cases: Cases, scenario: Scenario) -> list[Step]:
+def fault_free(program: str, scenario: Scenario) -> list[Step]:
     """The steps of a run without a failure."""
     with tempfile.NamedTemporaryFile() as log:
         path = Path(log.name)
-        left = run(scenario, [*tracing(path), cases.program])
+        left = run(scenario, [*tracing(path), program])
         loading, own = own_calls(path)
-    cases.check(scenario.name, left, scenario.fault_free())
+    assert left == scenario.fault_free(), scenario.name
     names = {call.name for call in own}
-    cases.check(f"{scenario.name}: calls that are not refused", names - set(ERRORS) - OTHERS, set())
+    assert names - set(ERRORS) - OTHERS == set(), f"{scenario.name}: calls that are not refused"
     return [step for step in steps(scenario, loading, own) if step.call.name in ERRORS]
 
 
@@ -172,11 +170,9 @@ def run_refused(program: str, refusal: Refusal) -> tuple[Left, bool]:
         return left, b"(INJECTED)" in log.read()
 
 
-def refusals(cases: Cases, scenarios: list[Scenario]) -> list[Refusal]:
-    with ThreadPoolExecutor(WORKERS) as pool:
-        courses = list(pool.map(lambda scenario: fault_free(cases, scenario), scenarios))
-    made = zip(scenarios, courses)
-    return [Refusal(scenario, step, error) for scenario, course in made for step in course for error in step.errors()]
+def refusals(program: str, scenarios: list[Scenario]) -> list[Refusal]:
+    made = [(scenario, step) for scenario in scenarios for step in fault_free(program, scenario)]
+    return [Refusal(scenario, step, error) for scenario, step in made for error in step.errors()]
 
 
 def some_of(every: list[Refusal], seed: int, share: int) -> list[Refusal]:
@@ -189,15 +185,15 @@ def some_of(every: list[Refusal], seed: int, share: int) -> list[Refusal]:
     return chosen
 
 
-def refused_calls(cases: Cases, scenarios: list[Scenario], seed: int, share: int) -> None:
-    every = refusals(cases, scenarios)
+def refused_calls(program: str, scenarios: list[Scenario], seed: int, share: int) -> tuple[int, int]:
+    """Returns how many runs were made, of how many."""
+    every, differing = refusals(program, scenarios), []
     chosen = some_of(every, seed, share)
-    with ThreadPoolExecutor(WORKERS) as pool:
-        answers = pool.map(lambda refusal: run_refused(cases.program, refusal), chosen)
-        for refusal, (left, was_injected) in zip(chosen, answers):
-            fits = left in wanted(refusal)
-            cases.holds(refusal.name, fits, "" if fits else f"{left}, want {' or '.join(map(str, wanted(refusal)))}")
-            cases.holds(f"{refusal.name}: the call is made and fails", was_injected)
-    counts = Counter(refusal.step.call.name for refusal in chosen)
-    by_name = ", ".join(f"{count} {name}" for name, count in counts.items())
-    print(f"refused calls: {len(chosen)} of {len(every)} runs; {by_name}")
+    for refusal in chosen:
+        left, was_injected = run_refused(program, refusal)
+        if left not in wanted(refusal):
+            differing.append(f"{refusal.name}: {left}, want {' or '.join(map(str, wanted(refusal)))}")
+        if not was_injected:
+            differing.append(f"{refusal.name}: the call is not made, or does not fail")
+    assert chosen != [] and differing == []
+    return len(chosen), len(every)

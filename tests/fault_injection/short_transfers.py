@@ -2,11 +2,9 @@
 
 import os
 import tempfile
-from concurrent.futures import ThreadPoolExecutor
 from pathlib import Path
 
-from cases import Cases
-from fault_injection import WORKERS, Left, Scenario, run
+from fault_injection import Left, Scenario, run
 from lib.preloaded import build_library
 
 LIBRARY = "short_transfers"
@@ -24,14 +22,13 @@ def run_short(program: str, library: str, scenario: Scenario, most: int) -> tupl
         return run(scenario, [program], environment), marker.exists()
 
 
-def short_transfers(cases: Cases, scenarios: list[Scenario]) -> None:
+def short_transfers(program: str, scenarios: list[Scenario]) -> None:
     most_of = lambda scenario: SMALL_MOST if len(scenario.whole) < LARGE else LARGE_MOST
     runs = [(scenario, most) for scenario in scenarios for most in most_of(scenario)]
-    with tempfile.TemporaryDirectory() as folder, ThreadPoolExecutor(WORKERS) as pool:
+    with tempfile.TemporaryDirectory() as folder:
         library = os.path.abspath(build_library(folder, LIBRARY))
-        answers = list(pool.map(lambda pair: run_short(cases.program, library, *pair), runs))
-    for (scenario, most), (left, cut) in zip(runs, answers):
-        name = f"{scenario.name}, at most {most} bytes a call"
-        cases.holds(name, left == scenario.fault_free(), f"{left}, want {scenario.fault_free()}")
-        cases.holds(f"{name}: a call is cut short", cut)
-    print(f"short reads and writes: {len(runs)} runs")
+        for scenario, most in runs:
+            left, is_cut = run_short(program, library, scenario, most)
+            name = f"{scenario.name}, at most {most} bytes a call"
+            assert left == scenario.fault_free(), name
+            assert is_cut, f"{name}: a call is cut short"

@@ -5,14 +5,12 @@ import signal
 import subprocess
 import tempfile
 import time
-from collections import Counter
-from concurrent.futures import ThreadPoolExecutor
 from pathlib import Path
 from random import Random
 from typing import NamedTuple
 
 from cases import TEXT, Cases, by_file
-from fault_injection import OLD, OLD_MODE, OUTPUT, SCRATCH, SECONDS, WORKERS, Left, Scenario, files_in
+from fault_injection import OLD, OLD_MODE, OUTPUT, SCRATCH, SECONDS, Left, Scenario, files_in
 from model.vaults import seal
 
 SIGNALS = signal.SIGTERM, signal.SIGINT, signal.SIGHUP
@@ -90,10 +88,10 @@ def interrupt(program: str, scenario: Scenario, number: signal.Signals, moment: 
         return left.status, state(scenario, left)
 
 
-def moments_of(cases: Cases, scenario: Scenario, random: Random, count: int) -> list[Moment]:
+def moments_of(program: str, scenario: Scenario, random: Random, count: int) -> list[Moment]:
     """Random moments; every other one is while the output is written."""
-    status, found, reading, writing = measure(cases.program, scenario)
-    cases.check(f"{scenario.name}, no signal", (status, found), (0, "whole"))
+    status, found, reading, writing = measure(program, scenario)
+    assert (status, found) == (0, "whole"), f"{scenario.name}, no signal"
     moments = []
     for index in range(count):
         in_output = index % 2 == 1
@@ -101,22 +99,20 @@ def moments_of(cases: Cases, scenario: Scenario, random: Random, count: int) -> 
     return moments
 
 
-def signals_while_blocked(cases: Cases) -> None:
-    """Each signal ends a run that cannot go on by itself."""
+def signal_while_blocked(cases: Cases, number: signal.Signals) -> None:
+    """It ends a run that cannot go on by itself."""
     secret, text = by_file(cases.file(b"right\n")), (TEXT * MORE_THAN_A_PIPE)[:MORE_THAN_A_PIPE]
     vault = cases.file(seal(b"right", text))
     pipes = dict.fromkeys(("stdin", "stdout", "stderr"), subprocess.PIPE)
-    for number in SIGNALS:
-        reading = subprocess.Popen([cases.program, "encrypt", *secret], bufsize=0, **pipes)
-        # It has read of this when all is written.
-        reading.stdin.write(text)
-        left = send_signal(reading, number)
-        cases.check(f"{number.name} where the input is waited for", left, (-number, b"", b""))
-        writing = subprocess.Popen([cases.program, "view", *secret, vault], bufsize=0, **pipes)
-        begun = writing.stdout.read(1)
-        status, output, message = send_signal(writing, number)
-        is_part = text.startswith(begun + output) and begun + output != text
-        cases.check(f"{number.name} where the output is not taken", (status, is_part, message), (-number, True, b""))
+    reading = subprocess.Popen([cases.program, "encrypt", *secret], bufsize=0, **pipes)
+    # It has read of this when all is written.
+    reading.stdin.write(text)
+    assert send_signal(reading, number) == (-number, b"", b""), "where the input is waited for"
+    writing = subprocess.Popen([cases.program, "view", *secret, vault], bufsize=0, **pipes)
+    begun = writing.stdout.read(1)
+    status, output, message = send_signal(writing, number)
+    is_part = text.startswith(begun + output) and begun + output != text
+    assert (status, is_part, message) == (-number, True, b""), "where the output is not taken"
 
 
 def send_signal(child: subprocess.Popen, number: signal.Signals) -> tuple[int, bytes, bytes]:
@@ -126,18 +122,14 @@ def send_signal(child: subprocess.Popen, number: signal.Signals) -> tuple[int, b
     return child.returncode, output, message
 
 
-def signals(cases: Cases, scenarios: list[Scenario], seed: int, count: int) -> None:
-    """`count` moments of each scenario and for each signal."""
-    random, runs = Random(seed), []
-    for scenario in scenarios:
-        moments = moments_of(cases, scenario, random, count * len(SIGNALS))
-        numbers = [number for number in SIGNALS for _ in range(count)]
-        runs += [(scenario, number, moment) for number, moment in zip(numbers, moments)]
-    states = Counter()
-    with ThreadPoolExecutor(WORKERS) as pool:
-        answers = pool.map(lambda run: interrupt(cases.program, *run), runs)
-        for (scenario, number, moment), (status, found) in zip(runs, answers):
-            fits = found is not None and status == -number or (status, found) == (0, "whole")
-            cases.holds(f"{scenario.name}, {number.name} at {moment}", fits, f"status {status}, output {found}")
-            states[found] += 1
-    print(f"signals: {len(runs)} runs; {', '.join(f'{count} {found}' for found, count in states.items())}")
+def signals(program: str, scenario: Scenario, seed: int, count: int) -> int:
+    """Each signal at `count` moments; returns how many runs were made."""
+    moments = moments_of(program, scenario, Random(seed), count * len(SIGNALS))
+    runs = list(zip([number for number in SIGNALS for _ in range(count)], moments))
+    differing = []
+    for number, moment in runs:
+        status, found = interrupt(program, scenario, number, moment)
+        if not (found is not None and status == -number or (status, found) == (0, "whole")):
+            differing.append(f"{number.name} at {moment}: status {status}, output {found}")
+    assert differing == []
+    return len(runs)

@@ -4,7 +4,6 @@ import os
 import pathlib
 import subprocess
 
-from lib.outcome import Outcome
 from lib.paths import FIXTURES, ROOT, version
 
 VERSION = version()
@@ -24,10 +23,7 @@ FILES = {
     *(f"share/doc/ansible-vault/{name}" for name in DOCUMENTS),
 }
 # What `make install` puts below a prefix, but for its sums.
-PREFIX_FILES = FILES | {
-    *(f"share/man/man1/{name}.1" for name in NAMES),
-    "share/zsh/site-functions/_ansible-vault",
-}
+PREFIX_FILES = FILES | {*(f"share/man/man1/{name}.1" for name in NAMES), "share/zsh/site-functions/_ansible-vault"}
 
 
 def run_make(
@@ -50,23 +46,23 @@ def files_below(folder: pathlib.Path) -> set[str]:
     return {str(each.relative_to(folder)) for each in folder.rglob("*") if not each.is_dir()}
 
 
-def check_program(outcome: Outcome, program: pathlib.Path, where: str):
+def check_program(program: pathlib.Path, where: str):
     output = printed(str(program), "--version").strip()
-    outcome.check(f"{where} prints its version", output, f"ansible-vault {VERSION}")
+    assert output == f"ansible-vault {VERSION}", f"{where} prints its version"
     password = str(FIXTURES / "one.password")
     with open(FIXTURES / "format-1.1.vault") as vault:
         command = [str(program), "view", "--vault-password-file", password]
         shown = subprocess.run(command, stdin=vault, capture_output=True, text=True)
-    outcome.check(f"{where} shows a vault", (shown.stdout, shown.stderr), ("a" * 16, ""))
-    check_companions(outcome, program, where, ["--vault-password-file", password])
+    assert (shown.stdout, shown.stderr) == ("a" * 16, ""), f"{where} shows a vault"
+    check_companions(program, where, ["--vault-password-file", password])
 
 
-def check_companions(outcome: Outcome, program: pathlib.Path, where: str, secret: list[str]):
+def check_companions(program: pathlib.Path, where: str, secret: list[str]):
     """Each runs and says what it is; and one calls the program beside it."""
     for name in sorted(COMPANIONS):
         output = printed(str(program.with_name(name)), "--help", PATH=os.defpath)
-        outcome.holds(f"{name} beside {where} has a help", output.startswith(f"usage: {name}"), output)
+        assert output.startswith(f"usage: {name}"), f"{name} beside {where} has a help"
     vault = str(FIXTURES / "format-1.1.vault")
     output = printed(str(program.with_name("ansible-vault-check")), *secret, vault, PATH=os.defpath)
     wanted = f"{vault}: default: decrypted by {secret[-1]}\n1 decrypted, 0 not\n"
-    outcome.check(f"the companions beside {where} call it", output, wanted)
+    assert output == wanted, f"the companions beside {where} call it"

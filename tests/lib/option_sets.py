@@ -10,6 +10,8 @@ from functools import lru_cache
 from lib.paths import COMPANIONS, PAGE
 
 OPTION = re.compile(r"\bFl (-?[\w-]+)")
+# Options of Ansible's tool that ansible-vault-with has for a command, beyond those of the tool.
+OF_ANSIBLE = {"encrypt_string": {"--prompt", "-p", "--show-input"}, "rekey": {"--encrypt-vault-id"}}
 
 
 def sections(text: str) -> dict[str, str]:

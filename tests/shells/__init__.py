@@ -9,9 +9,8 @@ import shutil
 import subprocess
 import tempfile
 
-import pytest
-
 from lib.limits import SECONDS
+from lib.needs import needs
 
 HERE = pathlib.Path(__file__).resolve().parent
 COMPLETIONS = HERE.parent.parent / "completions"
@@ -112,5 +111,4 @@ SHELLS = {"bash": bash, "zsh": zsh, "fish": fish}
 
 
 def needs_shell(name: str) -> None:
-    if not shutil.which(name):
-        pytest.skip(f"{name} is not installed")
+    needs(name)

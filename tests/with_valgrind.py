@@ -1,21 +1,13 @@
-#!/usr/bin/env -S python3 -B -X utf8
-"""Runs the built program under Valgrind's memcheck: for each command a run that succeeds, and one run
-for each refusal, with the model's answer. They are random requests, but for refusals that take a long input.
-Then its callgrind counts how many keys are derived.
-
-Usage: tests/with_valgrind PROGRAM. Where Valgrind (Debian's package `valgrind`) is not installed nothing
-is run.
+"""The program under Valgrind's memcheck: for each command a run that succeeds, and one run for each refusal, with the
+model's answer. They are random requests, but for refusals that take a long input.
 """
 
-import concurrent.futures
 import shlex
-import shutil
-import sys
 import tempfile
-from pathlib import Path
 
-from cases import Cases
-from derivations import check_derivations
+import pytest
+
+from lib.needs import needs
 from model.answers import SALT_LENGTH, Answer
 from model.compared import differences, expected
 from model.faults import Fault
@@ -23,11 +15,12 @@ from model.options import OPTIONS
 from model.random_requests import Case, make
 from model.vaults import CIPHERTEXT_LIMIT, PLAINTEXT_LIMIT, serialized
 
+pytestmark = pytest.mark.valgrind
+
 SEED = "memcheck"
 REQUESTS = 4_000
 # Requests with more than this take long under memcheck.
 WORDS, BYTES = 14, 1 << 14
-WORKERS = 2
 # Valgrind brings an allocator of its own, which is refused nothing; `failed_allocations` refuses memory without it.
 WITHOUT_A_RUN = {Fault.MEMORY}
 
@@ -59,6 +52,9 @@ def wanted_names() -> set[str]:
     return {f"{command} succeeds" for command in OPTIONS} | faults | {"status 2 "}
 
 
+WANTED = sorted(wanted_names())
+
+
 def one_of_each() -> dict[str, Case]:
     """The first small request for each answer, and the long ones."""
     found = {name_of(case, expected(case, bytes(SALT_LENGTH))): case for case in long_inputs()}
@@ -79,25 +75,17 @@ def memcheck(program: str, case: Case) -> list[str]:
     return found + ([errors] if errors else [])
 
 
-def run_all(cases: Cases) -> None:
-    requests = one_of_each()
-    cases.check("each answer has a run", set(requests), wanted_names())
-    with concurrent.futures.ThreadPoolExecutor(WORKERS) as pool:
-        found = list(pool.map(lambda case: memcheck(cases.program, case), requests.values()))
-    for (name, case), differs in zip(requests.items(), found):
-        cases.holds(name, not differs, "\n  ".join([shlex.join(case.words), *differs]))
-    check_derivations(cases)
+@pytest.fixture(scope="module")
+def requests() -> dict[str, Case]:
+    needs("valgrind")
+    return one_of_each()
 
 
-def main() -> None:
-    with tempfile.TemporaryDirectory() as folder:
-        cases = Cases(sys.argv[1], Path(folder), prints=True)
-        if shutil.which("valgrind") is None:
-            cases.skip("every run", "valgrind is not installed (Debian's package valgrind)")
-        else:
-            run_all(cases)
-    cases.finish()
+@pytest.mark.parametrize("name", WANTED)
+def test_memcheck(program: str, requests: dict[str, Case], name: str) -> None:
+    case = requests[name]
+    assert memcheck(program, case) == [], shlex.join(case.words)
 
 
-if __name__ == "__main__":
-    main()
+def test_each_answer_has_a_run(requests: dict[str, Case]) -> None:
+    assert sorted(requests) == WANTED

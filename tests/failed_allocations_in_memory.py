@@ -1,29 +1,29 @@
-#!/usr/bin/env -S python3 -B -X utf8
-"""Runs each command in memory, by `drive_in_memory` and by `run`, with each allocation refused in turn, until
-none is.
+"""Each command is run in memory, by `drive_in_memory` and by `run`, with each allocation refused in turn, until none
+is, by the program of crates/vault_allocation_failures.
 
-Usage: tests/failed_allocations_in_memory PROGRAM, the program of crates/vault_allocation_failures. A run ends in one
-of these ways: before its call; as without; out of memory, with no output; with a part of its output, which could not
-be written; as without, but with a part of its line. A run with output fails where the third or the fourth never
-comes, and a run that is refused where the third or the fifth never does. `run` is not called where the answer is out
-of memory, and allocates nothing itself: once it is called, a refused allocation is that of an output or of a message.
-Where no C compiler is installed nothing is run, which the last line counts as skipped.
+A run ends in one of these ways: before its call; as without; out of memory, with no output; with a part of its output,
+which could not be written; as without, but with a part of its line. A run with output fails where the third or the
+fourth never comes, and a run that is refused where the third or the fifth never does. `run` is not called where the
+answer is out of memory, and allocates nothing itself: once it is called, a refused allocation is that of an output or
+of a message.
 """
 
-import os
-import shutil
-import sys
-import tempfile
 from collections import Counter
+from collections.abc import Callable
 from typing import NamedTuple
 
+import pytest
+
 from lib.allocations import LIBRARY, run_refusing
-from lib.outcome import Outcome
-from lib.paths import FIXTURES
+from lib.needs import needs
+from lib.paths import FIXTURES, ROOT
 from lib.preloaded import build_library
 from model.faults import Fault
 from model.vaults import ENVELOPE, seal, yaml_block
 
+pytestmark = pytest.mark.allocations
+
+PROGRAM = ROOT / "bin" / "vault_allocation_failures"
 # What stands at the path of `--output` before a run.
 KEPT = b"kept\n"
 TO_KEPT = ["--output", "kept"]
@@ -119,39 +119,37 @@ def way_of(left: Left, whole: Left) -> str | None:
     return None
 
 
-def refuse_each(outcome: Outcome, library: str, program: str, run: Run) -> None:
-    number, ways = 1, Counter()
-    done, refused = run_refusing(library, [program, *run.words], run.stdin, number)
+@pytest.fixture(scope="module")
+def library(tmp_path_factory: pytest.TempPathFactory) -> str:
+    needs("cc")
+    return build_library(str(tmp_path_factory.mktemp("library")), LIBRARY)
+
+
+def way_of_refused(printed: bytes, run: Run, ways: Counter) -> str | None:
+    """The way in which this run with an allocation refused has ended; None if it may not end so."""
+    if printed == b"" and set(ways) <= {BEFORE, WHOLE}:
+        return BEFORE
+    left, called = left_in(printed)
+    way = way_of(left, run.whole)
+    # `run` allocates nothing in its call but for its output and its message.
+    if run.words[0] == "run" and not (way in {OUTPUT, LINE} if called else way == MEMORY):
+        return None
+    return way
+
+
+@pytest.mark.parametrize("run", [*runs_of("drive"), *runs_of("run")], ids=lambda run: run.name)
+def test_refused(library: str, run: Run, record_property: Callable) -> None:
+    if not PROGRAM.exists():
+        pytest.skip("without bin/vault_allocation_failures, which make builds")
+    number, ways, differing = 1, Counter(), {}
+    done, refused = run_refusing(library, [str(PROGRAM), *run.words], run.stdin, number)
     while refused:
-        if done.stdout == b"" and set(ways) <= {BEFORE, WHOLE}:
-            way = BEFORE
-        else:
-            left, called = left_in(done.stdout)
-            way = way_of(left, run.whole)
-            if run.words[0] == "run":
-                fits = way in {OUTPUT, LINE} if called else way == MEMORY
-                outcome.holds(f"{run.name} allocates in its call, at allocation {number}", fits, f"{way}, {called}")
-        outcome.holds(f"{run.name} without allocation {number}", way is not None, f"got {done.stdout!r}")
+        way = way_of_refused(done.stdout, run, ways)
         ways[way] += 1
+        if way is None:
+            differing[number] = done.stdout
         number += 1
-        done, refused = run_refusing(library, [program, *run.words], run.stdin, number)
-    outcome.check(f"{run.name} with every allocation", left_in(done.stdout), (run.whole, True))
-    for way in run.ways:
-        outcome.holds(f"{run.name} ends so: {way}", ways[way] > 0)
-    print(f"{run.name}: {', '.join(f'{count} {way}' for way, count in ways.items())}")
-
-
-def main() -> None:
-    outcome = Outcome(prints=True)
-    if shutil.which("cc") is None:
-        outcome.skip("every run", "no C compiler is installed (Debian's package gcc)")
-        outcome.finish()
-    with tempfile.TemporaryDirectory() as folder:
-        library = build_library(folder, LIBRARY)
-        for run in [*runs_of("drive"), *runs_of("run")]:
-            refuse_each(outcome, library, os.path.abspath(sys.argv[1]), run)
-    outcome.finish()
-
-
-if __name__ == "__main__":
-    main()
+        done, refused = run_refusing(library, [str(PROGRAM), *run.words], run.stdin, number)
+    record_property("allocations refused in memory", (number - 1, number - 1))
+    assert (differing, left_in(done.stdout)) == ({}, (run.whole, True)), "without an allocation, and with each"
+    assert run.ways <= set(ways), "each way is taken"

@@ -1,0 +1,136 @@
+"""What file systems lack or refuse when a new file takes the place of another: links, syncs of folders, attributes.
+
+The system's faults are injected by strace, or by a companion whose `os` is changed.
+"""
+
+import os
+
+import pytest
+
+from companion_cases import EDIT, NOBODY, ROTATE, TEXT, WITH, Place, decrypted, sealed
+from companion_cases.keeping import run_changed
+from companion_cases.rotating import summary, to_new
+from lib.needs import needs
+
+NO_LINKS = ("EPERM", "EOPNOTSUPP", "ENOSYS", "EMLINK")
+MOUNT = "36 35 98:0 / {} rw,noatime master:1 - ext3 /dev/root rw,errors=continue\n"
+
+
+def injected(place: Place, fault: str, *words: str, **variables: str):
+    """Runs a companion for which strace makes calls of the system fail."""
+    needs("strace")
+    tracer = ["strace", "-f", "-qq", "-o", str(place.path / "trace"), "-e", f"inject={fault}"]
+    return place.run(*tracer, str(place.tools / words[0]), *words[1:], **variables)
+
+
+@pytest.mark.parametrize("fault, status", {"EIO": 1, "EINVAL": 0}.items())
+def test_folder_that_is_not_synced(place: Place, fault: str, status: int) -> None:
+    """A folder whose sync fails may lose its new entry, which is reported; a file system that has none is no fault."""
+    place.put("a.yml", sealed("old"))
+    # The first is that of the file.
+    done = injected(place, f"fsync:error={fault}:when=2+", WITH, "rekey", *to_new(place), "a.yml")
+    message = f"{WITH}: a.yml: Input/output error\n" if status else ""
+    assert (done.returncode, done.stdout, done.stderr) == (status, "", message)
+    assert "(INJECTED)" in (place.path / "trace").read_text()
+    assert (place.names(), decrypted("new", place.get("a.yml"))) == (["a.yml"], TEXT)
+
+
+def test_folder_that_cannot_be_read(place: Place) -> None:
+    """It cannot be opened to be synced, so all file systems are."""
+    needs("strace")
+    place.put("folder/a.yml", sealed("old"))
+    place.put("../traces/trace", b"")
+    if os.geteuid() == 0:
+        for path in (place.tree / "folder", place.tree / "folder/a.yml", place.path / "traces/trace"):
+            os.chown(path, NOBODY, NOBODY)
+    (place.tree / "folder").chmod(0o300)
+    tracer = ["strace", "-f", "-o", "../traces/trace", "-e", "trace=sync,rename"]
+    done = place.as_nobody(*tracer, str(place.tools / ROTATE), *to_new(place), "folder/a.yml")
+    (place.tree / "folder").chmod(0o755)
+    assert (done.returncode, done.stdout.splitlines()[-1]) == (0, summary(1))
+    calls = (place.path / "traces/trace").read_text().splitlines()
+    done = [line.split()[1].partition("(")[0] for line in calls if line.endswith("= 0")]
+    assert done == ["rename", "sync"]
+
+
+@pytest.mark.parametrize("fault", NO_LINKS)
+def test_no_hard_links(place: Place, fault: str) -> None:
+    """A file system may say in several ways that it has none; a new vault is made all the same."""
+    editor = place.script('echo a > "$1"', "editor")
+    done = injected(place, f"link,linkat:error={fault}", EDIT, *place.by_file("old"), "new.yml", EDITOR=editor)
+    assert (done.returncode, done.stdout, done.stderr) == (0, "", "")
+    assert "(INJECTED)" in (place.path / "trace").read_text()
+    assert decrypted("old", place.get("new.yml")) == b"a\n"
+    assert (place.mode("new.yml"), place.names()) == ("0o600", ["new.yml"])
+
+
+@pytest.mark.parametrize("fault", NO_LINKS)
+def test_name_that_is_taken_where_there_are_no_hard_links(place: Place, fault: str) -> None:
+    """A new vault takes the place of nothing there, either."""
+    none = f"""
+import errno
+def none(_, target):
+    open(target, "x").write("theirs")
+    raise OSError(errno.{fault}, "no links")
+os.link = none
+"""
+    editor = place.script('echo a > "$1"', "editor")
+    done = run_changed(place, EDIT, none, [*place.by_file("old"), "new.yml"], EDITOR=editor)
+    assert done.returncode == 1
+    assert f"{EDIT}: new.yml: it was created meanwhile; what you saved is encrypted in " in done.stderr
+    assert place.get("new.yml") == b"theirs"
+
+
+def test_links_that_fail_otherwise(place: Place) -> None:
+    editor = place.script('echo a > "$1"', "editor")
+    done = injected(place, "link,linkat:error=EIO", EDIT, *place.by_file("old"), "new.yml", EDITOR=editor)
+    assert done.returncode == 1
+    assert f"{EDIT}: new.yml: Input/output error; what you saved is encrypted in " in done.stderr
+    assert not (place.tree / "new.yml").exists()
+
+
+MOUNTED = {
+    "plain.yml": r"plain.yml",
+    "with a space.yml": r"with\040a\040space.yml",
+    "tab\t.yml": r"tab\011.yml",
+    "two\nlines.yml": r"two\012lines.yml",
+    r"back\slash.yml": r"back\134slash.yml",
+    r"digits\040.yml": r"digits\134040.yml",
+    "größe.yml": "größe.yml",
+}
+
+
+@pytest.mark.parametrize("name", MOUNTED)
+def test_names_of_mount_points(place: Place, name: str) -> None:
+    """Such a name has escapes in /proc/self/mountinfo. A name that only looks like them is that of no mount point."""
+    lines = "".join(MOUNT.format(path) for path in ("/proc", f"{place.tree}/{MOUNTED[name]}"))
+    mounts = f"""
+import builtins, io
+def opened(path, *words):
+    if path == "/proc/self/mountinfo":
+        return io.BytesIO({lines.encode()!r})
+    return builtins.open(path, *words)
+replacing.open = opened
+"""
+    names = dict.fromkeys([name, MOUNTED[name]])
+    for each in names:
+        place.put(each, sealed("old"))
+    done = [run_changed(place, EDIT, mounts, [*place.by_file("old"), each], EDITOR="true") for each in names]
+    [refused, *others] = [(each.returncode, each.stderr) for each in done]
+    assert refused[0] == 1 and "it is itself a mount point, so no other file can take its place" in refused[1]
+    assert [status for status, _ in others] == [0] * len(others)
+
+
+@pytest.mark.parametrize("command, password", {"rekey": "new", "decrypt": None}.items())
+def test_attributes_of_security_modules(place: Place, command: str, password: str | None) -> None:
+    """The system gives them to the new file: to set or remove them takes a right that the user need not have."""
+    labelled = """
+listed = os.listxattr
+os.listxattr = lambda target: [*listed(target), "security.selinux"]
+"""
+    place.put("a.yml", sealed("old"))
+    words = to_new(place) if password else place.by_file("old")
+    done = run_changed(place, WITH, labelled, [command, *words, "a.yml"])
+    assert (done.returncode, done.stdout, done.stderr) == (0, "", "")
+    content = place.get("a.yml")
+    assert (decrypted(password, content) if password else content) == TEXT

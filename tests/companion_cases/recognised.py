@@ -1,0 +1,48 @@
+"""What is recognised for what it is: a password in another file, a script, and the tool behind links."""
+
+import os
+
+import pytest
+
+from companion_cases import CHECK, PASSWORDS, ROTATE, Place, sealed
+from companion_cases.rotating import summary
+
+
+@pytest.mark.parametrize("around", [b"%s", b"%s\n", b"%s\r\n", b"  %s\t\n\n"])
+def test_same_password_in_another_file(place: Place, around: bytes) -> None:
+    """Ansible takes a password without the white space around it, so this file holds the same secret."""
+    place.put("a.yml", sealed("dev", label="dev"))
+    before = place.files()
+    (place.secrets / "again").write_bytes(around % PASSWORDS["dev"])
+    done = place.run(ROTATE, *place.by_id("dev", "dev"), *place.by_id("dev", "again", "new-"), ".")
+    assert (done.returncode, done.stdout, done.stderr) == (0, f"{summary(0, 1)}\n", "")
+    assert place.files() == before
+
+
+@pytest.mark.parametrize("mode", [0o700, 0o610, 0o601, 0o755])
+def test_script_that_somebody_may_execute(place: Place, mode: int) -> None:
+    """As for Ansible, it is a script if its owner, its group or others may execute it."""
+    place.put("a.yml", sealed("dev"))
+    os.chmod(place.script("cat ../secrets/dev"), mode)
+    done = place.run(CHECK, "--vault-password-file", "../script", "a.yml")
+    if mode & 0o100 or os.geteuid() == 0:
+        assert (done.returncode, done.stdout.splitlines()[-1]) == (0, "1 decrypted, 0 not")
+    else:
+        assert (done.returncode, "this script cannot be run: Permission denied" in done.stderr) == (1, True)
+
+
+@pytest.mark.parametrize("holder", ["first", "second", "third", "last"])
+def test_chain_of_links(place: Place, holder: str) -> None:
+    """The tool is beside the companion, or beside any link that leads to it, relative or not."""
+    place.put("a.yml", sealed("old"))
+    links = [place.path / name / CHECK for name in ("first", "second", "third", "last")]
+    for link in links:
+        link.parent.mkdir()
+    for link, target in zip(links, links[1:]):
+        link.symlink_to(target if link.parent.name == "second" else os.path.relpath(target, link.parent))
+    links[-1].symlink_to(os.readlink(place.tools / CHECK))
+    (place.path / holder / "ansible-vault").symlink_to(place.program)
+    (place.tools / "ansible-vault").unlink()
+    place.script('echo "ansible-vault [core 2.14.18]"', "tools/ansible-vault")
+    done = place.run(str(links[0]), *place.by_file("old"), ".")
+    assert (done.returncode, done.stdout.splitlines()[-1], done.stderr) == (0, "1 decrypted, 0 not", "")

@@ -1,0 +1,117 @@
+"""Each allocation of the program's memory is refused in turn, until none is.
+
+A run has to end with `out of memory`, no output, and the file of `--output` as it was; or with a prefix of its output,
+if the allocation was made for writing it. Today none is, since files are opened and written without allocations. If
+not several are refused, the library was not loaded into the program, which is a failure.
+"""
+
+from collections.abc import Callable
+from pathlib import Path
+from typing import NamedTuple
+
+import pytest
+
+from cases import Cases
+from cases.samples import Sample, samples
+from cases.texts import stored_mistakes
+from lib.allocations import LIBRARY, run_refusing
+from lib.needs import needs
+from lib.preloaded import build_library
+from model.faults import Fault
+from model.options import OPTIONS
+
+pytestmark = pytest.mark.allocations
+
+OLD = b"what stood here before\n"
+# Where the output goes.
+TO_STREAM, TO_NEW, TO_OLD = "standard output", "a new file", "a file"
+OUTPUTS = [("view", TO_STREAM)]
+OUTPUTS += [(command, to) for command in OPTIONS if command != "view" for to in (TO_STREAM, TO_NEW, TO_OLD)]
+
+
+class Run(NamedTuple):
+    """A sample, and where its output goes: standard output, or the file of `--output`."""
+
+    sample: Sample
+    path: Path | None = None
+    # What the file has before the run; None: it is not there.
+    before: bytes | None = None
+
+    @property
+    def words(self) -> list[str]:
+        return [*self.sample.words, *([] if self.path is None else ["--output", str(self.path)])]
+
+    def prepare(self) -> None:
+        if self.before is not None:
+            self.path.write_bytes(self.before)
+        elif self.path is not None:
+            self.path.unlink(missing_ok=True)
+
+    def content(self) -> bytes | None:
+        """What the file has now."""
+        return self.path.read_bytes() if self.path is not None and self.path.exists() else None
+
+
+class Answer(NamedTuple):
+    status: int
+    written: bytes
+    message: bytes
+    content: bytes | None = None
+
+
+def answer_refusing(library: str, program: str, run: Run, number: int) -> tuple[Answer, bool]:
+    """The answer of a run whose allocation of this number, from 1, is refused, and whether it had one."""
+    run.prepare()
+    done, refused = run_refusing(library, [program, *run.words], run.sample.stdin, number)
+    return Answer(done.returncode, done.stdout, done.stderr, run.content()), refused
+
+
+def is_outputs_own(answer: Answer, run: Run) -> bool:
+    """Whether a run reported that its output failed, and left a prefix of it."""
+    status, written, message, content = answer
+    if (status, message) != (Fault.NOT_WRITTEN.status, Fault.NOT_WRITTEN.line):
+        return False
+    if run.path is None:
+        return run.sample.output.startswith(written)
+    return written == b"" and content is not None and run.sample.output.startswith(content)
+
+
+@pytest.fixture
+def refuse_each(cases: Cases, tmp_path: Path, record_property: Callable) -> Callable[[Run, Answer], None]:
+    """Compares the run with each allocation refused, and the run with all of them, which has this answer."""
+    needs("cc")
+    library = build_library(str(tmp_path), LIBRARY)
+
+    def refuse(run: Run, whole: Answer) -> None:
+        want, differing = Answer(Fault.MEMORY.status, b"", Fault.MEMORY.line, run.before), {}
+        number = 1
+        answer, refused = answer_refusing(library, cases.program, run, number)
+        while refused:
+            if answer != want and not is_outputs_own(answer, run):
+                differing[number] = answer
+            number += 1
+            answer, refused = answer_refusing(library, cases.program, run, number)
+        record_property("refused allocations", (number - 1, number - 1))
+        assert (differing, answer) == ({}, whole), f"without an allocation: want {want}"
+        assert number - 1 > 1, "several allocations are refused"
+
+    return refuse
+
+
+@pytest.mark.parametrize("command, to", OUTPUTS)
+def test_output(cases: Cases, refuse_each: Callable, command: str, to: str) -> None:
+    [sample] = [each for each in samples(cases) if each.command == command]
+    if to == TO_STREAM:
+        refuse_each(Run(sample), Answer(0, sample.output, b""))
+    else:
+        run = Run(sample, Path(cases.path()), OLD if to == TO_OLD else None)
+        refuse_each(run, Answer(0, b"", b"", sample.output))
+
+
+def test_no_vault(refuse_each: Callable) -> None:
+    refuse_each(Run(Sample(["view"], b"", b"")), Answer(Fault.NOT_VAULT.status, b"", Fault.NOT_VAULT.line))
+
+
+def test_mistake(refuse_each: Callable) -> None:
+    text = stored_mistakes("view")["view x y"].replace("'y'", r"'\u{a}'")
+    refuse_each(Run(Sample(["view", "x", "\n"], b"", b"")), Answer(2, b"", text.encode()))

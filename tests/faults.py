@@ -1,0 +1,98 @@
+"""Fault injection: a system call that fails or transfers little, a signal, a limit of file size.
+
+Status, streams, files and modes are what they have to be: the output is untouched or a prefix of the whole, and no
+other file is there. Of the runs with a call that fails, one in --share is made, and one at least of each command,
+target, call and error; which ones goes by --seed.
+"""
+
+import signal
+from collections.abc import Callable
+
+import pytest
+
+from cases import Cases
+from fault_injection import Scenario, Target
+from fault_injection.refused_calls import refused_calls
+from fault_injection.scenarios import long_scenarios, refused_scenarios, small_and_large
+from fault_injection.short_transfers import short_transfers
+from fault_injection.signals import SIGNALS, signal_while_blocked, signals
+from fault_injection.size_limit import size_limit
+from lib.needs import needs
+from model.options import OPTIONS
+
+pytestmark = pytest.mark.faults
+
+FILES = Target.NEW, Target.OLD
+# The commands, each with the targets of its output.
+TO_FILES = [(command, target) for command in OPTIONS for target in FILES if command != "view"]
+TARGETS = [*TO_FILES, *((command, Target.STREAM) for command in OPTIONS)]
+# How often each signal is sent to each long run: all in all, and in a share at least.
+MOMENTS, FEWEST = 20, 2
+
+each_target = pytest.mark.parametrize("command, target", TARGETS)
+
+
+@pytest.fixture(scope="module")
+def module_cases(program: str, tmp_path_factory: pytest.TempPathFactory) -> Cases:
+    """The runs write only in folders of their own, so that all of them can use the same files."""
+    return Cases(program, tmp_path_factory.mktemp("faults"))
+
+
+@pytest.fixture(scope="module")
+def every_scenario(module_cases: Cases) -> list[Scenario]:
+    return small_and_large(module_cases)
+
+
+@pytest.fixture
+def scenarios(every_scenario: list[Scenario], command: str, target: Target) -> list[Scenario]:
+    return [each for each in every_scenario if (each.words[0], each.target) == (command, target)]
+
+
+@pytest.fixture
+def share(pytestconfig: pytest.Config) -> int:
+    return pytestconfig.getoption("--share")
+
+
+@pytest.fixture
+def seed(pytestconfig: pytest.Config) -> int:
+    return pytestconfig.getoption("--seed")
+
+
+@each_target
+def test_refused_calls(program: str, scenarios: list, seed: int, share: int, record_property: Callable) -> None:
+    needs("strace")
+    record_property("refused calls", refused_calls(program, scenarios, seed, share))
+
+
+def test_calls_of_refused_runs(module_cases: Cases, seed: int, share: int, record_property: Callable) -> None:
+    needs("strace")
+    found = refused_calls(module_cases.program, refused_scenarios(module_cases), seed, share)
+    record_property("refused calls", found)
+
+
+@each_target
+def test_short_transfers(program: str, scenarios: list) -> None:
+    needs("cc")
+    short_transfers(program, scenarios)
+
+
+@pytest.mark.parametrize("command, target", TO_FILES)
+def test_size_limit(program: str, scenarios: list) -> None:
+    size_limit(program, scenarios)
+
+
+@pytest.mark.parametrize("number", SIGNALS)
+def test_signal_while_blocked(module_cases: Cases, number: signal.Signals) -> None:
+    signal_while_blocked(module_cases, number)
+
+
+@pytest.fixture(scope="module")
+def every_long_scenario(module_cases: Cases) -> list[Scenario]:
+    return long_scenarios(module_cases)
+
+
+@pytest.mark.parametrize("command, target", [each for each in TO_FILES if each[0] != "encrypt_string"])
+def test_signals(program, every_long_scenario, command: str, target: Target, seed: int, share: int, record_property):
+    [scenario] = [each for each in every_long_scenario if (each.words[0], each.target) == (command, target)]
+    made = signals(program, scenario, seed, max(MOMENTS // share, FEWEST))
+    record_property("signals", (made, MOMENTS * len(SIGNALS)))

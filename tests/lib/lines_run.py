@@ -1,0 +1,36 @@
+"""Which lines of the companions the tests run: with LINES_RUN in the environment, each run of a companion leaves a file
+of Python's `coverage` in that folder. `make coverage` adds them up.
+"""
+
+import os
+from pathlib import Path
+
+FOLDER = os.environ.get("LINES_RUN")
+# Takes the place of a companion and runs it. The interpreter's option -S hides the folder of packages; and what takes
+# the place of a process, or a signal, would end it before its lines are noted.
+NOTING = """\
+{interpreter}
+import atexit, os, sys
+sys.path.append("/usr/lib/python3/dist-packages")
+import coverage
+sys.path.pop()
+noted = coverage.Coverage(data_file={file!r}, data_suffix=True, include="*/companions/*", messages=False)
+noted.start()
+def note():
+    noted.stop()
+    noted.save()
+def behind_note(call):
+    return lambda *words: (note(), call(*words))[1]
+atexit.register(note)
+os.execv, os.kill = map(behind_note, (os.execv, os.kill))
+exec(compile({text!r}, {path!r}, "exec"))
+"""
+
+
+def note_lines(companions: Path) -> None:
+    """Changes copies of the companions, if it is asked for."""
+    for path in companions.glob("ansible-vault-*") if FOLDER else []:
+        text = path.read_text()
+        interpreter = text.partition("\n")[0]
+        file = os.path.join(FOLDER, "lines")
+        path.write_text(NOTING.format(interpreter=interpreter, file=file, text=text, path=str(path)))
