@@ -18,14 +18,14 @@ OVERLAP = max(map(len, UTF_16)) - 1
 # Prose shows blocks that are not meant.
 PROSE = (".md", ".rst", ".adoc", ".html")
 PLACES = """\
-It looks at the files PATH and those below a folder PATH, skipping .git.
-Symbolic links to files are followed, and those to folders only where they are
-a PATH. Blocks are found in every file except documents (.md, .rst, .adoc,
+Each PATH is a file, or a folder whose files are searched, except below .git.
+Symbolic links to files are followed, and those to folders only if they are a
+PATH. Blocks are found in every file except documents (.md, .rst, .adoc,
 .html): an envelope whose lines have the same indentation, as after
 `NAME: !vault |`, also within another text; and in the plaintext of a vault. An
 envelope in another form (quotes, JSON, comments, tabs, `!vault >`, UTF-16,
 after a byte order mark, or after empty lines at the start of a file) is
-reported as a failure, with what to do."""
+reported as a failure, with instructions."""
 
 Item = TypeVar("Item")
 Result = TypeVar("Result")

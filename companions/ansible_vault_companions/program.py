@@ -21,8 +21,8 @@ else:
     import _signal
 
 NOTE = """\
-This program is tested, not proved. It leaves all encryption and decryption to
-ansible-vault, which is proved."""
+This program is tested, not proved; it calls ansible-vault for all encryption
+and decryption."""
 
 
 class Refused(Exception):

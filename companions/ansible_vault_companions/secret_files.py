@@ -15,8 +15,8 @@ as FILE asks at the terminal."""
 BY_SETTINGS = """
 Ansible's settings add theirs: ANSIBLE_VAULT_IDENTITY_LIST and
 ANSIBLE_VAULT_PASSWORD_FILE, or else vault_identity_list and
-vault_password_file of ansible.cfg, as Ansible finds it. One of these that
-cannot be obtained is ignored, with a warning, if there is another secret.
+vault_password_file of ansible.cfg, as Ansible finds it. One that cannot be
+obtained is skipped with a warning if there is another secret.
 If an option names a secret, nothing in the current folder does: neither its
 ansible.cfg nor a relative path in settings. ANSIBLE_CONFIG=ansible.cfg reads
 that file nevertheless."""
