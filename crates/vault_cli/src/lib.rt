@@ -20,6 +20,7 @@
 //! ```
 #![tactic(auto)]
 
+mod access;
 mod escaping;
 mod explaining;
 mod in_memory;

@@ -16,6 +16,7 @@ ghost use Rattle.vault_cli.specs.Program.{answer_to, program};
 ghost use Rattle.vault_request.specs.Request.{files_of};
 ghost use Rattle.vault_request.specs.Settled.{requested, requested_by};
 
+use crate::access::output_access;
 use crate::explaining::explain;
 use crate::loading::load;
 use crate::reserving::{RunMemory, reserve};
@@ -23,8 +24,8 @@ use crate::runs::{Status, report, run_in};
 use clap::ArgMatches;
 use std::alloc::Global;
 use vault_core::Fault;
-use vault_files::{Access, FileSystem};
-use vault_request::{CommandName, Request, parse, settle};
+use vault_files::FileSystem;
+use vault_request::{Request, parse, settle};
 use vault_text::{CIPHERTEXT_LIMIT, Sink, Source, Stage, TextMemory};
 
 /// All that the program does: parses the words, of which the first is the program's name, settles
@@ -163,15 +164,5 @@ fn run_to_output<F: FileSystem, S: Source, K: Sink, E: Sink>(
             run_in(request, secret_files, salt, text, src, files, err)
         }
         None => run_in(request, secret_files, salt, text, src, out, err),
-    }
-}
-
-/// The permissions of an output that exists already: plaintext is for its owner.
-fn output_access(command: CommandName) -> Access
-    ensures { result ≡ output_access command }
-{
-    match command {
-        CommandName::Decrypt | CommandName::View => Access::OwnerOnly,
-        CommandName::Encrypt | CommandName::EncryptString | CommandName::Rekey => Access::Kept,
     }
 }

@@ -28,6 +28,7 @@ mod ready;
 mod rekeying;
 mod sealing;
 mod secrets;
+mod tag;
 mod tried_secrets;
 mod unsealing;
 

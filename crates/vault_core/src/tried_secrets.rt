@@ -1,14 +1,15 @@
 //! Which secret matches an envelope: trying secrets one after the other.
 ghost use Rattle.std.specs.Prelude.{◌≡◌, ◌+◌, ◌<◌, ◌^◌, Some, None, if◌then◌else◌, length};
-ghost use Rattle.std.specs.Prelude.{filter, find, IsTrue, ◌↔◌};
+ghost use Rattle.std.specs.Prelude.{filter, find};
 ghost use Rattle.std.specs.Option.{option_map};
 ghost use Rattle.vault_core.specs.TriedSecrets.{is_in, matches, keys_of, tries};
 ghost use Rattle.vault_core.specs.Secrets.{tried_order};
 
 use crate::secrets::{Secret, Secrets};
+use crate::tag::tags_equal;
 use vault_fault::LabelRule;
 use vault_kdf::{Keys, Meter, derive, hmac};
-use vault_text::{Label, Payload, TAG_LENGTH};
+use vault_text::{Label, Payload};
 
 /// The secrets of a list that have the label of an envelope, or those that have another.
 #[derive(Clone, Copy)]
@@ -99,16 +100,4 @@ fn keys_if_match(secret: &Secret, payload: &Payload, meter: &mut Meter) -> Optio
     } else {
         None
     }
-}
-
-/// Whether two tags are equal. The differences of all their bytes are collected before they are
-/// looked at, so that the loop does not end at the first one.
-fn tags_equal(one: &[u8; TAG_LENGTH], other: &[u8; TAG_LENGTH]) -> bool
-    ensures { IsTrue result ↔ (one.now ≡ other.now) }
-{
-    let mut differences = 0;
-    for i in 0..TAG_LENGTH {
-        differences |= one[i] ^ other[i];
-    }
-    differences == 0
 }

@@ -22,6 +22,7 @@ mod option_table;
 mod options;
 mod refusals;
 mod request;
+mod salt_file;
 mod settling;
 mod vault_id;
 

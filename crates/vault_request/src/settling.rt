@@ -7,7 +7,7 @@ ghost use Rattle.clap.specs.Words.{found_of, rows_of, subcommand_rows_of};
 ghost use Rattle.vault_request.specs.Refusal.{refusal};
 ghost use Rattle.vault_request.specs.Settled.{Settles, requested, command_in, file_of_id};
 ghost use Rattle.vault_request.specs.Settled.{new_secret_of, file_of_path, request_of};
-ghost use Rattle.vault_request.specs.Settled.{salt_path_of, settled_by};
+ghost use Rattle.vault_request.specs.Settled.{settled_by};
 ghost use Rattle.vault_fault.specs.declared.fault.Fault.TheVariants.{Memory};
 
 use crate::command_name::CommandName;
@@ -16,12 +16,11 @@ use crate::option_table::{VAULT_ID, VAULT_PASSWORD_FILE};
 use crate::options::Options;
 use crate::refusals::{Checked, check};
 use crate::request::{Request, SecretFile};
+use crate::salt_file::salt_path_of;
 use crate::vault_id::SecretPath;
 use clap::ArgMatches;
 use std::alloc::{AllocError, Global};
 use vault_fault::Fault;
-
-const DEFAULT_SALT_FILE: &str = "/dev/urandom";
 
 /// The command that the matches hold, and what was given to it.
 fn command_in<'m, 'a>(matches: &'m ArgMatches<'a>) -> Option<(CommandName, &'m ArgMatches<'a>)>
@@ -105,19 +104,6 @@ fn new_file_of(
     match new_secret {
         Some(found) => Ok(Some(file_of(alloc, found)?)),
         None => Ok(None),
-    }
-}
-
-/// The path of the salt file, if one is used.
-fn salt_path_of<'a>(options: &Options<'_, 'a>) -> Option<&'a str>
-    ensures { option_copied result ≡ salt_path_of options.now }
-{
-    if options.salt_text.is_some() || !options.command.seals() {
-        return None;
-    }
-    match options.salt_file {
-        Some(path) => Some(path),
-        None => Some(DEFAULT_SALT_FILE),
     }
 }
 

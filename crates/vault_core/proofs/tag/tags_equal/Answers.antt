@@ -1,7 +1,7 @@
 use Rattle.std.proofs.Common.{arith, eqb-true, refl, take_all}
 use Rattle.std.proofs.lemmas.Bool.{eq-eqb}
 use Rattle.vault_core.proofs.TriedSecretsLemmas.{carries_more_over}
-use Rattle.vault_core.proofs.tried_secrets.tags_equal.Goals as goal
+use Rattle.vault_core.proofs.tag.tags_equal.Goals as goal
 
 pub loop-i-init : goal.loop-i-init
 loop-i-init c = (λ _. refl, λ _. refl)

@@ -1,0 +1,16 @@
+//! The permissions of the output.
+ghost use Rattle.std.specs.Prelude.{◌≡◌};
+ghost use Rattle.vault_cli.specs.Access.{output_access};
+
+use vault_files::Access;
+use vault_request::CommandName;
+
+/// The permissions of an output that exists already: plaintext is for its owner.
+pub(crate) fn output_access(command: CommandName) -> Access
+    ensures { result ≡ output_access command }
+{
+    match command {
+        CommandName::Decrypt | CommandName::View => Access::OwnerOnly,
+        CommandName::Encrypt | CommandName::EncryptString | CommandName::Rekey => Access::Kept,
+    }
+}
