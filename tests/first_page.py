@@ -61,7 +61,7 @@ def test_five_minutes(program: str, tmp_path: pathlib.Path) -> None:
 
 def test_demo(program: str) -> None:
     """`make demo` prints the session as the README has it."""
-    done = run_make(program, "demo", f"PROGRAM={program}")
+    done = run_make(program, "demo")
     session = "\n".join(f"$ {step.command}\n{step.wanted}".strip("\n") for step in steps(README.read_text()))
     assert (done.returncode, done.stderr) == (0, ""), "make demo ends well"
     assert Step("make demo", session).is_met_by(done.stdout), "and prints the session"

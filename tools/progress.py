@@ -34,7 +34,7 @@ def main(words: list[str]) -> int:
     with open(path, "w") as log:
         try:
             process = subprocess.Popen(command, stdout=log, stderr=subprocess.STDOUT)
-        except FileNotFoundError:
+        except (FileNotFoundError, PermissionError):
             sys.exit(f"{command[0]} is not on PATH; it comes with the Rattle kit")
         while True:
             try:

@@ -119,6 +119,8 @@ def test_what_is_not_trusted(place: Place, what: str) -> None:
     ANSIBLE_CONFIG names its file."""
     file, variables, runs = STRANGE[what]
     place.environment["EDITOR"] = place.script('echo more >> "$1"', "editor")
+    # As a shell sets it.
+    place.environment["PWD"] = str(place.tree)
     secret = place.by_file("old")
     lines = [
         [WITH, "view", *secret, "a.yml"],
