@@ -13,6 +13,8 @@ from collections.abc import Iterator
 from pathlib import Path
 
 import pytest
+import pytest_timeout
+from pytest_subtests import SubTestReport
 
 from cases import Cases
 from lib.locales import use_plain_locale
@@ -76,6 +78,14 @@ def pytest_runtest_makereport(item: pytest.Function, call: pytest.CallInfo) -> I
         item.has_failed = True
         if "tmp_path" in item.funcargs:
             report.sections.append(("files", f"kept in {item.funcargs['tmp_path']}"))
+
+
+@pytest.hookimpl(trylast=True)
+def pytest_exception_interact(node: pytest.Item | pytest.Collector, report: pytest.TestReport) -> None:
+    """A test goes on behind a row that fails, and so does its time limit, which pytest-timeout cancels here."""
+    settings = pytest_timeout.get_env_settings(node.config)
+    if isinstance(report, SubTestReport) and settings.timeout:
+        node.ihook.pytest_timeout_set_timer(item=node, settings=settings)
 
 
 def ends_of_tests(config: pytest.Config) -> list[pytest.TestReport | pytest.CollectReport]:

@@ -14,6 +14,8 @@ from lib.paths import ROOT
 SKIP = "import pytest; pytest.skip('why')"
 ROOT_ONLY = "import os; os.geteuid = lambda: {user}; import pytest; import lib.needs; pytest.skip(lib.needs.TAKES_ROOT)"
 THREAD = "import threading; thread = threading.Thread(target=lambda: 1 / 0); thread.start(); thread.join()"
+ROWS = "for row in range(3):\n        with subtests.test(): assert row != 1"
+ENDLESS = "import time\n    for row in range(3):\n        with subtests.test(): time.sleep(600 if row else 0); assert row"
 # The body of a test, options of pytest, its exit status, and the line of counts.
 SAMPLES = {
     "it passes": ("pass", [], 0, "1 passed, 0 failed, 0 skipped"),
@@ -21,6 +23,8 @@ SAMPLES = {
     "a thread fails": (THREAD, [], 1, "0 passed, 1 failed, 0 skipped"),
     "it returns something": ("return 1 == 2", [], 1, "0 passed, 1 failed, 0 skipped"),
     "it does not end": ("import time; time.sleep(600)", ["--timeout=1"], 1, "0 passed, 1 failed, 0 skipped"),
+    "a row fails": (ROWS, [], 1, "1 passed, 1 failed, 0 skipped"),
+    "rows that fail and do not end": (ENDLESS, ["--timeout=1"], 1, "1 passed, 3 failed, 0 skipped"),
     "a skip": (SKIP, [], 0, "0 passed, 0 failed, 1 skipped"),
     "a skip, and all is required": (SKIP, ["--require-all"], 1, "0 passed, 1 failed, 0 skipped"),
     "only root can do it": (ROOT_ONLY.format(user=1), ["--require-all"], 0, "0 passed, 0 failed, 1 skipped"),
@@ -35,7 +39,7 @@ def run_sample(folder: Path, program: str, body: str, options: list[str]) -> sub
     """In a copy of the tests."""
     shutil.copytree(ROOT / "tests", folder / "tests")
     shutil.copy(ROOT / "pytest.ini", folder)
-    (folder / "tests" / "sample.py").write_text(f"def test_it(tmp_path):\n    {body}\n")
+    (folder / "tests" / "sample.py").write_text(f"def test_it(tmp_path, subtests):\n    {body}\n")
     kept = {name: value for name, value in os.environ.items() if not name.startswith(("PYTEST_", "REQUIRE_ALL"))}
     words = ["pytest", f"--program={program}", *options, "tests/sample.py"]
     return subprocess.run([sys.executable, "-B", "-m", *words], capture_output=True, text=True, cwd=folder, env=kept)
@@ -50,7 +54,7 @@ def test_ending(program: str, tmp_path: Path, body: str, options: list[str], sta
     done = run_sample(tmp_path, program, body, options)
     found = re.findall(r"^(\d+ passed, .*)$", done.stdout, re.MULTILINE)
     assert (done.returncode, found[0]) == (status, counts), done.stdout
-    kept = re.findall(r"^kept in (.*)$", done.stdout, re.MULTILINE)
+    kept = {*re.findall(r"^kept in (.*)$", done.stdout, re.MULTILINE)}
     has_failed = status == 1 and "--floors" not in options
     assert [Path(each).is_dir() for each in kept] == [True] * has_failed, "a folder is kept where it fails"
     for each in kept:
