@@ -7,6 +7,7 @@ import locale
 import os
 import shutil
 import subprocess
+import sys
 import tempfile
 from collections import Counter
 from collections.abc import Iterator
@@ -60,6 +61,8 @@ def pytest_sessionstart(session: pytest.Session) -> None:
     use_plain_locale()
     # The files of a test are read by everybody, whatever the caller's own are.
     os.umask(0o022)
+    # The companions, too, are run by the Python that runs the tests.
+    os.environ["PATH"] = os.pathsep.join([os.path.dirname(sys.executable), os.environ["PATH"]])
     program = session.config.getoption("--program")
     if not program.is_file():
         pytest.exit(f"there is no {program}; `make` builds bin/ansible-vault", pytest.ExitCode.USAGE_ERROR)

@@ -4,6 +4,7 @@ Vaults are made by `model.vaults` or by Ansible's tool, and what the companions 
 by `model.vaults`, so no result depends on the program itself.
 """
 
+import compileall
 import hmac
 import os
 import shutil
@@ -160,19 +161,23 @@ class Place:
         return self.run(*words)
 
 
-class Companions:
-    """Runs copies of the companions and of the program, which everybody may read wherever the repository is."""
+def copy_tools(program: str, folder: Path) -> None:
+    """Copies of the companions, compiled, and of the program, which everybody may read wherever the repository is."""
+    shutil.copytree(COMPANIONS, folder / "companions")
+    note_lines(folder / "companions")
+    compileall.compile_dir(folder / "companions", quiet=1)
+    shutil.copy(program, folder / "ansible-vault")
+    subprocess.run(["chmod", "-R", "go=rX", str(folder)], check=True)
 
-    def __init__(self, program: str, folder: Path) -> None:
+
+class Companions:
+    """Runs the companions and the program whose copies these are, in places of their own."""
+
+    def __init__(self, copies: Path, folder: Path) -> None:
         self.folder = folder
         self.places = 0
-        self.companions = folder / "companions"
-        self.program = folder / "ansible-vault"
-        shutil.copytree(COMPANIONS, self.companions)
-        note_lines(self.companions)
-        shutil.copyfile(program, self.program)
-        self.program.chmod(0o755)
-        subprocess.run(["chmod", "-R", "go=rX", str(self.companions)], check=True)
+        self.companions = copies / "companions"
+        self.program = copies / "ansible-vault"
 
     def place(self) -> Place:
         self.places += 1

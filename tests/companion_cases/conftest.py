@@ -1,17 +1,26 @@
 """What the tests of the companions use."""
 
+import tempfile
+from collections.abc import Iterator
 from pathlib import Path
 
 import pytest
 
-from companion_cases import Companions, Place
+from companion_cases import Companions, Place, copy_tools
 from lib.needs import needs
 
 
+@pytest.fixture(scope="session")
+def copies(program: str) -> Iterator[Path]:
+    with tempfile.TemporaryDirectory(prefix="ansible-vault-tools-") as folder:
+        copy_tools(program, Path(folder))
+        yield Path(folder)
+
+
 @pytest.fixture
-def cases(program: str, tmp_path: Path) -> Companions:
-    """Copies of the companions and of the program, and as many places for them as a test needs."""
-    return Companions(program, tmp_path)
+def cases(copies: Path, tmp_path: Path) -> Companions:
+    """The companions and the program, and as many places for them as a test needs."""
+    return Companions(copies, tmp_path)
 
 
 @pytest.fixture
