@@ -28,6 +28,8 @@ GRACE_PERIOD = 5
 SAME_SIGNAL = 1
 # Seconds in which what was killed is gone.
 KILL_PERIOD = 1
+# Seconds after which Python heeds a signal that came just before a system call that waits, and so did not interrupt it.
+WAITING_PERIOD = 1
 
 _noted: list[int] = []
 # When the first of them came.
@@ -190,8 +192,17 @@ def _run(words: list[str], data: bytes | None = None, **options: Any) -> subproc
         try:
             if _noted and not _is_postponed:
                 _pass_on(program, _noted[0])
-            output, errors = program.communicate(data)
+            output, errors = _wait_for_end(program, data)
             _end_signalled()
         finally:
             _running.discard(program)
     return subprocess.CompletedProcess(words, program.returncode, output, errors)
+
+
+def _wait_for_end(program: subprocess.Popen[bytes], data: bytes | None) -> tuple[bytes, bytes]:
+    while True:
+        try:
+            return program.communicate(data, timeout=WAITING_PERIOD)
+        except subprocess.TimeoutExpired:
+            # What is left of it is still written.
+            data = None
