@@ -62,7 +62,8 @@ def pytest_sessionstart(session: pytest.Session) -> None:
     # The files of a test are read by everybody, whatever the caller's own are.
     os.umask(0o022)
     # The companions, too, are run by the Python that runs the tests.
-    os.environ["PATH"] = os.pathsep.join([os.path.dirname(sys.executable), os.environ["PATH"]])
+    if os.path.realpath(shutil.which("python3") or "") != os.path.realpath(sys.executable):
+        os.environ["PATH"] = os.pathsep.join([os.path.dirname(sys.executable), os.environ["PATH"]])
     program = session.config.getoption("--program")
     if not program.is_file():
         pytest.exit(f"there is no {program}; `make` builds bin/ansible-vault", pytest.ExitCode.USAGE_ERROR)
