@@ -91,13 +91,14 @@ def test_reserved_first(cases: Cases, amount: int, fault: Fault) -> None:
     assert (done.returncode, done.stderr) == (fault.status, fault.line)
 
 
-@pytest.mark.parametrize("is_file", (True, False), ids=["file", "pipe"])
 @each_command
 @pytest.mark.parametrize("size", RESIDENT)
-def test_resident_memory(cases: Cases, sample: Sample, size: int, is_file: bool) -> None:
-    done = resident.run([cases.program, *sample.words], sample.stdin, cases.file(sample.stdin) if is_file else None)
-    assert (done.status, done.output) == (0, sample.output)
-    assert 0 < done.resident <= RESIDENT[size] * KIB, f"resident memory: {done.resident} KiB"
+def test_resident_memory(cases: Cases, subtests: SubTests, sample: Sample, size: int) -> None:
+    for name, path in (("a file", cases.file(sample.stdin)), ("a pipe", None)):
+        with subtests.test(name):
+            done = resident.run([cases.program, *sample.words], sample.stdin, path)
+            assert (done.status, done.output) == (0, sample.output)
+            assert 0 < done.resident <= RESIDENT[size] * KIB, f"resident memory: {done.resident} KiB"
 
 
 @each_command

@@ -33,8 +33,9 @@ def test_rekeyed(cases: Cases, subtests: SubTests) -> None:
         ("the old password", ["--new-vault-id", f"prod@{right}"], b"right", b"prod"),
         ("the old password and label", ["--new-vault-password-file", right], b"right", b""),
     ]
-    texts = b"", TEXT, b"a" * 16, bytes(range(256)) * 300
-    for label, text, (name, options, password, new_label) in itertools.product((b"", b"dev"), texts, runs):
+    # Each way with one text, and each text in one way.
+    every = [(TEXT, run) for run in runs] + [(text, runs[0]) for text in (b"", b"a" * 16, bytes(range(256)) * 300)]
+    for label, (text, (name, options, password, new_label)) in itertools.product((b"", b"dev"), every):
         with subtests.test(f"{name}, {len(text)} bytes, old label {label!r}"):
             words = ["rekey", *by_file(right), *options, *SALT_WORDS]
             cases.run(words, seal(b"right", text, label), 0, seal(password, text, new_label, SALT))
