@@ -50,7 +50,6 @@ def runs(cases: Cases) -> list[Run]:
     return [
         Run("no vault", ["view", *by_file(right), *others(most)], b"", 0, Fault.NOT_VAULT.status),
         Run("one secret", ["view", *by_id(right)], vault, 1, 0, TEXT),
-        Run("two secrets, the first fits", ["view", *by_id(right), *others(1)], vault, 1, 0, TEXT),
         Run("all secrets, the first fits", ["view", *by_id(right), *others(most)], vault, 1, 0, TEXT),
         Run("the last has the label", ["decrypt", *others(most), *by_id(right)], vault, 1, 0, TEXT),
         Run("the third of four fits", ["view", *others(2), *by_id(right, "x"), *others(1)], vault, 3, 0, TEXT),

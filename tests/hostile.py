@@ -62,11 +62,6 @@ def least_memory(program: str) -> int:
     return low * resource.getpagesize()
 
 
-@pytest.fixture
-def sample(cases: Cases, command: str, size: int) -> Sample:
-    return sample_of(cases, command, (TEXT * size)[:size])
-
-
 def outcome(done: subprocess.CompletedProcess, sample: Sample) -> str:
     answer = answer_of(done)
     if answer == (Fault.MEMORY.status, b"", Fault.MEMORY.line):
@@ -76,11 +71,19 @@ def outcome(done: subprocess.CompletedProcess, sample: Sample) -> str:
 
 @each_command
 @pytest.mark.parametrize("size", RESIDENT)
-def test_address_space(program: str, sample: Sample, least_memory: int) -> None:
-    """From where the program starts at all upward, to that in which every run ends well."""
-    amounts = [least_memory + (ENOUGH - least_memory) * step // STEPS for step in range(STEPS + 1)]
-    found = [outcome(in_memory(program, sample, amount), sample) for amount in amounts]
-    assert (found[0], found[-1], set(found)) == ("refused", "whole", {"refused", "whole"}), found
+def test_memory(cases: Cases, subtests: SubTests, size: int, command: str, least_memory: int) -> None:
+    """Address space from where the program starts at all upward, to that in which every run ends well; and resident
+    memory."""
+    sample = sample_of(cases, command, (TEXT * size)[:size])
+    with subtests.test("address space"):
+        amounts = [least_memory + (ENOUGH - least_memory) * step // STEPS for step in range(STEPS + 1)]
+        found = [outcome(in_memory(cases.program, sample, amount), sample) for amount in amounts]
+        assert (found[0], found[-1], set(found)) == ("refused", "whole", {"refused", "whole"}), found
+    for name, path in (("a file", cases.file(sample.stdin)), ("a pipe", None)):
+        with subtests.test(f"resident memory, {name}"):
+            done = resident.run([cases.program, *sample.words], sample.stdin, path)
+            assert (done.status, done.output) == (0, sample.output)
+            assert 0 < done.resident <= RESIDENT[size] * KIB, f"{done.resident} KiB"
 
 
 @pytest.mark.parametrize("amount, fault", ((16 * MIB, Fault.MEMORY), (ENOUGH, Fault.SECRET_NOT_OPENED)))
@@ -89,16 +92,6 @@ def test_reserved_first(cases: Cases, amount: int, fault: Fault) -> None:
     missing = Sample(["view", "--vault-password-file", cases.path()], b"", b"")
     done = in_memory(cases.program, missing, amount)
     assert (done.returncode, done.stderr) == (fault.status, fault.line)
-
-
-@each_command
-@pytest.mark.parametrize("size", RESIDENT)
-def test_resident_memory(cases: Cases, subtests: SubTests, sample: Sample, size: int) -> None:
-    for name, path in (("a file", cases.file(sample.stdin)), ("a pipe", None)):
-        with subtests.test(name):
-            done = resident.run([cases.program, *sample.words], sample.stdin, path)
-            assert (done.status, done.output) == (0, sample.output)
-            assert 0 < done.resident <= RESIDENT[size] * KIB, f"resident memory: {done.resident} KiB"
 
 
 @each_command
