@@ -50,7 +50,6 @@ def runs(cases: Cases) -> list[Run]:
     return [
         Run("no vault", ["view", *by_file(right), *others(most)], b"", 0, Fault.NOT_VAULT.status),
         Run("one secret", ["view", *by_id(right)], vault, 1, 0, TEXT),
-        Run("two secrets, the first fits", ["view", *by_id(right), *others(1)], vault, 1, 0, TEXT),
         Run("all secrets, the first fits", ["view", *by_id(right), *others(most)], vault, 1, 0, TEXT),
         Run("the last has the label", ["decrypt", *others(most), *by_id(right)], vault, 1, 0, TEXT),
         Run("the third of four fits", ["view", *others(2), *by_id(right, "x"), *others(1)], vault, 3, 0, TEXT),
@@ -85,11 +84,10 @@ def test_derivations(cases: Cases) -> None:
     every = runs(cases)
     with concurrent.futures.ThreadPoolExecutor(WORKERS) as pool:
         counted = list(pool.map(lambda run: collected(cases.program, run), every))
-    base, one = counted[0][1], counted[1][1] - counted[0][1]
-    assert one > LEAST_DERIVATION, ("a derivation takes its rounds", f"it takes {one} instructions")
-    for run, (done, _) in zip(every, counted):
-        assert (done.returncode, done.stdout) == (run.status, run.output), f"{run.name}: answer"
+    answers = {run.name: (done.returncode, done.stdout) for run, (done, _) in zip(every, counted)}
+    assert answers == {run.name: (run.status, run.output) for run in every}
     # The first two runs are the measure of the others.
-    for run, (_, count) in zip(every[2:], counted[2:]):
-        found = (count - base) / max(one, 1)
-        assert abs(found - run.derivations) < TOLERANCE, f"{run.name}: derivations"
+    base, one = counted[0][1], counted[1][1] - counted[0][1]
+    assert one > LEAST_DERIVATION, f"a derivation takes {one} instructions"
+    found = {run.name: (count - base) / one for run, (_, count) in zip(every, counted)}
+    assert found == {run.name: pytest.approx(run.derivations, abs=TOLERANCE) for run in every}

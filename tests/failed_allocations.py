@@ -12,7 +12,7 @@ from typing import NamedTuple
 import pytest
 
 from cases import Cases
-from cases.samples import Sample, samples
+from cases.samples import Sample, sample_of
 from cases.texts import stored_mistakes
 from lib.allocations import LIBRARY, run_refusing
 from lib.needs import needs
@@ -100,7 +100,7 @@ def refuse_each(cases: Cases, tmp_path: Path, record_property: Callable) -> Call
 
 @pytest.mark.parametrize("command, to", OUTPUTS)
 def test_output(cases: Cases, refuse_each: Callable, command: str, to: str) -> None:
-    [sample] = [each for each in samples(cases) if each.command == command]
+    sample = sample_of(cases, command)
     if to == TO_STREAM:
         refuse_each(Run(sample), Answer(0, sample.output, b""))
     else:

@@ -5,14 +5,16 @@ are enough for each. Its resident memory grows with its input, whether that is a
 fails after some bytes, the output is a prefix.
 """
 
+import itertools
 import resource
 import subprocess
 from pathlib import Path
 
 import pytest
+from pytest_subtests import SubTests
 
 from cases import SECONDS, TEXT, Cases, answer_of, by_file
-from cases.samples import SALT_WORDS, Sample, each_command, sample_of, samples
+from cases.samples import OF_FILE, SALT_WORDS, Sample, each_command, sample_of
 from lib import resident
 from lib.mounts import tmpfs
 from lib.needs import TAKES_ROOT
@@ -48,6 +50,7 @@ def in_memory(program: str, sample: Sample, amount: int) -> subprocess.Completed
     return run_with(program, sample.words, resource.RLIMIT_AS, amount, **streams)
 
 
+@pytest.fixture(scope="module")
 def least_memory(program: str) -> int:
     """The least address space, in whole pages, in which `--version` succeeds."""
     version = Sample(["--version"], b"", b"")
@@ -59,150 +62,102 @@ def least_memory(program: str) -> int:
     return low * resource.getpagesize()
 
 
-def sized_samples(cases: Cases, size: int) -> list[Sample]:
-    return samples(cases, (TEXT * size)[:size])
+def outcome(done: subprocess.CompletedProcess, sample: Sample) -> str:
+    answer = answer_of(done)
+    if answer == (Fault.MEMORY.status, b"", Fault.MEMORY.line):
+        return "refused"
+    return "whole" if answer == (0, sample.output, b"") else f"{answer!r:.200}"
 
 
+@each_command
 @pytest.mark.parametrize("size", RESIDENT)
-def test_address_space(cases: Cases, size: int) -> None:
-    """From where the program starts at all upward, to that in which every run ends well."""
-    least = least_memory(cases.program)
-    refused = (Fault.MEMORY.status, b"", Fault.MEMORY.line)
-    for sample in sized_samples(cases, size):
-        name, whole = f"{sample.command} of {size} bytes", (0, sample.output, b"")
-        answers = []
-        for step in range(STEPS + 1):
-            done = in_memory(cases.program, sample, least + (ENOUGH - least) * step // STEPS)
-            answer = answer_of(done)
-            assert answer in (whole, refused), f"{name}, step {step} of memory"
-            answers.append("whole" if answer == whole else "refused" if answer == refused else "neither")
-        assert answers[0] == "refused", f"{name} in the least memory"
-        assert answers[-1] == "whole", f"{name} in enough memory"
+def test_memory(cases: Cases, subtests: SubTests, size: int, command: str, least_memory: int) -> None:
+    """Address space from where the program starts at all upward, to that in which every run ends well; and resident
+    memory."""
+    sample = sample_of(cases, command, (TEXT * size)[:size])
+    with subtests.test("address space"):
+        amounts = [least_memory + (ENOUGH - least_memory) * step // STEPS for step in range(STEPS + 1)]
+        found = [outcome(in_memory(cases.program, sample, amount), sample) for amount in amounts]
+        assert (found[0], found[-1], set(found)) == ("refused", "whole", {"refused", "whole"}), found
+    for name, path in (("a file", cases.file(sample.stdin)), ("a pipe", None)):
+        with subtests.test(f"resident memory, {name}"):
+            done = resident.run([cases.program, *sample.words], sample.stdin, path)
+            assert (done.status, done.output) == (0, sample.output)
+            assert 0 < done.resident <= RESIDENT[size] * KIB, f"{done.resident} KiB"
 
 
 @pytest.mark.parametrize("amount, fault", ((16 * MIB, Fault.MEMORY), (ENOUGH, Fault.SECRET_NOT_OPENED)))
-def test_reserved_first(cases: Cases, amount, fault) -> None:
+def test_reserved_first(cases: Cases, amount: int, fault: Fault) -> None:
     """Room for the longest text is reserved before any file is looked for."""
     missing = Sample(["view", "--vault-password-file", cases.path()], b"", b"")
     done = in_memory(cases.program, missing, amount)
-    assert (done.returncode, done.stderr) == (fault.status, fault.line), f"a missing file in {amount // MIB} MiB"
-
-
-@pytest.mark.parametrize("size", RESIDENT)
-def test_resident_memory(cases: Cases, size: int) -> None:
-    for sample in sized_samples(cases, size):
-        for name, path in (("from a file", cases.file(sample.stdin)), ("through a pipe", None)):
-            name = f"{sample.command} of {size} bytes {name}"
-            done = resident.run([cases.program, *sample.words], sample.stdin, path)
-            assert (done.status, done.output) == (0, sample.output), name
-            assert 0 < done.resident <= RESIDENT[size] * KIB, (f"{name}: resident memory", f"{done.resident} KiB")
+    assert (done.returncode, done.stderr) == (fault.status, fault.line)
 
 
 @each_command
-def test_limited_files(cases: Cases, command: str) -> None:
+def test_limited_files(cases: Cases, subtests: SubTests, command: str) -> None:
     """A file that takes that many bytes, as standard output and by name, where SIGXFSZ is ignored: `faults`
     shows how the signal ends a run."""
-    sample = sample_of(cases, command, TEXT * 20)
-    length = len(sample.output)
-    for amount in (0, 1, 2, 100, length - 1, length, length + 1):
-        wanted = (0, b"") if amount >= length else (Fault.NOT_WRITTEN.status, Fault.NOT_WRITTEN.line)
-        path = Path(cases.path())
-        with path.open("wb") as out:
-            done = run_with(
-                cases.program,
-                sample.words,
-                resource.RLIMIT_FSIZE,
-                amount,
-                input=sample.stdin,
-                stdout=out,
-                stderr=subprocess.PIPE,
-            )
-        check_written(
-            f"{sample.command}, {amount} bytes of output, SIGXFSZ ignored", done, wanted, path, sample.output[:amount]
-        )
-        if sample.command != "view":
-            words = [*sample.words, "--output", str(path)]
-            done = run_with(
-                cases.program,
-                words,
-                resource.RLIMIT_FSIZE,
-                amount,
-                input=sample.stdin,
-                stdout=subprocess.DEVNULL,
-                stderr=subprocess.PIPE,
-            )
-            check_written(
-                f"{sample.command}, {amount} bytes by name, SIGXFSZ ignored", done, wanted, path, sample.output[:amount]
-            )
+    sample, path = sample_of(cases, command, TEXT * 20), Path(cases.path())
+    length, ways = len(sample.output), {"standard output": []}
+    if command != "view":
+        ways["by name"] = ["--output", str(path)]
+    for amount, (way, to_output) in itertools.product((0, 1, 2, 100, length - 1, length, length + 1), ways.items()):
+        with subtests.test(f"{amount} bytes, {way}"), path.open("wb") as file:
+            streams = {"stdout": subprocess.DEVNULL if to_output else file, "stderr": subprocess.PIPE}
+            words = [*sample.words, *to_output]
+            done = run_with(cases.program, words, resource.RLIMIT_FSIZE, amount, input=sample.stdin, **streams)
+            wanted = (0, b"") if amount >= length else (Fault.NOT_WRITTEN.status, Fault.NOT_WRITTEN.line)
+            assert (done.returncode, done.stderr, path.read_bytes()) == (*wanted, sample.output[:amount])
 
 
-def check_written(name: str, done, wanted, path: Path, content: bytes) -> None:
-    assert (done.returncode, done.stderr) == wanted, name
-    assert path.read_bytes() == content, f"{name}: what was taken"
-
-
-def test_full_file_system(cases: Cases) -> None:
+@each_command
+def test_full_file_system(cases: Cases, subtests: SubTests, command: str) -> None:
     """A small file system in memory, where the tests may mount one."""
-    folder = Path(cases.path())
+    folder, sample = Path(cases.path()), sample_of(cases, command, TEXT * FILE_SYSTEM_SIZE)
     with tmpfs(folder, FILE_SYSTEM_SIZE) as is_mounted:
         if not is_mounted:
             pytest.skip(TAKES_ROOT)
-        for sample in samples(cases, TEXT * FILE_SYSTEM_SIZE):
-            fill_file_system(cases, sample, folder / sample.command)
-
-
-def fill_file_system(cases: Cases, sample: Sample, path: Path) -> None:
-    with path.open("wb") as out:
-        cases.run_streams(
-            f"{sample.command} to a full file system",
-            sample.words,
-            3,
-            Fault.NOT_WRITTEN.line,
-            input=sample.stdin,
-            stdout=out,
-        )
-    assert sample.output.startswith(path.read_bytes()), f"{sample.command} to a full file system: a prefix"
-    path.unlink()
-    if sample.command != "view":
-        cases.refused(
-            f"{sample.command} by name to a full file system",
-            [*sample.words, "--output", str(path)],
-            Fault.NOT_WRITTEN,
-            sample.stdin,
-        )
-        assert sample.output.startswith(path.read_bytes()), f"{sample.command} by name: a prefix"
+        path = folder / "file"
+        with subtests.test("standard output"), path.open("wb") as out:
+            cases.run_streams(sample.words, 3, Fault.NOT_WRITTEN.line, input=sample.stdin, stdout=out)
+            assert sample.output.startswith(path.read_bytes()), "a prefix"
         path.unlink()
+        if command != "view":
+            cases.refused([*sample.words, "--output", str(path)], Fault.NOT_WRITTEN, sample.stdin)
+            assert sample.output.startswith(path.read_bytes()), "a prefix"
 
 
 @each_command
-def test_failing_reads(cases: Cases, command: str) -> None:
-    """Files that open and fail when they are read; no files are left to open."""
+def test_failing_reads(cases: Cases, subtests: SubTests, command: str) -> None:
+    """Files that open and fail when they are read."""
     sample = sample_of(cases, command)
-    words = [*sample.words, *by_file(UNREADABLE)]
-    cases.refused(f"{sample.command}, an unreadable password file", words, Fault.SECRET_NOT_READ, sample.stdin)
-    with open(UNREADABLE, "rb", buffering=0) as stdin:
-        cases.run_streams(
-            f"{sample.command}, unreadable input", sample.words, 3, Fault.INPUT_NOT_READ.line, stdin=stdin
-        )
+    roles = [("a password file", [*sample.words, *by_file(UNREADABLE)], Fault.SECRET_NOT_READ)]
     salted = [word for word in sample.words if word not in SALT_WORDS]
     if salted != sample.words:
-        cases.refused(
-            f"{sample.command}, an unreadable salt file",
-            [*salted, "--salt-file", UNREADABLE],
-            Fault.SALT_NOT_READ,
-            sample.stdin,
-        )
-    if sample.command != "encrypt_string":
-        out = [] if sample.command == "view" else ["--output", "-"]
-        cases.refused(f"{sample.command}, an unreadable FILE", [*sample.words, UNREADABLE, *out], Fault.INPUT_NOT_READ)
+        roles.append(("a salt file", [*salted, "--salt-file", UNREADABLE], Fault.SALT_NOT_READ))
+    if command in OF_FILE:
+        out = [] if command == "view" else ["--output", "-"]
+        roles.append(("FILE", [*sample.words, UNREADABLE, *out], Fault.INPUT_NOT_READ))
+    for role, words, fault in roles:
+        with subtests.test(role):
+            cases.refused(words, fault, sample.stdin)
+    with subtests.test("standard input"), open(UNREADABLE, "rb", buffering=0) as stdin:
+        cases.run_streams(sample.words, 3, Fault.INPUT_NOT_READ.line, stdin=stdin)
 
 
-def test_long_words(cases: Cases) -> None:
+def test_long_words(cases: Cases, subtests: SubTests) -> None:
     """Paths and labels of the greatest length that the system passes on, and many of them."""
-    longest = "p" * (128 * KIB - 1)
-    vault = seal(b"right", TEXT)
-    cases.refuses("a long path", by_file(longest), vault, Fault.SECRET_NOT_OPENED)
-    cases.refuses("a long label", ["--vault-id", f"{longest[:-2]}@x"], vault, Fault.BAD_LABEL)
-    cases.refuses("many paths", by_file("x" * 100) * 5_000, vault, Fault.TOO_MANY_SECRETS)
-    cases.usage_error("a long command", [longest], b"unrecognized subcommand")
-    cases.usage_error("a long option", ["view", f"--{longest[:-2]}"], b"unexpected argument")
+    longest, vault = "p" * (128 * KIB - 1), seal(b"right", TEXT)
+    refused = [
+        ("a path", by_file(longest), Fault.SECRET_NOT_OPENED),
+        ("a label", ["--vault-id", f"{longest[:-2]}@x"], Fault.BAD_LABEL),
+        ("many paths", by_file("x" * 100) * 5_000, Fault.TOO_MANY_SECRETS),
+    ]
+    for name, options, fault in refused:
+        with subtests.test(name):
+            cases.refuses(options, vault, fault)
+    with subtests.test("a command"):
+        cases.usage_error([longest], b"unrecognized subcommand")
+    with subtests.test("an option"):
+        cases.usage_error(["view", f"--{longest[:-2]}"], b"unexpected argument")

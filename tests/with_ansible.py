@@ -61,7 +61,7 @@ class Both:
         return done.stdout
 
     def ours(self, name: str, words: list[str], stdin: bytes, expected) -> bytes:
-        return self.cases.run(f"{name}, label {self.label!r}", words, stdin, 0, expected)
+        return self.cases.run(words, stdin, 0, expected)
 
     def changed_by_them(self, command: str, options: list[str], contents: list[bytes]) -> list[bytes]:
         """Ansible's tool changes all the files in one run."""

@@ -11,6 +11,7 @@ from collections.abc import Callable
 from itertools import groupby
 
 import pytest
+from pytest_subtests import SubTests
 
 from cases import Cases
 from lib.needs import needs
@@ -33,28 +34,25 @@ HARMLESS = {"O_NOCTTY", "O_CLOEXEC", "O_LARGEFILE", "O_DIRECTORY"}
 OWNER_ALONE = "0600"
 
 
-def check_loading(run: Run, watched: Watched, allowed: set[str]) -> None:
+def check_loading(watched: Watched, allowed: set[str]) -> None:
     """What is passed over."""
     opens = [opened_by(call) for call in watched.traced.loading if call.name == "openat"]
     others = [opened.path for opened in opens if os.path.normpath(opened.path) not in allowed]
-    assert others == [], f"{run.name}: the loader opens"
-    assert [
-        opened.path for opened in opens if opened.flags - HARMLESS != READING
-    ] == [], f"{run.name}: the loader writes"
-    assert watched.traced.own != [], f"{run.name}: the program makes calls of its own"
+    assert others == [], "the loader opens"
+    assert [opened.path for opened in opens if opened.flags - HARMLESS != READING] == [], "the loader writes"
+    assert watched.traced.own != [], "the program makes calls of its own"
 
 
 def check_opens(run: Run, watched: Watched) -> None:
     files, created = watched.files(), [run.created] if run.created else []
-    assert [opened.path for opened in files] == [*run.read, *created], f"{run.name}: what is opened"
-    for opened in watched.opened:
-        creates = opened.path == run.created
-        wanted = (CREATING, OWNER_ALONE) if creates else (READING, "")
-        assert (opened.flags - HARMLESS, opened.mode) == wanted, f"{run.name}: how {opened.path} is opened"
+    assert [opened.path for opened in files] == [*run.read, *created], "what is opened"
+    how = lambda path: (CREATING, OWNER_ALONE) if path == run.created else (READING, "")
+    others = [opened for opened in watched.opened if (opened.flags - HARMLESS, opened.mode) != how(opened.path)]
+    assert others == [], "what is opened otherwise"
     taken = [opened.fd for opened in watched.stand_ins()]
-    assert taken == list(run.closed), f"{run.name}: closed streams are replaced"
+    assert taken == list(run.closed), "closed streams are replaced"
     low = [opened.path for opened in files if 0 <= opened.fd <= STDERR]
-    assert low == [], f"{run.name}: no file takes the number of a stream"
+    assert low == [], "no file takes the number of a stream"
 
 
 def check_reads(run: Run, watched: Watched, limits: dict[str, int]) -> None:
@@ -62,21 +60,21 @@ def check_reads(run: Run, watched: Watched, limits: dict[str, int]) -> None:
     if run.stdin is not None:
         wanted[STDIN] = len(run.stdin)
     given = {source: sum(max(got, 0) for _, got in reads) for source, reads in watched.reads.items()}
-    assert {source: size for source, size in given.items() if size} == wanted, f"{run.name}: what is read"
-    assert (STDIN in watched.reads) == (run.stdin is not None), f"{run.name}: standard input is asked"
-    for source, reads in watched.reads.items():
-        check_source(f"{run.name}: {source}", reads, limits.get(source, ENVELOPE_LIMIT + 1))
+    assert {source: size for source, size in given.items() if size} == wanted, "what is read"
+    assert (STDIN in watched.reads) == (run.stdin is not None), "standard input is asked"
+    limit_of = lambda source: limits.get(source, ENVELOPE_LIMIT + 1)
+    others = {source: reads for source, reads in watched.reads.items() if not to_end(reads, limit_of(source))}
+    assert others == {}, "what is not asked to its end or its limit, or past it"
 
 
-def check_source(name: str, reads: list[tuple[int, int]], limit: int) -> None:
-    """It is asked up to its end or its limit, and no further."""
+def to_end(reads: list[tuple[int, int]], limit: int) -> bool:
+    """Whether it is asked up to its end or its limit, and no further."""
     given, most = 0, 0
     for asked, got in reads:
         most = max(most, given + asked)
         given += max(got, 0)
-    assert most <= limit, f"{name} is asked for {most} bytes"
     ends = [number for number, (_, got) in enumerate(reads, 1) if got <= 0]
-    assert ends == [len(reads)] or not ends and given == limit, f"{name} is asked to its end or its limit"
+    return most <= limit and (ends == [len(reads)] or not ends and given == limit)
 
 
 def check_writes(run: Run, watched: Watched) -> None:
@@ -84,21 +82,21 @@ def check_writes(run: Run, watched: Watched) -> None:
     calls = watched.writes
     names = [name for name, _ in groupby(call.name for call in calls)]
     if not run.created:
-        assert set(names) <= {"write"}, f"{run.name}: no file is written"
+        assert set(names) <= {"write"}, "no file is written"
         return check_lengths(run, watched, STDOUT)
     private = run.words[0] == "decrypt"
     restricting, writing = ["fchmod"] if private else [], ["write"] if run.written else []
     wanted = ["openat", *restricting, "ftruncate", *writing, "fsync"]
-    assert names == wanted, f"{run.name}: how the file is written"
+    assert names == wanted, "how the file is written"
     lengths = [call.args.partition(", ")[2] for call in calls if call.name == "ftruncate"]
-    assert lengths == ["0"], f"{run.name}: the length to which it is cut"
+    assert lengths == ["0"], "the length to which it is cut"
     modes = [call.args.partition(", ")[2] for call in calls if call.name == "fchmod"]
-    assert modes == ([OWNER_ALONE] if private else []), f"{run.name}: its mode"
+    assert modes == ([OWNER_ALONE] if private else []), "its mode"
     number = next((call.result for call in calls if call.name == "openat"), None)
-    assert {call.fd for call in calls if call.name != "openat"} == {number}, f"{run.name}: nothing else is written"
+    assert {call.fd for call in calls if call.name != "openat"} == {number}, "nothing else is written"
     own = watched.traced.own
     read_after = [call.name for call in own[own.index(calls[0]) :] if call.name == "read"] if calls else None
-    assert read_after == [], f"{run.name}: what is read once it is there"
+    assert read_after == [], "what is read once it is there"
     check_lengths(run, watched, number)
 
 
@@ -116,35 +114,36 @@ def check_lengths(run: Run, watched: Watched, target: int | None) -> None:
         wanted[target] = run.written
     if run.fault and STDERR not in run.closed:
         wanted[STDERR] = len(run.fault.line)
-        assert traced.message == run.fault.line, f"{run.name}: message"
-    assert lengths == wanted, f"{run.name}: how many bytes go where"
+        assert traced.message == run.fault.line, "message"
+    assert lengths == wanted, "how many bytes go where"
 
 
-def check_others(run: Run, watched: Watched) -> None:
+def check_others(watched: Watched) -> None:
     own = watched.traced.own
-    assert {call.name for call in own} - OF_FILES - OF_MEMORY - OTHERS == set(), f"{run.name}: other calls"
+    assert {call.name for call in own} - OF_FILES - OF_MEMORY - OTHERS == set(), "other calls"
     signals = {call.args.partition(",")[0] for call in own if call.name == "rt_sigaction"}
-    assert signals - {"SIGPIPE"} == set(), f"{run.name}: other signals"
+    assert signals - {"SIGPIPE"} == set(), "other signals"
     asked = [(call.fd, call.args.split(", ")[1]) for call in own if call.name == "fcntl"]
-    assert asked == list(enumerate(DUPLICATING)), f"{run.name}: whether the streams are open"
+    assert asked == list(enumerate(DUPLICATING)), "whether the streams are open"
     mapped = [call.args for call in own if call.name == "mmap" and "MAP_ANONYMOUS" not in call.args]
-    assert mapped == [], f"{run.name}: files that are mapped"
+    assert mapped == [], "files that are mapped"
     of_open_files = ('""', "NULL")
     looks = [call.args.partition(", ")[2] for call in own if call.name == "statx"]
     by_path = [words for words in looks if not words.startswith(of_open_files)]
-    assert by_path == [], f"{run.name}: paths that are looked for"
+    assert by_path == [], "paths that are looked for"
 
 
 @pytest.mark.parametrize("group", GROUPS, ids=lambda group: group.__name__)
-def test_calls(cases: Cases, group: Callable[[Files], list[Run]]) -> None:
+def test_calls(cases: Cases, subtests: SubTests, group: Callable[[Files], list[Run]]) -> None:
     needs("strace")
     files = Files(cases)
     allowed = LISTS | {os.path.normpath(path) for path in libraries(cases.program)}
     for run in group(files):
-        watched = watch(cases.program, run, cases.folder)
-        assert watched.traced.status == run.ending, f"{run.name}: status"
-        check_loading(run, watched, allowed)
-        check_opens(run, watched)
-        check_reads(run, watched, files.limits)
-        check_writes(run, watched)
-        check_others(run, watched)
+        with subtests.test(run.name):
+            watched = watch(cases.program, run, cases.folder)
+            assert watched.traced.status == run.ending
+            check_loading(watched, allowed)
+            check_opens(run, watched)
+            check_reads(run, watched, files.limits)
+            check_writes(run, watched)
+            check_others(watched)

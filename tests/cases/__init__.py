@@ -79,31 +79,34 @@ class Cases:
     def done(self, words, stdin=b"", **options) -> subprocess.CompletedProcess:
         return run_captured([self.program, *words], stdin, **options)
 
-    def run(self, name, words, stdin=b"", status=0, out: bytes | None = b"", err=b"") -> bytes:
+    def run(self, words, stdin=b"", status=0, out: bytes | None = b"", err=b"") -> bytes:
         """Compares the status and both streams, and returns the output, which is not compared if `out` is None."""
         done = self.done(words, stdin)
-        assert answer_of(done) == (status, done.stdout if out is None else out, err), name
+        assert answer_of(done) == (status, done.stdout if out is None else out, err)
         return done.stdout
 
-    def refused(self, name, words, fault: Fault, stdin=b"") -> None:
-        self.run(name, words, stdin, fault.status, b"", fault.line)
+    def refused(self, words, fault: Fault, stdin=b"") -> None:
+        self.run(words, stdin, fault.status, b"", fault.line)
 
-    def decrypts(self, name, options, vault, plaintext) -> None:
-        for command in READING:
-            self.run(f"{command}, {name}", [command, *options], vault, 0, plaintext)
+    def decrypts(self, options, vault, plaintext) -> None:
+        self.read(options, vault, (0, plaintext, b""))
 
-    def refuses(self, name, options, stdin, fault: Fault) -> None:
-        for command in READING:
-            self.refused(f"{command}, {name}", [command, *options], fault, stdin)
+    def refuses(self, options, stdin, fault: Fault) -> None:
+        self.read(options, stdin, refusal(fault))
 
-    def usage_error(self, name, words, part: bytes) -> None:
+    def read(self, options, stdin, wanted: tuple[int, bytes, bytes]) -> None:
+        """Both commands that read have this answer."""
+        found = {command: answer_of(self.done([command, *options], stdin)) for command in READING}
+        assert found == dict.fromkeys(READING, wanted)
+
+    def usage_error(self, words, part: bytes) -> None:
         """The parser refuses the words in a text that holds this part."""
         status, output, message = answer_of(self.done(words))
-        assert (status, output) == (2, b"") and part in message, (name, message)
+        assert (status, output) == (2, b"") and part in message, message
 
-    def run_streams(self, name, words, status, err=None, **streams) -> None:
+    def run_streams(self, words, status, err=None, **streams) -> None:
         """Runs with these streams. Standard output is discarded by default; standard error is checked only if `err`
         is given."""
         given = {"stdout": subprocess.DEVNULL, "stderr": subprocess.DEVNULL if err is None else subprocess.PIPE}
         done = subprocess.run([self.program, *words], timeout=SECONDS, **given | streams)
-        assert (done.returncode, done.stderr if err is not None else None) == (status, err), name
+        assert (done.returncode, done.stderr if err is not None else None) == (status, err)

@@ -10,15 +10,15 @@ import signal
 import subprocess
 from pathlib import Path
 
-from cases import SECONDS, Cases, by_file
-from cases.samples import SALT_WORDS
+import pytest
+
+from cases import SECONDS, Cases
+from cases.samples import sample_of
 from lib.needs import needs
 from lib.preloaded import build_library
 from lib.processes import started
 from model.answers import HostFiles, answer
-from model.vaults import seal
 
-LIBRARY = "stop_reading"
 TEXT = b"key: value\n" * 200_000
 # How much of the file is read, at least, before the program is stopped.
 STOPPED_AT = 1_000_000
@@ -28,6 +28,12 @@ CHANGES = {
     "cut after": lambda content, place: content[: place + 1],
     "grown": lambda content, place: content + b"more\n" * 1_000,
 }
+
+
+@pytest.fixture(scope="module")
+def library(tmp_path_factory: pytest.TempPathFactory) -> str:
+    needs("cc")
+    return build_library(str(tmp_path_factory.mktemp("library")), "stop_reading")
 
 
 def place_in(process: int, path: str) -> int:
@@ -67,17 +73,12 @@ def changed_run(cases: Cases, library: str, words: list[str], content: bytes, is
     return (child.returncode, output, message), content[:place] + later[place:]
 
 
-def test_changing(cases: Cases) -> None:
-    needs("cc")
-    library = build_library(str(cases.folder), LIBRARY)
-    password = by_file(cases.file(b"right\n"))
-    runs = [(["encrypt", *password, *SALT_WORDS], TEXT), (["view", *password], seal(b"right", TEXT))]
-    for words, content in runs:
-        for how, changed in CHANGES.items():
-            for is_named in (True, False):
-                name = f"{words[0]} of a {'FILE' if is_named else 'stream'} that is {how}"
-                found, read = changed_run(cases, library, words, content, is_named, changed)
-                assert read is not None, f"{name}: it is stopped while it reads"
-                want = answer(words, HostFiles(), io.BytesIO(read or b""))
-                output = b"" if want.output is None else want.output
-                assert found == (want.status, output, want.message), name
+@pytest.mark.parametrize("is_named", (True, False), ids=["FILE", "stream"])
+@pytest.mark.parametrize("how", CHANGES)
+@pytest.mark.parametrize("command", ["encrypt", "view"])
+def test_changing(cases: Cases, library: str, command: str, how: str, is_named: bool) -> None:
+    sample = sample_of(cases, command, TEXT)
+    found, read = changed_run(cases, library, sample.words, sample.stdin, is_named, CHANGES[how])
+    assert read is not None, "it is stopped while it reads"
+    want = answer(sample.words, HostFiles(), io.BytesIO(read))
+    assert found == (want.status, want.output or b"", want.message)

@@ -12,9 +12,10 @@ from pathlib import Path
 from typing import NamedTuple
 
 import pytest
+from pytest_subtests import SubTests
 
 from cases import SECONDS, TEXT, Cases, answer_of, by_file
-from cases.samples import Sample, samples
+from cases.samples import Sample, each_command, each_to_output, sample_of
 from lib.mounts import PAGE, tmpfs
 from lib.needs import TAKES_ROOT, needs
 from model.compared import contents
@@ -22,6 +23,8 @@ from model.faults import Fault
 
 WORKERS = 4
 COMBINATIONS = [set(each) for count in range(4) for each in itertools.combinations(range(3), count)]
+closings = lambda closed: "".join(f"{stream}>&-" for stream in sorted(closed)) or "all open"
+each_closing = pytest.mark.parametrize("closed", COMBINATIONS, ids=closings)
 # The stream that each name of `--output` stands for; without the option it is standard output.
 STREAMS = {None: 1, "/dev/stdin": 0, "/dev/stdout": 1, "/dev/stderr": 2, "/dev/fd/1": 1, "/proc/self/fd/1": 1}
 OLD = b"what stood here before\n"
@@ -56,11 +59,6 @@ class Setting(NamedTuple):
         return f"{self.command} of {given} to {self.output or 'standard output'}{closed}"
 
 
-def own_sample(program: str, folder: str, command: str, text: bytes = TEXT) -> Sample:
-    """The sample of a command, with its files in this folder."""
-    return next(each for each in samples(Cases(program, Path(folder)), text) if each.command == command)
-
-
 def named(sample: Sample, path: str) -> Sample:
     """The same with a FILE or a STRING."""
     if sample.command == "encrypt_string":
@@ -91,6 +89,19 @@ def changed(before: dict[str, bytes], folder: str) -> dict[str, bytes | None]:
     return {path: after.get(path) for path in before | after if before.get(path) != after.get(path)}
 
 
+def run_sample(cases: Cases, setting: Setting, *words: str, text: bytes = TEXT, **others) -> tuple[Sample, Left]:
+    """The sample of a command, with these words besides and its files in a folder of its own, and what it leaves."""
+    with tempfile.TemporaryDirectory() as folder:
+        sample = sample_of(Cases(cases.program, Path(folder)), setting.command, text)
+        given, stdin = (named(sample, "given"), b"not asked") if setting.by_name else (sample, sample.stdin)
+        for name, content in {OLD_FILE: OLD, "given": sample.stdin, "stdin": stdin, "empty": b""}.items():
+            (Path(folder) / name).write_bytes(content)
+        before = contents(Path(folder))
+        whole = [cases.program, *given.words, *to_output(setting.output, setting.command), *words]
+        done = run_closed(whole, setting.closed, folder, **others)
+        return sample, Left(done.returncode, done.stdout or b"", done.stderr, changed(before, folder))
+
+
 def failed(fault: Fault, closed: set[int]) -> Left:
     return Left(fault.status, b"", b"" if 2 in closed else fault.line)
 
@@ -109,66 +120,47 @@ def wanted(setting: Setting, sample: Sample) -> Left:
     return Left(0, b"", b"", {"stdin" if stream == 0 else setting.output: sample.output})
 
 
-def compared(program: str, setting: Setting) -> tuple[Left, Left]:
+def compared(cases: Cases, setting: Setting) -> tuple[Left, Left]:
     """What the run leaves, and what it should."""
-    with tempfile.TemporaryDirectory() as folder:
-        sample = own_sample(program, folder, setting.command)
-        (Path(folder) / OLD_FILE).write_bytes(OLD)
-        (Path(folder) / "given").write_bytes(sample.stdin)
-        (Path(folder) / "stdin").write_bytes(b"not asked" if setting.by_name else sample.stdin)
-        given = named(sample, "given") if setting.by_name else sample
-        before = contents(Path(folder))
-        words = [program, *given.words, *to_output(setting.output, setting.command)]
-        done = run_closed(words, setting.closed, folder)
-        left = Left(done.returncode, done.stdout, done.stderr, changed(before, folder))
-        return left, wanted(setting, sample)
+    sample, left = run_sample(cases, setting)
+    return left, wanted(setting, sample)
 
 
-def settings(commands: list[str]) -> list[Setting]:
-    outputs = [*STREAMS, NEW_FILE, OLD_FILE]
-    every = itertools.product(commands, COMBINATIONS, outputs, (True, False))
-    return [Setting(*each) for each in every if each[0] != "view" or each[2] is None]
+def settings(command: str) -> list[Setting]:
+    outputs = [None] if command == "view" else [*STREAMS, NEW_FILE, OLD_FILE]
+    return [Setting(command, *each) for each in itertools.product(COMBINATIONS, outputs, (True, False))]
 
 
-def test_every_combination(cases: Cases) -> None:
-    every = settings([sample.command for sample in samples(cases)])
+@each_command
+def test_every_combination(cases: Cases, command: str) -> None:
+    every = settings(command)
     with concurrent.futures.ThreadPoolExecutor(WORKERS) as pool:
-        found = list(pool.map(lambda setting: compared(cases.program, setting), every))
-    for setting, (left, want) in zip(every, found):
-        assert left == want, str(setting)
+        found = list(pool.map(lambda setting: compared(cases, setting), every))
+    differing = {str(setting): (left, want) for setting, (left, want) in zip(every, found) if left != want}
+    assert differing == {}
 
 
-@pytest.mark.parametrize("closed", COMBINATIONS)
-def test_refused(cases: Cases, closed) -> None:
+@each_closing
+@each_command
+def test_refused(cases: Cases, command: str, closed: set[int]) -> None:
     """A refusal ends as with open streams, and no file changes."""
-    texts = [(["--version"], 0), (["view", "--loud"], 2)]
-    for sample in samples(cases):
-        check_refused(cases, sample.command, closed)
-    for words, status in texts:
-        open_run = cases.done(words)
-        check_text(cases, words, closed, open_run, Fault.NOT_WRITTEN.status if status == 0 and 1 in closed else status)
+    output = None if command == "view" else OLD_FILE
+    _, left = run_sample(cases, Setting(command, closed, output, False), *by_file("empty"))
+    assert left == failed(Fault.SECRET_EMPTY, closed)
 
 
-def check_refused(cases: Cases, command: str, closed: set[int]) -> None:
-    with tempfile.TemporaryDirectory() as folder:
-        sample = own_sample(cases.program, folder, command)
-        for name, content in ((OLD_FILE, OLD), ("stdin", sample.stdin), ("empty", b"")):
-            (Path(folder) / name).write_bytes(content)
-        before = contents(Path(folder))
-        output = [] if command == "view" else ["--output", OLD_FILE]
-        done = run_closed([cases.program, *sample.words, *by_file("empty"), *output], closed, folder)
-        left = Left(done.returncode, done.stdout, done.stderr, changed(before, folder))
-        assert left == failed(Fault.SECRET_EMPTY, closed), f"{command}, refused, without {sorted(closed)}"
-
-
-def check_text(cases: Cases, words: list[str], closed: set[int], whole, status: int) -> None:
-    """The parser's texts: a stream that is open gets what it gets in `whole`, a run with all streams open."""
+@each_closing
+@pytest.mark.parametrize("words, status", ((["--version"], 0), (["view", "--loud"], 2)), ids=["version", "mistake"])
+def test_texts(cases: Cases, words: list[str], status: int, closed: set[int]) -> None:
+    """A stream that is open gets what it gets in a run with all streams open."""
+    whole = cases.done(words)
     with tempfile.TemporaryDirectory() as folder:
         (Path(folder) / "stdin").touch()
         done = run_closed([cases.program, *words], closed, folder)
-    message = Fault.NOT_WRITTEN.line if status == Fault.NOT_WRITTEN.status else whole.stderr
-    want = (status, b"" if 1 in closed else whole.stdout, b"" if 2 in closed else message)
-    assert answer_of(done) == want, f"{words} without {sorted(closed)}"
+    fails = status == 0 and 1 in closed
+    message = Fault.NOT_WRITTEN.line if fails else whole.stderr
+    want = b"" if 1 in closed else whole.stdout, b"" if 2 in closed else message
+    assert answer_of(done) == (Fault.NOT_WRITTEN.status if fails else status, *want)
 
 
 def limited() -> None:
@@ -177,100 +169,83 @@ def limited() -> None:
     resource.setrlimit(resource.RLIMIT_FSIZE, (SIZE_LIMIT, SIZE_LIMIT))
 
 
-def check_write_fault(cases: Cases, name: str, command: str, closed: set[int], path: str, **others) -> None:
+def check_write_fault(cases: Cases, command: str, closed: set[int], path: str, **others) -> None:
     """A run whose output's write fails: the file holds a prefix, and nothing else changes."""
-    with tempfile.TemporaryDirectory() as folder:
-        sample = own_sample(cases.program, folder, command, TEXT * 400)
-        (Path(folder) / "given").write_bytes(sample.stdin)
-        (Path(folder) / "stdin").write_bytes(b"not asked")
-        before = contents(Path(folder))
-        words = [cases.program, *named(sample, "given").words, "--output", path]
-        done = run_closed(words, closed, folder, **others)
-        place = Path(folder) / path
-        found = place.read_bytes() if place.is_file() else b""
-        others_changed = {other: now for other, now in changed(before, folder).items() if other != path}
-    name = f"{command} to {name}, without {sorted(closed)}"
-    left = Left(done.returncode, done.stdout, done.stderr, others_changed)
-    assert left == failed(Fault.NOT_WRITTEN, closed), name
-    is_prefix = sample.output.startswith(found) and found != sample.output
-    assert is_prefix, (f"{name}: a prefix", f"got {found!r:.300}")
+    sample, left = run_sample(cases, Setting(command, closed, path, True), text=TEXT * 400, **others)
+    found = left.changed.pop(path, None) or (Path(path).read_bytes() if Path(path).is_file() else b"")
+    assert left == failed(Fault.NOT_WRITTEN, closed)
+    assert sample.output.startswith(found) and found != sample.output, f"a prefix: got {found!r:.300}"
 
 
-def test_write_faults(cases: Cases) -> None:
-    writing = [sample.command for sample in samples(cases) if sample.command != "view"]
-    full = cases.device("full")
-    for command, closed in itertools.product(writing, COMBINATIONS):
-        check_write_fault(cases, "a full device", command, closed, full)
-        check_write_fault(cases, "a limited file, SIGXFSZ ignored", command, closed, NEW_FILE, preexec_fn=limited)
+@each_closing
+@each_to_output
+def test_full_device(cases: Cases, command: str, closed: set[int]) -> None:
+    check_write_fault(cases, command, closed, cases.device("full"))
 
 
-def test_full_standard_output(cases: Cases) -> None:
+@each_closing
+@each_to_output
+def test_limited_file(cases: Cases, command: str, closed: set[int]) -> None:
+    """SIGXFSZ is ignored."""
+    check_write_fault(cases, command, closed, NEW_FILE, preexec_fn=limited)
+
+
+@pytest.mark.parametrize("closed", [each for each in COMBINATIONS if 1 not in each], ids=closings)
+@each_command
+def test_full_standard_output(cases: Cases, command: str, closed: set[int]) -> None:
     """Standard output is a full device, and other streams are closed."""
-    closings = [closed for closed in COMBINATIONS if 1 not in closed]
-    for sample, closed in itertools.product(samples(cases), closings):
-        with tempfile.TemporaryDirectory() as folder, open("/dev/full", "wb") as full:
-            own = own_sample(cases.program, folder, sample.command)
-            (Path(folder) / "given").write_bytes(own.stdin)
-            (Path(folder) / "stdin").write_bytes(b"not asked")
-            before = contents(Path(folder))
-            words = [cases.program, *named(own, "given").words, *to_output(None, own.command)]
-            done = run_closed(words, closed, folder, stdout=full)
-            left = Left(done.returncode, b"", done.stderr, changed(before, folder))
-        assert left == failed(
-            Fault.NOT_WRITTEN, closed
-        ), f"{own.command} to a full standard output, without {sorted(closed)}"
+    with open("/dev/full", "wb") as full:
+        _, left = run_sample(cases, Setting(command, closed, None, True), stdout=full)
+    assert left == failed(Fault.NOT_WRITTEN, closed)
 
 
-def test_full_file_system(cases: Cases) -> None:
-    writing = [sample.command for sample in samples(cases) if sample.command != "view"]
+@each_to_output
+def test_full_file_system(cases: Cases, subtests: SubTests, command: str) -> None:
     folder = Path(cases.path())
     with tmpfs(folder, PAGE) as is_mounted:
         if not is_mounted:
             pytest.skip(TAKES_ROOT)
-        for command, closed in itertools.product(writing, COMBINATIONS):
-            path = folder / NEW_FILE
-            check_write_fault(cases, "a full file system", command, closed, str(path))
-            path.unlink()
+        for closed in COMBINATIONS:
+            with subtests.test(closings(closed)):
+                check_write_fault(cases, command, closed, str(folder / NEW_FILE))
+                (folder / NEW_FILE).unlink()
 
 
-def test_one_failing_write(cases: Cases) -> None:
+@each_to_output
+def test_one_failing_write(cases: Cases, subtests: SubTests, command: str) -> None:
     """A write fails, and the next one would not: the message does not come into the output."""
     needs("strace")
     inject = f"write:error=ENOSPC:when={FAILING_WRITE}"
     strace = ["strace", "-o", cases.path(), "-e", "trace=write", "-e", f"inject={inject}"]
-    for sample, closed in itertools.product(samples(cases), COMBINATIONS):
-        if sample.command != "view":
-            check_write_fault(cases, "a write that fails", sample.command, closed, NEW_FILE, under=strace)
+    for closed in COMBINATIONS:
+        with subtests.test(closings(closed)):
+            check_write_fault(cases, command, closed, NEW_FILE, under=strace)
 
 
 def refusing(directories: list[str]) -> list[str]:
     """The words of strace under which these cannot be opened."""
+    needs("strace")
     named = [word for path in directories for word in ("-P", path)]
     return ["strace", "-o", "/dev/null", *named, "-e", "trace=openat", "-e", "inject=openat:error=EACCES"]
 
 
-def test_refused_directories(cases: Cases) -> None:
-    """The next directory takes the number of a closed stream; without any, a run ends before it opens a file."""
-    needs("strace")
-    writing = [sample.command for sample in samples(cases) if sample.command != "view"]
-    for command, closed, count in itertools.product(writing, COMBINATIONS[1:], range(1, len(DIRECTORIES))):
-        name, strace = f"a limited file, {DIRECTORIES[:count]} refused", refusing(DIRECTORIES[:count])
-        check_write_fault(cases, name, command, closed, NEW_FILE, under=strace, preexec_fn=limited)
-    for sample, closed in itertools.product(samples(cases), COMBINATIONS[1:]):
-        check_without_directories(cases, sample.command, closed)
+@each_to_output
+def test_refused_directories(cases: Cases, subtests: SubTests, command: str) -> None:
+    """The next directory takes the number of a closed stream."""
+    for closed, count in itertools.product(COMBINATIONS[1:], range(1, len(DIRECTORIES))):
+        under = refusing(DIRECTORIES[:count])
+        with subtests.test(f"{closings(closed)}, {DIRECTORIES[:count]} refused"):
+            check_write_fault(cases, command, closed, NEW_FILE, under=under, preexec_fn=limited)
 
 
-def check_without_directories(cases: Cases, command: str, closed: set[int]) -> None:
-    with tempfile.TemporaryDirectory() as folder:
-        sample = own_sample(cases.program, folder, command)
-        for name, content in ((OLD_FILE, OLD), ("given", sample.stdin), ("stdin", sample.stdin)):
-            (Path(folder) / name).write_bytes(content)
-        before = contents(Path(folder))
-        output = [] if command == "view" else ["--output", OLD_FILE]
-        words = [cases.program, *named(sample, "given").words, *output]
-        done = run_closed(words, closed, folder, under=refusing(DIRECTORIES))
-        left = Left(done.returncode, done.stdout, done.stderr, changed(before, folder))
-    fault = Fault.INPUT_NOT_READ if 0 in closed else Fault.NOT_WRITTEN
-    # strace says on standard error what it makes of a relative path.
-    left = left._replace(message=b"".join(line for line in left.message.splitlines(True) if b"strace" not in line))
-    assert left == failed(fault, closed), f"{command} without a directory and without {sorted(closed)}"
+@each_command
+def test_without_directories(cases: Cases, subtests: SubTests, command: str) -> None:
+    """A run ends before it opens a file."""
+    output, under = None if command == "view" else OLD_FILE, refusing(DIRECTORIES)
+    for closed in COMBINATIONS[1:]:
+        with subtests.test(closings(closed)):
+            _, left = run_sample(cases, Setting(command, closed, output, True), under=under)
+            # strace says on standard error what it makes of a relative path.
+            message = b"".join(line for line in left.message.splitlines(True) if b"strace" not in line)
+            fault = Fault.INPUT_NOT_READ if 0 in closed else Fault.NOT_WRITTEN
+            assert left._replace(message=message) == failed(fault, closed)

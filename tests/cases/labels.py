@@ -1,18 +1,27 @@
 """Labels and several secrets: which are allowed, and in which order they are tried."""
 
+import pytest
+from pytest_subtests import SubTests
+
 from cases import TEXT, Cases, by_file, by_id
 from model.faults import Fault
 from model.vaults import HEADER, seal
 
 
-def test_vault_ids(cases: Cases) -> None:
-    right, missing = cases.file(b"right\n"), str(cases.folder / "missing")
-    vault = seal(b"right", TEXT)
-    for label in ("a;b", ";", " a", "a ", " ", "a\tb", "a\x7fb", "dév", "a" * 129):
-        for path in (right, missing, "prompt"):
-            cases.refuses(f"label {label!r:.20}", by_id(path, label), vault, Fault.BAD_LABEL)
-    for label in ("a", "a b", "~!#$%&", "a" * 128):
-        cases.decrypts(f"label {label!r:.20}", by_id(right, label), vault, TEXT)
+@pytest.mark.parametrize("label", ("a;b", ";", " a", "a ", " ", "a\tb", "a\x7fb", "dév", "a" * 129))
+def test_bad_labels(cases: Cases, subtests: SubTests, label: str) -> None:
+    for path in (cases.file(b"right\n"), cases.path(), "prompt"):
+        with subtests.test(path):
+            cases.refuses(by_id(path, label), seal(b"right", TEXT), Fault.BAD_LABEL)
+
+
+@pytest.mark.parametrize("label", ("a", "a b", "~!#$%&", "a" * 128))
+def test_labels(cases: Cases, label: str) -> None:
+    cases.decrypts(by_id(cases.file(b"right\n"), label), seal(b"right", TEXT), TEXT)
+
+
+def test_vault_ids(cases: Cases, subtests: SubTests) -> None:
+    right, missing, vault = cases.file(b"right\n"), cases.path(), seal(b"right", TEXT)
     refused = [
         ("a prompt", ["--vault-id", "prompt"], Fault.PROMPT_SOURCE),
         ("a prompt with a label", ["--vault-id", "dev@prompt"], Fault.PROMPT_SOURCE),
@@ -27,39 +36,47 @@ def test_vault_ids(cases: Cases) -> None:
         ("17 bad labels", by_id("prompt", "a;b") * 17, Fault.TOO_MANY_SECRETS),
     ]
     for name, options, fault in refused:
-        cases.refuses(name, options, vault, fault)
-        cases.refuses(f"{name}, no vault", options, b"key: value\n", fault)
+        with subtests.test(name):
+            cases.refuses(options, vault, fault)
+            cases.refuses(options, b"key: value\n", fault)
 
 
-def test_several_secrets(cases: Cases) -> None:
-    wrong = [cases.file(b"wrong %d\n" % index) for index in range(15)]
-    right = cases.file(b"right\n")
+@pytest.mark.parametrize("label", (b"", b"dev", b"w3"))
+def test_several_secrets(cases: Cases, subtests: SubTests, label: bytes) -> None:
+    right, *wrong = [cases.file(content) for content in (b"right\n", *(b"wrong %d\n" % index for index in range(15)))]
     many = [word for index, path in enumerate(wrong) for word in by_id(path, f"w{index}")]
     one, two = wrong[:2]
-    for label in (b"", b"dev", b"w3"):
-        vault = seal(b"right", TEXT, label)
-        accepted = [
-            ("the last of 16 vault ids", many + by_id(right, "dev")),
-            ("the first of 16 vault ids", by_id(right, "x") + many),
-            ("15 vault ids and a password file", by_file(right) + many),
-            ("two password files", by_file(one) + by_file(right)),
-            ("both options", by_file(one) + by_id(right, "dev")),
-            ("one label twice", by_id(one, "dev") + by_id(right, "dev")),
-            ("a wrong secret with the label", by_id(right, "x") + by_id(one, label.decode() or "default")),
-            ("the right secret twice", by_id(right) + by_id(right, "dev")),
-        ]
-        for name, options in accepted:
-            cases.decrypts(f"{name}, label {label}", options, vault, TEXT)
-        cases.refuses("two wrong secrets", by_id(one, "dev") + by_file(two), vault, Fault.NO_SECRET_FITS)
-        cases.refuses("15 wrong secrets", many, vault, Fault.NO_SECRET_FITS)
-    # Keys are the same with and without a byte 00 at the end.
-    short, long = b"abc", b"abc\x00"
-    both = by_id(cases.file(short), "a") + by_id(cases.file(long), "b")
-    for password in (short, long):
-        cases.decrypts(f"{password} of two alike", both, seal(password, TEXT, b"a"), TEXT)
-    for name, stdin, fault in (
-        ("text", b"key: value\n", Fault.NOT_VAULT),
-        ("odd digits", HEADER + b"\nabc", Fault.BAD_HEX),
-        ("no parts", HEADER, Fault.BAD_PAYLOAD),
-    ):
-        cases.refuses(f"{name} with a secret", by_file(right), stdin, fault)
+    vault = seal(b"right", TEXT, label)
+    accepted = {
+        "the last of 16 vault ids": many + by_id(right, "dev"),
+        "the first of 16 vault ids": by_id(right, "x") + many,
+        "15 vault ids and a password file": by_file(right) + many,
+        "two password files": by_file(one) + by_file(right),
+        "both options": by_file(one) + by_id(right, "dev"),
+        "one label twice": by_id(one, "dev") + by_id(right, "dev"),
+        "a wrong secret with the label": by_id(right, "x") + by_id(one, label.decode() or "default"),
+        "the right secret twice": by_id(right) + by_id(right, "dev"),
+    }
+    for name, options in accepted.items():
+        with subtests.test(name):
+            cases.decrypts(options, vault, TEXT)
+    with subtests.test("two wrong secrets"):
+        cases.refuses(by_id(one, "dev") + by_file(two), vault, Fault.NO_SECRET_FITS)
+    with subtests.test("15 wrong secrets"):
+        cases.refuses(many, vault, Fault.NO_SECRET_FITS)
+
+
+@pytest.mark.parametrize("password", (b"abc", b"abc\x00"))
+def test_secrets_alike(cases: Cases, password: bytes) -> None:
+    """Keys are the same with and without a byte 00 at the end."""
+    both = by_id(cases.file(b"abc"), "a") + by_id(cases.file(b"abc\x00"), "b")
+    cases.decrypts(both, seal(password, TEXT, b"a"), TEXT)
+
+
+NO_VAULTS = (b"key: value\n", Fault.NOT_VAULT), (HEADER + b"\nabc", Fault.BAD_HEX), (HEADER, Fault.BAD_PAYLOAD)
+
+
+@pytest.mark.parametrize("stdin, fault", NO_VAULTS, ids=["text", "odd digits", "no parts"])
+def test_no_vault(cases: Cases, stdin: bytes, fault: Fault) -> None:
+    """With a secret."""
+    cases.refuses(by_file(cases.file(b"right\n")), stdin, fault)

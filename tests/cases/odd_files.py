@@ -3,19 +3,21 @@ read only, and odd paths.
 """
 
 import errno
+import itertools
 import os
 import shutil
-import subprocess
 from pathlib import Path
 
 import pytest
+from pytest_subtests import SubTests
 
 from cases import TEXT, Cases, by_file
-from cases.files import NOT_ASKED, to_output, with_files
-from cases.modes import OLD, mode, with_output
-from cases.samples import SALT_TEXT, SALT_WORDS, Sample
+from cases.files import NOT_ASKED, to_output
+from cases.modes import OLD, mode
+from cases.samples import OF_FILE, SALT_TEXT, SALT_WORDS, TO_OUTPUT, Sample, each_command, sample_of
 from lib.mounts import PAGE, remount_read_only, tmpfs
 from lib.needs import TAKES_ROOT
+from lib.processes import started
 from model.faults import Fault
 from model.vaults import SALT, seal
 
@@ -25,111 +27,95 @@ LONGEST_PATH, NAME = 4_095, 200
 NAMES = ["line\nend", "\n", "\x1b]0;title\x07", "größe", "a;b@c"]
 
 
-def salted_by(sample: Sample, path: str) -> Sample:
+def salted_by(sample: Sample, path: str) -> list[str]:
     """The words with a salt file in the place of the salt."""
-    words = [word for word in sample.words if word not in SALT_WORDS]
-    return sample._replace(words=[*words, "--salt-file", path])
+    return [*(word for word in sample.words if word not in SALT_WORDS), "--salt-file", path]
 
 
-def seals(sample: Sample) -> bool:
-    return SALT_WORDS[0] in sample.words
-
-
-def check_not_opened(cases: Cases, name: str, path: str) -> None:
+def check_not_opened(cases: Cases, subtests: SubTests, command: str, path: str) -> None:
     """A path that cannot be opened, in each of its roles."""
-    for sample in with_files(cases):
-        runs = [
-            ("FILE", [*sample.words, path, *to_output(sample)], Fault.INPUT_NOT_OPENED),
-            ("a password file", [*sample.words, *by_file(path)], Fault.SECRET_NOT_OPENED),
-        ]
-        if seals(sample):
-            runs.append(("a salt file", salted_by(sample, path).words, Fault.SALT_NOT_OPENED))
-        for role, words, fault in runs:
-            cases.refused(f"{sample.command}, {name} as {role}", words, fault, NOT_ASKED)
-    for sample in with_output(cases):
-        cases.refused(f"{sample.command} to {name}", [*sample.words, "--output", path], Fault.NOT_WRITTEN, sample.stdin)
+    sample = sample_of(cases, command)
+    runs = [("a password file", [*sample.words, *by_file(path)], NOT_ASKED, Fault.SECRET_NOT_OPENED)]
+    if command in OF_FILE:
+        runs.append(("FILE", [*sample.words, path, *to_output(sample)], NOT_ASKED, Fault.INPUT_NOT_OPENED))
+    if SALT_WORDS[0] in sample.words:
+        runs.append(("a salt file", salted_by(sample, path), NOT_ASKED, Fault.SALT_NOT_OPENED))
+    if command in TO_OUTPUT:
+        runs.append(("an output", [*sample.words, "--output", path], sample.stdin, Fault.NOT_WRITTEN))
+    for role, words, stdin, fault in runs:
+        with subtests.test(role):
+            cases.refused(words, fault, stdin)
 
 
-def check_opened(cases: Cases, name: str, path: str) -> None:
+def check_opened(cases: Cases, subtests: SubTests, command: str, path: str) -> None:
     """A path that is as good as any other, in each of its roles."""
-    place = Path(path)
-    for sample in with_files(cases):
-        place.write_bytes(sample.stdin)
-        cases.run(
-            f"{sample.command}, {name} as FILE", [*sample.words, path, *to_output(sample)], NOT_ASKED, 0, sample.output
-        )
-        place.write_bytes(b"right\n")
+    sample, place = sample_of(cases, command), Path(path)
+    runs = []
+    if command in OF_FILE:
+        runs.append(("FILE", sample.stdin, [*sample.words, path, *to_output(sample)], NOT_ASKED, sample.output))
+    if command in TO_OUTPUT:
         words = [{sample.words[2]: path}.get(word, word) for word in sample.words]
-        if sample.command != "view":
-            cases.run(f"{sample.command}, {name} as a password file", words, sample.stdin, 0, sample.output)
-        if sample.command == "encrypt":
-            place.write_bytes(SALT)
-            cases.run(
-                f"encrypt, {name} as a salt file",
-                salted_by(sample, path).words,
-                TEXT,
-                0,
-                seal(b"right", TEXT, salt=SALT),
-            )
+        runs.append(("a password file", b"right\n", words, sample.stdin, sample.output))
+    if command == "encrypt":
+        runs.append(("a salt file", SALT, salted_by(sample, path), TEXT, seal(b"right", TEXT, salt=SALT)))
+    for role, content, words, stdin, output in runs:
+        with subtests.test(role):
+            place.write_bytes(content)
+            cases.run(words, stdin, 0, output)
+    if command in TO_OUTPUT:
         place.unlink()
-    for sample in with_output(cases):
-        cases.run(f"{sample.command} to {name}", [*sample.words, "--output", path], sample.stdin)
-        assert (place.read_bytes() if place.exists() else None) == sample.output, f"{sample.command} to {name}: content"
-        place.unlink(missing_ok=True)
+        with subtests.test("an output"):
+            cases.run([*sample.words, "--output", path], sample.stdin)
+            assert place.read_bytes() == sample.output
 
 
-def test_sparse_files(cases: Cases) -> None:
+@each_command
+def test_sparse_files(cases: Cases, subtests: SubTests, command: str) -> None:
     """A file is read only up to its limit, and an output is truncated first."""
-    path = cases.file(b"")
+    path, sample = cases.file(b""), sample_of(cases, command)
     try:
         os.truncate(path, SPARSE_SIZE)
     except OSError:
         pytest.skip("the file system has none that is so large")
-    for sample in with_files(cases):
-        name = f"{sample.command}, a sparse file"
-        cases.refused(f"{name} as FILE", [*sample.words, path, *to_output(sample)], Fault.TOO_LONG, NOT_ASKED)
-        cases.refused(f"{name} as a password file", [*sample.words, *by_file(path)], Fault.SECRET_TOO_LONG, NOT_ASKED)
-        with open(path, "rb") as stdin:
-            cases.run_streams(f"{name} as standard input", sample.words, 1, Fault.TOO_LONG.line, stdin=stdin)
-        if sample.command == "encrypt":
-            cases.run(
-                f"{name} as a salt file", salted_by(sample, path).words, TEXT, 0, seal(b"right", TEXT, salt=bytes(32))
-            )
-    for sample in with_output(cases):
-        os.truncate(path, SPARSE_SIZE)
-        cases.run(f"{sample.command} to a sparse file", [*sample.words, "--output", path], sample.stdin)
-        assert os.path.getsize(path) == len(sample.output), f"{sample.command} to a sparse file: size"
-        assert Path(path).read_bytes() == sample.output, f"{sample.command} to a sparse file: content"
+    with subtests.test("a password file"):
+        cases.refused([*sample.words, *by_file(path)], Fault.SECRET_TOO_LONG, NOT_ASKED)
+    with subtests.test("standard input"), open(path, "rb") as stdin:
+        cases.run_streams(sample.words, 1, Fault.TOO_LONG.line, stdin=stdin)
+    if command in OF_FILE:
+        with subtests.test("FILE"):
+            cases.refused([*sample.words, path, *to_output(sample)], Fault.TOO_LONG, NOT_ASKED)
+    if command == "encrypt":
+        with subtests.test("a salt file"):
+            cases.run(salted_by(sample, path), TEXT, 0, seal(b"right", TEXT, salt=bytes(32)))
+    if command in TO_OUTPUT:
+        cases.run([*sample.words, "--output", path], sample.stdin)
+        assert os.path.getsize(path) == len(sample.output)
+        assert Path(path).read_bytes() == sample.output
 
 
-def test_loops_of_links(cases: Cases) -> None:
+@each_command
+def test_loops_of_links(cases: Cases, subtests: SubTests, command: str) -> None:
     first, second = cases.path(), cases.path()
     os.symlink(first, second)
     os.symlink(second, first)
-    check_not_opened(cases, "a loop of links", first)
+    check_not_opened(cases, subtests, command, first)
 
 
-def test_running_program(cases: Cases) -> None:
+def test_running_program(cases: Cases, subtests: SubTests) -> None:
     """It is read as any file; the system lets nobody write onto it."""
     path = cases.path()
     shutil.copy(shutil.which("sleep"), path)
     content = Path(path).read_bytes()
-    with subprocess.Popen([path, "600"]) as running:
-        try:
-            if opens_to_write(path):
-                pytest.skip("this system lets it be written")
-            for sample in with_output(cases):
-                cases.refused(
-                    f"{sample.command} to a program that runs",
-                    [*sample.words, "--output", path],
-                    Fault.NOT_WRITTEN,
-                    sample.stdin,
-                )
-                assert Path(path).read_bytes() == content, f"{sample.command}: the program stays"
-            words = ["encrypt", *by_file(cases.file(b"right\n")), *SALT_WORDS, "--output", "-", path]
-            cases.run("encrypt of a program that runs", words, NOT_ASKED, 0, seal(b"right", content, salt=SALT_TEXT))
-        finally:
-            running.kill()
+    with started([path, "600"]):
+        if opens_to_write(path):
+            pytest.skip("this system lets it be written")
+        for command in TO_OUTPUT:
+            with subtests.test(command):
+                sample = sample_of(cases, command)
+                cases.refused([*sample.words, "--output", path], Fault.NOT_WRITTEN, sample.stdin)
+                assert Path(path).read_bytes() == content, "the program stays"
+        words = ["encrypt", *by_file(cases.file(b"right\n")), *SALT_WORDS, "--output", "-", path]
+        cases.run(words, NOT_ASKED, 0, seal(b"right", content, salt=SALT_TEXT))
 
 
 def opens_to_write(path: str) -> bool:
@@ -142,7 +128,7 @@ def opens_to_write(path: str) -> bool:
     return True
 
 
-def test_read_only(cases: Cases) -> None:
+def test_read_only(cases: Cases, subtests: SubTests) -> None:
     folder = Path(cases.path())
     old, new = folder / "old", folder / "new"
     with tmpfs(folder, 16 * PAGE) as is_mounted:
@@ -151,38 +137,42 @@ def test_read_only(cases: Cases) -> None:
             old.chmod(0o644)
         if not is_mounted or not remount_read_only(folder):
             pytest.skip(TAKES_ROOT)
-        for sample in with_output(cases):
-            for path in (old, new):
-                cases.refused(
-                    f"{sample.command} to a file system that is read only",
-                    [*sample.words, "--output", str(path)],
-                    Fault.NOT_WRITTEN,
-                    sample.stdin,
-                )
-            assert (os.listdir(folder), old.read_bytes(), mode(str(old))) == (
-                ["old"],
-                OLD,
-                oct(0o644),
-            ), f"{sample.command}: it stays"
+        for command, path in itertools.product(TO_OUTPUT, (old, new)):
+            with subtests.test(f"{command} to {path.name}"):
+                sample = sample_of(cases, command)
+                cases.refused([*sample.words, "--output", str(path)], Fault.NOT_WRITTEN, sample.stdin)
+        assert (os.listdir(folder), old.read_bytes(), mode(str(old))) == (["old"], OLD, oct(0o644)), "it stays"
         words = ["encrypt", *by_file(cases.file(b"right\n")), *SALT_WORDS, "--output", "-", str(old)]
-        cases.run("encrypt of a file that cannot be written", words, NOT_ASKED, 0, seal(b"right", OLD, salt=SALT_TEXT))
+        cases.run(words, NOT_ASKED, 0, seal(b"right", OLD, salt=SALT_TEXT))
 
 
-def test_long_paths(cases: Cases) -> None:
+def longest_path(cases: Cases) -> str:
+    """In folders that are there."""
     folder = f"{cases.folder}/"
     while len(folder) + NAME < LONGEST_PATH:
         folder += "d" * (NAME - 1) + "/"
     os.makedirs(folder)
-    longest = folder.ljust(LONGEST_PATH, "f")
-    check_opened(cases, "the longest path", longest)
-    check_not_opened(cases, "a path that is too long", longest + "f")
-    check_not_opened(cases, "a name that is too long", f"{cases.folder}/{'n' * 256}")
+    return folder.ljust(LONGEST_PATH, "f")
 
 
-def test_odd_names(cases: Cases) -> None:
+@each_command
+def test_longest_path(cases: Cases, subtests: SubTests, command: str) -> None:
+    check_opened(cases, subtests, command, longest_path(cases))
+
+
+@each_command
+def test_too_long_paths(cases: Cases, subtests: SubTests, command: str) -> None:
+    check_not_opened(cases, subtests, command, longest_path(cases) + "f")
+
+
+@each_command
+def test_too_long_names(cases: Cases, subtests: SubTests, command: str) -> None:
+    check_not_opened(cases, subtests, command, f"{cases.folder}/{'n' * 256}")
+
+
+@pytest.mark.parametrize("name", NAMES)
+@each_command
+def test_odd_names(cases: Cases, subtests: SubTests, command: str, name: str) -> None:
     """No message contains a file name, so each is one line."""
-    folder = Path(cases.path())
-    folder.mkdir()
-    for name in NAMES:
-        check_opened(cases, f"the name {name!r}", str(folder / name))
-    check_not_opened(cases, "a missing folder with a line end in its name", str(folder / "line\nend" / "file"))
+    check_opened(cases, subtests, command, str(cases.folder / name))
+    check_not_opened(cases, subtests, command, str(cases.folder / "missing" / name))

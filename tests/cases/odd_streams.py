@@ -9,10 +9,11 @@ import termios
 from pathlib import Path
 
 import pytest
+from pytest_subtests import SubTests
 
 from cases import SECONDS, Cases, answer_of, by_file
 from cases.modes import OLD
-from cases.samples import Sample, each_command, sample_of, samples
+from cases.samples import COMMANDS, Sample, each_command, sample_of
 from lib.processes import started
 from model.faults import Fault
 
@@ -22,17 +23,21 @@ REFUSED = Fault.NO_SECRET_FITS
 END_OF_INPUT = b"\x04"
 
 
+REFUSED_LINE = REFUSED.status, REFUSED.line
+# None stands for the refusal.
+each_or_refused = pytest.mark.parametrize("command", [*COMMANDS, None])
+
+
 def refused_sample(cases: Cases) -> Sample:
     """A run whose one line goes to standard error."""
-    vault = next(sample.stdin for sample in samples(cases) if sample.command == "view")
-    return Sample(["view", *by_file(cases.file(b"wrong\n"))], vault, b"")
+    return Sample(["view", *by_file(cases.file(b"wrong\n"))], sample_of(cases, "view").stdin, b"")
 
 
-def check_run(cases: Cases, name: str, words: list[str], wanted: tuple, **streams) -> None:
+def check_run(cases: Cases, words: list[str], wanted: tuple, **streams) -> None:
     """The status, and what came through each output that is captured."""
     given = {"stdout": subprocess.PIPE, "stderr": subprocess.PIPE, **streams}
     done = subprocess.run([cases.program, *words], timeout=SECONDS, **given)
-    assert answer_of(done) == wanted, name
+    assert answer_of(done) == wanted
 
 
 def failed(fault: Fault, output=b"") -> tuple:
@@ -46,97 +51,69 @@ def test_non_blocking_input(cases: Cases, command: str) -> None:
     reader, writer = os.pipe()
     os.set_blocking(reader, False)
     os.write(writer, sample.stdin)
-    check_run(
-        cases, f"{sample.command}, input that does not wait", sample.words, failed(Fault.INPUT_NOT_READ), stdin=reader
-    )
+    check_run(cases, sample.words, failed(Fault.INPUT_NOT_READ), stdin=reader)
     os.write(writer, sample.stdin)
     os.close(writer)
-    check_run(cases, f"{sample.command}, input that has ended", sample.words, (0, sample.output, b""), stdin=reader)
+    check_run(cases, sample.words, (0, sample.output, b""), stdin=reader)
     os.close(reader)
 
 
 @each_command
 @pytest.mark.parametrize("size, fault", ((1, None), (LARGE, Fault.NOT_WRITTEN)))
-def test_non_blocking_output(cases: Cases, size, fault, command: str) -> None:
+def test_non_blocking_output(cases: Cases, size: int, fault: Fault | None, command: str) -> None:
     """If the pipe cannot take all of the output at once, it gets a prefix, and the write fails."""
     sample = sample_of(cases, command, bytes(size))
     reader, writer = os.pipe()
     os.set_blocking(writer, False)
     wanted = failed(fault, None) if fault else (0, None, b"")
-    name = f"{sample.command} of {size} bytes to a pipe that does not wait"
-    check_run(cases, name, sample.words, wanted, input=sample.stdin, stdout=writer)
+    check_run(cases, sample.words, wanted, input=sample.stdin, stdout=writer)
     os.close(writer)
     with open(reader, "rb") as pipe:
         content = pipe.read()
-    assert sample.output.startswith(content), f"{name}: a prefix"
-    assert (content == sample.output) == (fault is None), f"{name}: the whole"
+    assert sample.output.startswith(content), "a prefix"
+    assert (content == sample.output) == (fault is None), "the whole"
 
 
-def test_appending(cases: Cases) -> None:
+@each_command
+def test_appending(cases: Cases, command: str) -> None:
     """The output is appended to the file; as `--output /dev/stdout` it opens the file again, which truncates it."""
-    for sample in samples(cases):
-        path = cases.file(OLD)
-        with open(path, "ab") as out:
-            check_run(cases, f"{sample.command} appended", sample.words, (0, None, b""), input=sample.stdin, stdout=out)
-            assert Path(path).read_bytes() == OLD + sample.output, f"{sample.command} appended: content"
-            if sample.command != "view":
-                words = [*sample.words, "--output", "/dev/stdout"]
-                check_run(cases, f"{sample.command} to its name", words, (0, None, b""), input=sample.stdin, stdout=out)
-                assert Path(path).read_bytes() == sample.output, f"{sample.command} to its name: content"
+    sample, path = sample_of(cases, command), cases.file(OLD)
+    with open(path, "ab") as out:
+        check_run(cases, sample.words, (0, None, b""), input=sample.stdin, stdout=out)
+        assert Path(path).read_bytes() == OLD + sample.output
+        if command != "view":
+            words = [*sample.words, "--output", "/dev/stdout"]
+            check_run(cases, words, (0, None, b""), input=sample.stdin, stdout=out)
+            assert Path(path).read_bytes() == sample.output
+
+
+def test_appending_refused(cases: Cases) -> None:
     refused, path = refused_sample(cases), cases.file(OLD)
     with open(path, "ab") as both:
-        check_run(
-            cases,
-            "a refusal appended",
-            refused.words,
-            (REFUSED.status, None, None),
-            input=refused.stdin,
-            stdout=both,
-            stderr=both,
-        )
-    assert Path(path).read_bytes() == OLD + REFUSED.line, "a refusal appended: content"
+        wanted = REFUSED.status, None, None
+        check_run(cases, refused.words, wanted, input=refused.stdin, stdout=both, stderr=both)
+    assert Path(path).read_bytes() == OLD + REFUSED.line
 
 
-def test_one_way(cases: Cases) -> None:
+@each_command
+def test_one_way(cases: Cases, subtests: SubTests, command: str) -> None:
     """Standard input that is open for writing alone, and outputs that are open for reading alone."""
-    for sample in samples(cases):
-        path = cases.file(sample.stdin)
-        with open(path, "ab") as to_write, open(path, "rb") as to_read:
-            name = sample.command
-            check_run(
-                cases,
-                f"{name}, input that is to be written",
-                sample.words,
-                failed(Fault.INPUT_NOT_READ),
-                stdin=to_write,
-            )
-            check_run(
-                cases,
-                f"{name}, output that is to be read",
-                sample.words,
-                failed(Fault.NOT_WRITTEN, None),
-                input=sample.stdin,
-                stdout=to_read,
-            )
-            check_run(
-                cases,
-                f"{name}, standard error that is to be read",
-                sample.words,
-                (0, sample.output, None),
-                input=sample.stdin,
-                stderr=to_read,
-            )
-        assert Path(path).read_bytes() == sample.stdin, f"{name}: the file stays"
+    sample = sample_of(cases, command)
+    path, words = cases.file(sample.stdin), sample.words
+    with open(path, "ab") as to_write, open(path, "rb") as to_read:
+        with subtests.test("input that is to be written"):
+            check_run(cases, words, failed(Fault.INPUT_NOT_READ), stdin=to_write)
+        with subtests.test("output that is to be read"):
+            check_run(cases, words, failed(Fault.NOT_WRITTEN, None), input=sample.stdin, stdout=to_read)
+        with subtests.test("standard error that is to be read"):
+            check_run(cases, words, (0, sample.output, None), input=sample.stdin, stderr=to_read)
+    assert Path(path).read_bytes() == sample.stdin, "the file stays"
+
+
+def test_one_way_refused(cases: Cases) -> None:
     refused = refused_sample(cases)
     with open(cases.file(b""), "rb") as to_read:
-        check_run(
-            cases,
-            "a refusal nobody hears",
-            refused.words,
-            (REFUSED.status, b"", None),
-            input=refused.stdin,
-            stderr=to_read,
-        )
+        check_run(cases, refused.words, (REFUSED.status, b"", None), input=refused.stdin, stderr=to_read)
 
 
 @each_command
@@ -146,57 +123,47 @@ def test_sockets(cases: Cases, command: str) -> None:
     with ours, theirs:
         ours.sendall(sample.stdin)
         ours.shutdown(socket.SHUT_WR)
-        check_run(
-            cases, f"{sample.command} from and to a socket", sample.words, (0, None, b""), stdin=theirs, stdout=theirs
-        )
+        check_run(cases, sample.words, (0, None, b""), stdin=theirs, stdout=theirs)
         theirs.close()
         with ours.makefile("rb") as stream:
-            assert stream.read() == sample.output, f"{sample.command}: what the socket gave"
+            assert stream.read() == sample.output
 
 
 @each_command
-def test_left_sockets(cases: Cases, command: str) -> None:
-    """The other side of a socket has gone, and has not read what was sent to it."""
+def test_output_to_left_socket(cases: Cases, command: str) -> None:
+    """The other side of a socket has gone."""
     sample = sample_of(cases, command)
     ours, theirs = socket.socketpair()
     ours.close()
     with theirs:
-        check_run(
-            cases,
-            f"{sample.command} to a socket that was left",
-            sample.words,
-            failed(Fault.NOT_WRITTEN, None),
-            input=sample.stdin,
-            stdout=theirs,
-        )
+        check_run(cases, sample.words, failed(Fault.NOT_WRITTEN, None), input=sample.stdin, stdout=theirs)
+
+
+@each_command
+def test_input_from_left_socket(cases: Cases, command: str) -> None:
+    """The other side of a socket has gone, and has not read what was sent to it."""
     ours, theirs = socket.socketpair()
     theirs.sendall(b"nobody reads it")
     ours.close()
     with theirs:
-        check_run(
-            cases,
-            f"{sample.command} from a socket that was left",
-            sample.words,
-            failed(Fault.INPUT_NOT_READ),
-            stdin=theirs,
-        )
+        check_run(cases, sample_of(cases, command).words, failed(Fault.INPUT_NOT_READ), stdin=theirs)
 
 
-def test_terminal(cases: Cases) -> None:
+@each_or_refused
+def test_terminal(cases: Cases, command: str | None) -> None:
     """The text is typed, and so is its end; the terminal shows each line end as two bytes."""
-    for sample in [*samples(cases), refused_sample(cases)]:
-        controller, terminal = os.openpty()
-        settings = termios.tcgetattr(terminal)
-        settings[3] &= ~termios.ECHO
-        termios.tcsetattr(terminal, termios.TCSANOW, settings)
-        os.write(controller, sample.stdin + END_OF_INPUT)
-        streams = {"stdin": terminal, "stdout": terminal, "stderr": terminal}
-        with started([cases.program, *sample.words], **streams) as child:
-            os.close(terminal)
-            shown = all_shown(controller)
-            name = f"{sample.command} {sample.words[-1]} on a terminal"
-            status, text = (0, sample.output) if sample.output else (REFUSED.status, REFUSED.line)
-            assert (child.wait(SECONDS), shown) == (status, text.replace(b"\n", b"\r\n")), name
+    sample = sample_of(cases, command) if command else refused_sample(cases)
+    controller, terminal = os.openpty()
+    settings = termios.tcgetattr(terminal)
+    settings[3] &= ~termios.ECHO
+    termios.tcsetattr(terminal, termios.TCSANOW, settings)
+    os.write(controller, sample.stdin + END_OF_INPUT)
+    streams = {"stdin": terminal, "stdout": terminal, "stderr": terminal}
+    with started([cases.program, *sample.words], **streams) as child:
+        os.close(terminal)
+        shown = all_shown(controller)
+        status, text = (0, sample.output) if command else REFUSED_LINE
+        assert (child.wait(SECONDS), shown) == (status, text.replace(b"\n", b"\r\n"))
 
 
 def all_shown(terminal: int) -> bytes:
@@ -211,23 +178,9 @@ def all_shown(terminal: int) -> bytes:
     return b"".join(chunks)
 
 
-def test_one_pipe(cases: Cases) -> None:
+@each_or_refused
+def test_one_pipe(cases: Cases, command: str | None) -> None:
     """Both outputs are one pipe: a run writes its output there or its line, and nothing else."""
-    for sample in samples(cases):
-        check_run(
-            cases,
-            f"{sample.command}, both outputs one",
-            sample.words,
-            (0, sample.output, None),
-            input=sample.stdin,
-            stderr=subprocess.STDOUT,
-        )
-    refused = refused_sample(cases)
-    check_run(
-        cases,
-        "a refusal, both outputs one",
-        refused.words,
-        (REFUSED.status, REFUSED.line, None),
-        input=refused.stdin,
-        stderr=subprocess.STDOUT,
-    )
+    sample = sample_of(cases, command) if command else refused_sample(cases)
+    status, text = (0, sample.output) if command else REFUSED_LINE
+    check_run(cases, sample.words, (status, text, None), input=sample.stdin, stderr=subprocess.STDOUT)

@@ -12,25 +12,30 @@ from model.faults import Fault
 from model.options import COMMON, OPTIONS
 
 
-def test_helps(cases: Cases) -> None:
+@pytest.mark.parametrize("words", (["--help"], ["-h"], ["--help", "--loud"], ["-h", "--version"]), ids=" ".join)
+@pytest.mark.parametrize("name", MISTAKES)
+def test_helps(cases: Cases, name: str, words: list[str]) -> None:
     """The whole help is printed, also if a mistake follows --help."""
-    for name in MISTAKES:
-        command = [] if name == PROGRAM else [name]
-        text = help_path(name).read_bytes()
-        for words in (["--help"], ["-h"], ["--help", "--loud"], ["-h", "--version"]):
-            cases.run(f"help of {name} by {words}", [*command, *words], out=text)
-        named = OPTIONS if name == PROGRAM else COMMON | OPTIONS[name]
-        assert [each for each in named if each.encode() not in text] == [], f"the help of {name} names all"
+    cases.run([*([] if name == PROGRAM else [name]), *words], out=help_path(name).read_bytes())
+
+
+@pytest.mark.parametrize("name", MISTAKES)
+def test_named_in_help(name: str) -> None:
+    named, text = OPTIONS if name == PROGRAM else COMMON | OPTIONS[name], help_path(name).read_text()
+    assert [each for each in named if each not in text] == []
+
+
+def test_help_to_full_device(cases: Cases) -> None:
     with open("/dev/full", "wb") as full:
-        cases.run_streams(
-            "help to a full device", ["--help"], 3, Fault.NOT_WRITTEN.line, stdin=subprocess.DEVNULL, stdout=full
-        )
+        cases.run_streams(["--help"], 3, Fault.NOT_WRITTEN.line, stdin=subprocess.DEVNULL, stdout=full)
 
 
-@pytest.mark.parametrize("words", (["--version"], ["-V"], ["--version", "--loud"], ["-V", "--help"], ["-Vh"]))
-def test_versions(cases: Cases, words) -> None:
-    text = f"ansible-vault {version()}\n".encode()
-    cases.run(f"version by {words}", words, out=text)
+VERSIONS = ["--version"], ["-V"], ["--version", "--loud"], ["-V", "--help"], ["-Vh"]
+
+
+@pytest.mark.parametrize("words", VERSIONS, ids=" ".join)
+def test_versions(cases: Cases, words: list[str]) -> None:
+    cases.run(words, out=f"ansible-vault {version()}\n".encode())
 
 
 @pytest.mark.parametrize("name", MISTAKES)
@@ -43,11 +48,11 @@ def test_mistakes(cases: Cases, name: str, mistake: Mistake) -> None:
     """Each has the stored text, which names the word that is wrong."""
     text = stored_mistakes(name)[mistake.line]
     assert mistake.named in text
-    cases.run(mistake.line, mistake.words, status=2, err=text.encode())
+    cases.run(mistake.words, status=2, err=text.encode())
 
 
 def test_not_utf8(cases: Cases) -> None:
-    cases.run("an argument that is not UTF-8", [b"view", b"\xff"], status=2, err=b"error: an argument is not UTF-8\n")
+    cases.run([b"view", b"\xff"], status=2, err=b"error: an argument is not UTF-8\n")
 
 
 def test_endless_pipe(cases: Cases) -> None:

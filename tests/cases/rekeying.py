@@ -1,5 +1,9 @@
 """`rekey`: new secrets, options and inputs."""
 
+import itertools
+
+from pytest_subtests import SubTests
+
 from cases import TEXT, Cases, by_file
 from model.faults import Fault
 from model.vaults import (
@@ -18,7 +22,7 @@ SALT_WORDS = ["--salt", "abc"]
 SALT = b"abc"
 
 
-def test_rekeyed(cases: Cases) -> None:
+def test_rekeyed(cases: Cases, subtests: SubTests) -> None:
     right, new = cases.file(b"right\n"), cases.file(b" new one\n")
     runs = [
         ("a new vault id", ["--new-vault-id", f"prod@{new}"], b"new one", b"prod"),
@@ -29,31 +33,32 @@ def test_rekeyed(cases: Cases) -> None:
         ("the old password", ["--new-vault-id", f"prod@{right}"], b"right", b"prod"),
         ("the old password and label", ["--new-vault-password-file", right], b"right", b""),
     ]
-    for label in (b"", b"dev"):
-        for text in (b"", TEXT, b"a" * 16, bytes(range(256)) * 300):
-            vault = seal(b"right", text, label)
-            for name, options, password, new_label in runs:
-                words = ["rekey", *by_file(right), *options, *SALT_WORDS]
-                cases.run(f"{name}, {len(text)} bytes", words, vault, 0, seal(password, text, new_label, SALT))
+    # Each way with one text, and each text in one way.
+    every = [(TEXT, run) for run in runs] + [(text, runs[0]) for text in (b"", b"a" * 16, bytes(range(256)) * 300)]
+    for label, (text, (name, options, password, new_label)) in itertools.product((b"", b"dev"), every):
+        with subtests.test(f"{name}, {len(text)} bytes, old label {label!r}"):
+            words = ["rekey", *by_file(right), *options, *SALT_WORDS]
+            cases.run(words, seal(b"right", text, label), 0, seal(password, text, new_label, SALT))
     longest = b"a" * (PLAINTEXT_LIMIT + 15)
     words = ["rekey", *by_file(right), "--new-vault-password-file", new, *SALT_WORDS]
-    cases.run("rekey of the longest plaintext", words, seal(b"right", longest), 0, seal(b"new one", longest, b"", SALT))
+    cases.run(words, seal(b"right", longest), 0, seal(b"new one", longest, b"", SALT))
 
 
 def test_worked(cases: Cases) -> None:
     """An empty vault rekeyed with a salt of 32 bytes 01, and rekeyed with the new secret alone."""
     one, two, ones = cases.file(b"one\n"), cases.file(b"two\n"), cases.file(b"\x01" * 32)
     words = ["rekey", *by_file(one), "--new-vault-id", f"prod@{two}", "--salt-file", ones]
-    vault = cases.run("rekey nothing", words, seal(b"one", b""), 0, None)
-    assert vault.splitlines()[:2] == [MAGIC + b";1.2;AES256;prod", b"3031" * 20], "rekey nothing: first lines"
-    cases.decrypts("the new secret", by_file(two), vault, b"")
-    cases.refuses("the old secret", by_file(one), vault, Fault.NO_SECRET_FITS)
-    cases.refused("the new secret is not tried", ["rekey", "--new-vault-id", f"x@{two}"], Fault.NO_SECRET_FITS, vault)
-    runs = [cases.run("rekey, salts differ", words[:5], seal(b"one", b""), 0, None) for _ in range(2)]
-    assert runs[0] != runs[1], "two runs differ"
+    vault = cases.run(words, seal(b"one", b""), 0, None)
+    assert vault.splitlines()[:2] == [MAGIC + b";1.2;AES256;prod", b"3031" * 20], "first lines"
+    cases.decrypts(by_file(two), vault, b"")
+    cases.refuses(by_file(one), vault, Fault.NO_SECRET_FITS)
+    # The new secret is not tried.
+    cases.refused(["rekey", "--new-vault-id", f"x@{two}"], Fault.NO_SECRET_FITS, vault)
+    runs = [cases.run(words[:5], seal(b"one", b""), 0, None) for _ in range(2)]
+    assert runs[0] != runs[1], "salts differ"
 
 
-def test_refused_options(cases: Cases) -> None:
+def test_refused_options(cases: Cases, subtests: SubTests) -> None:
     right, new, missing, empty = cases.file(b"right\n"), cases.file(b"new\n"), cases.path(), cases.file(b"")
     vault = seal(b"right", TEXT)
     refused = [
@@ -92,19 +97,19 @@ def test_refused_options(cases: Cases) -> None:
         ("a short salt", ["--new-vault-id", new, "--salt-file", new], Fault.SALT_SHORT),
     ]
     for name, options, fault in refused:
-        cases.refused(f"rekey, {name}", ["rekey", *by_file(right), *options], fault, vault)
-    too_many = ["rekey", *by_file(right) * 17]
-    cases.refused("rekey, 17 secrets and no new one", too_many, Fault.TOO_MANY_SECRETS, vault)
-    cases.run(
-        "rekey, 16 secrets and a new one",
-        [*too_many[:-2], "--new-vault-id", new, *SALT_WORDS],
-        vault,
-        0,
-        seal(b"new", TEXT, b"", SALT),
-    )
+        with subtests.test(name):
+            cases.refused(["rekey", *by_file(right), *options], fault, vault)
 
 
-def test_refused_inputs(cases: Cases) -> None:
+def test_most_secrets(cases: Cases) -> None:
+    """Sixteen, besides the new one."""
+    right, vault = by_file(cases.file(b"right\n")), seal(b"right", TEXT)
+    new = ["--new-vault-id", cases.file(b"new\n"), *SALT_WORDS]
+    cases.refused(["rekey", *right * 17], Fault.TOO_MANY_SECRETS, vault)
+    cases.run(["rekey", *right * 16, *new], vault, 0, seal(b"new", TEXT, b"", SALT))
+
+
+def test_refused_inputs(cases: Cases, subtests: SubTests) -> None:
     right, new = cases.file(b"right\n"), cases.file(b"new\n")
     words = ["rekey", *by_file(right), "--new-vault-id", f"prod@{new}", *SALT_WORDS]
     refused = [
@@ -121,6 +126,7 @@ def test_refused_inputs(cases: Cases) -> None:
         ("the start of a vault inside", seal(b"right", MAGIC), Fault.ALREADY_VAULT),
     ]
     for name, stdin, fault in refused:
-        cases.refused(f"rekey of {name}", words, fault, stdin)
+        with subtests.test(name):
+            cases.refused(words, fault, stdin)
     almost = MAGIC[:-1]
-    cases.run("rekey of almost a vault", words, seal(b"right", almost), 0, seal(b"new", almost, b"prod", SALT))
+    cases.run(words, seal(b"right", almost), 0, seal(b"new", almost, b"prod", SALT))

@@ -1,8 +1,8 @@
 """`--require-id-match` for every command that has it."""
 
-import pytest
+from pytest_subtests import SubTests
 
-from cases import READING, TEXT, Cases, by_file, by_id
+from cases import TEXT, Cases, by_file, by_id
 from cases.rekeying import SALT, SALT_WORDS
 from model.faults import Fault
 from model.vaults import ENVELOPE, parts, seal, serialized
@@ -10,7 +10,7 @@ from model.vaults import ENVELOPE, parts, seal, serialized
 FLAG = "--require-id-match"
 
 
-def test_required_label(cases: Cases) -> None:
+def test_required_label(cases: Cases, subtests: SubTests) -> None:
     one, two = cases.file(b"one\n"), cases.file(b"two\n")
     both = by_id(one, "a") + by_id(two, "b")
     accepted = [
@@ -29,20 +29,28 @@ def test_required_label(cases: Cases) -> None:
         ("text", both, TEXT, Fault.NOT_VAULT),
     ]
     for name, options, vault in accepted:
-        cases.decrypts(f"required: {name}", [*options, FLAG], vault, TEXT)
-    cases.decrypts("required: no bytes", [*by_file(one), FLAG], seal(b"one", b""), b"")
+        with subtests.test(name):
+            cases.decrypts([*options, FLAG], vault, TEXT)
     for name, options, vault, fault in refused:
-        cases.refuses(f"required: {name}", [FLAG, *options], vault, fault)
+        with subtests.test(name):
+            cases.refuses([FLAG, *options], vault, fault)
         if fault is Fault.NO_SECRET_FITS and "capitals" not in name:
-            cases.decrypts(f"not required: {name}", options, vault, TEXT)
+            with subtests.test(f"{name}, not required"):
+                cases.decrypts(options, vault, TEXT)
 
 
-@pytest.mark.parametrize("command", READING)
-def test_required_in_rekey(cases: Cases, command) -> None:
+def test_required_label_of_no_bytes(cases: Cases) -> None:
+    cases.decrypts([*by_file(cases.file(b"one\n")), FLAG], seal(b"one", b""), b"")
+
+
+def test_required_in_rekey(cases: Cases) -> None:
     one, two = cases.file(b"one\n"), cases.file(b"two\n")
     words = ["rekey", FLAG, *by_file(one), "--new-vault-id", f"prod@{two}", *SALT_WORDS]
-    vault = cases.run("required: rekey", words, seal(b"one", TEXT), 0, seal(b"two", TEXT, b"prod", SALT))
-    cases.decrypts("required: the new label", [*by_id(two, "prod"), FLAG], vault, TEXT)
-    cases.refuses("required: the new secret under another label", [*by_file(two), FLAG], vault, Fault.NO_SECRET_FITS)
-    cases.refused("required: rekey of another label", words, Fault.NO_SECRET_FITS, seal(b"one", TEXT, b"dev"))
-    cases.refused(f"{command}, required without secrets", [command, FLAG], Fault.NO_SECRET_FITS, ENVELOPE)
+    vault = cases.run(words, seal(b"one", TEXT), 0, seal(b"two", TEXT, b"prod", SALT))
+    cases.decrypts([*by_id(two, "prod"), FLAG], vault, TEXT)
+    cases.refuses([*by_file(two), FLAG], vault, Fault.NO_SECRET_FITS)
+    cases.refused(words, Fault.NO_SECRET_FITS, seal(b"one", TEXT, b"dev"))
+
+
+def test_required_without_secrets(cases: Cases) -> None:
+    cases.refuses([FLAG], ENVELOPE, Fault.NO_SECRET_FITS)

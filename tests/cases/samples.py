@@ -12,10 +12,14 @@ SALT_WORDS = ["--salt", SALT_TEXT.decode()]
 
 
 COMMANDS = ["encrypt", "decrypt", "view", "rekey", "encrypt_string"]
+# Those with an option --output, those with a FILE, and those with both.
+TO_OUTPUT = [each for each in COMMANDS if each != "view"]
+OF_FILE = [each for each in COMMANDS if each != "encrypt_string"]
+IN_PLACE = [each for each in TO_OUTPUT if each in OF_FILE]
 each_command = pytest.mark.parametrize("command", COMMANDS)
-# Those with an option --output, and those with a FILE.
-each_to_output = pytest.mark.parametrize("command", [each for each in COMMANDS if each != "view"])
-each_of_file = pytest.mark.parametrize("command", [each for each in COMMANDS if each != "encrypt_string"])
+each_to_output = pytest.mark.parametrize("command", TO_OUTPUT)
+each_of_file = pytest.mark.parametrize("command", OF_FILE)
+each_in_place = pytest.mark.parametrize("command", IN_PLACE)
 
 
 class Sample(NamedTuple):
@@ -28,21 +32,23 @@ class Sample(NamedTuple):
         return self.words[0]
 
 
-def samples(cases: Cases, text: bytes = TEXT) -> list[Sample]:
-    """A run of each command over this plaintext."""
-    right = lambda: by_file(cases.file(b"right\n"))
-    new = cases.file(b"new\n")
-    vault, sealed = seal(b"right", text), seal(b"right", text, salt=SALT_TEXT)
-    rekeyed = seal(b"new", text, b"prod", SALT_TEXT)
-    return [
-        Sample(["encrypt", *right(), *SALT_WORDS], text, sealed),
-        Sample(["decrypt", *right()], vault, text),
-        Sample(["view", *by_id(cases.file(b"right\n"), "dev")], vault, text),
-        Sample(["rekey", *right(), "--new-vault-id", f"prod@{new}", *SALT_WORDS], vault, rekeyed),
-        Sample(["encrypt_string", *right(), *SALT_WORDS, "--stdin-name", "k"], text, yaml_block(sealed, b"k")),
-    ]
-
-
 def sample_of(cases: Cases, command: str, text: bytes = TEXT) -> Sample:
-    [sample] = [each for each in samples(cases, text) if each.command == command]
-    return sample
+    """A run of the command over this plaintext."""
+    right, new = cases.file(b"right\n"), cases.file(b"new\n")
+    given = by_file(right)
+    vault, sealed = (lambda: seal(b"right", text)), (lambda: seal(b"right", text, salt=SALT_TEXT))
+    match command:
+        case "encrypt":
+            return Sample(["encrypt", *given, *SALT_WORDS], text, sealed())
+        case "decrypt":
+            return Sample(["decrypt", *given], vault(), text)
+        case "view":
+            return Sample(["view", *by_id(right, "dev")], vault(), text)
+        case "rekey":
+            words = ["rekey", *given, "--new-vault-id", f"prod@{new}", *SALT_WORDS]
+            return Sample(words, vault(), seal(b"new", text, b"prod", SALT_TEXT))
+    return Sample(["encrypt_string", *given, *SALT_WORDS, "--stdin-name", "k"], text, yaml_block(sealed(), b"k"))
+
+
+def samples(cases: Cases, text: bytes = TEXT) -> list[Sample]:
+    return [sample_of(cases, command, text) for command in COMMANDS]

@@ -3,6 +3,7 @@
 import os
 
 import pytest
+from pytest_subtests import SubTests
 
 from cases import TEXT, Cases, answer_of, by_file, by_id
 from lib.needs import needs
@@ -12,7 +13,7 @@ from model.vaults import ENVELOPE, HEADER, MAGIC, PLAINTEXT_LIMIT, SALT, seal, y
 
 ZEROS = bytes(32)
 RIGHT = b"right"
-SEALING = ("encrypt", "encrypt_string")
+each_sealing = pytest.mark.parametrize("command", ("encrypt", "encrypt_string"))
 
 
 def with_salt(cases: Cases, salt: bytes = ZEROS) -> list[str]:
@@ -20,99 +21,99 @@ def with_salt(cases: Cases, salt: bytes = ZEROS) -> list[str]:
     return [*by_file(cases.file(b"right\n")), "--salt-file", cases.file(salt)]
 
 
-def test_sizes(cases: Cases) -> None:
+def sealed_by(command: str, vault: bytes) -> bytes:
+    return vault if command == "encrypt" else yaml_block(vault)
+
+
+def test_sizes(cases: Cases, subtests: SubTests) -> None:
     options = with_salt(cases)
     for size in (0, 1, 15, 16, 17, 1_024, 65_519, 65_520, 65_521, 65_536, PLAINTEXT_LIMIT - 1, PLAINTEXT_LIMIT):
-        text = (bytes(range(256)) * (size // 256 + 1))[:size]
-        vault = cases.run(f"encrypt {size} bytes", ["encrypt", *options], text, 0, seal(RIGHT, text, salt=ZEROS))
-        cases.run(f"{size} bytes encrypted and decrypted", ["decrypt", *options[:2]], vault, 0, text)
-    cases.refused(
-        "encrypt one byte more than the limit", ["encrypt", *options], Fault.TOO_LONG, bytes(PLAINTEXT_LIMIT + 1)
-    )
-    with open("/dev/zero", "rb") as endless:
-        cases.run_streams("encrypt without end", ["encrypt", *options], 1, Fault.TOO_LONG.line, stdin=endless)
+        with subtests.test(f"{size} bytes"):
+            text = (bytes(range(256)) * (size // 256 + 1))[:size]
+            vault = cases.run(["encrypt", *options], text, 0, seal(RIGHT, text, salt=ZEROS))
+            cases.run(["decrypt", *options[:2]], vault, 0, text)
+    with subtests.test("one byte more than the limit"):
+        cases.refused(["encrypt", *options], Fault.TOO_LONG, bytes(PLAINTEXT_LIMIT + 1))
+    with subtests.test("without end"), open("/dev/zero", "rb") as endless:
+        cases.run_streams(["encrypt", *options], 1, Fault.TOO_LONG.line, stdin=endless)
+
+
+def encrypted(cases: Cases, options: list[str], text: bytes = b"") -> list[bytes]:
+    """The lines of an envelope."""
+    return cases.run(["encrypt", *options], text, 0, None).split(b"\n")
 
 
 def test_worked(cases: Cases) -> None:
     """Lengths and lines worked out by hand from the format."""
     right, options = by_file(cases.file(b"right\n")), with_salt(cases)
-    run = lambda name, words, stdin=b"": cases.run(name, ["encrypt", *words], stdin, 0, None).split(b"\n")
-    lines = run("encrypt nothing", options)
+    lines = encrypted(cases, options)
     assert [len(line) for line in lines] == [25, 80, 80, 80, 80, 4, 0], "nothing: lines"
     assert (lines[0], lines[1], lines[2][:50]) == (HEADER, b"30" * 40, b"30" * 24 + b"0a"), "nothing: first lines"
-    for size, length in ((15, 355), (16, 419)):
-        assert len(b"\n".join(run(f"encrypt {size} bytes", options, b"a" * size))) == length, f"{size} bytes: length"
-    longest = run("encrypt all that is taken", options, b"a" * PLAINTEXT_LIMIT)[1:-1]
+    lengths = {size: len(b"\n".join(encrypted(cases, options, b"a" * size))) for size in (15, 16)}
+    assert lengths == {15: 355, 16: 419}
+    longest = encrypted(cases, options, b"a" * PLAINTEXT_LIMIT)[1:-1]
     assert (len(longest), sum(map(len, longest))) == (838_865, 67_109_188), "the longest: lines and digits"
-    labelled = run("encrypt for dev", [*by_id(right[1], "dev"), *options[2:]], b"a" * 15)
+    labelled = encrypted(cases, [*by_id(right[1], "dev"), *options[2:]], b"a" * 15)
     assert (len(b"\n".join(labelled)), labelled[0]) == (359, MAGIC + b";1.2;AES256;dev"), "dev: length and header"
-    texts = [
-        ("abc", 48, [25] + [80] * 5 + [0]),
-        ("a", 0, [25, 80, 80, 40, 0]),
-        ("a" * 64, 0, [25] + [80] * 5 + [52, 0]),
-    ]
-    for text, size, lengths in texts:
-        lines = run(f"salt text of {len(text)}", [*right, "--salt", text], b"a" * size)
-        assert [len(line) for line in lines] == lengths, f"salt text of {len(text)}: lines"
-        first = (text.encode().hex().encode() + b"\n").hex().encode()[:80]
-        assert lines[1].startswith(first), f"salt text of {len(text)}: first line"
 
 
-def test_salt_texts(cases: Cases) -> None:
-    right = by_file(cases.file(b"right\n"))
-    for text in ("abc", "a", "a" * 64, "é" * 32, " ", "\n", "/dev/urandom"):
-        salt = text.encode()
-        cases.run(f"salt text {text!r}", ["encrypt", *right, "--salt", text], TEXT, 0, seal(RIGHT, TEXT, salt=salt))
-    cases.run(
-        "a salt text that begins with -", ["encrypt", *right, "--salt=-x"], TEXT, 0, seal(RIGHT, TEXT, salt=b"-x")
-    )
-    salt = cases.file(ZEROS)
+WORKED_SALTS = [
+    ("abc", 48, [25] + [80] * 5 + [0]),
+    ("a", 0, [25, 80, 80, 40, 0]),
+    ("a" * 64, 0, [25] + [80] * 5 + [52, 0]),
+]
+
+
+@pytest.mark.parametrize("salt, size, lengths", WORKED_SALTS)
+def test_worked_salts(cases: Cases, salt: str, size: int, lengths: list[int]) -> None:
+    lines = encrypted(cases, [*by_file(cases.file(b"right\n")), "--salt", salt], b"a" * size)
+    assert [len(line) for line in lines] == lengths
+    assert lines[1].startswith((salt.encode().hex().encode() + b"\n").hex().encode()[:80])
+
+
+def test_salts(cases: Cases, subtests: SubTests) -> None:
+    texts = "abc", "a", "a" * 64, "é" * 32, " ", "\n", "/dev/urandom"
+    salts = [(["--salt", text], text.encode()) for text in texts]
+    salts.append((["--salt=-x"], b"-x"))
+    files = [(cases.file(SALT), SALT), (cases.file(SALT + SALT[:8]), SALT), ("/dev/zero", ZEROS)]
+    salts += [(["--salt-file", path], salt) for path, salt in files]
+    for options, salt in salts:
+        with subtests.test(" ".join(options)):
+            words = ["encrypt", *by_file(cases.file(b"right\n")), *options]
+            cases.run(words, TEXT, 0, seal(RIGHT, TEXT, salt=salt))
+
+
+@each_sealing
+def test_refused_salts(cases: Cases, subtests: SubTests, command: str) -> None:
+    right, salt = by_file(cases.file(b"right\n")), cases.file(ZEROS)
     refused = [
-        ("an empty salt text", ["--salt", ""], Fault.BAD_SALT),
-        ("a salt text of 65 bytes", ["--salt", "a" * 65], Fault.BAD_SALT),
-        ("a salt text of 33 letters of two bytes", ["--salt", "é" * 33], Fault.BAD_SALT),
-        ("salt text and file", ["--salt", "abc", "--salt-file", salt], Fault.SALT_CHOICE),
-        ("an empty salt text and a file", ["--salt", "", "--salt-file", salt], Fault.SALT_CHOICE),
+        ("an empty text", ["--salt", ""], Fault.BAD_SALT),
+        ("a text of 65 bytes", ["--salt", "a" * 65], Fault.BAD_SALT),
+        ("a text of 33 letters of two bytes", ["--salt", "é" * 33], Fault.BAD_SALT),
+        ("text and file", ["--salt", "abc", "--salt-file", salt], Fault.SALT_CHOICE),
+        ("an empty text and a file", ["--salt", "", "--salt-file", salt], Fault.SALT_CHOICE),
+        ("a file of 31 bytes", ["--salt-file", cases.file(bytes(31))], Fault.SALT_SHORT),
+        ("an empty file", ["--salt-file", cases.file(b"")], Fault.SALT_SHORT),
+        ("a missing file", ["--salt-file", cases.path()], Fault.SALT_NOT_OPENED),
+        ("an empty path", ["--salt-file", ""], Fault.SALT_NOT_OPENED),
+        ("a file called -", ["--salt-file", "-"], Fault.SALT_NOT_OPENED),
+        ("a folder", ["--salt-file", str(cases.folder)], Fault.SALT_NOT_READ),
     ]
-    for command in SEALING:
-        for name, options, fault in refused:
-            cases.refused(f"{command}, {name}", [command, *right, *options], fault, TEXT)
-
-
-def test_salt_files(cases: Cases) -> None:
-    right, missing = by_file(cases.file(b"right\n")), cases.path()
-    good = [
-        ("32 bytes", cases.file(SALT), SALT),
-        ("40 bytes", cases.file(SALT + SALT[:8]), SALT),
-        ("zeros without end", "/dev/zero", ZEROS),
-    ]
-    refused = [
-        ("31 bytes", cases.file(bytes(31)), Fault.SALT_SHORT),
-        ("nothing", cases.file(b""), Fault.SALT_SHORT),
-        ("a missing file", missing, Fault.SALT_NOT_OPENED),
-        ("an empty path", "", Fault.SALT_NOT_OPENED),
-        ("a file called -", "-", Fault.SALT_NOT_OPENED),
-        ("a folder", str(cases.folder), Fault.SALT_NOT_READ),
-    ]
-    for name, path, salt in good:
-        cases.run(
-            f"salt file of {name}", ["encrypt", *right, "--salt-file", path], TEXT, 0, seal(RIGHT, TEXT, salt=salt)
-        )
-    for command in SEALING:
-        for name, path, fault in refused:
-            cases.refused(f"{command}, salt file: {name}", [command, *right, "--salt-file", path], fault, TEXT)
+    for name, options, fault in refused:
+        with subtests.test(name):
+            cases.refused([command, *right, *options], fault, TEXT)
 
 
 def test_two_runs(cases: Cases) -> None:
     """The salt is really read: each run has its own."""
     right = by_file(cases.file(b"right\n"))
-    vaults = [cases.run("encrypt with a salt of its own", ["encrypt", *right], TEXT, 0, None) for _ in range(2)]
-    assert vaults[0] != vaults[1], "two runs differ"
-    for vault in vaults:
-        cases.decrypts("a vault with a salt of its own", right, vault, TEXT)
+    one, other = [cases.run(["encrypt", *right], TEXT, 0, None) for _ in range(2)]
+    assert one != other
+    cases.decrypts(right, one, TEXT)
+    cases.decrypts(right, other, TEXT)
 
 
-def test_bytes_of_the_salt(cases: Cases) -> None:
+def test_bytes_of_the_salt(cases: Cases, subtests: SubTests) -> None:
     """All 32 are those of /dev/urandom, for which a library that is loaded before the program's opens a file."""
     needs("cc")
     library = build_library(str(cases.folder), "known_random")
@@ -125,11 +126,12 @@ def test_bytes_of_the_salt(cases: Cases) -> None:
         (["rekey", *by_file(right), "--new-vault-password-file", right], seal(RIGHT, TEXT), vault),
     ]
     for words, stdin, wanted in runs:
-        done = cases.done(words, stdin, env=variables)
-        assert answer_of(done) == (0, wanted, b""), f"{words[0]}: the bytes of the salt"
+        with subtests.test(words[0]):
+            assert answer_of(cases.done(words, stdin, env=variables)) == (0, wanted, b"")
 
 
-def test_choices(cases: Cases) -> None:
+@each_sealing
+def test_choices(cases: Cases, subtests: SubTests, command: str) -> None:
     one, two = cases.file(b"right\n"), cases.file(b"two\n")
     both = by_id(one, "dev") + by_id(two, "prod")
     salt = ["--salt", "abc"]
@@ -161,27 +163,32 @@ def test_choices(cases: Cases) -> None:
         ("an empty label", [*both, "--encrypt-vault-id", ""], Fault.BAD_LABEL),
     ]
     for name, options, password, label in chosen:
-        vault = seal(password, TEXT, label, b"abc")
-        cases.run(f"encrypt with {name}", ["encrypt", *options, *salt], TEXT, 0, vault)
-        cases.run(f"encrypt_string with {name}", ["encrypt_string", *options, *salt], TEXT, 0, yaml_block(vault))
-    for command in SEALING:
-        for name, options, fault in refused:
-            cases.refused(f"{command}, {name}", [command, *options, *salt], fault, TEXT)
+        with subtests.test(name):
+            wanted = sealed_by(command, seal(password, TEXT, label, b"abc"))
+            cases.run([command, *options, *salt], TEXT, 0, wanted)
+    for name, options, fault in refused:
+        with subtests.test(name):
+            cases.refused([command, *options, *salt], fault, TEXT)
 
 
-@pytest.mark.parametrize("command", SEALING)
-def test_plaintexts(cases: Cases, command) -> None:
-    right, salt = by_file(cases.file(b"right\n")), ["--salt", "abc"]
-    for text in (ENVELOPE, MAGIC, MAGIC + b" and more"):
-        cases.refused(f"{command} of {text!r:.20}", [command, *right, *salt], Fault.ALREADY_VAULT, text)
-    for text in (MAGIC[:-1], b" " + MAGIC, b"\n" + ENVELOPE, MAGIC.lower(), b"\x00", b"\xff" * 40):
-        vault = seal(RIGHT, text, salt=b"abc")
-        whole = vault if command == "encrypt" else yaml_block(vault)
-        cases.run(f"{command} of {text!r:.20}", [command, *right, *salt], text, 0, whole)
+@each_sealing
+@pytest.mark.parametrize("text", (ENVELOPE, MAGIC, MAGIC + b" and more"), ids=lambda text: f"{text!r:.30}")
+def test_vaults(cases: Cases, command: str, text: bytes) -> None:
+    cases.refused([command, *by_file(cases.file(b"right\n")), "--salt", "abc"], Fault.ALREADY_VAULT, text)
 
 
-@pytest.mark.parametrize("command", SEALING)
-def test_order(cases: Cases, command) -> None:
+ALMOST = MAGIC[:-1], b" " + MAGIC, b"\n" + ENVELOPE, MAGIC.lower(), b"\x00", b"\xff" * 40
+
+
+@each_sealing
+@pytest.mark.parametrize("text", ALMOST, ids=lambda text: f"{text!r:.30}")
+def test_plaintexts(cases: Cases, command: str, text: bytes) -> None:
+    words = [command, *by_file(cases.file(b"right\n")), "--salt", "abc"]
+    cases.run(words, text, 0, sealed_by(command, seal(RIGHT, text, salt=b"abc")))
+
+
+@each_sealing
+def test_order(cases: Cases, subtests: SubTests, command: str) -> None:
     """Which of two faults is reported."""
     right, empty, missing = cases.file(b"right\n"), cases.file(b""), cases.path()
     short = ["--salt-file", cases.file(bytes(31))]
@@ -217,17 +224,22 @@ def test_order(cases: Cases, command) -> None:
         ("long input that is a vault", by_file(right), Fault.TOO_LONG, ENVELOPE.ljust(PLAINTEXT_LIMIT + 1)),
     ]
     for name, options, fault, stdin in refused:
-        cases.refused(f"{command}, {name}", [command, *options], fault, stdin)
+        with subtests.test(name):
+            cases.refused([command, *options], fault, stdin)
 
 
-def test_input_not_asked(cases: Cases) -> None:
+def test_input_not_asked(cases: Cases, subtests: SubTests) -> None:
     """Nobody writes to this pipe: who reads it waits."""
-    right = cases.file(b"right\n")
-    runs = [(["encrypt", *by_file(right), "--salt-file", cases.file(bytes(31))], 1), (["encrypt"], 1)]
-    runs.append((["encrypt_string", *by_file(right), "secret"], 0))
-    runs.append((["encrypt_string", *by_file(right), ""], 1))
-    for words, status in runs:
+    right = by_file(cases.file(b"right\n"))
+    runs = [
+        ("encrypt, a short salt", ["encrypt", *right, "--salt-file", cases.file(bytes(31))], 1),
+        ("encrypt, no secret", ["encrypt"], 1),
+        ("a STRING", ["encrypt_string", *right, "secret"], 0),
+        ("an empty STRING", ["encrypt_string", *right, ""], 1),
+    ]
+    for name, words, status in runs:
         reader, writer = os.pipe()
-        cases.run_streams(f"{words[0]}, no input asked", words, status, stdin=reader)
+        with subtests.test(name):
+            cases.run_streams(words, status, stdin=reader)
         os.close(reader)
         os.close(writer)

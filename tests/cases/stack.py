@@ -12,7 +12,7 @@ from typing import NamedTuple
 import pytest
 
 from cases import SECONDS, TEXT, Cases, by_file
-from cases.samples import Sample, each_command, sample_of, samples
+from cases.samples import Sample, each_command, sample_of
 
 KIB = 1 << 10
 PAGE = resource.getpagesize()
@@ -97,26 +97,26 @@ def with_long_words(run: Run, name: str, right: str) -> Run:
     return run._replace(words=[*run.words, *chosen, *by_file(long_path) * (MOST_FILES - 1)])
 
 
-def check_each_stack(cases: Cases, name: str, run: Run) -> None:
+def check_each_stack(cases: Cases, run: Run) -> None:
     least = run.least(cases.program)
-    assert PAGE < least < ENOUGH, (f"{name}: the least stack", f"{least // KIB} KiB")
-    for stack in (*range(max(PAGE, least - BELOW), least, PAGE), *range(least, ENOUGH, ABOVE)):
-        found = run.outcome(cases.program, stack)
-        assert found in ("whole", "untouched"), f"{name}, {stack // KIB} KiB of stack"
-    assert run.outcome(cases.program, ENOUGH) == "whole", f"{name}, {ENOUGH // KIB} KiB of stack"
+    assert PAGE < least < ENOUGH, f"the least stack: {least // KIB} KiB"
+    stacks = (*range(max(PAGE, least - BELOW), least, PAGE), *range(least, ENOUGH, ABOVE))
+    found = {f"{stack // KIB} KiB": run.outcome(cases.program, stack) for stack in stacks}
+    assert {stack: outcome for stack, outcome in found.items() if outcome not in ("whole", "untouched")} == {}
+    assert run.outcome(cases.program, ENOUGH) == "whole", "enough"
 
 
 @each_command
 @pytest.mark.parametrize("environment", ENVIRONMENT)
 def test_small_stacks(cases: Cases, environment: int, command: str) -> None:
-    sample = sample_of(cases, command, TEXT * 400)
-    check_each_stack(cases, sample.command, in_place(cases, sample, environment))
+    check_each_stack(cases, in_place(cases, sample_of(cases, command, TEXT * 400), environment))
 
 
-def test_small_stacks_with_long_words(cases: Cases) -> None:
-    right = cases.file(b"right\n")
-    for sample in samples(cases):
-        run = with_long_words(in_place(cases, sample, 0), sample.command, right)
-        check_each_stack(cases, f"{sample.command} with long words", run)
-    sample = next(each for each in samples(cases, b"x" * 120_000) if each.command == "encrypt_string")
-    check_each_stack(cases, "encrypt_string of a long STRING", in_place(cases, sample, 0))
+@each_command
+def test_small_stacks_with_long_words(cases: Cases, command: str) -> None:
+    run = in_place(cases, sample_of(cases, command), 0)
+    check_each_stack(cases, with_long_words(run, command, cases.file(b"right\n")))
+
+
+def test_small_stacks_with_long_string(cases: Cases) -> None:
+    check_each_stack(cases, in_place(cases, sample_of(cases, "encrypt_string", b"x" * 120_000), 0))

@@ -5,8 +5,11 @@ import select
 import subprocess
 import tempfile
 
+import pytest
+from pytest_subtests import SubTests
+
 from cases import SECONDS, TEXT, Cases, by_file, run_captured
-from cases.samples import Sample, each_command, sample_of, samples
+from cases.samples import Sample, each_command, sample_of
 from lib.processes import started
 from model.faults import Fault
 from model.vaults import ENVELOPE_LIMIT, HEADER, PLAINTEXT_LIMIT, seal
@@ -15,61 +18,60 @@ FULL = "/dev/full"
 LARGE = 1 << 20
 
 
-def test_without_secrets(cases: Cases) -> None:
+def test_full_standard_error_of_refusal(cases: Cases) -> None:
     nothing = {"stdin": subprocess.DEVNULL, "stdout": subprocess.DEVNULL}
     with open(FULL, "wb") as full:
-        cases.run_streams("full standard error", ["view"], 1, **nothing, stderr=full)
+        cases.run_streams(["view"], 1, **nothing, stderr=full)
+
+
+def test_endless_input(cases: Cases) -> None:
     with open("/dev/zero", "rb") as endless:
-        cases.run_streams("endless input", ["view"], 1, Fault.TOO_LONG.line, stdin=endless)
-    closed = [("standard input", "<&-", 3), ("standard output", ">&-", 1), ("standard error", "2>&-", 1)]
-    for name, descriptor, status in closed:
-        done = shell(cases, ["view"], descriptor, b"")
-        assert done.returncode == status, f"closed {name}: status"
+        cases.run_streams(["view"], 1, Fault.TOO_LONG.line, stdin=endless)
 
 
-def shell(cases: Cases, words: list[str], redirections: str, stdin: bytes) -> subprocess.CompletedProcess:
-    script = f'exec "$0" "$@" {redirections}'
-    return run_captured(["sh", "-c", script, cases.program, *words], stdin)
+@pytest.mark.parametrize("closed, status", (("<&-", 3), (">&-", 1), ("2>&-", 1)))
+def test_closed(cases: Cases, closed: str, status: int) -> None:
+    script = f'exec "$0" "$@" {closed}'
+    assert run_captured(["sh", "-c", script, cases.program, "view"]).returncode == status
 
 
 @each_command
 def test_folder_as_input(cases: Cases, command: str) -> None:
-    sample = sample_of(cases, command)
     folder = os.open("/", os.O_RDONLY)
-    cases.run_streams(
-        f"{sample.command}, a folder as standard input", sample.words, 3, Fault.INPUT_NOT_READ.line, stdin=folder
-    )
+    cases.run_streams(sample_of(cases, command).words, 3, Fault.INPUT_NOT_READ.line, stdin=folder)
     os.close(folder)
 
 
-def test_failing_outputs(cases: Cases) -> None:
-    refused = Sample(["view", *by_file(cases.file(b"wrong\n"))], seal(b"right", TEXT), b"")
-    runs = [(sample, Fault.NOT_WRITTEN) for text in (TEXT, bytes(LARGE)) for sample in samples(cases, text)]
-    for sample, fault in [*runs, (refused, Fault.NO_SECRET_FITS)]:
-        name = f"{sample.command} of {len(sample.stdin)} bytes"
-        with open(FULL, "wb") as full:
-            cases.run_streams(
-                f"{name} to a full device", sample.words, fault.status, fault.line, input=sample.stdin, stdout=full
-            )
-            cases.run_streams(
-                f"{name} with both full", sample.words, fault.status, input=sample.stdin, stdout=full, stderr=full
-            )
-        reader, writer = os.pipe()
-        os.close(reader)
-        cases.run_streams(
-            f"{name} to a closed pipe", sample.words, fault.status, fault.line, input=sample.stdin, stdout=writer
-        )
-        os.close(writer)
-
-
 @each_command
+@pytest.mark.parametrize("text", (TEXT, bytes(LARGE)), ids=len)
+def test_failing_outputs(cases: Cases, subtests: SubTests, command: str, text: bytes) -> None:
+    check_failing_outputs(cases, subtests, sample_of(cases, command, text), Fault.NOT_WRITTEN)
+
+
+def test_failing_outputs_of_refusal(cases: Cases, subtests: SubTests) -> None:
+    refused = Sample(["view", *by_file(cases.file(b"wrong\n"))], seal(b"right", TEXT), b"")
+    check_failing_outputs(cases, subtests, refused, Fault.NO_SECRET_FITS)
+
+
+def check_failing_outputs(cases: Cases, subtests: SubTests, sample: Sample, fault: Fault) -> None:
+    given = {"words": sample.words, "status": fault.status, "input": sample.stdin}
+    with open(FULL, "wb") as full:
+        with subtests.test("to a full device"):
+            cases.run_streams(**given, err=fault.line, stdout=full)
+        with subtests.test("both full"):
+            cases.run_streams(**given, stdout=full, stderr=full)
+    reader, writer = os.pipe()
+    os.close(reader)
+    with subtests.test("to a closed pipe"):
+        cases.run_streams(**given, err=fault.line, stdout=writer)
+    os.close(writer)
+
+
+@pytest.mark.parametrize("command", ("decrypt", "view"))
 def test_nothing_to_write(cases: Cases, command: str) -> None:
     sample = sample_of(cases, command, b"")
-    if sample.output == b"":
-        with open(FULL, "wb") as full:
-            cases.run_streams(
-                f"{sample.command}, nothing to a full device", sample.words, 0, b"", input=sample.stdin, stdout=full
-            )
+    with open(FULL, "wb") as full:
+        cases.run_streams(sample.words, 0, b"", input=sample.stdin, stdout=full)
 
 
 @each_command
@@ -81,8 +83,8 @@ def test_bounded_reading(cases: Cases, command: str) -> None:
     with tempfile.TemporaryFile() as stdin:
         stdin.write((b"" if plain else HEADER + b"\nzz").ljust(limit + 10_000, b"\n"))
         stdin.seek(0)
-        cases.run_streams(f"{sample.command} of too long a file", sample.words, 1, Fault.TOO_LONG.line, stdin=stdin)
-        assert os.lseek(stdin.fileno(), 0, os.SEEK_CUR) == limit + 1, f"{sample.command}: bytes read"
+        cases.run_streams(sample.words, 1, Fault.TOO_LONG.line, stdin=stdin)
+        assert os.lseek(stdin.fileno(), 0, os.SEEK_CUR) == limit + 1, "bytes read"
 
 
 @each_command
@@ -92,7 +94,7 @@ def test_full_standard_error(cases: Cases, command: str) -> None:
         done = subprocess.run(
             [cases.program, *sample.words], input=sample.stdin, stdout=subprocess.PIPE, stderr=full, timeout=SECONDS
         )
-    assert (done.returncode, done.stdout) == (0, sample.output), f"{sample.command}, full standard error"
+    assert (done.returncode, done.stdout) == (0, sample.output)
 
 
 @each_command
@@ -104,7 +106,7 @@ def test_single_bytes(cases: Cases, command: str) -> None:
         for byte in sample.stdin:
             child.stdin.write(bytes([byte]))
         output, _ = child.communicate(timeout=SECONDS)
-    assert (child.returncode, output) == (0, sample.output), f"{sample.command}, single bytes"
+    assert (child.returncode, output) == (0, sample.output)
 
 
 @each_command
@@ -118,7 +120,7 @@ def test_leaving_reader(cases: Cases, command: str) -> None:
         with started([cases.program, *sample.words], **pipes, bufsize=0) as child:
             has_begun, _, _ = select.select([child.stdout], [], [], SECONDS)
             first = child.stdout.read(1) if has_begun else b""
-            assert first == sample.output[:1], f"{sample.command}, a reader that leaves: first byte"
+            assert first == sample.output[:1], "first byte"
             child.stdout.close()
             _, message = child.communicate(timeout=SECONDS)
-        assert (child.returncode, message) == (3, Fault.NOT_WRITTEN.line), f"{sample.command}, a reader that leaves"
+        assert (child.returncode, message) == (3, Fault.NOT_WRITTEN.line)

@@ -1,43 +1,37 @@
 """`encrypt_string`: STRING or standard input, names, and blocks of YAML."""
 
+from pytest_subtests import SubTests
+
 from cases import Cases, by_file
 from cases.sealing import RIGHT, with_salt
 from model.faults import Fault
 from model.vaults import MAGIC, seal, yaml_block
 
 
-def test_strings(cases: Cases) -> None:
-    right = [*by_file(cases.file(b"right\n")), "--salt", "abc"]
-    block = lambda text, name=b"": yaml_block(seal(RIGHT, text, salt=b"abc"), name)
-    named = [
-        ("-n", "k"),
-        ("--name", "k"),
-        ("--name", "a key"),
-        ("--name", "schlüssel"),
-        ("--name", ""),
-        ("--name", "x" * 500),
-    ]
-    for text in ("secret", "a", "two\nlines\n", "ünïcode →", "-", "x" * 5_000):
-        string = text.encode()
-        for option, name in named if text != "-" else []:
-            words = ["encrypt_string", *right, option, name, text]
-            cases.run(f"{option} {name:.20} {text[:20]!r}", words, b"not asked", 0, block(string, name.encode()))
-    for words in (["secret"], ["--", "secret"], ["-nk", "secret"], ["--name=k", "secret"]):
-        name = b"k" if "k" in words[0] else b""
-        cases.run(
-            f"encrypt_string {words}", ["encrypt_string", *right, *words], b"not asked", 0, block(b"secret", name)
-        )
-    cases.run("a STRING that begins with -", ["encrypt_string", *right, "--", "-x"], b"not asked", 0, block(b"-x"))
-    for words in ([], ["-"], ["--", "-"], ["--stdin-name", "k"], ["--stdin-name", "k", "-"], ["--stdin-name", ""]):
-        name = b"k" if "k" in words else b""
-        cases.run(
-            f"standard input {words}", ["encrypt_string", *right, *words], b"secret\n", 0, block(b"secret\n", name)
-        )
-    worked = cases.run("a block", ["encrypt_string", *with_salt(cases), "-n", "k", "secret"], b"", 0, None)
-    assert (len(worked), len(worked.splitlines()), worked[:13]) == (427, 7, b"k: !vault |\n "), "a block: length"
+def test_strings(cases: Cases, subtests: SubTests) -> None:
+    words = ["encrypt_string", *by_file(cases.file(b"right\n")), "--salt", "abc"]
+    block = lambda text, name="": yaml_block(seal(RIGHT, text.encode(), salt=b"abc"), name.encode())
+    texts = "secret", "a", "two\nlines\n", "ünïcode →", "x" * 5_000
+    names = [("-n", "k"), *(("--name", name) for name in ("k", "a key", "schlüssel", "", "x" * 500))]
+    of_string = [([option, name, text], block(text, name)) for text in texts for option, name in names]
+    of_string += [(given, block("secret")) for given in (["secret"], ["--", "secret"])]
+    of_string += [(given, block("secret", "k")) for given in (["-nk", "secret"], ["--name=k", "secret"])]
+    of_string.append((["--", "-x"], block("-x")))
+    for given, wanted in of_string:
+        with subtests.test(f"{given[-1]!r:.20} by {given[:-1]!r:.40}"):
+            cases.run([*words, *given], b"not asked", 0, wanted)
+    of_stdin = [], ["-"], ["--", "-"], ["--stdin-name", "k"], ["--stdin-name", "k", "-"], ["--stdin-name", ""]
+    for given in of_stdin:
+        with subtests.test(f"standard input {given}"):
+            cases.run([*words, *given], b"secret\n", 0, block("secret\n", "k" if "k" in given else ""))
 
 
-def test_refused_strings(cases: Cases) -> None:
+def test_worked(cases: Cases) -> None:
+    worked = cases.run(["encrypt_string", *with_salt(cases), "-n", "k", "secret"], b"", 0, None)
+    assert (len(worked), len(worked.splitlines()), worked[:13]) == (427, 7, b"k: !vault |\n ")
+
+
+def test_refused_strings(cases: Cases, subtests: SubTests) -> None:
     right = [*by_file(cases.file(b"right\n")), "--salt", "abc"]
     refused = [
         ("an empty STRING", [""], Fault.EMPTY_STRING),
@@ -56,4 +50,5 @@ def test_refused_strings(cases: Cases) -> None:
         ("a delete in an input's name", ["--stdin-name", "\x7f"], Fault.BAD_NAME),
     ]
     for name, options, fault in refused:
-        cases.refused(name, ["encrypt_string", *right, *options], fault, b"")
+        with subtests.test(name):
+            cases.refused(["encrypt_string", *right, *options], fault, b"")

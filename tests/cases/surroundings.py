@@ -8,11 +8,11 @@ import subprocess
 from pathlib import Path
 
 import pytest
+from pytest_subtests import SubTests
 
 from cases import SECONDS, TEXT, Cases, answer_of, by_file, by_id, refusal, run_captured
-from cases.files import to_output, with_files
-from cases.modes import with_output
-from cases.samples import Sample, each_command, each_of_file, sample_of, samples
+from cases.files import to_output
+from cases.samples import OF_FILE, TO_OUTPUT, each_command, each_of_file, sample_of, samples
 from lib.needs import needs
 from model.faults import Fault
 from model.vaults import seal, yaml_block
@@ -60,47 +60,43 @@ def test_without_words(cases: Cases) -> None:
     done = subprocess.run(
         [cases.program], preexec_fn=start, stdin=subprocess.DEVNULL, capture_output=True, timeout=SECONDS
     )
-    wanted = cases.done([])
-    assert answer_of(done) == (2, b"", wanted.stderr), "no words at all"
+    assert answer_of(done) == (2, b"", cases.done([]).stderr)
 
 
 @each_command
-def test_program_names(cases: Cases, command: str) -> None:
-    """Another name changes nothing; one that is not UTF-8 is refused as any argument is."""
+@pytest.mark.parametrize("name", ("", "other", "-x", "two words", "a\nb", "view"))
+def test_program_names(cases: Cases, name: str, command: str) -> None:
+    """Another name changes nothing."""
     sample = sample_of(cases, command)
-    for name in ("", "other", "-x", "two words", "a\nb", "view"):
-        done = run_captured([name, *sample.words], sample.stdin, executable=cases.program)
-        assert answer_of(done) == (0, sample.output, b""), f"{sample.command} under the name {name!r}"
+    done = run_captured([name, *sample.words], sample.stdin, executable=cases.program)
+    assert answer_of(done) == (0, sample.output, b"")
+
+
+@each_command
+def test_program_name_that_is_not_utf8(cases: Cases, command: str) -> None:
+    """It is refused as any argument is."""
+    sample = sample_of(cases, command)
     done = run_captured([b"\xff", *sample.words], sample.stdin, executable=cases.program)
-    assert answer_of(done) == (2, b"", NOT_UTF8), f"{sample.command} under a name that is not UTF-8"
+    assert answer_of(done) == (2, b"", NOT_UTF8)
 
 
-def test_names_of_files(cases: Cases) -> None:
+@each_command
+def test_names_of_files(cases: Cases, subtests: SubTests, command: str) -> None:
     """A path that is not UTF-8 is refused, where it is that of a file, too."""
-    path = os.fsencode(cases.path()) + b"\xff"
-    for sample in with_files(cases):
-        Path(os.fsdecode(path)).write_bytes(sample.stdin)
-        runs = {
-            "FILE": [path, *to_output(sample)],
-            "a password file": by_file(path),
-            "a label": ["--vault-id", b"\xff@" + path],
-        }
-        for role, words in runs.items():
-            cases.run(
-                f"{sample.command}, {role} that is not UTF-8", [*sample.words, *words], sample.stdin, 2, b"", NOT_UTF8
-            )
-        assert Path(os.fsdecode(path)).read_bytes() == sample.stdin, f"{sample.command}: the file stays"
-    os.unlink(path)
-    for sample in with_output(cases):
-        cases.run(
-            f"{sample.command}, an output that is not UTF-8",
-            [*sample.words, "--output", path],
-            sample.stdin,
-            2,
-            b"",
-            NOT_UTF8,
-        )
-        assert not os.path.exists(path), f"{sample.command}: no file of that name"
+    sample, path = sample_of(cases, command), os.fsencode(cases.path()) + b"\xff"
+    place = Path(os.fsdecode(path))
+    roles = {"a password file": by_file(path), "a label": ["--vault-id", b"\xff@" + path]}
+    if command in OF_FILE:
+        roles["FILE"] = [path, *to_output(sample)]
+    for role, words in roles.items():
+        with subtests.test(role):
+            place.write_bytes(sample.stdin)
+            cases.run([*sample.words, *words], sample.stdin, 2, b"", NOT_UTF8)
+            assert place.read_bytes() == sample.stdin, "the file stays"
+    if command in TO_OUTPUT:
+        place.unlink()
+        cases.run([*sample.words, "--output", path], sample.stdin, 2, b"", NOT_UTF8)
+        assert not place.exists(), "no file of that name"
 
 
 def variables_of_ansible(cases: Cases) -> dict[str, str]:
@@ -125,24 +121,21 @@ def runs_that_lack_something(cases: Cases) -> list[tuple]:
     ]
 
 
-def test_environments(cases: Cases) -> None:
+def test_environments(cases: Cases, subtests: SubTests) -> None:
     """No variable is read."""
     settings = [{}, dict.fromkeys(LOCALE_NAMES, ""), NOT_READ | variables_of_ansible(cases)]
     settings += [dict.fromkeys(LOCALE_NAMES, locale) for locale in LOCALES]
     runs = [(sample.words, sample.stdin, (0, sample.output, b"")) for sample in samples(cases)]
-    fault = Fault.NO_SECRET_FITS
-    runs.append((["view", *by_file(cases.file(b"wrong\n"))], seal(b"right", TEXT), refusal(fault)))
+    runs.append((["view", *by_file(cases.file(b"wrong\n"))], seal(b"right", TEXT), refusal(Fault.NO_SECRET_FITS)))
     runs += runs_that_lack_something(cases)
     for words in (["--help"], ["rekey", "--help"], ["view", "--loud"], ["größe"], []):
-        usual = cases.done(words)
-        runs.append((words, b"", (usual.returncode, usual.stdout, usual.stderr)))
+        runs.append((words, b"", answer_of(cases.done(words))))
     for given, (words, stdin, wanted) in itertools.product(settings, runs):
-        done = cases.done(words, stdin, env=given)
-        name = f"{words[:1]} with {' '.join(f'{name}={value}' for name, value in given.items())!r:.100}"
-        assert answer_of(done) == wanted, name
+        with subtests.test(f"{words!r:.100} with {given!r:.100}"):
+            assert answer_of(cases.done(words, stdin, env=given)) == wanted
 
 
-def test_salt_in_the_environment(cases: Cases) -> None:
+def test_salt_in_the_environment(cases: Cases, subtests: SubTests) -> None:
     variables, right = variables_of_ansible(cases), cases.file(b"right\n")
     taken = seal(b"right", TEXT, salt=variables["ANSIBLE_VAULT_ENCRYPT_SALT"].encode())
     runs = [
@@ -151,28 +144,28 @@ def test_salt_in_the_environment(cases: Cases) -> None:
         (["rekey", *by_file(right), "--new-vault-password-file", right], seal(b"right", TEXT), taken),
     ]
     for words, stdin, wrong in runs:
-        done = cases.done(words, stdin, env=variables)
-        assert (done.returncode, done.stderr) == (0, b""), f"{words[0]}: the end"
-        assert done.stdout != wrong, f"{words[0]}: another salt"
+        with subtests.test(words[0]):
+            done = cases.done(words, stdin, env=variables)
+            assert (done.returncode, done.stderr) == (0, b"")
+            assert done.stdout != wrong, "another salt"
 
 
 def test_calls_that_read_variables(cases: Cases) -> None:
     needs("nm")
     listed = run_captured(["nm", "--dynamic", "--format=posix", cases.program], check=True).stdout.decode()
     names = {line.split()[0].partition("@")[0] for line in listed.splitlines()}
-    assert "open" in names, ("the program's calls are listed", sorted(names))
-    assert names & READERS == set(), "none of them reads a variable"
+    assert "open" in names, "the program's calls are listed"
+    assert names & READERS == set()
 
 
 def run_under(cases: Cases, limit: int, amount: int, words: list[str], stdin: bytes) -> tuple:
     restrict = lambda: resource.setrlimit(limit, (amount, amount))
-    done = cases.done(words, stdin, preexec_fn=restrict)
-    return done.returncode, done.stdout, done.stderr
+    return answer_of(cases.done(words, stdin, preexec_fn=restrict))
 
 
 @pytest.mark.parametrize("amount", range(STARTS, ENOUGH + 2))
 @each_of_file
-def test_few_files(cases: Cases, command: str, amount) -> None:
+def test_few_files(cases: Cases, command: str, amount: int) -> None:
     """If no more files may be open, a run says which file it could not open, and changes none."""
     faults = [Fault.SECRET_NOT_OPENED, Fault.INPUT_NOT_OPENED, Fault.NOT_WRITTEN]
     refusals = [(fault.status, b"", fault.line, None) for fault in faults]
@@ -182,11 +175,10 @@ def test_few_files(cases: Cases, command: str, amount) -> None:
     output = [] if sample.command == "view" else ["--output", str(path)]
     answer = run_under(cases, resource.RLIMIT_NOFILE, amount, [*sample.words, given, *output], b"")
     written = path.read_bytes() if path.exists() else None
-    name = f"{sample.command} with {amount} files"
     whole = (0, b"", b"", sample.output) if output else (0, sample.output, b"", None)
     allowed = [whole, *(refusals if amount < ENOUGH else [])]
-    assert (*answer, written) in allowed, name
-    assert Path(given).read_bytes() == sample.stdin, f"{name}: FILE stays"
+    assert (*answer, written) in allowed
+    assert Path(given).read_bytes() == sample.stdin, "FILE stays"
 
 
 def run_on_stack(cases: Cases, words: list[str], stdin: bytes) -> tuple:
@@ -196,16 +188,23 @@ def run_on_stack(cases: Cases, words: list[str], stdin: bytes) -> tuple:
     return run_under(cases, resource.RLIMIT_STACK, STACK + besides, words, stdin)
 
 
-def test_small_stack(cases: Cases) -> None:
-    """With long texts, and with all secrets that a run may have."""
+@each_command
+@pytest.mark.parametrize("text", (TEXT, bytes(LARGE)), ids=len)
+def test_small_stack(cases: Cases, text: bytes, command: str) -> None:
+    sample = sample_of(cases, command, text)
+    assert run_on_stack(cases, sample.words, sample.stdin) == (0, sample.output, b"")
+
+
+def test_small_stack_with_sixteen_secrets(cases: Cases) -> None:
     others = [word for number in range(15) for word in by_id(cases.file(b"wrong\n"), f"l{number}")]
     words = ["decrypt", *others, *by_file(cases.file(b"right\n"))]
-    runs = [("sixteen secrets", Sample(words, seal(b"right", TEXT, b"other"), TEXT))]
-    runs += [(f"{len(text)} bytes", sample) for text in (TEXT, bytes(LARGE)) for sample in samples(cases, text)]
-    for name, sample in runs:
-        answer = run_on_stack(cases, sample.words, sample.stdin)
-        assert answer == (0, sample.output, b""), f"{sample.command}, {name} with a small stack"
-    for words, status in ((["--help"], 0), (["rekey", "--help"], 0), (["view", "--loud"], 2), ([], 2)):
-        usual = cases.done(words)
-        answer = run_on_stack(cases, words, b"")
-        assert answer == (status, usual.stdout, usual.stderr), f"{words} with a small stack"
+    assert run_on_stack(cases, words, seal(b"right", TEXT, b"other")) == (0, TEXT, b"")
+
+
+LONG_TEXTS = (["--help"], 0), (["rekey", "--help"], 0), (["view", "--loud"], 2), ([], 2)
+
+
+@pytest.mark.parametrize("words, status", LONG_TEXTS)
+def test_small_stack_with_long_texts(cases: Cases, words: list[str], status: int) -> None:
+    usual = cases.done(words)
+    assert run_on_stack(cases, words, b"") == (status, usual.stdout, usual.stderr)

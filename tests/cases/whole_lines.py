@@ -9,9 +9,10 @@ import os
 import subprocess
 
 import pytest
+from pytest_subtests import SubTests
 
 from cases import SECONDS, TEXT, Cases, answer_of, by_file, by_id, run_captured
-from cases.samples import each_command, sample_of
+from cases.samples import sample_of
 from lib.processes import read_to_end, started
 from lib.resident import wait_for_sleep
 from model.faults import Fault
@@ -52,10 +53,11 @@ def refusals(cases: Cases) -> list[tuple[list[str], bytes, Fault]]:
     ]
 
 
-def test_lines_of_messages(cases: Cases) -> None:
+def test_lines_of_messages(cases: Cases, subtests: SubTests) -> None:
     for words, stdin, fault in refusals(cases):
-        found = packets([cases.program, *words], stdin, "stderr")
-        assert found == (fault.status, [fault.line]), f"the writes of `{fault.text}`"
+        with subtests.test(fault.text):
+            found = packets([cases.program, *words], stdin, "stderr")
+            assert found == (fault.status, [fault.line])
 
 
 @pytest.mark.parametrize("number", range(ROUNDS))
@@ -75,20 +77,18 @@ def test_refused_beside(cases: Cases, number) -> None:
         statuses = [child.wait(SECONDS) for child in children]
     lines = read_to_end(reader).splitlines(keepends=True)
     wanted = [fault.status] * BESIDE, [fault.line] * BESIDE
-    assert (statuses, lines) == wanted, f"runs beside each other, round {number}"
+    assert (statuses, lines) == wanted
 
 
-@each_command
+@pytest.mark.parametrize("command", ("encrypt", "rekey"))
 @pytest.mark.parametrize("size", (1, 1_000))
-def test_header_lines(cases: Cases, size, command: str) -> None:
+def test_header_lines(cases: Cases, size: int, command: str) -> None:
     """The header line and the first line of digits go out in one write."""
     sample = sample_of(cases, command, (TEXT * size)[:size])
-    if sample.command in ("encrypt", "rekey"):
-        status, given = packets([cases.program, *sample.words], sample.stdin, "stdout")
-        name = f"{sample.command} of {size} bytes"
-        assert (status, b"".join(given)) == (0, sample.output), f"{name}: all writes"
-        first_lines = b"".join(sample.output.splitlines(keepends=True)[:2])
-        assert given[0].startswith(first_lines), f"{name}: the first write"
+    status, given = packets([cases.program, *sample.words], sample.stdin, "stdout")
+    assert (status, b"".join(given)) == (0, sample.output)
+    first_lines = b"".join(sample.output.splitlines(keepends=True)[:2])
+    assert given[0].startswith(first_lines), "the first write"
 
 
 @pytest.mark.parametrize("number", range(ROUNDS))
@@ -99,4 +99,4 @@ def test_head_of_envelope(cases: Cases, number) -> None:
     pipeline = 'set -o pipefail; "$@" | head -n 1'
     words = ["encrypt", *by_file(cases.file(b"right\n"))]
     done = run_captured(["bash", "-c", pipeline, "bash", cases.program, *words], TEXT)
-    assert answer_of(done) == (0, header, b""), f"the head of an envelope, round {number}"
+    assert answer_of(done) == (0, header, b"")

@@ -24,11 +24,11 @@ def run_short(program: str, library: str, scenario: Scenario, most: int) -> tupl
 
 def short_transfers(program: str, scenarios: list[Scenario]) -> None:
     most_of = lambda scenario: SMALL_MOST if len(scenario.whole) < LARGE else LARGE_MOST
-    runs = [(scenario, most) for scenario in scenarios for most in most_of(scenario)]
+    differing = []
     with tempfile.TemporaryDirectory() as folder:
         library = os.path.abspath(build_library(folder, LIBRARY))
-        for scenario, most in runs:
+        for scenario, most in [(scenario, most) for scenario in scenarios for most in most_of(scenario)]:
             left, is_cut = run_short(program, library, scenario, most)
-            name = f"{scenario.name}, at most {most} bytes a call"
-            assert left == scenario.fault_free(), name
-            assert is_cut, f"{name}: a call is cut short"
+            if (left, is_cut) != (scenario.fault_free(), True):
+                differing.append(f"{scenario.name}, at most {most} bytes a call: {left}, a call is cut short: {is_cut}")
+    assert differing == []

@@ -18,7 +18,9 @@ def wanted(scenario: Scenario, amount: int) -> Left:
 
 def size_limit(program: str, scenarios: list[Scenario]) -> None:
     amounts = lambda length: (0, 1, length // 2, length - 1, length)
-    for scenario in scenarios:
-        for amount in amounts(len(scenario.whole)):
-            left = run_limited(program, scenario, amount)
-            assert left == wanted(scenario, amount), f"{scenario.name}, a file takes {amount} bytes"
+    differing = []
+    for scenario, amount in [(scenario, amount) for scenario in scenarios for amount in amounts(len(scenario.whole))]:
+        left = run_limited(program, scenario, amount)
+        if left != wanted(scenario, amount):
+            differing.append(f"{scenario.name}, a file takes {amount} bytes: {left}")
+    assert differing == []

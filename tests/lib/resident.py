@@ -74,5 +74,6 @@ def run(command: list[str], text: bytes, path: str | None) -> Run:
             child.stdin.write(text)
             child.stdin.close()
         wait_for_sleep(child.pid)
+        fcntl.fcntl(reader, fcntl.F_SETPIPE_SZ, CHUNK_SIZE)
         output, resident = drain(reader, child.pid)
         return Run(child.wait(SECONDS), output[filler_length:], resident)
