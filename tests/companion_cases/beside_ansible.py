@@ -7,6 +7,8 @@ import re
 import subprocess
 from pathlib import Path
 
+from pytest_subtests import SubTests
+
 from companion_cases import CHECK, ROTATE, SECONDS, Place, ended
 from companion_cases.rotating import summary
 from lib.needs import needs, needs_ansible
@@ -91,7 +93,7 @@ def played(place: Place, playbook: str, which: int) -> list[str]:
     return [*re.findall(r'"msg": "(.*)"', done.stdout.decode()), (place.path / "copied").read_text()]
 
 
-def test_a_repository(place: Place) -> None:
+def test_a_repository(place: Place, subtests: SubTests) -> None:
     ansible = needs_ansible()
     playbook = Path(ansible).with_name("ansible-playbook")
     needs(str(playbook))
@@ -111,10 +113,11 @@ def test_a_repository(place: Place) -> None:
     counts = f"0 decrypted, {total - len(LABELS)} not"
     ended("the old secrets decrypt none", place.run(CHECK, *secrets(place, 0), "."), 1, counts)
     for label, (_, new) in LABELS.items():
-        vaults = [name for name in files if re.match(rf"vars/{label}\d", name)]
-        header = "1.1;AES256" if label == "default" else f"1.2;AES256;{label}"
-        first_lines = {place.get(name).partition(b"\n")[0] for name in vaults}
-        assert first_lines == {f"$ANSIBLE_VAULT;{header}".encode()}, f"{label}: the label"
-        shown = theirs(place, ansible, "view", *place.by_id(label, new), *vaults).stdout.decode()
-        wanted = [f"{label}{number}: text {number} of {label}" for number in range(FILES_OF_A_LABEL)]
-        assert shown.split("\n")[:-1] == wanted, f"{label}: Ansible's tool decrypts each"
+        with subtests.test(label):
+            vaults = [name for name in files if re.match(rf"vars/{label}\d", name)]
+            header = "1.1;AES256" if label == "default" else f"1.2;AES256;{label}"
+            first_lines = {place.get(name).partition(b"\n")[0] for name in vaults}
+            assert first_lines == {f"$ANSIBLE_VAULT;{header}".encode()}, "the label"
+            shown = theirs(place, ansible, "view", *place.by_id(label, new), *vaults).stdout.decode()
+            wanted = [f"{label}{number}: text {number} of {label}" for number in range(FILES_OF_A_LABEL)]
+            assert shown.split("\n")[:-1] == wanted, "Ansible's tool decrypts each"
