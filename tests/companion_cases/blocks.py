@@ -65,12 +65,12 @@ def test_around(place: Place) -> None:
     for name, (content, count) in FILES.items():
         place.put(name, content)
     done = place.run(ROTATE, *to_new(place), ".")
-    ended("blocks", done, 0, summary(sum(count for _, count in FILES.values())))
     wanted = {
         name: (without_digits(content).replace(b"1.2;AES256;default", b"1.1;AES256"), [TEXT] * count)
         for name, (content, count) in FILES.items()
     }
     assert {name: (without_digits(after), texts(after, "new")) for name, after in place.files().items()} == wanted
+    ended("blocks", done, 0, summary(sum(count for _, count in FILES.values())))
 
 
 def test_mixed(place: Place) -> None:
