@@ -18,8 +18,9 @@ from lib.needs import needs_pyyaml
 
 pytestmark = pytest.mark.usefixtures("git")
 
-SEED = 61
-HISTORIES = int(os.environ.get("HISTORIES", "20"))
+# By this seed eight histories have each operation at least twice.
+SEED = 177
+HISTORIES = int(os.environ.get("HISTORIES", "8"))
 # Of a branch.
 COMMITS = 3
 

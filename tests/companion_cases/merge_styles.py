@@ -16,6 +16,7 @@ from lib.needs import needs
 from model.vaults import SALT, seal, yaml_block
 
 STYLES = [("", b"\n"), ("", b"\r\n"), ("diff3", b"\n"), ("zdiff3", b"\n")]
+Texts = dict[str, tuple[bytes, bytes, bytes]]
 FILLER = b"f: 1\ng: 2\nh: 3\ni: 4\n"
 OPEN = b"a: 1\n" + FILLER + b"b: 1"
 # Base, ours and theirs.
@@ -39,6 +40,8 @@ TEXTS = {
 # What the sides of a conflict have in common stands outside of it, or within it in the style diff3. Below a value
 # that is a vault there is always such a line.
 COMMON = {"what both have": (b"a: 1\n", b"x: 1\na: 2\ny: 1\n", b"x: 1\na: 3\ny: 1\n")}
+# Of a whole vault the other styles are those of git, whatever the text.
+STYLED = COMMON | {name: TEXTS[name] for name in ("two conflicts", "a conflict of its end", "no common base")}
 # A value that is a vault, as the texts above have it.
 VALUE = re.compile(rb"(?m)^([abc]): (\w+)")
 BLOCK = re.compile(rb"(?m)^(\w): !vault \|\r?\n((?: {10}\S+\r?(?:\n|\Z))+)")
@@ -54,14 +57,14 @@ def by_git(place: Place, contents: list[bytes]) -> tuple[bytes, int]:
     return done.stdout, done.returncode
 
 
-def merges(place: Place, texts: dict[str, tuple]) -> Iterator[tuple[str, bytes, list[bytes], bytes, int]]:
+def merges(place: Place, plain_style: Texts, styled: Texts) -> Iterator[tuple[str, bytes, list[bytes], bytes, int]]:
     """Each with its name, the end of its lines, its versions, and what git makes of them. Other ends and styles are of
     conflicts alone."""
     under_git(place, "")
     for style, end in STYLES:
         if style:
             place.run("git", "config", "merge.conflictStyle", style)
-        for name, contents in texts.items():
+        for name, contents in (plain_style if (style, end) == STYLES[0] else styled).items():
             plain = [each.replace(b"\n", end) for each in contents]
             wanted, conflicts = by_git(place, plain)
             if conflicts or (style, end) == STYLES[0]:
@@ -88,7 +91,7 @@ def check_markers(place: Place) -> None:
 
 def test_of_vaults(place: Place, subtests: SubTests) -> None:
     needs("git")
-    for what, _, plain, wanted, conflicts in merges(place, TEXTS | COMMON):
+    for what, _, plain, wanted, conflicts in merges(place, TEXTS | COMMON, STYLED):
         with subtests.test(what):
             found = merged(place, [seal(PASSWORDS["old"], each) for each in plain], conflicts)
             assert decrypted("old", found) == wanted
@@ -120,7 +123,7 @@ def test_of_values(place: Place, subtests: SubTests) -> None:
     """Each has another envelope on each side."""
     needs("git")
     salts = [SALT, SALT[::-1], SALT[1:] + b"s"]
-    for what, end, plain, wanted, conflicts in merges(place, TEXTS):
+    for what, end, plain, wanted, conflicts in merges(place, TEXTS, TEXTS):
         with subtests.test(what):
             found = merged(place, [encrypted(each, end, salt) for each, salt in zip(plain, salts)], conflicts)
             assert with_plaintexts(found) == wanted, "the text"
