@@ -209,19 +209,6 @@ def test_new_vaults(place: Place) -> None:
     assert (place.names(), place.left()) == (["one.yml", "two.yml"], []), "no other file is made"
 
 
-def test_changed_meanwhile(place: Place) -> None:
-    """Another's change is not lost, and neither is what was written."""
-    theirs = sealed("old", b"theirs")
-    place.put("all.yml", sealed("old"))
-    (place.path / "theirs").write_bytes(theirs)
-    done = edit(place, f"{CHANGE}; cp ../theirs all.yml", *place.by_file("old"), "all.yml")
-    ended("changed meanwhile", done, 1, "all.yml: it was changed meanwhile")
-    assert place.get("all.yml") == theirs, "their change stays"
-    [kept] = [name for name in place.names() if name != "all.yml"]
-    assert kept in done.stderr, "the message names the other file"
-    assert decrypted("old", place.get(kept)) == CHANGED, "it holds what was written, encrypted"
-
-
 @pytest.mark.parametrize("name", ("repository/all.yml", "repository/deep/er/all.yml"))
 def test_conflict_markers(cases: Companions, name) -> None:
     """A vault that is saved with git's conflict markers is noted, and the hook refuses it until they are gone."""

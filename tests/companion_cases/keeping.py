@@ -45,25 +45,24 @@ def check_plain(what: str, place: Place, done, why: str, text: bytes) -> None:
     shutil.rmtree(path.parent)
 
 
-# What keeps an edit from replacing the vault, with the reason.
+# What keeps an edit from replacing the vault, with the reason, and what stands in its place then.
 STOPS = {
-    "the editor fails": (f"{CHANGE}; exit 3", "the editor failed"),
-    "a hard link": (f"{CHANGE}; ln all.yml ../second", "it has 2 names (hard links)"),
-    "another change": (f"{CHANGE}; echo >> all.yml", "it was changed meanwhile"),
-    "a folder in its place": (f"{CHANGE}; rm all.yml; mkdir all.yml", "Is a directory"),
-    "it is gone": (f"{CHANGE}; rm all.yml", "it was changed meanwhile"),
+    "the editor fails": (f"{CHANGE}; exit 3", "the editor failed", sealed("old")),
+    "a hard link": (f"{CHANGE}; ln all.yml ../second", "it has 2 names (hard links)", sealed("old")),
+    "another change": (f"{CHANGE}; echo theirs > all.yml", "all.yml: it was changed meanwhile", b"theirs\n"),
+    "a folder in its place": (f"{CHANGE}; rm all.yml; mkdir all.yml", "Is a directory", None),
+    "it is gone": (f"{CHANGE}; rm all.yml", "all.yml: it was changed meanwhile", None),
 }
 
 
 @pytest.mark.parametrize("what", STOPS)
 def test_replacing_fails(place: Place, what: str) -> None:
     """The new envelope is kept beside the vault."""
-    editor, why = STOPS[what]
+    editor, why, stays = STOPS[what]
     place.put("all.yml", sealed("old"), 0o600)
     done = edit(place, editor, *place.by_file("old"), "all.yml")
     check_encrypted(what, place, done, why, place.tree)
-    if what in ("the editor fails", "a hard link"):
-        assert place.get("all.yml") == sealed("old"), "the vault stays"
+    assert place.files() == ({} if stays is None else {"all.yml": stays})
 
 
 def test_made_meanwhile(cases: Companions) -> None:
