@@ -7,13 +7,15 @@ import re
 import subprocess
 from pathlib import Path
 
+from pytest_subtests import SubTests
+
 from companion_cases import CHECK, ROTATE, SECONDS, Place, ended
 from companion_cases.rotating import summary
 from lib.needs import needs, needs_ansible
 
 # The old and the new password of each label.
 LABELS = {"default": ("old", "new"), "dev": ("dev", "dev2"), "prod": ("prod", "prod2")}
-FILES_OF_A_LABEL = 8
+FILES_OF_A_LABEL = 3
 PLAYBOOK = """\
 - hosts: all
   gather_facts: false
@@ -37,8 +39,7 @@ def secrets(place: Place, which: int, prefix: str = "") -> list[str]:
 def theirs(place: Place, ansible: str, *words: str) -> subprocess.CompletedProcess:
     environment = place.environment | {"PATH": os.environ["PATH"], "LC_ALL": "C.UTF-8"}
     done = subprocess.run([ansible, *words], cwd=place.tree, env=environment, capture_output=True, timeout=SECONDS)
-    if done.returncode != 0:
-        raise AssertionError(f"{ansible} {words[0]}: {done.stderr.decode()}")
+    assert done.returncode == 0, f"{ansible} {words[0]}: {done.stderr.decode()}"
     return done
 
 
@@ -50,38 +51,28 @@ def encrypted_strings(place: Place, ansible: str, label: str, texts: dict[str, s
     return [f"{each.strip()}\n" for each in re.split(r"(?m)^(?=\w+:)", made)[1:]]
 
 
-def nested_vault(place: Place, ansible: str, label: str) -> str:
-    """A vault whose plaintext has a block of another label."""
-    labels = list(LABELS)
-    other = labels[labels.index(label) - 1]
-    name = f"vars/{label}_nested.yml"
-    [block] = encrypted_strings(place, ansible, other, {f"{label}_inner": f"in a vault of {label}"})
-    place.put(name, f"{label}_outer: around it\n{block}".encode())
-    theirs(place, ansible, "encrypt", *place.by_id(label, LABELS[label][0]), "--encrypt-vault-id", label, name)
-    return name
-
-
 def make_repository(place: Place, ansible: str) -> tuple[list[str], list[str]]:
-    """Eight vaults of each label, one with a block within, six files of blocks; their names, and those of
-    the variables."""
-    files, names = [], []
+    """Vaults of each label, one of them with a block of another label within, and two files of blocks; their names,
+    and those of the variables."""
+    files, names, labels = [], [], list(LABELS)
+    for label, following in zip(labels, labels[1:] + labels[:1]):
+        texts = {f"{label}_block{number}": f"block {number} of {label}" for number in range(3)}
+        inner = {f"{following}_inner": f"in a vault of {following}"}
+        first, second, third, within = encrypted_strings(place, ansible, label, texts | inner)
+        place.put(f"vars/{label}_blocks.yml", f"# blocks\n{first}{second}".encode())
+        place.put(f"vars/{label}_more.yml", third.rstrip("\n").replace("\n", "\r\n").encode())
+        place.put(f"vars/{following}_nested.yml", f"{following}_outer: around it\n{within}".encode())
+        names += [*texts, f"{label}_outer", f"{label}_inner"]
+        files += [f"vars/{label}_{name}.yml" for name in ("blocks", "more")]
+    place.put("files/whole.txt", b"a whole file\n")
     for label, (old, _) in LABELS.items():
         vaults = [f"vars/{label}{number}.yml" for number in range(FILES_OF_A_LABEL)]
         for number, name in enumerate(vaults):
             place.put(name, f"{label}{number}: text {number} of {label}\n".encode())
-        if label == "prod":
-            place.put("files/whole.txt", b"a whole file\n")
-            vaults.append("files/whole.txt")
-        choice = [*place.by_id(label, old), "--encrypt-vault-id", label]
-        theirs(place, ansible, "encrypt", *choice, *vaults)
+        vaults += [f"vars/{label}_nested.yml", *(["files/whole.txt"] if label == "prod" else [])]
+        theirs(place, ansible, "encrypt", *place.by_id(label, old), "--encrypt-vault-id", label, *vaults)
         names += [f"{label}{number}" for number in range(FILES_OF_A_LABEL)]
-        texts = {f"{label}_block{number}": f"block {number} of {label}" for number in range(3)}
-        first, second, third = encrypted_strings(place, ansible, label, texts)
-        place.put(f"vars/{label}_blocks.yml", f"# blocks\n{first}{second}".encode())
-        place.put(f"vars/{label}_more.yml", third.rstrip("\n").replace("\n", "\r\n").encode())
-        names += [*texts, f"{label}_outer", f"{label}_inner"]
-        files += [*vaults, *(f"vars/{label}_{name}.yml" for name in ("blocks", "more"))]
-        files.append(nested_vault(place, ansible, label))
+        files += vaults
     return files, names
 
 
@@ -91,14 +82,14 @@ def played(place: Place, playbook: str, which: int) -> list[str]:
     return [*re.findall(r'"msg": "(.*)"', done.stdout.decode()), (place.path / "copied").read_text()]
 
 
-def test_a_repository(place: Place) -> None:
+def test_a_repository(place: Place, subtests: SubTests) -> None:
     ansible = needs_ansible()
     playbook = Path(ansible).with_name("ansible-playbook")
     needs(str(playbook))
     files, names = make_repository(place, ansible)
     listed = ", ".join(name for name in files if name.startswith("vars/"))
     place.put("play.yml", PLAYBOOK.format(files=listed, names=", ".join(names)).encode())
-    assert len(files) == 34, "how many files the repository has"
+    assert len(files) == 19, "how many files the repository has"
     before = played(place, str(playbook), 0)
     assert len(before) == len(names) + 1, "the playbook reads each"
     # Vaults, the whole file, blocks, and the vaults with a block within.
@@ -111,10 +102,11 @@ def test_a_repository(place: Place) -> None:
     counts = f"0 decrypted, {total - len(LABELS)} not"
     ended("the old secrets decrypt none", place.run(CHECK, *secrets(place, 0), "."), 1, counts)
     for label, (_, new) in LABELS.items():
-        vaults = [name for name in files if re.match(rf"vars/{label}\d", name)]
-        header = "1.1;AES256" if label == "default" else f"1.2;AES256;{label}"
-        first_lines = {place.get(name).partition(b"\n")[0] for name in vaults}
-        assert first_lines == {f"$ANSIBLE_VAULT;{header}".encode()}, f"{label}: the label"
-        shown = theirs(place, ansible, "view", *place.by_id(label, new), *vaults).stdout.decode()
-        wanted = [f"{label}{number}: text {number} of {label}" for number in range(FILES_OF_A_LABEL)]
-        assert shown.split("\n")[:-1] == wanted, f"{label}: Ansible's tool decrypts each"
+        with subtests.test(label):
+            vaults = [name for name in files if re.match(rf"vars/{label}\d", name)]
+            header = "1.1;AES256" if label == "default" else f"1.2;AES256;{label}"
+            first_lines = {place.get(name).partition(b"\n")[0] for name in vaults}
+            assert first_lines == {f"$ANSIBLE_VAULT;{header}".encode()}, "the label"
+            shown = theirs(place, ansible, "view", *place.by_id(label, new), *vaults).stdout.decode()
+            wanted = [f"{label}{number}: text {number} of {label}" for number in range(FILES_OF_A_LABEL)]
+            assert shown.split("\n")[:-1] == wanted, "Ansible's tool decrypts each"

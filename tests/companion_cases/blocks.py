@@ -5,7 +5,7 @@ import re
 
 import pytest
 
-from companion_cases import CHECK, ROTATE, TEXT, TEXTCONV, Companions, Place, block, decrypted, ended, sealed
+from companion_cases import ROTATE, TEXT, TEXTCONV, Companions, Place, block, decrypted, ended, sealed
 from companion_cases.rotating import summary, to_new
 
 
@@ -65,12 +65,12 @@ def test_around(place: Place) -> None:
     for name, (content, count) in FILES.items():
         place.put(name, content)
     done = place.run(ROTATE, *to_new(place), ".")
+    wanted = {
+        name: (without_digits(content).replace(b"1.2;AES256;default", b"1.1;AES256"), [TEXT] * count)
+        for name, (content, count) in FILES.items()
+    }
+    assert {name: (without_digits(after), texts(after, "new")) for name, after in place.files().items()} == wanted
     ended("blocks", done, 0, summary(sum(count for _, count in FILES.values())))
-    for name, (content, count) in FILES.items():
-        after = place.get(name)
-        around = without_digits(content).replace(b"1.2;AES256;default", b"1.1;AES256")
-        assert without_digits(after) == around, f"{name}: all around stays"
-        assert texts(after, "new") == [TEXT] * count, f"{name}: the blocks are rotated"
 
 
 def test_mixed(place: Place) -> None:
@@ -86,33 +86,6 @@ def test_mixed(place: Place) -> None:
     assert without_digits(after) == without_digits(content), "all around stays"
     assert stray in after and block("prod", label="prod", name="b") in after, "the strays stay"
     assert [texts(after, "new")[index] for index in (0, 3)] == [TEXT, TEXT], "the others are rotated"
-
-
-def test_no_blocks_of_lines(cases: Companions) -> None:
-    """Envelopes that cannot be put back as they stand are reported, and left as they are."""
-    quoted = sealed("old", label="prod").replace(b"\n", b"\\n")
-    wrapped = sealed("old").replace(b"\n", b"\n\n  ")
-    forms = {
-        "quotes": b'a: !vault "' + quoted + b'"\n',
-        "JSON": b'{"a": {"__ansible_vault": "' + quoted + b'"}}\n',
-        "single quotes": b"a: !vault '" + wrapped + b"'\n",
-        "one line": b"a: !vault " + sealed("old").replace(b"\n", b" ") + b"\n",
-        "a damaged block": b"a: !vault |\n  $ANSIBLE_VAULT;1.1;AES256\n  not digits\n",
-        "a block that is cut": b"a: !vault |\n" + BODY[:-100] + b"\n  x\n",
-        "a merge": b"a: !vault |\n" + BODY[:300] + b"\n<<<<<<< ours\n" + BODY[300:] + b"\n",
-    }
-    for name, content in forms.items():
-        place = cases.place()
-        place.put("vars.yml", content)
-        both = [*to_new(place), *place.by_id("prod", "new", "new-")]
-        ended(name, place.run(ROTATE, *both, "."), 1, "./vars.yml:", summary(0, failed=1))
-        assert place.get("vars.yml") == content, f"{name}: it stays"
-        if b";prod" in content:
-            place.put("a.yml", sealed("old"))
-            done = place.run(ROTATE, *to_new(place), ".")
-            ended(f"{name}: another label", done, 0, summary(1, 0, 1, " (prod 1)"))
-        done = place.run(CHECK, *place.by_file("old"), "vars.yml")
-        ended(f"{name}: it is not passed over", done, 1, "0 decrypted, 1 not")
 
 
 # A run of this command waits for another one.

@@ -1,5 +1,9 @@
 """ansible-vault-check, the help of all, and what they say of themselves."""
 
+from itertools import product
+
+from pytest_subtests import SubTests
+
 from companion_cases import CHECK, COMPANIONS, TEXT, Place, block, ended, sealed
 from lib.paths import version
 
@@ -51,12 +55,13 @@ def test_what_cannot_be_decrypted(place: Place) -> None:
     ended("a header", place.run(CHECK, *place.by_file("old"), "header.yml"), 1, "header.yml: no label: vault")
 
 
-def test_nothing(place: Place) -> None:
+def test_nothing(place: Place, subtests: SubTests) -> None:
     place.put("plain.yml", TEXT)
     done = place.run(CHECK, *place.by_file("old"), ".")
     assert (done.returncode, done.stdout, done.stderr) == (0, "0 decrypted, 0 not\n", ""), "nothing"
     for words in ([], ["."], place.by_file("old"), [*place.by_file("old"), "--loud", "."]):
-        ended(f"{words}", place.run(CHECK, *words), 2, "usage: ansible-vault-check")
+        with subtests.test(f"{words}"):
+            ended("the words", place.run(CHECK, *words), 2, "usage: ansible-vault-check")
 
 
 def test_no_plaintext(place: Place) -> None:
@@ -67,18 +72,17 @@ def test_no_plaintext(place: Place) -> None:
     assert "\x1b" not in done.stdout + done.stderr, "and nothing that a terminal would obey"
 
 
-def test_help_of_each(place: Place) -> None:
+def test_help_of_each(place: Place, subtests: SubTests) -> None:
     names = sorted(each.name for each in COMPANIONS.glob("ansible-vault-*"))
     assert len(names) == 7, "there are seven"
-    for name in names:
-        for word in ("--help", "-h"):
+    for name, word in product(names, ("--help", "-h")):
+        with subtests.test(f"{name} {word}"):
             done = place.run(name, word)
             example = f"Example:\n  {name} "
-            parts = [f"usage: {name}", example, "Exit status: 0", "This program is tested, not proved"]
-            ended(f"{name} {word}", done, 0, *parts)
+            ended("help", done, 0, f"usage: {name}", example, "Exit status: 0", "This program is tested, not proved")
             wide = [line for line in done.stdout.splitlines() if len(line) > 80]
-            assert (wide, done.stderr) == ([], ""), f"{name}: the help is no wider than a terminal"
-        for word in ("--version", "-V"):
+            assert (wide, done.stderr) == ([], ""), "it is no wider than a terminal"
+    for name, word in product(names, ("--version", "-V")):
+        with subtests.test(f"{name} {word}"):
             done = place.run(name, word)
-            found = (done.returncode, done.stdout, done.stderr)
-            assert found == (0, f"{name} {version()}\n", ""), f"{name} {word}"
+            assert (done.returncode, done.stdout, done.stderr) == (0, f"{name} {version()}\n", "")

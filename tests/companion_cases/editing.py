@@ -4,6 +4,7 @@ import os
 from pathlib import Path
 
 import pytest
+from pytest_subtests import SubTests
 
 from companion_cases import AWKWARD, EDIT, HOOK, NOBODY, TEXT, Companions, Place, decrypted, ended, sealed, silent
 from companion_cases.repository import AUTHOR
@@ -39,18 +40,20 @@ def test_what_changes(cases: Companions, label, secrets) -> None:
     assert (place.names(), place.left()) == (["all.yml"], []), "no other file is left"
 
 
-def test_where_the_plaintext_lies(place: Place) -> None:
+def test_where_the_plaintext_lies(place: Place, subtests: SubTests) -> None:
     look = 'stat -c "%a %n" "$(dirname "$1")" "$1" > ../seen'
     place.put("all.yml", sealed("old"))
     for folder in (str(place.runtime), "/nowhere", ""):
-        wanted = folder if folder == str(place.runtime) else "/dev/shm"
-        edit(place, look, *place.by_file("old"), "all.yml", XDG_RUNTIME_DIR=folder)
-        lines = (place.path / "seen").read_text().splitlines()
-        modes, paths = zip(*(line.split(" ", 1) for line in lines))
-        assert modes == ("700", "600"), "folder and file are for their owner alone"
-        assert str(Path(paths[0]).parent) == wanted, f"XDG_RUNTIME_DIR={folder!r}"
-        assert Path(paths[1]).name == "all.yml", "the file has the name of the vault"
-        assert (place.left(), os.path.exists(paths[0])) == ([], False), "it is gone"
+        with subtests.test(f"XDG_RUNTIME_DIR={folder!r}"):
+            wanted = folder if folder == str(place.runtime) else "/dev/shm"
+            done = edit(place, look, *place.by_file("old"), "all.yml", XDG_RUNTIME_DIR=folder)
+            ended("an editor that looks", done, 0, "nothing was changed")
+            lines = (place.path / "seen").read_text().splitlines()
+            modes, paths = zip(*(line.split(" ", 1) for line in lines))
+            assert modes == ("700", "600"), "folder and file are for their owner alone"
+            assert str(Path(paths[0]).parent) == wanted, "where it is"
+            assert Path(paths[1]).name == "all.yml", "the file has the name of the vault"
+            assert (place.left(), os.path.exists(paths[0])) == ([], False), "it is gone"
 
 
 def written(place: Place) -> tuple[int, int]:
@@ -59,7 +62,7 @@ def written(place: Place) -> tuple[int, int]:
     return about.st_ino, about.st_mtime_ns
 
 
-def test_what_stays(place: Place) -> None:
+def test_what_stays(cases: Companions, subtests: SubTests) -> None:
     """Whatever ends an edit, the vault stays as it was, and nothing is left."""
     vault = sealed("old")
     stops = {
@@ -69,17 +72,17 @@ def test_what_stays(place: Place) -> None:
         'rm "$1"': (1, "left no file"),
         'rm "$1"; mkdir "$1"': (1, "Is a directory"),
     }
-    place.put("all.yml", vault)
-    before = written(place)
     for editor, (status, part) in stops.items():
-        ended(editor, edit(place, editor, *place.by_file("old"), "all.yml"), status, part)
-        assert place.get("all.yml") == vault, f"{editor}: the vault stays"
-        after = written(place)
-        assert after == before, f"{editor}: it is not written"
-        assert (place.names(), place.left()) == (["all.yml"], []), f"{editor}: nothing is left"
+        with subtests.test(editor):
+            place = cases.place()
+            place.put("all.yml", vault)
+            before = written(place)
+            ended("the edit", edit(place, editor, *place.by_file("old"), "all.yml"), status, part)
+            assert (place.get("all.yml"), written(place)) == (vault, before), "the vault stays, and is not written"
+            assert (place.names(), place.left()) == (["all.yml"], []), "nothing is left"
 
 
-def test_refusals(place: Place) -> None:
+def test_refusals(place: Place, subtests: SubTests) -> None:
     """The editor is not even started."""
     place.put("all.yml", sealed("old"))
     place.put("plain.yml", TEXT)
@@ -99,8 +102,8 @@ def test_refusals(place: Place) -> None:
         (["--vault-id", f"dev@{place.path}/empty"], "all.yml", "a password is empty"),
     ]
     for words, vault, part in refused:
-        done = edit(place, "touch ../started", *words, vault)
-        ended(f"{words[-1][-12:]} {vault}", done, 1, part)
+        with subtests.test(f"{vault}: {part}"):
+            ended("the edit", edit(place, "touch ../started", *words, vault), 1, part)
     away = ["setsid", "--wait", EDIT, "--vault-id", "prompt", "all.yml"]
     ended("no terminal", place.run(*away), 1, "prompt: there is no terminal to ask for the password")
     assert not (place.path / "started").exists(), "no editor is started"
@@ -129,27 +132,28 @@ def test_what_cannot_be_removed(place: Place) -> None:
     assert decrypted("old", place.get("new.yml")) == b"a\n", "but the vault is made"
 
 
-def test_labels(place: Place) -> None:
+def test_labels(place: Place, subtests: SubTests) -> None:
     """The result is encrypted with the secret that decrypted the vault, under the vault's label."""
-    place.put("all.yml", sealed("prod", label="prod"))
-    runs = [
-        [*place.by_id("dev", "prod")],
-        [*place.by_id("dev", "dev"), *place.by_id("prod", "prod")],
-        [*place.by_id("prod", "dev"), *place.by_file("prod")],
-        [*place.by_id("prod", "prod"), "--encrypt-vault-id", "prod"],
-    ]
-    for number, words in enumerate(runs):
-        silent(f"{words}", edit(place, f'echo {number} > "$1"', *words, "all.yml"))
-        envelope = place.get("all.yml")
-        assert decrypted("prod", envelope) == f"{number}\n".encode(), "the password stays"
-        assert envelope.partition(b"\n")[0] == b"$ANSIBLE_VAULT;1.2;AES256;prod", "the label stays"
+    runs = {
+        "under another label": place.by_id("dev", "prod"),
+        "the second secret": [*place.by_id("dev", "dev"), *place.by_id("prod", "prod")],
+        "not that of the label": [*place.by_id("prod", "dev"), *place.by_file("prod")],
+        "the label is chosen": [*place.by_id("prod", "prod"), "--encrypt-vault-id", "prod"],
+    }
+    for name, words in runs.items():
+        with subtests.test(name):
+            place.put("all.yml", sealed("prod", label="prod"))
+            silent("the edit", edit(place, CHANGE, *words, "all.yml"))
+            envelope = place.get("all.yml")
+            assert decrypted("prod", envelope) == CHANGED, "the password stays"
+            assert envelope.partition(b"\n")[0] == b"$ANSIBLE_VAULT;1.2;AES256;prod", "the label stays"
     place.put("odd.yml", sealed("prod", label="a@b"))
     done = edit(place, CHANGE, *place.by_file("prod"), "odd.yml")
     ended("a label that no option can name", done, 1, "the label a@b")
     assert decrypted("prod", place.get("odd.yml")) == TEXT, "its vault stays"
 
 
-def test_editors(place: Place) -> None:
+def test_editors(place: Place, subtests: SubTests) -> None:
     """$VISUAL and $EDITOR are shell, as elsewhere."""
     script = place.script('printf "%s|" "$@" > ../words; sed -i s/correct/wrong/ "$3"', "an editor")
     calls = {
@@ -158,11 +162,12 @@ def test_editors(place: Place) -> None:
         "an empty VISUAL": {"VISUAL": "", "EDITOR": f"'{script}' --wait two\\ words"},
     }
     for name, variables in calls.items():
-        place.put("all.yml", sealed("old"))
-        silent(name, place.run(EDIT, *place.by_file("old"), "all.yml", **variables))
-        words = (place.path / "words").read_text().split("|")
-        assert words[:2] == ["--wait", "two words"], f"{name}: the words"
-        assert decrypted("old", place.get("all.yml")) == CHANGED, f"{name}: the text"
+        with subtests.test(name):
+            place.put("all.yml", sealed("old"))
+            silent("the edit", place.run(EDIT, *place.by_file("old"), "all.yml", **variables))
+            words = (place.path / "words").read_text().split("|")
+            assert words[:2] == ["--wait", "two words"], "the words"
+            assert decrypted("old", place.get("all.yml")) == CHANGED, "the text"
 
 
 def test_links(place: Place) -> None:
@@ -179,12 +184,12 @@ def test_links(place: Place) -> None:
     assert decrypted("old", place.get("shared/new.yml")) == b"a\n", "makes its file"
 
 
-def test_names(place: Place) -> None:
+def test_names(place: Place, subtests: SubTests) -> None:
     for name in AWKWARD:
-        place.put(name, sealed("old"))
-        done = edit(place, 'sed -i s/correct/wrong/ "$1"', *place.by_file("old"), "--", name)
-        silent(repr(name), done)
-        assert decrypted("old", place.get(name)) == CHANGED, f"{name!r}: the text"
+        with subtests.test(repr(name)):
+            place.put(name, sealed("old"))
+            silent("the edit", edit(place, CHANGE, *place.by_file("old"), "--", name))
+            assert decrypted("old", place.get(name)) == CHANGED, "the text"
     assert place.names() == sorted(AWKWARD), "no other file is made"
 
 
@@ -202,19 +207,6 @@ def test_new_vaults(place: Place) -> None:
     ended("no such label", edit(place, write, *wrong, "new.yml"), 1, "--encrypt-vault-id")
     ended("nothing is written", edit(place, "true", *place.by_file("old"), "new.yml"), 0, *NOT_MADE)
     assert (place.names(), place.left()) == (["one.yml", "two.yml"], []), "no other file is made"
-
-
-def test_changed_meanwhile(place: Place) -> None:
-    """Another's change is not lost, and neither is what was written."""
-    theirs = sealed("old", b"theirs")
-    place.put("all.yml", sealed("old"))
-    (place.path / "theirs").write_bytes(theirs)
-    done = edit(place, f"{CHANGE}; cp ../theirs all.yml", *place.by_file("old"), "all.yml")
-    ended("changed meanwhile", done, 1, "all.yml: it was changed meanwhile")
-    assert place.get("all.yml") == theirs, "their change stays"
-    [kept] = [name for name in place.names() if name != "all.yml"]
-    assert kept in done.stderr, "the message names the other file"
-    assert decrypted("old", place.get(kept)) == CHANGED, "it holds what was written, encrypted"
 
 
 @pytest.mark.parametrize("name", ("repository/all.yml", "repository/deep/er/all.yml"))
@@ -246,12 +238,12 @@ def test_conflict_markers(cases: Companions, name) -> None:
     silent("are not refused", hook())
 
 
-def test_command_line(place: Place) -> None:
+def test_command_line(place: Place, subtests: SubTests) -> None:
     secret = place.by_file("old")
-    lines = [[], ["all.yml"], secret, [*secret, "--new-vault-id", "x@y", "a"], [*secret, "--loud", "a"]]
-    lines.append([*secret, "--vault-i", "x", "a"])
-    for words in lines:
-        ended(f"{words}", place.run(EDIT, *words), 2, "usage: ansible-vault-edit")
+    options = ["--new-vault-id", "x@y"], ["--loud"], ["--vault-i", "x"]
+    for words in ([], ["all.yml"], secret, *([*secret, *each, "a"] for each in options)):
+        with subtests.test(f"{words}"):
+            ended("the words", place.run(EDIT, *words), 2, "usage: ansible-vault-edit")
 
 
 def test_typed_password(place: Place) -> None:

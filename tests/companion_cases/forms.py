@@ -10,6 +10,7 @@ from companion_cases.blocks import BODY, lines_of, texts
 from companion_cases.rotating import summary, to_new
 
 LINE = sealed("old").decode().replace("\n", "\\n")
+OF_PROD = sealed("prod", label="prod").decode().replace("\n", "\\n")
 COMMENT = b"".join(b"# " + line for line in block("old").splitlines(keepends=True))
 # What stands in a file, and the reason that is reported.
 REPORTED = {
@@ -24,31 +25,57 @@ REPORTED = {
     "an empty line": (b"\n" + sealed("old"), "after empty lines or spaces at the start of the file"),
     "several empty lines": (b" \r\n\t\n" + sealed("old"), "which is no vault; remove them"),
     "spaces": (b"  " + sealed("old").replace(b"\n", b"\n  "), "which is no vault; remove them"),
+    "single quotes": (b"a: !vault '" + sealed("old").replace(b"\n", b"\n\n  ") + b"'\n", "in quotes or within a line"),
+    "a damaged block": (b"a: !vault |\n  $ANSIBLE_VAULT;1.1;AES256\n  not digits\n", "vault payload is malformed"),
+    "a block that is cut": (b"a: !vault |\n" + BODY[:-100] + b"\n  x\n", "vault body is not hexadecimal"),
+    "a merge": (b"a: !vault |\n" + BODY[:300] + b"\n<<<<<<< ours\n" + BODY[300:] + b"\n", "vault payload is malformed"),
     "UTF-16": ("\ufeff".encode("utf-16-le") + block("old").decode().encode("utf-16-le"), "write the file in UTF-8"),
     "UTF-16, big-endian": (block("old").decode().encode("utf-16-be"), "write the file in UTF-8"),
 }
 
 
-@pytest.mark.parametrize("name", REPORTED)
-def test_reported(place: Place, name: str) -> None:
-    content, why = REPORTED[name]
-    place.put("vars.yml", content)
-    done = place.run(ROTATE, *to_new(place), ".")
-    ended(f"{name}: rotated", done, 1, "./vars.yml", why, summary(0, failed=1))
-    assert place.get("vars.yml") == content, f"{name}: it stays"
-    done = place.run(CHECK, *place.by_file("old"), ".")
-    ended(f"{name}: checked", done, 1, "./vars.yml", why, "0 decrypted, 1 not")
+def unreported(done) -> list[str]:
+    """The files for which no line has the reason."""
+    lines = done.stderr.splitlines()
+    found = {name: [line for line in lines if f"./{name}:" in line] for name in REPORTED}
+    return [name for name, (_, why) in REPORTED.items() if not any(why in line for line in found[name])]
+
+
+def test_reported(place: Place) -> None:
+    for name, (content, _) in REPORTED.items():
+        place.put(name, content)
+    before = place.files()
+    rotated = place.run(ROTATE, *to_new(place), ".")
+    checked = place.run(CHECK, *place.by_file("old"), ".")
+    assert (unreported(rotated), unreported(checked), place.files()) == ([], [], before)
+    ended("rotated", rotated, 1, summary(0, failed=len(REPORTED)))
+    ended("checked", checked, 1, f"0 decrypted, {len(REPORTED)} not")
 
 
 def test_several_in_a_line(place: Place) -> None:
     """Each is looked at, with its own label."""
-    lines = [LINE, sealed("prod", label="prod").decode().replace("\n", "\\n")]
-    for name, order in (("a.json", lines), ("b.json", lines[::-1])):
+    for name, order in (("a.json", (LINE, OF_PROD)), ("b.json", (OF_PROD, LINE))):
         place.put(name, "{{{}}}".format(", ".join(f'"x": "{line}"' for line in order)).encode())
     place.put("c.json", f'{{"x": "{LINE}", "y": "{LINE}"}}'.encode())
     done = place.run(ROTATE, *to_new(place), ".")
     counts = summary(0, 0, 2, " (prod 2)", 4)
     ended("minified JSON", done, 1, "./a.json:1: ", "./b.json:1: ", "./c.json:1: ", counts)
+
+
+def test_of_another_label(place: Place) -> None:
+    """What is not to be rotated is no fault."""
+    place.put("a.yml", sealed("old"))
+    place.put("b.yml", f'a: !vault "{OF_PROD}"\n'.encode())
+    place.put("c.json", f'{{"a": {{"__ansible_vault": "{OF_PROD}"}}}}\n'.encode())
+    before = place.files()
+    ended("another label", place.run(ROTATE, *to_new(place), "."), 0, summary(1, 0, 2, " (prod 2)"))
+    place.put("a.yml", before["a.yml"])
+    both = [*to_new(place), *place.by_id("prod", "new", "new-")]
+    done = place.run(ROTATE, *both, "b.yml", "c.json")
+    ended("its label", done, 1, "b.yml:1: ", "c.json:1: ", summary(0, failed=2))
+    assert place.files() == before, "they stay"
+    done = place.run(CHECK, *place.by_file("old"), "b.yml", "c.json")
+    ended("they are not passed over", done, 1, "b.yml:1: ", "c.json:1: ", "0 decrypted, 2 not")
 
 
 def test_taken_as_blocks(place: Place) -> None:
@@ -107,20 +134,22 @@ def seconds(work, data: bytes) -> float:
     return min(taken)
 
 
+START = b"x: !vault |\n  $ANSIBLE_VAULT;1.1;AES256\n  61\n"
+WORKS = {
+    "the envelopes": envelopes.envelopes,
+    "after a first line": lambda data: envelopes.envelopes(b"x: 1\n" + data),
+    "a marked file": lambda data: leaks.fault_of_marked(b"x: 1\n" + data, {"diff"}),
+    "what is decrypted": lambda data: leaks.decrypted(START + data, b"x: 1\n" + data),
+    "a whole vault": lambda data: leaks.is_whole(b"$ANSIBLE_VAULT;1.1;AES256\n" + data),
+    "conflict markers": leaks.is_unmerged,
+}
+
+
 @pytest.mark.parametrize("piece", PIECES, ids=lambda piece: repr(piece[:40]))
-def test_linear_time(piece) -> None:
+@pytest.mark.parametrize("work", WORKS.values(), ids=WORKS)
+def test_linear_time(work, piece) -> None:
     """Eight times as long a file takes eight times as long, whatever it holds."""
-    start = b"x: !vault |\n  $ANSIBLE_VAULT;1.1;AES256\n  61\n"
-    works = {
-        "the envelopes": envelopes.envelopes,
-        "after a first line": lambda data: envelopes.envelopes(b"x: 1\n" + data),
-        "a marked file": lambda data: leaks.fault_of_marked(b"x: 1\n" + data, {"diff"}),
-        "what is decrypted": lambda data: leaks.decrypted(start + data, b"x: 1\n" + data),
-        "a whole vault": lambda data: leaks.is_whole(b"$ANSIBLE_VAULT;1.1;AES256\n" + data),
-        "conflict markers": leaks.is_unmerged,
-    }
     small = (piece * (SMALL // len(piece) + 1))[:SMALL]
-    for name, work in works.items():
-        times = [seconds(work, small), seconds(work, small * TIMES)]
-        # Below a few milliseconds the clock says little.
-        assert times[1] < 0.02 or times[1] < MOST * times[0], f"{name}: {piece[:30]!r}"
+    times = [seconds(work, small), seconds(work, small * TIMES)]
+    # Below a few milliseconds the clock says little.
+    assert times[1] < 0.02 or times[1] < MOST * times[0]

@@ -3,6 +3,7 @@
 import os
 
 import pytest
+from pytest_subtests import SubTests
 
 from companion_cases import AWKWARD, HOOK, TEXT, Place, block, ended, sealed, silent
 from companion_cases.repository import add_and_commit, commit, under_git
@@ -29,7 +30,7 @@ def unmarking(name: str) -> str:
     return f"  encrypt it, or unmark it by a last line of .gitattributes: /{name} !diff !ansible-vault"
 
 
-def test_what_is_refused(place: Place) -> None:
+def test_what_is_refused(place: Place, subtests: SubTests) -> None:
     damaged = {
         "plaintext below": sealed("old") + TEXT,
         "a merge": sealed("old").replace(b"\n", b"\n<<<<<<< ours\n", 1),
@@ -44,8 +45,9 @@ def test_what_is_refused(place: Place) -> None:
     place.put("secrets/key", sealed("old").replace(b"\n", b"\r\n"))
     silent("vaults", add_and_commit(place))
     for what, content in damaged.items():
-        place.put("db.vault.yml", content)
-        refused(what, add_and_commit(place), "db.vault.yml", why="is a damaged vault")
+        with subtests.test(what):
+            place.put("db.vault.yml", content)
+            refused("the commit", add_and_commit(place), "db.vault.yml", why="is a damaged vault")
     place.put("db.vault.yml", b"")
     refused("an empty file", add_and_commit(place), "db.vault.yml")
 

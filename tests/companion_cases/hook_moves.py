@@ -3,11 +3,12 @@
 import os
 
 import pytest
+from pytest_subtests import SubTests
 
 from companion_cases import HOOK, TEXT, Companions, Place, block, sealed, silent
 from companion_cases.hook import refused
 from companion_cases.hook_commits import committed
-from companion_cases.leaks import IN_PART, again, meant, with_hooks
+from companion_cases.leaks import IN_PART, again, meant, staged, with_hooks
 from companion_cases.repository import add_and_commit
 from companion_cases.without_pyyaml import hide_pyyaml
 from lib.needs import needs_pyyaml
@@ -131,10 +132,7 @@ def test_vaults(place: Place, what: str) -> None:
     place.shell(f"git rm -q {before}")
     done = again(place, after, TEXT)
     refused(what, done, after, why=GONE.format(before), hint=meant(after))
-    place.put(after, sealed("new"))
-    place.shell("git add -A")
-    silent(f"{what}, encrypted", place.run(HOOK))
-    place.shell("git rm -qrf . && git commit -qm none")
+    silent(f"{what}, encrypted", staged(place, after, sealed("new")))
 
 
 def test_renamed_folders(place: Place) -> None:
@@ -145,14 +143,8 @@ def test_renamed_folders(place: Place) -> None:
     silent("at first", again(place, "host_vars/web/vault.yml", sealed("old")))
     place.shell("git mv host_vars/web host_vars/www && git mv host_vars/www/vault.yml host_vars/www/secret.yml")
     silent("encrypted", place.run(HOOK))
-    done = again(place, "host_vars/www/secret.yml", TEXT)
-    refused(
-        "decrypted",
-        done,
-        "host_vars/www/secret.yml",
-        why=GONE.format("host_vars/web/vault.yml"),
-        hint=meant("host_vars/www/secret.yml"),
-    )
+    name = "host_vars/www/secret.yml"
+    refused("decrypted", again(place, name, TEXT), name, why=GONE.format("host_vars/web/vault.yml"), hint=meant(name))
 
 
 def test_no_moves(place: Place) -> None:
@@ -169,7 +161,7 @@ def test_no_moves(place: Place) -> None:
     silent("an empty file", again(place, "four/vault.yml", b""))
 
 
-def test_links(place: Place) -> None:
+def test_links(place: Place, subtests: SubTests) -> None:
     """A link in the place of a vault, to what is in the repository."""
     with_hooks(place)
     place.put("deep/plain.yml", TEXT)
@@ -177,17 +169,17 @@ def test_links(place: Place) -> None:
     (place.tree / "link.yml").symlink_to("deep/plain.yml")
     silent("at first", again(place, "deep/vault.yml", sealed("old")))
     why = "leads to deep/plain.yml, and is not a vault, but was one in the parent commit"
-    for target in ("plain.yml", "../deep/plain.yml", "../link.yml"):
-        os.unlink(place.tree / "deep/vault.yml")
-        (place.tree / "deep/vault.yml").symlink_to(target)
-        done = add_and_commit(place)
-        refused(target, done, "deep/vault.yml", why=why, hint=meant("deep/vault.yml"))
-    outside = ("/etc/hostname", "../..", "../../outside")
-    for target in ("other.yml", "nowhere.yml", "vault.yml", *outside):
-        os.unlink(place.tree / "deep/vault.yml")
-        (place.tree / "deep/vault.yml").symlink_to(target)
-        place.shell("git add -A")
-        silent(target, place.run(HOOK))
+    leaks = ("plain.yml", "../deep/plain.yml", "../link.yml")
+    for target in (*leaks, "other.yml", "nowhere.yml", "vault.yml", "/etc/hostname", "../..", "../../outside"):
+        with subtests.test(target):
+            os.unlink(place.tree / "deep/vault.yml")
+            (place.tree / "deep/vault.yml").symlink_to(target)
+            place.shell("git add -A")
+            done = place.run(HOOK)
+            if target in leaks:
+                refused("plaintext", done, "deep/vault.yml", why=why, hint=meant("deep/vault.yml"))
+            else:
+                silent("no plaintext", done)
 
 
 def test_in_two_commits(place: Place) -> None:

@@ -7,6 +7,7 @@ import subprocess
 from pathlib import Path
 
 import pytest
+from pytest_subtests import SubTests
 
 from companion_cases import EDIT, TEXT, Companions, Place, decrypted, ended, sealed, silent
 from companion_cases.editing import ABOVE_EDITOR, CHANGE, CHANGED, edit
@@ -21,8 +22,6 @@ def check_encrypted(what: str, place: Place, done, why: str, folder: Path) -> No
     ended(what, done, 1, why)
     found = ENCRYPTED.search(done.stderr)
     assert found is not None, (f"{what}: the message says where", done.stderr)
-    if not found:
-        return
     path = place.tree / found[1]
     assert path.parent == folder, f"{what}: it stands in its place"
     assert "all.yml-" in path.name, f"{what}: its name tells whose it is"
@@ -38,34 +37,32 @@ def check_plain(what: str, place: Place, done, why: str, text: bytes) -> None:
     found = PLAIN.search(done.stderr)
     assert found is not None, (f"{what}: the message says where", done.stderr)
     assert place.left() == [], f"{what}: nothing is left in memory"
-    if found:
-        [path] = Path(found[1]).iterdir()
-        assert path.parent.parent == Path("/tmp"), f"{what}: it is in $TMPDIR"
-        assert path.read_bytes() == text, f"{what}: it is the text"
-        modes = [oct(each.stat().st_mode & 0o777) for each in (path.parent, path)]
-        assert modes == ["0o700", "0o600"], f"{what}: for its owner alone"
-        shutil.rmtree(path.parent)
+    [path] = Path(found[1]).iterdir()
+    assert path.parent.parent == Path("/tmp"), f"{what}: it is in $TMPDIR"
+    assert path.read_bytes() == text, f"{what}: it is the text"
+    modes = [oct(each.stat().st_mode & 0o777) for each in (path.parent, path)]
+    assert modes == ["0o700", "0o600"], f"{what}: for its owner alone"
+    shutil.rmtree(path.parent)
 
 
-# What keeps an edit from replacing the vault, with the reason.
+# What keeps an edit from replacing the vault, with the reason, and what stands in its place then.
 STOPS = {
-    "the editor fails": (f"{CHANGE}; exit 3", "the editor failed"),
-    "a hard link": (f"{CHANGE}; ln all.yml ../second", "it has 2 names (hard links)"),
-    "another change": (f"{CHANGE}; echo >> all.yml", "it was changed meanwhile"),
-    "a folder in its place": (f"{CHANGE}; rm all.yml; mkdir all.yml", "Is a directory"),
-    "it is gone": (f"{CHANGE}; rm all.yml", "it was changed meanwhile"),
+    "the editor fails": (f"{CHANGE}; exit 3", "the editor failed", sealed("old")),
+    "a hard link": (f"{CHANGE}; ln all.yml ../second", "it has 2 names (hard links)", sealed("old")),
+    "another change": (f"{CHANGE}; echo theirs > all.yml", "all.yml: it was changed meanwhile", b"theirs\n"),
+    "a folder in its place": (f"{CHANGE}; rm all.yml; mkdir all.yml", "Is a directory", None),
+    "it is gone": (f"{CHANGE}; rm all.yml", "all.yml: it was changed meanwhile", None),
 }
 
 
 @pytest.mark.parametrize("what", STOPS)
 def test_replacing_fails(place: Place, what: str) -> None:
     """The new envelope is kept beside the vault."""
-    editor, why = STOPS[what]
+    editor, why, stays = STOPS[what]
     place.put("all.yml", sealed("old"), 0o600)
     done = edit(place, editor, *place.by_file("old"), "all.yml")
     check_encrypted(what, place, done, why, place.tree)
-    if what in ("the editor fails", "a hard link"):
-        assert place.get("all.yml") == sealed("old"), "the vault stays"
+    assert place.files() == ({} if stays is None else {"all.yml": stays})
 
 
 def test_made_meanwhile(cases: Companions) -> None:
@@ -169,7 +166,7 @@ def test_sealing_fails(place: Place) -> None:
     assert place.get("all.yml") == sealed("old"), "the vault stays"
 
 
-def test_what_the_editor_left(cases: Companions) -> None:
+def test_what_the_editor_left(cases: Companions, subtests: SubTests) -> None:
     """If the editor is ended or fails, its own files may hold what was typed and not saved. They are encrypted, too."""
     leave = 'cd "${1%/*}"; printf typed > .all.yml.swp; : > empty; cp all.yml all.yml~; ln -s nowhere ".#all.yml"'
     ends = {
@@ -179,21 +176,21 @@ def test_what_the_editor_left(cases: Companions) -> None:
         "no file": (f'{leave}; rm "$1"; kill -TERM {ABOVE_EDITOR}; sleep 9', TEXT, "by signal 15", "; nothing was"),
     }
     for what, (editor, text, why, after) in ends.items():
-        place = cases.place()
-        place.put("all.yml", sealed("old"))
-        done = edit(place, editor, *place.by_file("old"), "all.yml")
-        told = f"{re.escape(why)}; what the editor left is encrypted in ([^;]*){re.escape(after)}"
-        found = re.search(told, done.stderr)
-        assert found is not None, (f"{what}: the message says where", done.stderr)
-        names = [name for name in place.names() if name != "all.yml"]
-        texts = sorted(decrypted("old", place.get(name)) for name in names)
-        wanted = [b"typed"] if text == TEXT else [CHANGED, b"typed"]
-        assert texts == wanted, f"{what}: the copies"
-        of_swap = re.compile(r"\.ansible-vault-saved-all\.yml-\w{8}-\.all\.yml\.swp")
-        [swap] = filter(of_swap.fullmatch, names)
-        assert (found and found[1]) == str(place.tree / swap), f"{what}: it is named"
-        assert place.get("all.yml") == sealed("old"), f"{what}: the vault stays"
-        assert place.left() == [], f"{what}: no plaintext is left"
+        with subtests.test(what):
+            place = cases.place()
+            place.put("all.yml", sealed("old"))
+            done = edit(place, editor, *place.by_file("old"), "all.yml")
+            told = f"{re.escape(why)}; what the editor left is encrypted in ([^;]*){re.escape(after)}"
+            found = re.search(told, done.stderr)
+            assert found is not None, ("the message says where", done.stderr)
+            names = [name for name in place.names() if name != "all.yml"]
+            texts = sorted(decrypted("old", place.get(name)) for name in names)
+            assert texts == ([b"typed"] if text == TEXT else [CHANGED, b"typed"]), "the copies"
+            of_swap = re.compile(r"\.ansible-vault-saved-all\.yml-\w{8}-\.all\.yml\.swp")
+            [swap] = filter(of_swap.fullmatch, names)
+            assert found[1] == str(place.tree / swap), "it is named"
+            assert place.get("all.yml") == sealed("old"), "the vault stays"
+            assert place.left() == [], "no plaintext is left"
     place = cases.place()
     place.put("all.yml", sealed("old"))
     silent("an editor that ends well", edit(place, f"{leave}; {CHANGE}", *place.by_file("old"), "all.yml"))
@@ -314,12 +311,12 @@ def test_busy_helpers(cases: Companions, attempt) -> None:
     assert place.left() == [], "the folder is gone"
 
 
-@pytest.mark.parametrize("part", ("as `code --wait`", "undo and backup files", "memory may be swapped"))
-def test_warnings(place: Place, part) -> None:
+def test_warnings(place: Place) -> None:
     """An editor that returns at once saves too late; editors and memory keep copies."""
     place.put("all.yml", sealed("old"))
     late = '(sleep 0.1; echo late > "$1") 2> /dev/null > /dev/null &'
     done = edit(place, late, *place.by_file("old"), "all.yml")
     ended("an editor that returns at once", done, 0, "nothing was changed", "an option to wait")
     text = " ".join(place.run(EDIT, "--help").stdout.split())
-    assert part in text, f"the help says `{part}`"
+    parts = ("as `code --wait`", "undo and backup files", "memory may be swapped")
+    assert [part for part in parts if part not in text] == [], "the help says so"

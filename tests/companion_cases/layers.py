@@ -3,6 +3,7 @@
 import re
 
 import pytest
+from pytest_subtests import SubTests
 
 from companion_cases import CHECK, ROTATE, TEXT, Companions, Place, block, decrypted, ended, sealed, silent
 from companion_cases.editing import edit
@@ -33,7 +34,7 @@ def copy_of(what: str, place: Place, line: str) -> str:
     assert place.get("vars.yml") == before, f"{what}: the file stays"
     assert place.left() == [], f"{what}: no plaintext is left"
     [name] = [name for name in place.names() if name != "vars.yml"]
-    assert (told and told[1]) == str(place.tree / name), f"{what}: it is the one that is named"
+    assert told[1] == str(place.tree / name), f"{what}: it is the one that is named"
     return name
 
 
@@ -48,14 +49,15 @@ def test_under_each(cases: Companions, what, line) -> None:
     assert text == SHOWN + f"{line}\n".encode(), f"{what}: within both is the text"
 
 
-def test_edited_again(place: Place) -> None:
+def test_edited_again(place: Place, subtests: SubTests) -> None:
     """It takes both secrets to open, and stays under both."""
     text = SHOWN + b"new: !vault more\n"
     name = copy_of("a copy", place, "new: !vault more")
     before = place.get(name)
     for label in ("dev", "prod"):
-        done = edit(place, "touch ../started", *place.by_id(label, label), name)
-        ended(f"{label} alone", done, 1, "no secret decrypts this vault")
+        with subtests.test(f"{label} alone"):
+            done = edit(place, "touch ../started", *place.by_id(label, label), name)
+            ended("the edit", done, 1, "no secret decrypts this vault")
     assert not (place.path / "started").exists(), "no editor is started"
     both = [*place.by_id("prod", "prod"), *place.by_id("dev", "dev")]
     silent("both", edit(place, 'cp "$1" ../seen; echo last >> "$1"', *both, name))

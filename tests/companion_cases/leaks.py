@@ -3,6 +3,7 @@
 import re
 
 import pytest
+from pytest_subtests import SubTests
 
 from companion_cases import AWKWARD, HOOK, TEXT, Companions, Place, block, ended, sealed, silent
 from companion_cases.hook import refused, unmarking
@@ -22,8 +23,7 @@ def meant(name: str) -> str:
 def with_hooks(place: Place, attributes: str = "") -> None:
     under_git(place, attributes)
     done = place.shell(f"{HOOK} --install")
-    if done.returncode != 0:
-        raise AssertionError(done.stderr)
+    assert done.returncode == 0, done.stderr
 
 
 def again(place: Place, name: str, content: bytes):
@@ -31,7 +31,14 @@ def again(place: Place, name: str, content: bytes):
     return add_and_commit(place)
 
 
-def test_unmarked_vaults(place: Place) -> None:
+def staged(place: Place, name: str, content: bytes):
+    """What the hook says of this; nothing is committed."""
+    place.put(name, content)
+    place.shell("git add -A")
+    return place.run(HOOK)
+
+
+def test_unmarked_vaults(place: Place, subtests: SubTests) -> None:
     """The first of the usual leaks: a vault that was decrypted to be looked at, and is committed."""
     with_hooks(place)
     place.put("plain.yml", TEXT)
@@ -44,8 +51,9 @@ def test_unmarked_vaults(place: Place) -> None:
         "plaintext below": sealed("old") + TEXT,
         "plaintext with a block": TEXT + block("old"),
     }.items():
-        done = again(place, "group_vars/all.yml", content)
-        refused(what, done, "group_vars/all.yml", why=WHOLE, hint=meant("group_vars/all.yml"))
+        with subtests.test(what):
+            done = staged(place, "group_vars/all.yml", content)
+            refused("the hook", done, "group_vars/all.yml", why=WHOLE, hint=meant("group_vars/all.yml"))
     silent("another vault", again(place, "group_vars/all.yml", sealed("new")))
     silent("plaintext elsewhere", again(place, "plain.yml", TEXT * 2))
     place.shell("git rm -q group_vars/all.yml")
@@ -61,7 +69,7 @@ def test_unmarked_vaults(place: Place) -> None:
     assert (done.returncode, done.stderr.splitlines()) == (1, lines), "their plaintext"
 
 
-def test_decrypted_blocks(place: Place) -> None:
+def test_decrypted_blocks(place: Place, subtests: SubTests) -> None:
     item = b"- " + block("old", name="")
     before = b"a: 1\n" + block("old", name="b") + b"c:\n  d:\n" + block("old", name="e") + b"f:\n" + item
     stays = {
@@ -79,15 +87,15 @@ def test_decrypted_blocks(place: Place) -> None:
         "f[]": re.sub(rb"- !vault \|\n(?: .*\n)*", b"- plain\n", before),
     }
     with_hooks(place)
+    silent("encrypted", again(place, "vars.yml", before))
     for what, content in stays.items():
-        again(place, "vars.yml", before)
-        place.put("vars.yml", content)
-        place.shell("git add -A")
-        silent(what, place.run(HOOK))
-    again(place, "vars.yml", before)
+        with subtests.test(what):
+            silent("the hook", staged(place, "vars.yml", content))
     for name, content in plain.items():
-        done = again(place, "vars.yml", content)
-        refused(name, done, "vars.yml", why=IN_PART.format(name), hint=meant("vars.yml"))
+        with subtests.test(name):
+            done = staged(place, "vars.yml", content)
+            refused("the hook", done, "vars.yml", why=IN_PART.format(name), hint=meant("vars.yml"))
+    refused("the commit", commit(place), "vars.yml", why=IN_PART.format("f[]"), hint=meant("vars.yml"))
 
 
 def test_merges(cases: Companions) -> None:
@@ -127,7 +135,7 @@ def test_merges(cases: Companions) -> None:
     refused("conflict markers in a vault", done, "vars.yml", why=WHOLE, hint=meant("vars.yml"))
 
 
-def test_marked_content(place: Place) -> None:
+def test_marked_content(place: Place, subtests: SubTests) -> None:
     """What is marked needs the digits of an envelope, and neither conflict markers nor plaintext between them."""
     digits = sealed("old").partition(b"\n")[2]
     damaged = {
@@ -147,11 +155,12 @@ def test_marked_content(place: Place) -> None:
     }
     with_hooks(place, "*.vault.yml diff=ansible-vault\n")
     for what, content in damaged.items():
-        refused(what, again(place, "a.vault.yml", content), "a.vault.yml", why="is a damaged vault")
+        with subtests.test(what):
+            refused("the hook", staged(place, "a.vault.yml", content), "a.vault.yml", why="is a damaged vault")
     for what, content in between.items():
-        why = "has a damaged block in line 3"
-        done = again(place, "a.vault.yml", b"x: 1\n" + content)
-        refused(what, done, "a.vault.yml", why=why)
+        with subtests.test(what):
+            done = staged(place, "a.vault.yml", b"x: 1\n" + content)
+            refused("the hook", done, "a.vault.yml", why="has a damaged block in line 3")
     marks = block("old") + b"<<<<<<< HEAD\nb: 1\n=======\nb: 2\n>>>>>>> branch\n"
     refused("markers", again(place, "a.vault.yml", marks), "a.vault.yml", why="has git's conflict markers")
     silent("blocks", again(place, "a.vault.yml", block("old") + b"x: 1\n\n" + block("old", name="b") + b"\n"))
@@ -180,11 +189,13 @@ def test_modes_and_renames(place: Place) -> None:
     silent("a removal", place.shell("git rm -qf b.vault.yml && git commit -qm none"))
 
 
-def test_outside_of_git(place: Place) -> None:
+def test_outside_of_git(place: Place, subtests: SubTests) -> None:
     for words in (["--all"], ["--since", "HEAD"], ["--install"], []):
-        ended(f"{words}", place.run(HOOK, *words), 1, "ansible-vault-hook: git rev-parse failed")
+        with subtests.test(f"{words}"):
+            ended("no repository", place.run(HOOK, *words), 1, "ansible-vault-hook: git rev-parse failed")
     for words in (["--all", "--install"], ["--since"]):
-        ended(f"{words}", place.run(HOOK, *words), 2, "usage: ansible-vault-hook")
+        with subtests.test(f"{words}"):
+            ended("the words", place.run(HOOK, *words), 2, "usage: ansible-vault-hook")
 
 
 def test_awkward_names(place: Place) -> None:

@@ -3,6 +3,7 @@
 import subprocess
 
 import pytest
+from pytest_subtests import SubTests
 
 from companion_cases import CHECK, TEXT, TEXTCONV, Place, block, ended, sealed
 from companion_cases.repository import under_git
@@ -13,7 +14,7 @@ MERGE = b"<<<<<<< HEAD\na: 1\n=======\na: 2\n>>>>>>> branch\n"
 
 
 @pytest.mark.usefixtures("git")
-def test_marked_files(place: Place) -> None:
+def test_marked_files(place: Place, subtests: SubTests) -> None:
     """One that is marked and is no vault is a failure, also where it holds nothing that is one."""
     plain = {
         "a.vault.yml": (TEXT, "is not encrypted"),
@@ -28,14 +29,18 @@ def test_marked_files(place: Place) -> None:
     place.put("ok.vault.md", block("old"))
     place.put("secrets/ok", sealed("old"))
     place.put("plain.yml", TEXT)
-    ended("all is well", place.run(CHECK, *place.by_file("old"), "."), 0, "3 decrypted, 0 not")
-    for name, (content, why) in plain.items():
+    check = [CHECK, *place.by_file("old")]
+    ended("all is well", place.run(*check, "."), 0, "3 decrypted, 0 not")
+    for name, (content, _) in plain.items():
         place.put(name, content)
-        for path in (".", name, str(place.tree / name)):
-            done = place.run(CHECK, *place.by_file("old"), path)
-            ended(f"{name} by {path}", done, 1, f"{name}: {why}\n", "1 not\n")
-        (place.tree / name).unlink()
-    ended("all is well again", place.run(CHECK, *place.by_file("old"), "."), 0, "3 decrypted, 0 not")
+    for folder, paths in {".": ["."], place.tree: [str(place.tree / name) for name in plain]}.items():
+        with subtests.test(f"all by {folder}"):
+            done = place.run(*check, *paths)
+            lines = sorted(f"{folder}/{name}: {why}" for name, (_, why) in plain.items())
+            assert (done.returncode, sorted(done.stderr.splitlines())) == (1, lines)
+    for name, (_, why) in plain.items():
+        with subtests.test(name):
+            ended("by its name", place.run(*check, name), 1, f"{name}: {why}\n", "1 not\n")
 
 
 @pytest.mark.usefixtures("git")
@@ -91,18 +96,19 @@ def test_names_of_variables(place: Place) -> None:
     }
     rows = block("old").partition(b"\n")[2]
     for name, line in lines.items():
-        place.put("vars.yml", line + rows)
-        done = place.run(CHECK, *place.by_file("old"), "vars.yml")
-        number = line.count(b"\n") + 1
-        wanted = f"vars.yml:{number}: {name}: default: decrypted by {place.secret('old')}\n1 decrypted, 0 not\n"
-        assert done.stdout == wanted, f"{name}: the line"
+        place.put(f"{name}.yml", line + rows)
+    done = place.run(CHECK, *place.by_file("old"), *(f"{name}.yml" for name in lines))
+    found = {name: line.count(b"\n") + 1 for name, line in lines.items()}
+    by = f"default: decrypted by {place.secret('old')}"
+    wanted = [f"{name}.yml:{number}: {name}: {by}" for name, number in found.items()]
+    assert done.stdout.splitlines() == [*wanted, "5 decrypted, 0 not"]
     place.put("vars.yml", b"- !vault |\n" + rows + b'"\x1b[2J": !vault |\n' + rows)
     done = place.run(CHECK, *place.by_file("old"), "vars.yml")
-    ended("an item of a list", done, 0, f"vars.yml:2: default: decrypted by {place.secret('old')}\n")
+    ended("an item of a list", done, 0, f"vars.yml:2: {by}\n")
     assert "\x1b" not in done.stdout, "nothing that a terminal would obey"
 
 
-def test_starts_of_the_tool(place: Place) -> None:
+def test_starts_of_the_tool(place: Place, subtests: SubTests) -> None:
     """ansible-vault-textconv starts the tool once for each secret that is tried."""
     needs("strace")
     files = {
@@ -115,20 +121,21 @@ def test_starts_of_the_tool(place: Place) -> None:
         "plain.yml": (TEXT, ["old"], 0),
     }
     for name, (content, secrets, count) in files.items():
-        place.put(name, content)
-        words = [word for each in secrets for word in place.by_id("prod" if each == "prod" else "default", each)]
-        trace = place.path / "trace"
-        companion = str(place.tools / TEXTCONV)
-        tracer = ["strace", "-f", "-o", str(trace), "-e", "trace=execve", companion]
-        assert place.run(*tracer, *words, name).returncode == 0, f"{name}: status"
-        starts = [line for line in trace.read_text().splitlines() if '/ansible-vault", ' in line]
-        assert len(starts) == count, f"{name}: starts of the tool"
+        with subtests.test(name):
+            place.put(name, content)
+            words = [word for each in secrets for word in place.by_id("prod" if each == "prod" else "default", each)]
+            trace = place.path / "trace"
+            companion = str(place.tools / TEXTCONV)
+            tracer = ["strace", "-f", "-o", str(trace), "-e", "trace=execve", companion]
+            assert place.run(*tracer, *words, name).returncode == 0, "status"
+            starts = [line for line in trace.read_text().splitlines() if '/ansible-vault", ' in line]
+            assert len(starts) == count, "starts of the tool"
 
 
 @pytest.mark.parametrize("name", ("a.yml", "--", "-h.yml", "--version"))
 def test_files_behind_dashes(place: Place, name) -> None:
     place.put(name, sealed("old"))
-    for words in (["--", name], [name]):
-        command = [TEXTCONV, *place.by_file("old"), *words]
-        done = subprocess.run(command, cwd=place.tree, env=place.environment, capture_output=True)
-        assert (done.returncode, done.stdout, done.stderr) == (0, TEXT, b""), f"{words}"
+    command = [TEXTCONV, *place.by_file("old")]
+    where = {"cwd": place.tree, "env": place.environment}
+    runs = [subprocess.run([*command, *words], capture_output=True, **where) for words in (["--", name], [name])]
+    assert [(done.returncode, done.stdout, done.stderr) for done in runs] == [(0, TEXT, b"")] * 2

@@ -6,6 +6,8 @@ import re
 import subprocess
 from typing import Iterator
 
+from pytest_subtests import SubTests
+
 from companion_cases import CHECK, MERGE, PASSWORDS, Place, decrypted, ended, silent
 from companion_cases.blocks import texts
 from companion_cases.merging import versions
@@ -14,6 +16,7 @@ from lib.needs import needs
 from model.vaults import SALT, seal, yaml_block
 
 STYLES = [("", b"\n"), ("", b"\r\n"), ("diff3", b"\n"), ("zdiff3", b"\n")]
+Texts = dict[str, tuple[bytes, bytes, bytes]]
 FILLER = b"f: 1\ng: 2\nh: 3\ni: 4\n"
 OPEN = b"a: 1\n" + FILLER + b"b: 1"
 # Base, ours and theirs.
@@ -37,6 +40,8 @@ TEXTS = {
 # What the sides of a conflict have in common stands outside of it, or within it in the style diff3. Below a value
 # that is a vault there is always such a line.
 COMMON = {"what both have": (b"a: 1\n", b"x: 1\na: 2\ny: 1\n", b"x: 1\na: 3\ny: 1\n")}
+# Of a whole vault the other styles are those of git, whatever the text.
+STYLED = COMMON | {name: TEXTS[name] for name in ("two conflicts", "a conflict of its end", "no common base")}
 # A value that is a vault, as the texts above have it.
 VALUE = re.compile(rb"(?m)^([abc]): (\w+)")
 BLOCK = re.compile(rb"(?m)^(\w): !vault \|\r?\n((?: {10}\S+\r?(?:\n|\Z))+)")
@@ -52,37 +57,45 @@ def by_git(place: Place, contents: list[bytes]) -> tuple[bytes, int]:
     return done.stdout, done.returncode
 
 
-def merges(place: Place, texts: dict[str, tuple]) -> Iterator[tuple[str, bytes, list[bytes], bytes, int]]:
+def merges(place: Place, plain_style: Texts, styled: Texts) -> Iterator[tuple[str, bytes, list[bytes], bytes, int]]:
     """Each with its name, the end of its lines, its versions, and what git makes of them. Other ends and styles are of
     conflicts alone."""
     under_git(place, "")
     for style, end in STYLES:
         if style:
             place.run("git", "config", "merge.conflictStyle", style)
-        for name, contents in texts.items():
+        for name, contents in (plain_style if (style, end) == STYLES[0] else styled).items():
             plain = [each.replace(b"\n", end) for each in contents]
             wanted, conflicts = by_git(place, plain)
             if conflicts or (style, end) == STYLES[0]:
                 yield f"{style} {name} {end!r}", end, plain, wanted, conflicts
 
 
-def check_merge(place: Place, what: str, merge: list[str], conflicts: int) -> None:
-    done = place.run(MERGE, *place.by_file("old"), *merge)
+def merged(place: Place, sides: list[bytes], conflicts: int) -> bytes:
+    """What the merge leaves, in a file that has this number of conflicts in its name."""
+    name = f"{len(place.files())} with {conflicts}.yml"
+    done = place.run(MERGE, *place.by_file("old"), *versions(place, name, *sides))
     count = f"{conflicts} conflict{'s' if conflicts > 1 else ''}"
-    message = f"{MERGE}: a.yml: {count}, to be resolved with ansible-vault-edit\n"
-    found = (done.returncode, done.stdout, done.stderr)
-    assert found == ((1, "", message) if conflicts else (0, "", "")), f"{what}: the status"
-    if conflicts:
-        checked = place.run(CHECK, *place.by_file("old"), "a.yml")
-        assert "conflict markers" in checked.stderr, f"{what}: the check sees the markers"
+    message = f"{MERGE}: {name}: {count}, to be resolved with ansible-vault-edit\n"
+    wanted = (1, "", message) if conflicts else (0, "", "")
+    assert (done.returncode, done.stdout, done.stderr) == wanted, "the status"
+    return place.get(name)
 
 
-def test_of_vaults(place: Place) -> None:
+def check_markers(place: Place) -> None:
+    """The check sees them where there are conflicts, and nowhere else."""
+    lines = place.run(CHECK, *place.by_file("old"), ".").stderr.splitlines()
+    found = [line.partition(":")[0] for line in lines if "conflict markers" in line]
+    assert sorted(found) == sorted(f"./{name}" for name in place.files() if re.search("with [1-9]", name))
+
+
+def test_of_vaults(place: Place, subtests: SubTests) -> None:
     needs("git")
-    for what, _, plain, wanted, conflicts in merges(place, TEXTS | COMMON):
-        merge = versions(place, "a.yml", *(seal(PASSWORDS["old"], each) for each in plain))
-        check_merge(place, what, merge, conflicts)
-        assert decrypted("old", place.get("a.yml")) == wanted, f"{what}: the plaintext"
+    for what, _, plain, wanted, conflicts in merges(place, TEXTS | COMMON, STYLED):
+        with subtests.test(what):
+            found = merged(place, [seal(PASSWORDS["old"], each) for each in plain], conflicts)
+            assert decrypted("old", found) == wanted
+    check_markers(place)
 
 
 def encrypted(content: bytes, end: bytes, salt: bytes) -> bytes:
@@ -106,27 +119,28 @@ def with_plaintexts(content: bytes) -> bytes:
     return BLOCK.sub(value, content)
 
 
-def test_of_values(place: Place) -> None:
+def test_of_values(place: Place, subtests: SubTests) -> None:
     """Each has another envelope on each side."""
     needs("git")
     salts = [SALT, SALT[::-1], SALT[1:] + b"s"]
-    for what, end, plain, wanted, conflicts in merges(place, TEXTS):
-        sides = [encrypted(each, end, salt) for each, salt in zip(plain, salts)]
-        check_merge(place, what, versions(place, "a.yml", *sides), conflicts)
-        found = place.get("a.yml")
-        assert with_plaintexts(found) == wanted, f"{what}: the text"
-        assert found.count(b"ANSIBLE_VAULT") == len(BLOCK.findall(found)), f"{what}: no value is torn"
+    for what, end, plain, wanted, conflicts in merges(place, TEXTS, TEXTS):
+        with subtests.test(what):
+            found = merged(place, [encrypted(each, end, salt) for each, salt in zip(plain, salts)], conflicts)
+            assert with_plaintexts(found) == wanted, "the text"
+            assert found.count(b"ANSIBLE_VAULT") == len(BLOCK.findall(found)), "no value is torn"
+    check_markers(place)
 
 
-def test_labels_of_values(place: Place) -> None:
+def test_labels_of_values(place: Place, subtests: SubTests) -> None:
     """One side gives a value another label, and both do."""
     block = lambda label: yaml_block(seal(PASSWORDS["old"], b"text", label), b"a") + b"z: 1\n"
     under_git(place, "")
     secrets = [*place.by_file("old"), *place.by_id("dev", "old"), *place.by_id("prod", "old")]
     for base, ours, other in ((b"", b"", b"dev"), (b"", b"dev", b""), (b"", b"dev", b"dev")):
-        merge = versions(place, "a.yml", block(base), block(ours), block(other))
-        silent(f"{ours} and {other}", place.run(MERGE, *secrets, *merge))
-        assert place.get("a.yml") == block(b"dev"), f"{ours} and {other}: the label"
+        with subtests.test(f"{ours!r} and {other!r}"):
+            merge = versions(place, "a.yml", block(base), block(ours), block(other))
+            silent("the merge", place.run(MERGE, *secrets, *merge))
+            assert place.get("a.yml") == block(b"dev"), "the label"
     merge = versions(place, "a.yml", block(b""), block(b"dev"), block(b"prod"))
     ended("two labels", place.run(MERGE, *secrets, *merge), 1, "a.yml: 1 conflict")
     found = place.get("a.yml")

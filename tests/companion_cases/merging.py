@@ -4,6 +4,7 @@ from contextlib import contextmanager
 from typing import Iterator
 
 import pytest
+from pytest_subtests import SubTests
 
 from companion_cases import CHECK, EDIT, HOOK, MERGE, PASSWORDS
 from companion_cases import Companions, Place, block, decrypted, ended, sealed, silent
@@ -114,30 +115,38 @@ REFUSED = {
 }
 
 
-def test_those_that_fail(place: Place) -> None:
+NOT_DONE = f"{MERGE}: a.yml: not merged, ours is left as it was: "
+
+
+def test_those_that_fail(cases: Companions, subtests: SubTests) -> None:
     """Ours stays to the byte, no other file is left, and the message says why."""
-    secrets = [*place.by_file("old"), *place.by_file("new"), *place.by_file("prod")]
-    where = f"{MERGE}: a.yml: not merged, ours is left as it was: "
     for why, contents in REFUSED.items():
-        done = place.run(MERGE, *secrets, *versions(place, "a.yml", *contents))
-        assert (done.returncode, done.stdout, done.stderr) == (1, "", f"{where}{why}\n"), why
-        assert place.files() == {"a.yml": contents[1]}, f"{why}: ours stays"
+        with subtests.test(why):
+            place = cases.place()
+            secrets = [*place.by_file("old"), *place.by_file("new"), *place.by_file("prod")]
+            done = place.run(MERGE, *secrets, *versions(place, "a.yml", *contents))
+            assert (done.returncode, done.stdout, done.stderr) == (1, "", f"{NOT_DONE}{why}\n")
+            assert place.files() == {"a.yml": contents[1]}, "ours stays"
+
+
+def test_what_fails(place: Place, subtests: SubTests) -> None:
+    """A file that is missing, a change meanwhile, the tool and git."""
     changes = [sealed("old", text) for text in (BASE, OURS, THEIRS)]
-    words = versions(place, "a.yml", *changes)
-    for number in range(3):
-        names = [*words[:number], "../missing", *words[number + 1 :]]
-        ended(f"version {number} is missing", place.run(MERGE, *secrets, *names), 1, "is missing")
-    done = place.run(MERGE, "--vault-password-file", "../missing", *words)
-    ended("no password file", done, 1, f"{where}../missing: a password file cannot be opened")
+    words = [*place.by_file("old"), *versions(place, "a.yml", *changes)]
+    for number in range(2, 5):
+        with subtests.test(f"{words[number]} is missing"):
+            names = [*words[:number], "../missing", *words[number + 1 :]]
+            ended("the merge", place.run(MERGE, *names), 1, "is missing")
+    done = place.run(MERGE, "--vault-password-file", "../missing", *words[2:])
+    ended("no password file", done, 1, f"{NOT_DONE}../missing: a password file cannot be opened")
     place.wrap_tool('[ "$1" != encrypt ] || echo other > a.yml')
-    done = place.run(MERGE, *secrets, *words)
-    ended("changed meanwhile", done, 1, f"{where}it was changed meanwhile")
+    ended("changed meanwhile", place.run(MERGE, *words), 1, f"{NOT_DONE}it was changed meanwhile")
     assert place.files() == {"a.yml": b"other\n"}, "what somebody wrote stays"
     place.wrap_tool('[ "$1" != encrypt ] || exit 4')
-    words = versions(place, "a.yml", *changes)
-    ended("the tool fails", place.run(MERGE, *secrets, *words), 1, "ansible-vault ended with status 4")
+    versions(place, "a.yml", *changes)
+    ended("the tool fails", place.run(MERGE, *words), 1, "ansible-vault ended with status 4")
     place.wrap_tool("exit 255", "git")
-    ended("git fails", place.run(MERGE, *secrets, *words), 1, "git merge-file cannot merge it")
+    ended("git fails", place.run(MERGE, *words), 1, "git merge-file cannot merge it")
     assert place.files() == {"a.yml": changes[1]}, "ours stays"
 
 

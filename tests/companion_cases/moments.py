@@ -9,13 +9,15 @@ import time
 from collections import Counter
 from pathlib import Path
 
+from pytest_subtests import SubTests
+
 from companion_cases import EDIT, ROTATE, SECONDS, Companions, Place, block, decrypted, sealed
 from companion_cases.blocks import texts
 from companion_cases.signals import check_whole, runs_of, tree, wait_until
 
 SEED = 1
 # How many moments of each run.
-OF_EDITS, OF_OTHERS = 15, 8
+OF_EDITS, OF_OTHERS = 8, 4
 SAVES = 6
 # Saves several times, and notes each save after it.
 EDITOR = f"""
@@ -54,13 +56,24 @@ def time_of(place: Place, words: list[str]) -> float:
     return time.monotonic() - begun
 
 
-def edited(place: Place, is_vault: bool) -> None:
-    text = b"saved 0\n"
+def to_edit(cases: Companions, is_vault: bool) -> tuple[Place, list[str]]:
+    """A place with a file, and the words that edit it."""
+    place, text = cases.place(), b"saved 0\n"
+    place.environment |= {"EDITOR": place.script(EDITOR, "editor"), "TMPDIR": str(place.path / "temporary")}
+    (place.path / "temporary").mkdir()
     place.put("a.yml", sealed("old", text) if is_vault else b"x: 1\n" + block("old", text) + block("old", name="b"))
+    return place, [EDIT, *place.by_file("old"), "a.yml"]
 
 
-def read(content: bytes, is_vault: bool) -> bytes:
-    """The plaintext of a vault or of the values in a file, whichever it is."""
+def to_run(cases: Companions, name: str) -> tuple[Place, list[str]]:
+    """A place with files, and the words of this run."""
+    place = cases.place()
+    tree(place)
+    return place, runs_of(place)[name]
+
+
+def read(content: bytes) -> bytes:
+    """The plaintext of a vault, or of the values in a file."""
     if content.startswith(b"$ANSIBLE_VAULT"):
         return decrypted("old", content) or b""
     return b"".join(text or b"" for text in texts(content, "old"))
@@ -70,58 +83,47 @@ def last_save(text: bytes) -> int:
     return max((int(each) for each in SAVED.findall(text)), default=0)
 
 
-def check_edit(what: str, place: Place, is_vault: bool, status: int) -> str:
+def check_edit(place: Place, status: int) -> str:
     """How an edit ended: in one of three ways."""
     noted = place.path / "saved"
     wanted = int(noted.read_text()) if noted.exists() else 0
     files = place.files()
-    vault = last_save(read(files["a.yml"], is_vault))
-    copies = [last_save(read(content, is_vault)) for name, content in files.items() if name != "a.yml"]
-    assert max([vault, *copies]) >= wanted, (f"{what}: the last save is kept", f"{vault} {copies} {wanted}")
-    assert not (vault and copies), (f"{what}: in the vault or in a copy", f"{vault} {copies}")
+    vault = last_save(read(files["a.yml"]))
+    copies = [last_save(read(content)) for name, content in files.items() if name != "a.yml"]
+    assert max([vault, *copies]) >= wanted, ("the last save is kept", f"{vault} {copies} {wanted}")
+    assert not (vault and copies), ("in the vault or in a copy", f"{vault} {copies}")
     plain = [name for name, content in files.items() if b"saved" in content]
     left = plain + place.left() + os.listdir(place.path / "temporary")
-    assert left == [], f"{what}: no plaintext is left"
-    assert status in (0, -signal.SIGTERM, -signal.SIGHUP), f"{what}: the status"
+    assert left == [], "no plaintext is left"
+    assert status in (0, -signal.SIGTERM, -signal.SIGHUP), "the status"
     known = re.compile(r"a\.yml|\.ansible-vault-saved-a\.yml-\w{8}(-sed\w+|-before)?")
-    names = [name for name in files if not known.fullmatch(name)]
-    assert names == [], f"{what}: no other file is left"
+    assert [name for name in files if not known.fullmatch(name)] == [], "no other file is left"
     return "replaced" if vault else "a copy" if copies else "nothing was saved"
 
 
-def test_edits(cases: Companions) -> None:
+def test_edits(cases: Companions, subtests: SubTests) -> None:
     chance, ends = random.Random(SEED), Counter()
     for is_vault in (True, False):
-        place = cases.place()
-        place.environment |= {"EDITOR": place.script(EDITOR, "editor"), "TMPDIR": str(place.path / "temporary")}
-        (place.path / "temporary").mkdir()
-        words = [EDIT, *place.by_file("old"), "a.yml"]
-        edited(place, is_vault)
-        seconds = time_of(place, words)
+        seconds = time_of(*to_edit(cases, is_vault))
         for number in range(OF_EDITS):
-            for name in place.names():
-                (place.tree / name).unlink()
-            (place.path / "saved").unlink(missing_ok=True)
-            edited(place, is_vault)
-            is_late = number % 2 == 1
-            moment = (SAVING, place.path / "saved") if is_late else (seconds, None)
-            status = signalled(place, words, chance, *moment)
-            kind = "a vault" if is_vault else "values"
-            ends[check_edit(f"{kind}, moment {number}", place, is_vault, status)] += 1
+            with subtests.test(f"{'a vault' if is_vault else 'values'}, moment {number}"):
+                place, words = to_edit(cases, is_vault)
+                is_late = number % 2 == 1
+                moment = (SAVING, place.path / "saved") if is_late else (seconds, None)
+                status = signalled(place, words, chance, *moment)
+                ends[check_edit(place, status)] += 1
     assert ends["a copy"] > 0, "some were ended after a save"
 
 
-def test_others(place: Place) -> None:
+def test_others(cases: Companions, subtests: SubTests) -> None:
     chance, ends = random.Random(SEED), Counter()
-    runs = {name: words for name, words in runs_of(place).items() if name in (ROTATE, "merge", "rekey", "decrypt")}
-    for name, words in runs.items():
-        tree(place)
-        seconds = time_of(place, words)
+    for name in (ROTATE, "merge", "rekey", "decrypt"):
+        seconds = time_of(*to_run(cases, name))
         for number in range(OF_OTHERS):
-            tree(place)
-            status = signalled(place, words, chance, seconds)
-            what = f"{name}, moment {number}"
-            assert status in (0, -signal.SIGTERM, -signal.SIGHUP), f"{what}: the status"
-            check_whole(what, place)
-            ends[status] += 1
+            with subtests.test(f"{name}, moment {number}"):
+                place, words = to_run(cases, name)
+                status = signalled(place, words, chance, seconds)
+                ends[status] += 1
+                assert status in (0, -signal.SIGTERM, -signal.SIGHUP), "the status"
+                check_whole("the end", place)
     assert sum(ends.values()) - ends[0] > OF_OTHERS, "some were ended"
