@@ -1,6 +1,7 @@
 """ansible-vault-edit on YAML with values that are vaults; PyYAML reads what the editor is shown."""
 
 import pytest
+from pytest_subtests import SubTests
 
 from companion_cases import TEXTCONV, Place, block, decrypted, ended, sealed, silent
 from companion_cases.blocks import lines_of, texts
@@ -128,27 +129,27 @@ MISPLACED = {
 
 
 @pytest.mark.parametrize("text, why", MISPLACED.items())
-def test_misplaced(place: Place, text, why) -> None:
+def test_misplaced(place: Place, text: str, why: str) -> None:
     """Plaintext that stands where it would not be encrypted is refused."""
     content = block("old", b"x", name="b")
     place.put("vars.yml", content)
     place.put("typed", text.encode())
     done = edit(place, 'cp typed "$1"', *place.by_file("old"), "vars.yml")
-    ended(repr(text), done, 1, why, "what you saved is encrypted in")
-    assert place.get("vars.yml") == content, f"{text!r}: the file stays"
+    ended("it is typed", done, 1, why, "what you saved is encrypted in")
+    assert place.get("vars.yml") == content, "the file stays"
 
 
-def test_closed(place: Place) -> None:
+def test_closed(place: Place, subtests: SubTests) -> None:
     """What YAML cannot show stays encrypted, and a comment says so for the time of the edit."""
     for text, why in CLOSED.items():
         content = b"x: 1\n" + block("old", text, name="a") + block("old", b"b", name="b")
         place.put("vars.yml", content)
-        done = edit(place, copied('sed -i s/^x:.*/x:\\ 2/ "$1"'), *place.by_file("old"), "vars.yml")
-        silent(repr(text), done)
-        shown = (place.path / "shown").read_bytes()
-        parts = [b"# ansible-vault: a stays encrypted: ", why.encode()]
-        assert [part in shown for part in parts] == [True, True], f"{text!r}: a comment"
-        assert place.get("vars.yml") == content.replace(b"x: 1", b"x: 2"), f"{text!r}: all else stays"
+        with subtests.test(repr(text)):
+            silent("an edit", edit(place, copied('sed -i s/^x:.*/x:\\ 2/ "$1"'), *place.by_file("old"), "vars.yml"))
+            shown = (place.path / "shown").read_bytes()
+            parts = [b"# ansible-vault: a stays encrypted: ", why.encode()]
+            assert [part in shown for part in parts] == [True, True], "a comment"
+            assert place.get("vars.yml") == content.replace(b"x: 1", b"x: 2"), "all else stays"
     quoted = b'b: !vault "' + sealed("old").replace(b"\n", b"\\n") + b'"\n'
     place.put("vars.yml", block("old", b"a", name="a") + quoted)
     silent("beside quotes", edit(place, "sed -i 's/^  a$/  A/' \"$1\"", *place.by_file("old"), "vars.yml"))
