@@ -2,7 +2,10 @@
 
 import json
 import subprocess
+from collections.abc import Iterator
+from pathlib import Path
 from random import Random
+from tempfile import TemporaryDirectory
 
 import pytest
 from pytest_subtests import SubTests
@@ -10,6 +13,7 @@ from pytest_subtests import SubTests
 from companion_cases import CHECK, EDIT, MERGE, ROTATE, SECONDS, TEXT, TEXTCONV, WITH
 from companion_cases import Companions, Place, block, decrypted, ended, sealed, silent
 from companion_cases.both import ours, theirs
+from lib.ansible_runs import AnsibleRuns
 from lib.needs import needs_ansible
 
 OPEN = ("old", "dev", "prod")
@@ -50,24 +54,32 @@ FILES = {
 }
 
 
+@pytest.fixture(scope="module")
+def ansible() -> Iterator[AnsibleRuns]:
+    with TemporaryDirectory() as home, AnsibleRuns(needs_ansible(), Path(home)) as runs:
+        yield runs
+
+
 @pytest.mark.parametrize("settings, files, wanted", [*VARIABLES.values(), *FILES.values()], ids=[*VARIABLES, *FILES])
-def test_variables_and_files(place: Place, settings: dict, files: dict, wanted: set) -> None:
+def test_variables_and_files(
+    place: Place, request: pytest.FixtureRequest, settings: dict, files: dict, wanted: set
+) -> None:
     """The secrets that they name open the same vaults as with Ansible's tool."""
     for name in OPEN:
-        place.put(f"{name}.yml", sealed(name))
+        place.put(f"{name}.yml", sealed(name, f"{name}\n".encode()))
     for name, content in files.items():
-        (place.path / name).parent.mkdir(parents=True, exist_ok=True)
-        (place.path / name).write_text(content)
+        place.put(f"../{name}", content.encode())
     fill = lambda text: text.format(place.secrets, place.path)
     prefix = lambda name: f"ANSIBLE_{name}" if name == "CONFIG" else f"ANSIBLE_VAULT_{name}"
     variables = {prefix(name): fill(text) for name, text in settings.items()} | {"WHICH": "prod"}
-    expected = {name: (0, TEXT.decode()) if name in wanted else (1, "") for name in OPEN}
-    ran = {name: ours(place, "view", f"{name}.yml", **variables) for name in OPEN}
-    assert {name: (done.returncode, done.stdout) for name, done in ran.items()} == expected
-    ansible = needs_ansible()
-    ran = {name: theirs(place, ansible, "view", f"{name}.yml", **variables) for name in OPEN}
-    found = {name: (min(1, done.returncode), done.stdout.strip() and done.stdout) for name, done in ran.items()}
-    assert found == expected, "by Ansible's tool"
+    done = ours(place, "view", *(f"{name}.yml" for name in OPEN), **variables)
+    assert (done.returncode, done.stdout) == (1, "".join(f"{name}\n" for name in OPEN if name in wanted))
+    runs, found = request.getfixturevalue("ansible"), {}
+    for name in OPEN:
+        runs.begin(["view", f"{name}.yml"], place.tree, place.environment | variables)
+        status, output, _ = runs.end()
+        found[name] = min(1, status), output.decode().strip()
+    assert found == {name: (0, name) if name in wanted else (1, "") for name in OPEN}, "by Ansible's tool"
 
 
 def by_settings(place: Place) -> None:
