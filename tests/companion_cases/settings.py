@@ -208,7 +208,7 @@ def test_matching_labels(place: Place, subtests: SubTests) -> None:
 def test_many_secrets(place: Place) -> None:
     """More than the tool takes at once are tried one after the other."""
     (place.secrets / "wrong").write_text("no password\n")
-    wrong = ", ".join(f"w{number}@../secrets/wrong" for number in range(40))
+    wrong = ", ".join(f"w{number}@../secrets/wrong" for number in range(33))
     variables = {"ANSIBLE_VAULT_IDENTITY_LIST": f"{wrong}, dev@../secrets/dev"}
     place.put("a.yml", sealed("dev"))
     done = ours(place, "view", "a.yml", **variables)
