@@ -34,8 +34,8 @@ def test_inside_alone(place: Place) -> None:
     place.put("unknown.yml", sealed("dev", INNER, "strange"))
     words = [*to_new(place), *place.by_id("prod", "prod")]
     ended("within", place.run(ROTATE, *words, "."), 0, summary(2, 1, 4, " (dev 2, prod 1, strange 1)"))
-    for name, password in (("done.yml", "new"), ("prod.yml", "prod")):
-        assert texts(within(place, name, password), "new") == [TEXT, None], f"{name}: it is rotated"
+    found = [texts(within(place, *each), "new") for each in (("done.yml", "new"), ("prod.yml", "prod"))]
+    assert found == [[TEXT, None]] * 2, "one in each is rotated"
     assert place.get("prod.yml").startswith(b"$ANSIBLE_VAULT;1.2;AES256;prod\n"), "its label stays"
     assert place.get("unknown.yml") == sealed("dev", INNER, "strange"), "what no secret decrypts stays"
 

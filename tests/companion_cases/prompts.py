@@ -1,6 +1,7 @@
 """Passwords that are typed at a terminal, beside Ansible's own tool."""
 
 import pytest
+from pytest_subtests import SubTests
 
 from companion_cases import CHECK, EDIT, PASSWORDS, ROTATE, TEXT, TEXTCONV, WITH, Place, block, decrypted, ended, sealed
 from companion_cases.both import ours, theirs_at_terminal
@@ -128,7 +129,7 @@ def test_by_settings(place: Place) -> None:
     assert (done.returncode, done.stdout) == (0, TEXT.decode()), "by an option"
 
 
-def test_asked_by_settings(place: Place) -> None:
+def test_asked_by_settings(place: Place, subtests: SubTests) -> None:
     """By the setting ask_vault_pass it is as with the option, after all other secrets."""
     place.put("a.yml", sealed("dev"))
     place.put("ansible.cfg", b"[defaults]\nask_vault_pass = yes\nvault_password_file = ../secrets/old\n")
@@ -136,14 +137,15 @@ def test_asked_by_settings(place: Place) -> None:
     assert (session.returncode, session.stdout, session.stderr) == (0, TEXT.decode(), ""), "view"
     check_session("view", session, ASKED)
     for value in ("no", "false", ""):
-        done = ours(place, "view", "a.yml", ANSIBLE_ASK_VAULT_PASS=value)
-        ended(f"the value {value!r}", done, 1, "no secret decrypts this vault")
+        with subtests.test(f"the value {value!r}"):
+            done = ours(place, "view", "a.yml", ANSIBLE_ASK_VAULT_PASS=value)
+            ended("nothing is asked", done, 1, "no secret decrypts this vault")
     other = theirs_at_terminal(place, needs_ansible(), ["view", "a.yml"], *typed("dev", ASKED))
     wanted = session.shown, TEXT.decode().strip()
     assert (other.shown, other.stdout.strip()) == wanted, "Ansible's tool asks, too"
 
 
-def test_what_is_typed(place: Place) -> None:
+def test_what_is_typed(place: Place, subtests: SubTests) -> None:
     """What is no password is refused by the name of the secret, and nothing is changed."""
     pair = lambda first, second: [(NEW_OF_DEV, first), (AGAIN_OF_DEV, second)]
     refused = {
@@ -153,28 +155,31 @@ def test_what_is_typed(place: Place) -> None:
         "an end": ([(NEW_OF_DEV, b"\x04")], "nothing was typed"),
         "no text": ([(NEW_OF_DEV, b"\xff\n")], "what was typed is not valid text"),
     }
+    words = [WITH, "encrypt", "--vault-id", "dev@prompt", "a.yml"]
     for what, (answers, part) in refused.items():
         place.put("a.yml", TEXT)
-        words = [WITH, "encrypt", "--vault-id", "dev@prompt", "a.yml"]
-        session = ask(place, *words, answers=answers)
-        expected = (1, "", f"{WITH}: dev@prompt: {part}\n")
-        assert (session.returncode, session.stdout, session.stderr) == expected, what
-        assert session.echoes is True, f"{what}: the terminal echoes again"
-        assert (place.get("a.yml"), place.names()) == (TEXT, ["a.yml"]), f"{what}: nothing is changed"
+        with subtests.test(what):
+            session = ask(place, *words, answers=answers)
+            expected = (1, "", f"{WITH}: dev@prompt: {part}\n")
+            assert (session.returncode, session.stdout, session.stderr) == expected
+            assert session.echoes is True, "the terminal echoes again"
+            assert (place.get("a.yml"), place.names()) == (TEXT, ["a.yml"]), "nothing is changed"
+    place.put("a.yml", TEXT)
     around = b"  " + PASSWORDS["dev"] + b" \n"
     session = ask(place, *words, answers=[(NEW_OF_DEV, around), (AGAIN_OF_DEV, PASSWORDS["dev"] + b"\n")])
     assert (session.returncode, decrypted("dev", place.get("a.yml"))) == (0, TEXT), "white space around it"
 
 
-def test_no_terminal(place: Place) -> None:
+def test_no_terminal(place: Place, subtests: SubTests) -> None:
     place.put("a.yml", sealed("dev"))
     away = ["setsid", "--wait"]
     why = "there is no terminal to ask for the password"
     for words in ([WITH, "view"], [CHECK], [EDIT]):
         for option, given in (("--vault-id=dev@prompt", "dev@prompt"), ("-J", "--ask-vault-password")):
-            done = place.run(*away, *words, option, "a.yml")
-            expected = (1, "", f"{words[0]}: {given}: {why}\n")
-            assert (done.returncode, done.stdout, done.stderr) == expected, f"{words[0]} {option}"
+            with subtests.test(f"{words[0]} {option}"):
+                done = place.run(*away, *words, option, "a.yml")
+                expected = (1, "", f"{words[0]}: {given}: {why}\n")
+                assert (done.returncode, done.stdout, done.stderr) == expected
     done = place.run(*away, TEXTCONV, "--vault-id", "prompt", *place.by_file("dev"), "a.yml")
     expected = (0, TEXT.decode(), f"{TEXTCONV}: prompt: {why}\n")
     assert (done.returncode, done.stdout, done.stderr) == expected, "textconv uses the other secret"
@@ -182,7 +187,7 @@ def test_no_terminal(place: Place) -> None:
     ended("no secret", done, 1, f"{WITH}: no secret is given: name one by --vault-id", "ansible.cfg")
 
 
-def test_standard_input(place: Place) -> None:
+def test_standard_input(place: Place, subtests: SubTests) -> None:
     """Where the terminal is read, it is said so; and not where a file is, or a pipe."""
     reading = "Reading standard input. Ctrl-D ends it"
     place.put("a.yml", sealed("dev"))
@@ -192,16 +197,16 @@ def test_standard_input(place: Place) -> None:
         "encrypt": "$ANSIBLE_VAULT;1.2;AES256;dev",
     }
     for line, written in lines.items():
-        words = ["sh", "-c", f"exec {WITH} {line} --vault-id dev@../secrets/dev < /dev/tty 2> /dev/tty"]
-        session = ask(place, *words, answers=[("if the last line is not empty.\r\n", b"x\n\x04")])
-        assert session.returncode == 0, f"{line}: the status"
-        assert session.shown.startswith(f"{WITH}: {reading}"), f"{line}: what is said"
-        assert session.stdout.startswith(written), f"{line}: what is written"
+        with subtests.test(line):
+            words = ["sh", "-c", f"exec {WITH} {line} --vault-id dev@../secrets/dev < /dev/tty 2> /dev/tty"]
+            session = ask(place, *words, answers=[("if the last line is not empty.\r\n", b"x\n\x04")])
+            assert session.returncode == 0, session
+            assert session.shown.startswith(f"{WITH}: {reading}"), "what is said"
+            assert session.stdout.startswith(written), "what is written"
     for line in ("view a.yml", "encrypt_string word", "view < a.yml"):
-        words = ["sh", "-c", f"{WITH} --vault-id dev@../secrets/dev {line}"]
-        session = ask(place, *words, answers=[])
-        found = session.returncode, session.stderr, session.shown
-        assert found == (0, "", ""), f"{line}: nothing is said"
+        with subtests.test(line):
+            session = ask(place, "sh", "-c", f"{WITH} --vault-id dev@../secrets/dev {line}", answers=[])
+            assert (session.returncode, session.stderr, session.shown) == (0, "", ""), "nothing is said"
 
 
 def test_labels(place: Place) -> None:
@@ -244,10 +249,9 @@ def test_secrecy(place: Place) -> None:
     """What is typed is in no word and no environment of a program."""
     place.put("a.yml", sealed("dev"))
     place.wrap_tool(NOTE)
-    answers = typed("dev", ASKED)
-    for words in ([WITH, "view"], [CHECK]):
-        session = ask(place, *words, "-J", "a.yml", answers=answers)
-        assert session.returncode == 0, f"{words[0]}: the status ({session.stderr})"
+    runs = ([WITH, "view"], [CHECK])
+    sessions = [ask(place, *words, "-J", "a.yml", answers=typed("dev", ASKED)) for words in runs]
+    assert [session.returncode for session in sessions] == [0, 0], sessions
     seen = (place.path / "seen").read_bytes()
     assert seen.count(b"--vault-id=default@/dev/fd/") > 2, "the runs were seen"
     assert PASSWORDS["dev"] not in seen, "no password is seen"

@@ -11,6 +11,7 @@ from random import Random
 from typing import NamedTuple
 
 import pytest
+from pytest_subtests import SubTests
 
 from companion_cases import PASSWORDS, SECONDS, TEXT, WITH, Place, decrypted, sealed
 from companion_cases.running import envelope_of
@@ -290,7 +291,7 @@ def opened(content: bytes, passwords: list[str]) -> tuple:
     return envelope.partition(b"\n")[0], next(((name, text) for name, text in texts if text is not None), None)
 
 
-def test_command_lines(place: Place, pytestconfig: pytest.Config) -> None:
+def test_command_lines(place: Place, subtests: SubTests, pytestconfig: pytest.Config) -> None:
     """Prints how many were compared."""
     ansible = needs_ansible()
     most = pytestconfig.getoption("--comparisons")
@@ -301,8 +302,9 @@ def test_command_lines(place: Place, pytestconfig: pytest.Config) -> None:
         while sum(counts.values()) < most or not most and time.monotonic() < end:
             case = random_case(random, place.secrets)
             ours, theirs, messages = both.outcome(case)
-            what = f"{sum(counts.values())}: {case.line.words(case.abbreviate)} {case}: {messages}"
-            assert ours == (theirs or (False, None, {})), what
+            if ours != (wanted := theirs or (False, None, {})):
+                with subtests.test(f"{sum(counts.values())}: {case.line.words(case.abbreviate)} {case}"):
+                    assert ours == wanted, messages
             kind = 2 if theirs is None else 0 if theirs[0] else 1
             counts[[*counts][kind]] += 1
     print(f"random command lines: {', '.join(f'{count} {what}' for what, count in counts.items())}")

@@ -3,6 +3,7 @@
 import os
 
 import pytest
+from pytest_subtests import SubTests
 
 from companion_cases import NOBODY, ROTATE, TEXT, Companions, Place, block, decrypted, ended, sealed
 
@@ -38,9 +39,9 @@ def test_by_label(place: Place) -> None:
     after = place.files()
     stays = [name for name in before if before[name] == after[name]]
     assert sorted(stays) == ["all.yml", "dev/vars.yml", "plain.yml"], "the others stay"
-    for name in ("prod/vars.yml", "prod/more.yml"):
-        assert decrypted("prod2", after[name]) == TEXT, f"{name} is under the new secret"
-        assert after[name].startswith(b"$ANSIBLE_VAULT;1.2;AES256;prod\n"), f"{name} keeps its label"
+    rotated = [after["prod/vars.yml"], after["prod/more.yml"]]
+    assert [decrypted("prod2", each) for each in rotated] == [TEXT] * 2, "these are under the new secret"
+    assert {each.partition(b"\n")[0] for each in rotated} == {b"$ANSIBLE_VAULT;1.2;AES256;prod"}, "and keep their label"
     assert after["blocks.yml"].startswith(block("dev", label="dev", name="a")), "the block of dev stays"
     new = [*place.by_file("new", "new-"), *place.by_id("dev", "dev2", "new-")]
     done = place.run(ROTATE, *old, *new, ".")
@@ -58,7 +59,7 @@ def test_default_is_a_label(place: Place) -> None:
     assert decrypted("dev", place.get("dev/vars.yml")) == TEXT, "dev stays"
 
 
-def test_again(place: Place) -> None:
+def test_again(place: Place, subtests: SubTests) -> None:
     """What is under the new secret already is left as it is, whether the old secrets decrypt it or not."""
     place.put("one.yml", sealed("new"))
     place.put("two.yml", sealed("old"))
@@ -66,10 +67,11 @@ def test_again(place: Place) -> None:
     ended("half is done", place.run(ROTATE, *to_new(place), "."), 0, summary(2, 2))
     assert place.get("one.yml") == sealed("new"), "what has it stays"
     assert place.get("blocks.yml").startswith(block("new")), "and a block that has it"
-    before = place.files()
     for words in (to_new(place), [*place.by_file("new"), *to_new(place)]):
-        ended("all is done", place.run(ROTATE, *words, "."), 0, summary(0, 4))
-        assert place.files() == before, "all stays"
+        before = place.files()
+        with subtests.test(f"{words}"):
+            ended("all is done", place.run(ROTATE, *words, "."), 0, summary(0, 4))
+            assert place.files() == before, "all stays"
 
 
 def test_nothing(place: Place) -> None:
@@ -86,7 +88,7 @@ def test_nothing(place: Place) -> None:
     assert decrypted("new", place.get("a.yml")) == TEXT, "the others are rotated"
 
 
-def test_failures(cases: Companions) -> None:
+def test_failures(cases: Companions, subtests: SubTests) -> None:
     """Each failure is reported, the other files are still rotated, and the status is 1."""
     strays = {
         "stray.yml": (sealed("dev"), "no secret decrypts this vault"),
@@ -97,22 +99,22 @@ def test_failures(cases: Companions) -> None:
     }
     for name, (content, part) in strays.items():
         place = cases.place()
-        place.put("a.yml", sealed("old"))
+        for each in ("a.yml", "z.yml"):
+            place.put(each, sealed("old"))
         place.put(name, content)
-        place.put("z.yml", sealed("old"))
-        done = place.run(ROTATE, *to_new(place), ".")
-        ended(name, done, 1, f"./{name}", part, summary(2, failed=1))
-        assert place.get(name) == content, f"{name} stays"
-        others = [decrypted("new", place.get(each)) for each in ("a.yml", "z.yml")]
-        assert others == [TEXT] * 2, "the others are done"
-        assert place.names() == sorted(["a.yml", name, "z.yml"]), "no other file is left"
+        with subtests.test(name):
+            done = place.run(ROTATE, *to_new(place), ".")
+            ended("one of three", done, 1, f"./{name}", part, summary(2, failed=1))
+            assert place.get(name) == content, "it stays"
+            others = [decrypted("new", place.get(each)) for each in ("a.yml", "z.yml")]
+            assert others == [TEXT] * 2, "the others are done"
+            assert place.names() == sorted(["a.yml", name, "z.yml"]), "no other file is left"
 
 
-def test_wrong_passwords(place: Place) -> None:
+def test_wrong_passwords(place: Place, subtests: SubTests) -> None:
     place.put("a.yml", sealed("old"))
     place.put("b.yml", block("old"))
     (place.path / "empty").write_bytes(b" \n")
-    before = place.files()
     new = place.by_file("new", "new-")
     refused = [
         ([*place.by_file("dev"), *new], "b.yml:2: no secret decrypts this vault\n"),
@@ -121,8 +123,10 @@ def test_wrong_passwords(place: Place) -> None:
         ([*place.by_file("old"), "--new-vault-id", "dev;@../empty"], "a vault id label is not allowed"),
     ]
     for words, part in refused:
-        ended(part, place.run(ROTATE, *words, "."), 1, part)
-        assert place.files() == before, "all stays"
+        before = place.files()
+        with subtests.test(part):
+            ended("it is refused", place.run(ROTATE, *words, "."), 1, part)
+            assert place.files() == before, "all stays"
 
 
 def test_unreadable(cases: Companions) -> None:
@@ -172,10 +176,10 @@ def test_owners_and_modes(place: Place) -> None:
         words = [*place.by_file("new"), *place.by_file("old", "new-")]
         done = place.as_nobody(ROTATE, *words, "a.yml")
         ended("an owner that cannot be kept", done, 1, "a.yml: Operation not permitted", summary(0, failed=1))
-    if not attributes:
-        pytest.skip("the file system has no extended attributes")
         assert decrypted("new", place.get("a.yml")) == TEXT, "its file stays"
         assert place.names() == sorted(modes), "nothing is left"
+    if not attributes:
+        pytest.skip("the file system has no extended attributes")
 
 
 def test_dry_run(place: Place) -> None:
@@ -193,7 +197,7 @@ def test_dry_run(place: Place) -> None:
     ended("nothing is left", done, 0, "0 to be rotated, 3 under the new secret already")
 
 
-def test_documents(cases: Companions) -> None:
+def test_documents(cases: Companions, subtests: SubTests) -> None:
     """What an old secret decrypts in a document is not rotated, and counted; an example is neither."""
     left = "it is in a document, so it is not rotated; --skip-documents ignores it\n"
     line = sealed("old").decode().replace("\n", "\\n")
@@ -204,23 +208,21 @@ def test_documents(cases: Companions) -> None:
         "bare.adoc": (b"\n" + sealed("old"), ":2: "),
     }
     others = {"c.md": block("dev"), "d.md": block("new"), "e.md": block("prod", label="prod")}
-    others["f.md"] = b"As $ANSIBLE_VAULT;1.1\n"
+    others |= {"f.md": b"As $ANSIBLE_VAULT;1.1\n", "a.yml": sealed("old"), "vault.md": sealed("old")}
+    counted = ", 1 left in documents\n"
     for name, (content, place_in_it) in prose.items():
         place = cases.place()
-        place.put("a.yml", sealed("old"))
-        place.put("vault.md", sealed("old"))
         for other, text in {name: content, **others}.items():
             place.put(other, text)
-        counts = f"{summary(2)}, 1 left in documents\n"
-        done = place.run(ROTATE, *to_new(place), ".")
-        ended(name, done, 1, f"./{name}{place_in_it}{left}", counts)
-        assert done.stderr.count(left) == 1, f"{name}: no other is named"
-        assert place.get(name) == content, f"{name}: it stays"
-        assert decrypted("new", place.get("vault.md")) == TEXT, "a document that is a vault is rotated"
-        again = place.run(ROTATE, "--dry-run", *to_new(place), ".")
-        ended(f"{name}: again", again, 1, left, ", 1 left in documents\n")
-        done = place.run(ROTATE, "--skip-documents", *to_new(place), ".")
-        assert (done.returncode, done.stdout, done.stderr) == (0, f"{summary(0, 2)}\n", ""), f"{name}: ignored"
+        with subtests.test(name):
+            done = place.run(ROTATE, *to_new(place), ".")
+            ended("a run", done, 1, f"./{name}{place_in_it}{left}", f"{summary(2)}{counted}")
+            assert done.stderr.count(left) == 1, "no other is named"
+            assert place.get(name) == content, "it stays"
+            assert decrypted("new", place.get("vault.md")) == TEXT, "a document that is a vault is rotated"
+            ended("a dry run", place.run(ROTATE, "--dry-run", *to_new(place), "."), 1, left, counted)
+            done = place.run(ROTATE, "--skip-documents", *to_new(place), ".")
+            assert (done.returncode, done.stdout, done.stderr) == (0, f"{summary(0, 2)}\n", ""), "it is ignored"
 
 
 def test_changed_meanwhile(place: Place) -> None:
@@ -244,7 +246,7 @@ def test_closed_output(place: Place) -> None:
     assert True in is_old, "and those that were not begun are not"
 
 
-def test_command_line(place: Place) -> None:
+def test_command_line(place: Place, subtests: SubTests) -> None:
     old, new = place.by_file("old"), place.by_file("new", "new-")
     lines = [
         [],
@@ -257,7 +259,9 @@ def test_command_line(place: Place) -> None:
         [*old, *new, "--dry", "."],
     ]
     for words in lines:
-        ended(f"{words}", place.run(ROTATE, *words), 2, "usage: ansible-vault-rotate")
-    place.put("a.yml", sealed("old"))
+        with subtests.test(f"{words}"):
+            ended("it is refused", place.run(ROTATE, *words), 2, "usage: ansible-vault-rotate")
     for jobs in ("1", "7"):
-        ended(f"{jobs} at once", place.run(ROTATE, *old, *new, "--jobs", jobs, "."), 0)
+        with subtests.test(f"{jobs} at once"):
+            place.put("a.yml", sealed("old"))
+            ended("it runs", place.run(ROTATE, *old, *new, "--jobs", jobs, "."), 0, summary(1))

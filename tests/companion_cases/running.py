@@ -2,8 +2,10 @@
 
 import os
 import subprocess
+from contextlib import nullcontext
 
 import pytest
+from pytest_subtests import SubTests
 
 from companion_cases import AWKWARD, EDIT, NOBODY, PASSWORDS, SECONDS, TEXT, WITH
 from companion_cases import Companions, Place, decrypted, ended, sealed, silent
@@ -74,8 +76,7 @@ def test_the_answers_of_the_tool(place: Place, words: list[str], data: bytes, op
     lines = [[option, command, *others], [*pair, command, *others], [command, *pair, *others]]
     if wanted[0] != WRONG_COMMAND_LINE and "--" not in others:
         lines.append([command, *others, *pair])
-    for line in lines:
-        assert run(place, [WITH, *line], data) == wanted, f"{line}"
+    assert [run(place, [WITH, *line], data) for line in lines] == [wanted] * len(lines), lines
 
 
 @pytest.mark.parametrize("words", BARE, ids=repr)
@@ -83,7 +84,7 @@ def test_without_a_secret(place: Place, words: list[str]) -> None:
     assert run(place, [WITH, *words], b"") == run(place, ["ansible-vault", *words], b"")
 
 
-def test_command_lines(place: Place) -> None:
+def test_command_lines(place: Place, subtests: SubTests) -> None:
     prepare(place)
     before = place.files()
     ended("no word", place.run(WITH), 2, f"usage: {WITH}", "no command is given")
@@ -95,9 +96,9 @@ def test_command_lines(place: Place) -> None:
         "--vault-id=dev@/dev/null": (1, "dev@/dev/null: a password is empty"),
     }
     for option, (status, part) in refused.items():
-        done = place.run(WITH, "decrypt", *place.by_file("old"), option, "a.yml")
-        expected = (status, "", f"{WITH}: {part}\n")
-        assert (done.returncode, done.stdout, done.stderr) == expected, option
+        with subtests.test(option):
+            done = place.run(WITH, "decrypt", *place.by_file("old"), option, "a.yml")
+            assert (done.returncode, done.stdout, done.stderr) == (status, "", f"{WITH}: {part}\n")
     unreadable = {
         "missing.yml": "missing.yml: No such file or directory",
         "nowhere/a.yml": "nowhere/a.yml: No such file or directory",
@@ -106,9 +107,9 @@ def test_command_lines(place: Place) -> None:
     }
     for name, part in unreadable.items():
         for words in (["view"], ["decrypt", "--output", "out.yml"]):
-            done = place.run(WITH, *words, *place.by_file("old"), name)
-            expected = (3, "", f"{WITH}: {part}\n")
-            assert (done.returncode, done.stdout, done.stderr) == expected, f"{words} {name}"
+            with subtests.test(f"{words} {name}"):
+                done = place.run(WITH, *words, *place.by_file("old"), name)
+                assert (done.returncode, done.stdout, done.stderr) == (3, "", f"{WITH}: {part}\n")
     salted = [*place.by_file("old"), "--salt", "salt"]
     done = place.run(WITH, "encrypt", *salted, "plain.yml", "plain.yml")
     ended("one salt for two", done, 2, "--salt is for one FILE or STRING")
@@ -241,7 +242,7 @@ def test_several_edits(place: Place) -> None:
     ended("create", done, 2, "create takes one FILE")
 
 
-def test_several_strings(place: Place) -> None:
+def test_several_strings(place: Place, subtests: SubTests) -> None:
     """What is refused is refused before anything is written."""
     secret = place.by_id("dev", "dev")
     encrypt = [WITH, "encrypt_string", *secret]
@@ -255,9 +256,10 @@ def test_several_strings(place: Place) -> None:
         ("a", "b", "--output", "nowhere/c.yml"): (1, "No such file or directory"),
     }
     for words, (status, part) in lines.items():
-        done = place.run(*encrypt, *words)
-        ended(f"{words}", done, status, part)
-        assert (done.stdout, place.names()) == ("", []), f"{words}: nothing is written"
+        with subtests.test(f"{words}"):
+            done = place.run(*encrypt, *words)
+            ended("it is refused", done, status, part)
+            assert (done.stdout, place.names()) == ("", []), "nothing is written"
     place.wrap_tool('echo "$@" >> ../seen')
     done = place.run(*encrypt, "a word", "another", "--name", "x", "--output", "blocks.yml")
     notes = [
@@ -274,7 +276,7 @@ def test_several_strings(place: Place) -> None:
     assert ("word" in seen, "encrypt_string" in seen) == (False, True), "strings are no arguments of the tool"
 
 
-def test_abbreviations(place: Place) -> None:
+def test_abbreviations(place: Place, subtests: SubTests) -> None:
     prepare(place)
     wanted = place.run(WITH, "encrypt", *place.by_file("old"), "--salt=salt", "--output", "-", "plain.yml").stdout
     lines = [
@@ -283,13 +285,15 @@ def test_abbreviations(place: Place) -> None:
         ["encrypt", f"--vault-i={place.secret('old')}", "--salt=salt", "--encrypt=default", "--o=-", "plain.yml"],
     ]
     for words in lines:
-        done = place.run(WITH, *words)
-        assert (done.returncode, done.stdout, done.stderr) == (0, wanted, ""), f"{words}"
+        with subtests.test(f"{words}"):
+            done = place.run(WITH, *words)
+            assert (done.returncode, done.stdout, done.stderr) == (0, wanted, "")
     done = place.run(WITH, "view", "--req", *place.by_file("old"), "a.yml")
     assert (done.returncode, done.stdout) == (0, TEXT.decode()), "view --req"
     for word, others in {"--vault": "--vault-id, --vault-password-file", "--sa": "--salt, --salt-file"}.items():
-        done = place.run(WITH, "encrypt", word, "x", "plain.yml")
-        ended(word, done, 2, f"{WITH}: error: ambiguous option: {word} could match {others}")
+        with subtests.test(word):
+            done = place.run(WITH, "encrypt", word, "x", "plain.yml")
+            ended("it is refused", done, 2, f"{WITH}: error: ambiguous option: {word} could match {others}")
     ended("no option", place.run(WITH, "view", "--out", "x", "a.yml"), 2, "unexpected argument '--out'")
     assert place.get("plain.yml") == TEXT, "the file stays"
 
@@ -345,19 +349,15 @@ def test_habits(cases: Companions) -> None:
         place.environment["EDITOR"] = place.script('echo more >> "$1"', "editor")
         place.put("a.yml", TEXT)
         place.put("b.yml", TEXT * 2)
-        results[tool] = []
+        results[tool] = {}
         for line in HABITS:
             text = f"shopt -s expand_aliases\nalias ansible-vault={tool}\nansible-vault {line}\n"
-            if tool == ansible:
-                with for_ansible(place):
-                    done = place.shell(text, "bash")
-            else:
+            with for_ansible(place) if tool == ansible else nullcontext():
                 done = place.shell(text, "bash")
             assert done.returncode == 0, f"{tool} {line} ({done.stderr})"
             # Ansible's tool prints more with -v.
-            results[tool].append((line, line.endswith("-v") or done.stdout.strip(), contents(place)))
-    for mine, other in zip(results[WITH], results[ansible]):
-        assert mine == other, mine[0]
+            results[tool][line] = line.endswith("-v") or done.stdout.strip(), contents(place)
+    assert results[WITH] == results[ansible]
 
 
 def contents(place: Place) -> dict[str, tuple]:

@@ -4,9 +4,10 @@ import os
 from pathlib import Path
 
 import pytest
+from pytest_subtests import SubTests
 
 from companion_cases import CHECK, EDIT, PASSWORDS, ROTATE, TEXT, TEXTCONV, WITH
-from companion_cases import Companions, Place, decrypted, ended, sealed, silent
+from companion_cases import Place, decrypted, ended, sealed, silent
 from companion_cases.both import ours, theirs
 from companion_cases.secrecy import NOTE
 from companion_cases.terminal import at_terminal
@@ -43,21 +44,20 @@ FAILING = {
 
 
 @pytest.mark.parametrize("option, arguments", STARTS.items())
-def test_how_they_start(cases: Companions, option, arguments) -> None:
-    place = cases.place()
+def test_how_they_start(place: Place, option: str, arguments: str) -> None:
     name = option.rpartition("/")[2]
     place.script(RECORDING, name)
     place.put("a.yml", sealed("dev"))
     started = place.path / "started"
     done = ours(place, "view", option, "a.yml")
-    assert (done.returncode, done.stdout) == (0, TEXT.decode()), f"{option}: ({done.stderr})"
-    assert started.read_text() == f"{place.path}/{name}{arguments}\n", f"{option}: its arguments"
-    ansible = needs_ansible()
+    assert (done.returncode, done.stdout) == (0, TEXT.decode()), done.stderr
     recorded = started.read_text()
+    assert recorded == f"{place.path}/{name}{arguments}\n", "its arguments"
+    ansible = needs_ansible()
     started.unlink()
     done = theirs(place, ansible, "view", option, "a.yml")
-    assert TEXT.decode() in done.stdout, (f"{option}: Ansible's tool decrypts it", done.stderr)
-    assert started.read_text() == recorded, f"{option}: it starts it so"
+    assert TEXT.decode() in done.stdout, ("Ansible's tool decrypts it", done.stderr)
+    assert started.read_text() == recorded, "it starts it so"
 
 
 def test_every_companion(place: Place) -> None:
@@ -77,21 +77,21 @@ def test_every_companion(place: Place) -> None:
 
 
 @pytest.mark.parametrize("text, part", FAILING.items())
-def test_those_that_fail(cases: Companions, text, part) -> None:
-    place = cases.place()
+def test_those_that_fail(place: Place, subtests: SubTests, text: str, part: str) -> None:
     place.put("a.yml", sealed("dev"))
     before = place.files()
     place.script(text)
     for words in ([WITH, "rekey", "--new-vault-id", "x@../secrets/new"], [CHECK], [EDIT]):
-        done = place.run(*words, "--vault-id", "dev@../script", "a.yml", EDITOR="touch ../edited; false")
-        ended(f"{text}: {words[0]}", done, 1, f"{words[0]}: dev@../script: {part}")
+        with subtests.test(words[0]):
+            done = place.run(*words, "--vault-id", "dev@../script", "a.yml", EDITOR="touch ../edited; false")
+            ended("it fails", done, 1, f"{words[0]}: dev@../script: {part}")
     done = place.run(TEXTCONV, "--vault-id", "../script", *place.by_file("dev"), "a.yml")
-    assert (done.returncode, done.stdout) == (0, TEXT.decode()), f"{text}: {TEXTCONV}"
+    assert (done.returncode, done.stdout) == (0, TEXT.decode()), TEXTCONV
     assert f"{TEXTCONV}: ../script: {part}" in done.stderr, "it says why"
     assert (place.files(), (place.path / "edited").exists()) == (before, False), "nothing is changed"
 
 
-def test_clients_that_fail(place: Place) -> None:
+def test_clients_that_fail(place: Place, subtests: SubTests) -> None:
     """What a client writes to standard error is shown only if it fails; that of another script is always shown."""
     place.put("a.yml", sealed("dev"))
     words = [CHECK, "--vault-id", "dev@../keys-client", "a.yml"]
@@ -103,11 +103,12 @@ def test_clients_that_fail(place: Place) -> None:
     }
     for text, wanted in messages.items():
         place.script(text, "keys-client")
-        done = place.run(*words)
-        wanted = f"{CHECK}: dev@../keys-client: {wanted}\n"
-        assert (done.returncode, done.stdout, done.stderr) == (1, "", wanted), text
+        with subtests.test(text):
+            done = place.run(*words)
+            assert (done.returncode, done.stdout, done.stderr) == (1, "", f"{CHECK}: dev@../keys-client: {wanted}\n")
     place.script("echo hello >&2; cat ../secrets/dev", "keys-client")
-    assert (place.run(*words).returncode, place.run(*words).stderr) == (0, ""), "one that does not fail"
+    done = place.run(*words)
+    assert (done.returncode, done.stderr) == (0, ""), "one that does not fail"
     place.script("echo hello >&2; cat ../secrets/dev", "keys")
     done = place.run(CHECK, "--vault-id", "dev@../keys", "a.yml")
     assert (done.returncode, done.stderr) == (0, "hello\n"), "no client"
@@ -126,23 +127,22 @@ def test_what_cannot_be_run(place: Place) -> None:
     ended("one that is no program", place.run(*words), 1, "dev: a password file is a script")
 
 
-def test_standard_input(place: Place) -> None:
+def test_standard_input(place: Place, subtests: SubTests) -> None:
     """A script may ask at the terminal by its standard input. If that is anything else, it is the companion's."""
-    swallowing = "cat > ../swallowed; cat ../secrets/dev"
     place.put("a.yml", sealed("dev"))
     place.script("printf 'Which? ' > /dev/tty; read -r word; echo \"$word\"", "asking")
     words = ["sh", "-c", 'exec "$@" < /dev/tty', "sh", WITH, "view", "--vault-password-file", "../asking", "a.yml"]
     done = at_terminal(place, words, ("Which? ", PASSWORDS["dev"] + b"\n"))
     assert (done.returncode, done.stdout, done.stderr) == (0, TEXT.decode(), ""), "a terminal"
     for name in ("asking", "asking-client"):
-        place.script(swallowing, name)
-        line = f"printf 'db_password: correct horse\\n' | {WITH} encrypt --vault-id @../{name} --output new.yml"
-        silent(f"{name}: data", place.shell(line))
-        assert decrypted("dev", place.get("new.yml")) == TEXT, f"{name}: all of it is encrypted"
-        line = f"{CHECK} --vault-id @../{name} a.yml && wc -c"
-        done = place.shell(f"echo data | {{ {line}; }}")
-        ended(f"{name}: check", done, 0, "1 decrypted, 0 not\n5\n")
-        assert (place.path / "swallowed").read_bytes() == b"", f"{name}: it reads nothing"
+        place.script("cat > ../swallowed; cat ../secrets/dev", name)
+        with subtests.test(name):
+            line = f"printf 'db_password: correct horse\\n' | {WITH} encrypt --vault-id @../{name} --output {name}.yml"
+            silent("data", place.shell(line))
+            assert decrypted("dev", place.get(f"{name}.yml")) == TEXT, "all of it is encrypted"
+            done = place.shell(f"echo data | {{ {CHECK} --vault-id @../{name} a.yml && wc -c; }}")
+            ended("check", done, 0, "1 decrypted, 0 not\n5\n")
+            assert (place.path / "swallowed").read_bytes() == b"", "it reads nothing"
 
 
 def test_secrecy(place: Place) -> None:

@@ -7,6 +7,7 @@ import shutil
 import sys
 
 import pytest
+from pytest_subtests import SubTests
 
 from companion_cases import CHECK, EDIT, MERGE, PASSWORDS, ROTATE, TEXT, TEXTCONV, WITH
 from companion_cases import Place, block, decrypted, ended, sealed
@@ -42,7 +43,7 @@ def test_words_and_environment(place: Place) -> None:
     assert set((place.path / "cores").read_text().split()) == {"0"}, "core dumps are disabled"
 
 
-def test_written_files(place: Place) -> None:
+def test_written_files(place: Place, subtests: SubTests) -> None:
     """No plaintext is written but below the private folder of an edit."""
     needs("strace")
     place.put("a.yml", sealed("old"))
@@ -51,16 +52,14 @@ def test_written_files(place: Place) -> None:
     old = place.by_file("old")
     runs = [[EDIT, *old, "a.yml"], [CHECK, *old, "."], [TEXTCONV, *old, "b.yml"], [ROTATE, *to_new(place), "."]]
     trace = place.path / "trace"
-    for words in runs:
-        calls = "openat,open,creat,mkdir,mkdirat,memfd_create"
-        path = str(place.tools / words[0])
-        done = place.run("strace", "-f", "-s", "4096", "-o", str(trace), "-e", f"trace={calls}", path, *words[1:])
-        ended(f"{words[0]} under strace", done, 0)
-        lines = [line for line in trace.read_text().splitlines() if "O_CREAT" in line or "mkdir" in line]
-        allowed = [str(place.runtime)] if words[0] == EDIT else []
-        allowed += [f"{place.tree}/.ansible-vault-", "./.ansible-vault-", "/dev/null", "/dev/tty"]
-        strange = [line for line in lines if not any(f'"{start}' in line for start in allowed)]
-        assert strange == [], f"{words[0]} writes nowhere else"
+    tracer = ["strace", "-f", "-s", "4096", "-o", str(trace), "-e", f"trace={CREATING}"]
+    for name, *words in runs:
+        with subtests.test(name):
+            ended("under strace", place.run(*tracer, str(place.tools / name), *words), 0)
+            lines = [line for line in trace.read_text().splitlines() if "O_CREAT" in line or "mkdir" in line]
+            allowed = [str(place.runtime)] if name == EDIT else []
+            allowed += [f"{place.tree}/.ansible-vault-", "./.ansible-vault-", "/dev/null", "/dev/tty"]
+            assert [line for line in lines if not any(f'"{start}' in line for start in allowed)] == []
 
 
 # Texts of three versions, which merge without a conflict and with one.
@@ -103,32 +102,31 @@ def writes_of(lines: list[str], hidden: list[str]) -> set[str]:
     return {re.sub(r"(?<=pipe:\[)\d+|(?<=/\.ansible-vault-).*", "", path) for path in paths}
 
 
-def test_merges_and_files_in_place(place: Place) -> None:
+def test_merges_and_files_in_place(place: Place, subtests: SubTests) -> None:
     """No process is given plaintext or a password. Plaintext is written to memory alone, and by `decrypt` to a new
     file for its owner alone."""
     needs("strace", "git")
     beside, trace = f"{place.tree}/.ansible-vault-", place.path / "trace"
-    calls, seen = f"trace={STARTED},{WRITING},{CREATING}", set()
+    passwords, seen = [each.decode() for each in PASSWORDS.values()], set()
+    tracer = ["strace", "-fvy", "-s", "65536", "-o", str(trace), "-e", f"trace={STARTED},{WRITING},{CREATING}"]
     for what, (words, status) in runs_over_plaintext(place).items():
-        tracer = ["strace", "-f", "-v", "-y", "-s", "65536", "-o", str(trace), "-e", calls]
-        done = place.run(*tracer, str(place.tools / words[0]), *words[1:])
-        assert done.returncode == status, f"{what}: the status ({done.stderr})"
-        lines = trace.read_text(errors="replace").splitlines()
-        passwords = [each.decode() for each in PASSWORDS.values()]
-        started = [line for line in lines if f" {STARTED}(" in line]
-        assert len(started) > 2, f"{what}: its processes are seen"
-        given = [line for line in started if any(word in line for word in [*HIDDEN, *passwords])]
-        assert given == [], f"{what}: no process is given a secret"
-        assert writes_of(lines, passwords) == {"/memfd:password"}, f"{what}: where passwords are written"
-        allowed = IN_MEMORY | ({beside} if what == "decrypt" else set())
-        found = writes_of(lines, HIDDEN)
-        assert found - allowed == set(), f"{what}: plaintext is written nowhere else"
-        seen |= found
-        created = [line for line in lines if re.search("O_CREAT|O_TMPFILE|mkdir", line)]
-        strange = [line for line in created if f'"{beside}' not in line and '"/dev/null"' not in line]
-        assert strange == [], f"{what}: nothing else is created"
-        modes = [line for line in created if f'"{beside}' in line and "O_EXCL" in line and ", 0600)" in line]
-        assert len(modes) == 1, f"{what}: one file, for its owner alone"
+        with subtests.test(what):
+            done = place.run(*tracer, str(place.tools / words[0]), *words[1:])
+            assert done.returncode == status, done.stderr
+            lines = trace.read_text(errors="replace").splitlines()
+            started = [line for line in lines if f" {STARTED}(" in line]
+            assert len(started) > 2, "its processes are seen"
+            given = [line for line in started if any(word in line for word in [*HIDDEN, *passwords])]
+            assert given == [], "no process is given a secret"
+            assert writes_of(lines, passwords) == {"/memfd:password"}, "where passwords are written"
+            found = writes_of(lines, HIDDEN)
+            seen |= found
+            assert found - IN_MEMORY - ({beside} if what == "decrypt" else set()) == set(), "nowhere else is plaintext"
+            created = [line for line in lines if re.search("O_CREAT|O_TMPFILE|mkdir", line)]
+            strange = [line for line in created if f'"{beside}' not in line and '"/dev/null"' not in line]
+            assert strange == [], "nothing else is created"
+            modes = [line for line in created if f'"{beside}' in line and "O_EXCL" in line and ", 0600)" in line]
+            assert len(modes) == 1, "one file, for its owner alone"
     assert seen == IN_MEMORY | {beside}, "plaintext was seen in each of these places"
     texts = {name: decrypted("old", place.get(name)) for name in ("merged.yml", "encrypted.yml")}
     wanted = {"merged.yml": b"one: staple\nx: 1\ny: 2\ntwo: battery\n", "encrypted.yml": MERGED[0]}

@@ -2,13 +2,18 @@
 
 import json
 import subprocess
+from collections.abc import Iterator
+from pathlib import Path
 from random import Random
+from tempfile import TemporaryDirectory
 
 import pytest
+from pytest_subtests import SubTests
 
 from companion_cases import CHECK, EDIT, MERGE, ROTATE, SECONDS, TEXT, TEXTCONV, WITH
 from companion_cases import Companions, Place, block, decrypted, ended, sealed, silent
 from companion_cases.both import ours, theirs
+from lib.ansible_runs import AnsibleRuns
 from lib.needs import needs_ansible
 
 OPEN = ("old", "dev", "prod")
@@ -49,24 +54,32 @@ FILES = {
 }
 
 
+@pytest.fixture(scope="module")
+def ansible() -> Iterator[AnsibleRuns]:
+    with TemporaryDirectory() as home, AnsibleRuns(needs_ansible(), Path(home)) as runs:
+        yield runs
+
+
 @pytest.mark.parametrize("settings, files, wanted", [*VARIABLES.values(), *FILES.values()], ids=[*VARIABLES, *FILES])
-def test_variables_and_files(place: Place, settings: dict, files: dict, wanted: set) -> None:
+def test_variables_and_files(
+    place: Place, request: pytest.FixtureRequest, settings: dict, files: dict, wanted: set
+) -> None:
     """The secrets that they name open the same vaults as with Ansible's tool."""
     for name in OPEN:
-        place.put(f"{name}.yml", sealed(name))
+        place.put(f"{name}.yml", sealed(name, f"{name}\n".encode()))
     for name, content in files.items():
-        (place.path / name).parent.mkdir(parents=True, exist_ok=True)
-        (place.path / name).write_text(content)
+        place.put(f"../{name}", content.encode())
     fill = lambda text: text.format(place.secrets, place.path)
     prefix = lambda name: f"ANSIBLE_{name}" if name == "CONFIG" else f"ANSIBLE_VAULT_{name}"
     variables = {prefix(name): fill(text) for name, text in settings.items()} | {"WHICH": "prod"}
-    expected = {name: (0, TEXT.decode()) if name in wanted else (1, "") for name in OPEN}
-    ran = {name: ours(place, "view", f"{name}.yml", **variables) for name in OPEN}
-    assert {name: (done.returncode, done.stdout) for name, done in ran.items()} == expected
-    ansible = needs_ansible()
-    ran = {name: theirs(place, ansible, "view", f"{name}.yml", **variables) for name in OPEN}
-    found = {name: (min(1, done.returncode), done.stdout.strip() and done.stdout) for name, done in ran.items()}
-    assert found == expected, "by Ansible's tool"
+    done = ours(place, "view", *(f"{name}.yml" for name in OPEN), **variables)
+    assert (done.returncode, done.stdout) == (1, "".join(f"{name}\n" for name in OPEN if name in wanted))
+    runs, found = request.getfixturevalue("ansible"), {}
+    for name in OPEN:
+        runs.begin(["view", f"{name}.yml"], place.tree, place.environment | variables)
+        status, output, _ = runs.end()
+        found[name] = min(1, status), output.decode().strip()
+    assert found == {name: (0, name) if name in wanted else (1, "") for name in OPEN}, "by Ansible's tool"
 
 
 def by_settings(place: Place) -> None:
@@ -114,7 +127,7 @@ STRANGE = {
 
 
 @pytest.mark.parametrize("what", STRANGE)
-def test_what_is_not_trusted(place: Place, what: str) -> None:
+def test_what_is_not_trusted(place: Place, subtests: SubTests, what: str) -> None:
     """Beside options, no companion runs a script of the current folder or encrypts with a secret that it names, unless
     ANSIBLE_CONFIG names its file."""
     file, variables, runs = STRANGE[what]
@@ -139,16 +152,15 @@ def test_what_is_not_trusted(place: Place, what: str) -> None:
         (place.path / "ran").unlink(missing_ok=True)
         place.put("ansible.cfg", file.encode())
         place.script("touch ../ran; cat ../secrets/prod", "tree/script")
-        done = place.run(*line, **variables)
-        name = f"{what}: {' '.join(line[:2])} ({done.stderr})"
-        assert done.returncode == 0, f"{name}: the status"
-        assert (place.path / "ran").exists() == runs, f"{name}: whether the script is run"
+        with subtests.test(" ".join(line[:2])):
+            done = place.run(*line, **variables)
+            assert (done.returncode, (place.path / "ran").exists()) == (0, runs), done.stderr
     if not runs:
         ended("without options", place.run(CHECK, "a.yml", **variables), 1)
-        assert (place.path / "ran").exists(), f"{what}: without options it is run"
+        assert (place.path / "ran").exists(), "without options it is run"
 
 
-def test_beside_options(place: Place) -> None:
+def test_beside_options(place: Place, subtests: SubTests) -> None:
     """One's own settings count beside options, as with Ansible; so does a file of the folder that is named."""
     label = "vault_encrypt_identity = prod\n"
     settings = LIST.format("dev@~/secrets/dev, prod@~/secrets/prod")
@@ -161,13 +173,12 @@ def test_beside_options(place: Place) -> None:
     assert decrypted("prod", place.get("b.yml")) == TEXT, "is the one to encrypt with"
     (place.path / ".ansible.cfg").unlink()
     ids = [*place.by_id("dev", "dev"), *place.by_id("prod", "prod")]
-    for number, line in enumerate(([WITH, "encrypt", "c.yml"], [EDIT, "new.yml"])):
-        place.put("c.yml", TEXT)
-        words = [*line[:-1], *ids, line[-1]]
-        editor = place.script('echo new > "$1"', "editor")
-        silent(f"{words}", place.run(*words, EDITOR=editor, ANSIBLE_VAULT_ENCRYPT_IDENTITY="prod"))
-        text = decrypted("prod", place.get(words[-1]))
-        assert text == [TEXT, b"new\n"][number], f"{words}: by the variable's label"
+    place.put("c.yml", TEXT)
+    editor = place.script('echo new > "$1"', "editor")
+    for words, name, text in (([WITH, "encrypt"], "c.yml", TEXT), ([EDIT], "new.yml", b"new\n")):
+        with subtests.test(words[0]):
+            silent("a run", place.run(*words, *ids, name, EDITOR=editor, ANSIBLE_VAULT_ENCRYPT_IDENTITY="prod"))
+            assert decrypted("prod", place.get(name)) == text, "by the variable's label"
     place.put("ansible.cfg", settings.encode())
     done = ours(place, "view", *place.by_file("old"), "a.yml")
     ended("the folder's file", done, 1, "no secret decrypts this vault")
@@ -175,20 +186,21 @@ def test_beside_options(place: Place) -> None:
     assert (done.returncode, done.stdout) == (0, TEXT.decode()), "the folder's file, if it is named"
 
 
-def test_matching_labels(place: Place) -> None:
+def test_matching_labels(place: Place, subtests: SubTests) -> None:
     """By vault_id_match a secret decrypts only what has its label."""
     place.put("a.yml", sealed("dev", label="prod"))
     place.put("b.yml", sealed("dev", label="dev"))
     secret = place.by_id("dev", "dev")
     for variables in ({"ANSIBLE_VAULT_ID_MATCH": "True"}, {"ANSIBLE_VAULT_ID_MATCH": "False"}, {}):
-        status = 1 if variables else 0
+        refused = ["no secret decrypts"] if variables else []
         for words in ([WITH, "view"], [WITH, "decrypt", "--output", "-"], [CHECK], [EDIT]):
-            done = place.run(*words, *secret, "a.yml", EDITOR="true", **variables)
-            ended(f"{variables} {words}", done, status, *(["no secret decrypts"] if status else []))
-            done = place.run(*words, *secret, "b.yml", EDITOR="true", **variables)
-            assert done.returncode == 0, f"{variables} {words}: its label"
-        done = place.run(TEXTCONV, *secret, "a.yml", **variables)
-        assert (done.stdout == TEXT.decode()) == (not status), f"{variables}: textconv"
+            with subtests.test(f"{variables} {words}"):
+                done = place.run(*words, *secret, "a.yml", EDITOR="true", **variables)
+                ended("another label", done, len(refused), *refused)
+                ended("its label", place.run(*words, *secret, "b.yml", EDITOR="true", **variables), 0)
+        with subtests.test(f"{variables} {TEXTCONV}"):
+            done = place.run(TEXTCONV, *secret, "a.yml", **variables)
+            assert (done.stdout == TEXT.decode()) == (not refused)
     place.put("ansible.cfg", (LIST.format("dev@../secrets/dev") + "vault_id_match = True\n").encode())
     ended("by the file", ours(place, "view", "a.yml"), 1, "no secret decrypts this vault")
 
@@ -196,7 +208,7 @@ def test_matching_labels(place: Place) -> None:
 def test_many_secrets(place: Place) -> None:
     """More than the tool takes at once are tried one after the other."""
     (place.secrets / "wrong").write_text("no password\n")
-    wrong = ", ".join(f"w{number}@../secrets/wrong" for number in range(40))
+    wrong = ", ".join(f"w{number}@../secrets/wrong" for number in range(33))
     variables = {"ANSIBLE_VAULT_IDENTITY_LIST": f"{wrong}, dev@../secrets/dev"}
     place.put("a.yml", sealed("dev"))
     done = ours(place, "view", "a.yml", **variables)
@@ -271,7 +283,7 @@ def test_simple_files(cases: Companions) -> None:
     assert 500 < len(read) < len(texts) - 500, "some are simple, and some are not"
 
 
-def test_faults(place: Place) -> None:
+def test_faults(place: Place, subtests: SubTests) -> None:
     """What cannot be read is named, and nothing is done without it."""
     malformed = {
         b"no section\n": "ansible.cfg: File contains no section headers",
@@ -281,7 +293,8 @@ def test_faults(place: Place) -> None:
     by_settings(place)
     for content, part in malformed.items():
         place.put("ansible.cfg", content)
-        ended(f"{content}", place.run(CHECK, "."), 1, f"{CHECK}: {part}")
+        with subtests.test(f"{content}"):
+            ended("it is refused", place.run(CHECK, "."), 1, f"{CHECK}: {part}")
     (place.path / "settings").write_text(FILE.format("secrets/old"))
     done = place.run(CHECK, ".", ANSIBLE_CONFIG="../settings")
     ended("a name without suffix", done, 1, "../settings: its name does not end in .cfg or .ini")
@@ -294,11 +307,10 @@ def test_faults(place: Place) -> None:
     ended("no secret", done, 2, *parts)
 
 
-def test_missing_secrets(place: Place) -> None:
+def test_missing_secrets(place: Place, subtests: SubTests) -> None:
     """A secret of the settings that cannot be had is skipped with a warning, if there is another one."""
     listed = "dev@../secrets/dev, prod@../secrets/none, old@../secrets/failing, new@../secrets/empty"
     place.put("a.yml", sealed("dev", label="dev"))
-    place.put("plain.yml", TEXT)
     place.script("exit 4", "secrets/failing")
     (place.path / "secrets/empty").touch()
     ignored = {
@@ -312,11 +324,11 @@ def test_missing_secrets(place: Place) -> None:
     assert done.stderr.splitlines() == warnings(CHECK), "what is ignored"
     for words in (["--encrypt-vault-id", "dev"], []):
         place.put("plain.yml", TEXT)
-        done = ours(place, "encrypt", *words, "plain.yml", ANSIBLE_VAULT_IDENTITY_LIST=listed)
-        assert (done.returncode, done.stderr.splitlines()) == (0, warnings(WITH)), f"to encrypt {words}"
-        assert decrypted("dev", place.get("plain.yml")) == TEXT, f"{words}: it is encrypted"
-        header = place.get("plain.yml").partition(b"\n")[0]
-        assert header == b"$ANSIBLE_VAULT;1.2;AES256;dev", f"{words}: under its label"
+        with subtests.test(f"to encrypt {words}"):
+            done = ours(place, "encrypt", *words, "plain.yml", ANSIBLE_VAULT_IDENTITY_LIST=listed)
+            assert (done.returncode, done.stderr.splitlines()) == (0, warnings(WITH))
+            assert decrypted("dev", place.get("plain.yml")) == TEXT, "it is encrypted"
+            assert place.get("plain.yml").startswith(b"$ANSIBLE_VAULT;1.2;AES256;dev\n"), "under its label"
     place.put("plain.yml", TEXT)
     done = ours(place, "encrypt", "--encrypt-vault-id", "prod", "plain.yml", ANSIBLE_VAULT_IDENTITY_LIST=listed)
     ended("under a missing one", done, 1, *warnings(WITH), "no secret has the label of --encrypt-vault-id")

@@ -3,7 +3,6 @@
 import fcntl
 import os
 import re
-import shutil
 import signal
 import subprocess
 import termios
@@ -12,6 +11,7 @@ from contextlib import suppress
 from pathlib import Path
 
 import pytest
+from pytest_subtests import SubTests
 
 from companion_cases import CHECK, EDIT, MERGE, ROTATE, SECONDS, TEXT, TEXTCONV, WITH
 from companion_cases import Companions, Place, block, decrypted, ended, sealed
@@ -60,7 +60,6 @@ def tree(place: Place) -> None:
     place.put("a.yml", vault, 0o640)
     place.put("b.yml", blocks, 0o600)
     place.environment["EDITOR"] = place.script(f"{CHANGE}; touch ../saved", "editor")
-    (place.path / "saved").unlink(missing_ok=True)
 
 
 def merge_of(place: Place, name: str) -> list[str]:
@@ -113,46 +112,51 @@ def check_saved(what: str, place: Place, errors: str | None, wanted: bytes = CHA
         copy.unlink()
 
 
-def test_at_each_run(place: Place) -> None:
+def test_at_each_run(cases: Companions, subtests: SubTests) -> None:
     """Before each run of the program, or of git, which dies by the signal, or goes on in spite of it."""
-    for companion, words in runs_of(place).items():
+    for companion in runs_of(cases.place()):
         for number in range(1, 20):
+            place = cases.place()
             tree(place)
+            words = runs_of(place)[companion]
             trap, name = ("", "TERM") if number % 2 else ("trap '' INT; ", "INT")
-            for program in ("ansible-vault", "git"):
-                text = AT_RUN.format(number=number, trap=trap, signal=name)
-                place.wrap_tool(text if program == "ansible-vault" or words[0] == MERGE else "", program)
-            shutil.rmtree(place.path / "counted", ignore_errors=True)
+            text = AT_RUN.format(number=number, trap=trap, signal=name)
+            for program in ("ansible-vault", "git") if words[0] == MERGE else ("ansible-vault",):
+                place.wrap_tool(text, program)
             done = place.run(*words)
+            what = f"{companion}, run {number}"
+            with subtests.test(what):
+                assert done.returncode in (0, -signal.Signals[f"SIG{name}"]), "the status"
+                assert "Traceback" not in done.stderr, "no word of Python"
+                if companion == EDIT:
+                    check_saved(what, place, done.stderr)
+                check_whole(what, place)
             if done.returncode == 0:
                 break
-            what = f"{companion}, run {number}"
-            assert done.returncode == -signal.Signals[f"SIG{name}"], f"{what}: the status"
-            assert "Traceback" not in done.stderr, f"{what}: no word of Python"
+        with subtests.test(companion):
+            assert 3 < number < 19, "there were such runs"
+
+
+RUNS_AND_CALLS = [(EDIT, call) for call in CALLS]
+RUNS_AND_CALLS += [(name, call) for name in (ROTATE, "merge", "rekey", "decrypt") for call in CALLS[:5]]
+
+
+def test_at_each_call(cases: Companions, subtests: SubTests) -> None:
+    """Before and after each call by which files come and go."""
+    for number, (companion, call) in enumerate(RUNS_AND_CALLS):
+        when, name = [("before", "SIGHUP"), ("after", "SIGTERM")][number % 2]
+        place = cases.place()
+        tree(place)
+        tool, *words = runs_of(place)[companion]
+        script = place.script(AT_CALL, "signalling", "/usr/bin/env -S python3 -ISB")
+        what = f"{companion}, {when} {call}"
+        with subtests.test(what):
+            done = place.run(script, call, when, str(signal.Signals[name].value), str(place.tools / tool), *words)
+            reached = companion == EDIT or call != "os.unlink"
+            assert done.returncode == (-signal.Signals[name] if reached else 0), "the status"
             if companion == EDIT:
                 check_saved(what, place, done.stderr)
             check_whole(what, place)
-        assert 3 < number < 19, f"{companion}: there were such runs"
-        check_whole(f"{companion}, without a signal", place)
-
-
-def test_at_each_call(place: Place) -> None:
-    """Before and after each call by which files come and go."""
-    script = place.script(AT_CALL, "signalling", "/usr/bin/env -S python3 -ISB")
-    words = runs_of(place)
-    runs = [(EDIT, call) for call in CALLS]
-    runs += [(name, call) for name in (ROTATE, "merge", "rekey", "decrypt") for call in CALLS[:5]]
-    for number, (companion, call) in enumerate(runs):
-        when, name = [("before", "SIGHUP"), ("after", "SIGTERM")][number % 2]
-        tree(place)
-        path = str(place.tools / words[companion][0])
-        done = place.run(script, call, when, str(signal.Signals[name].value), path, *words[companion][1:])
-        what = f"{companion}, {when} {call}"
-        reached = companion == EDIT or call != "os.unlink"
-        assert done.returncode == (-signal.Signals[name] if reached else 0), f"{what}: the status"
-        if companion == EDIT:
-            check_saved(what, place, done.stderr)
-        check_whole(what, place)
 
 
 def test_interrupted_then_finished(place: Place) -> None:
@@ -170,9 +174,8 @@ def test_interrupted_then_finished(place: Place) -> None:
 
 
 @pytest.mark.parametrize("name, status", (("INT", 0), ("QUIT", 0), ("TERM", None), ("HUP", None), ("USR1", None)))
-def test_while_the_editor_runs(cases: Companions, name, status) -> None:
+def test_while_the_editor_runs(place: Place, name: str, status: int | None) -> None:
     """The signals of a terminal's keys are the editor's. The others end it, and what it saved is kept."""
-    place = cases.place()
     tree(place)
     # One that the companion has to end waits for what never comes.
     os.mkfifo(place.path / "never")
@@ -181,42 +184,41 @@ def test_while_the_editor_runs(cases: Companions, name, status) -> None:
     place.environment["EDITOR"] = place.script(text, "editor")
     done = place.run(EDIT, *place.by_file("old"), "a.yml")
     number = signal.Signals[f"SIG{name}"]
-    assert done.returncode == (-number if status is None else status), f"{name}: the status"
-    assert (place.path / "survived").exists() == (status == 0), f"{name}: the editor ends"
-    wanted = CHANGED if status == 0 else TEXT
-    assert decrypted("old", place.get("a.yml")) == wanted, f"{name}: the vault"
+    assert done.returncode == (-number if status is None else status), "the status"
+    assert (place.path / "survived").exists() == (status == 0), "the editor ends"
+    assert decrypted("old", place.get("a.yml")) == (CHANGED if status == 0 else TEXT), "the vault"
     told = TOLD.search(done.stderr)
-    assert (told and int(told[1])) == (number if status is None else None), f"{name}: the message"
+    assert (told and int(told[1])) == (number if status is None else None), "the message"
     check_saved(name, place, done.stderr)
     check_whole(name, place)
 
 
-def test_last_words(cases: Companions) -> None:
+LAST = "trap 'sleep 0.3; printf last > \"$1\"; touch ../saved; exit' TERM"
+READY = "until [ -e ../ready ]; do sleep 0.02; done"
+WRITERS = {"itself": LAST, "a child": f"({LAST}; sleep {SECONDS} & touch ../ready; wait) & {READY}; trap exit TERM"}
+
+
+@pytest.mark.parametrize("who", WRITERS)
+def test_last_words(place: Place, who: str) -> None:
     """What an editor writes when it is asked to end is awaited, also if it is asked twice: a terminal that is closed
     and its shell both send a signal."""
-    last = "trap 'sleep 0.3; printf last > \"$1\"; touch ../saved; exit' TERM"
-    ready = "until [ -e ../ready ]; do sleep 0.02; done"
-    ends = {"itself": last, "a child": f"({last}; sleep {SECONDS} & touch ../ready; wait) & {ready}; trap exit TERM"}
-    for who, text in ends.items():
-        place = cases.place()
-        tree(place)
-        os.mkfifo(place.path / "never")
-        twice = f"kill -TERM {ABOVE_EDITOR}; sleep 0.1; kill -TERM {ABOVE_EDITOR}"
-        text = f'printf first > "$1"; {text}; {twice}; : < ../never'
-        place.environment["EDITOR"] = place.script(text, "editor")
-        done = place.run(EDIT, *place.by_file("old"), "a.yml")
-        assert done.returncode == -signal.SIGTERM, f"by {who}: the status"
-        check_saved(f"by {who}", place, done.stderr, b"last")
-        check_whole(f"by {who}", place)
+    tree(place)
+    os.mkfifo(place.path / "never")
+    twice = f"kill -TERM {ABOVE_EDITOR}; sleep 0.1; kill -TERM {ABOVE_EDITOR}"
+    text = f'printf first > "$1"; {WRITERS[who]}; {twice}; : < ../never'
+    place.environment["EDITOR"] = place.script(text, "editor")
+    done = place.run(EDIT, *place.by_file("old"), "a.yml")
+    assert done.returncode == -signal.SIGTERM, "the status"
+    check_saved(who, place, done.stderr, b"last")
+    check_whole(who, place)
 
 
 @pytest.mark.parametrize("send", (os.kill, os.killpg))
-def test_half_a_save(cases: Companions, send) -> None:
+def test_half_a_save(place: Place, send) -> None:
     """If the editor is ended while it saves, the save before is kept, too."""
     words = "text = open(sys.argv[1], 'w'); text.write('{}'); text.flush(); "
     first = f'import sys, time; {words.format("the first of two")}'
     second = f"time.sleep(3); {words.format('half')}open('../saved', 'w'); time.sleep({SECONDS})"
-    place = cases.place()
     tree(place)
     place.environment["EDITOR"] = place.script(f"{first}\n{second}", "editor", "/usr/bin/env python3")
     streams = {"stdin": subprocess.DEVNULL, "stdout": subprocess.DEVNULL, "stderr": subprocess.PIPE}
@@ -225,27 +227,25 @@ def test_half_a_save(cases: Companions, send) -> None:
         wait_until((place.path / "saved").exists, "the second save")
         send(process.pid, signal.SIGTERM)
         errors = process.communicate(timeout=SECONDS)[1]
-    assert process.returncode == -signal.SIGTERM, f"{send.__name__}: the status"
-    befores = list(place.tree.glob(f"{COPY}*-before"))
-    texts = [decrypted("old", each.read_bytes()) for each in befores]
-    assert texts == [b"the first of two"], f"{send.__name__}: the save before"
-    assert befores and str(befores[0]) in errors, f"{send.__name__}: it is named"
+    assert process.returncode == -signal.SIGTERM, "the status"
+    [before] = place.tree.glob(f"{COPY}*-before")
+    assert decrypted("old", before.read_bytes()) == b"the first of two", "the save before"
+    assert str(before) in errors, "it is named"
     check_saved(send.__name__, place, errors, b"half")
     check_whole(send.__name__, place)
 
 
 @pytest.mark.parametrize("when", ("while the editor runs", "after it"))
-def test_signals_to_all(cases: Companions, when) -> None:
+def test_signals_to_all(place: Place, when: str) -> None:
     """Signals to the companion and to the program that encrypts do not end the rescue."""
     again = "kill -HUP $PPID; kill -TERM $PPID; kill -TERM $$; kill -HUP $$; kill -INT $$"
-    place = cases.place()
     tree(place)
     place.wrap_tool(f'[ "$1" != encrypt ] || {{ {again}; }}')
     first = f"kill -TERM {ABOVE_EDITOR}; sleep {SECONDS}" if when == "while the editor runs" else ":"
     place.environment["EDITOR"] = place.script(f"{CHANGE}; touch ../saved; {first}", "editor")
     done = place.run(EDIT, *place.by_file("old"), "a.yml")
-    assert done.returncode in (-signal.SIGTERM, -signal.SIGHUP), f"{when}: the status"
-    assert decrypted("old", place.get("a.yml")) == TEXT, f"{when}: the vault stays"
+    assert done.returncode in (-signal.SIGTERM, -signal.SIGHUP), "the status"
+    assert decrypted("old", place.get("a.yml")) == TEXT, "the vault stays"
     check_saved(when, place, done.stderr)
     check_whole(when, place)
 
@@ -262,9 +262,8 @@ LEADERS = {"the companion leads the session": [], "a shell does": ["sh", "-c", '
 
 
 @pytest.mark.parametrize("what, leader", LEADERS.items())
-def test_closed_terminals(cases: Companions, what, leader) -> None:
+def test_closed_terminals(place: Place, what: str, leader: list[str]) -> None:
     """The message can reach nobody, and the name of the copy says whose it is."""
-    place = cases.place()
     tree(place)
     os.mkfifo(place.path / "never")
     editor = f"{CHANGE}; echo {ABOVE_EDITOR} > ../companion; touch ../saved; : < ../never"
@@ -281,16 +280,15 @@ def test_closed_terminals(cases: Companions, what, leader) -> None:
         os.close(controller)
         process.wait(SECONDS)
     wait_until(lambda: not os.path.exists(f"/proc/{companion}"), "the end")
-    assert process.returncode == -signal.SIGHUP, f"{what}: it ends by the signal"
-    assert decrypted("old", place.get("a.yml")) == TEXT, f"{what}: the vault stays"
+    assert process.returncode == -signal.SIGHUP, "it ends by the signal"
+    assert decrypted("old", place.get("a.yml")) == TEXT, "the vault stays"
     check_saved(what, place, None)
     check_whole(what, place)
 
 
 @pytest.mark.parametrize("what, pause", (("another signal", 0.1), ("one signal", SECONDS)))
-def test_stubborn_programs(cases: Companions, what, pause) -> None:
+def test_stubborn_programs(place: Place, what: str, pause: float) -> None:
     """What does not end by a signal is killed: by another one, or after a while."""
-    place = cases.place()
     tree(place)
     stubborn = f"{CHANGE}; touch ../saved; trap '' TERM; echo $$ > ../started; exec sleep {2 * SECONDS}"
     place.environment["EDITOR"] = place.script(stubborn, "editor")
@@ -305,10 +303,10 @@ def test_stubborn_programs(cases: Companions, what, pause) -> None:
         with suppress(subprocess.TimeoutExpired):
             process.wait(pause)
     seconds = time.monotonic() - begun
-    assert seconds < 4 if pause < 1 else 4 < seconds < 60, f"{what}: how long it takes"
-    assert process.wait(SECONDS) == -signal.SIGTERM, what
+    assert seconds < 4 if pause < 1 else 4 < seconds < 60, "how long it takes"
+    assert process.wait(SECONDS) == -signal.SIGTERM
     editor = Path("/proc", started.read_text().strip(), "cmdline")
-    assert (editor.read_text() if editor.exists() else "") == "", f"{what}: the editor is gone"
+    assert (editor.read_text() if editor.exists() else "") == "", "the editor is gone"
     check_saved(what, place, process.stderr.read())
     process.stderr.close()
     check_whole(what, place)

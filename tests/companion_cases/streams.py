@@ -4,8 +4,10 @@ import os
 import signal
 import subprocess
 
+from pytest_subtests import SubTests
+
 from companion_cases import CHECK, EDIT, HOOK, MERGE, ROTATE, TEXT, TEXTCONV, WITH
-from companion_cases import Place, decrypted, ended, sealed, silent
+from companion_cases import Companions, Place, decrypted, ended, sealed, silent
 from companion_cases.editing import CHANGE, CHANGED
 from companion_cases.merging import versions
 from companion_cases.repository import under_git
@@ -26,55 +28,58 @@ def tree(place: Place) -> dict[str, str]:
     }
 
 
-def no_words_of_python(what: str, done) -> None:
-    assert [each for each in ("Traceback", "Exception") if each in done.stderr] == [], f"{what}: no words of Python"
+def words_of_python(done: subprocess.CompletedProcess) -> list[str]:
+    return [each for each in ("Traceback", "Exception") if each in done.stderr]
 
 
-def test_outputs_that_fail(place: Place) -> None:
-    lines = tree(place)
-    names = (EDIT, HOOK, ROTATE, CHECK, TEXTCONV, WITH, MERGE)
-    helps = {f"{name} --help": f"{name} --help" for name in names}
-    for name, line in {**lines, **helps}.items():
+def test_outputs_that_fail(place: Place, subtests: SubTests) -> None:
+    lines = [*tree(place).values(), *(f"{name} --help" for name in (EDIT, HOOK, ROTATE, CHECK, TEXTCONV, WITH, MERGE))]
+    for line in lines:
         for redirection, why in ((">&-", "Bad file descriptor"), ("> /dev/full", "No space left on device")):
-            done = place.shell(f"{line} {redirection}")
-            ended(f"{name} {redirection}", done, 1, UNWRITTEN.format(why))
-            no_words_of_python(f"{name} {redirection}", done)
-    old = " ".join(place.by_file("old"))
+            with subtests.test(f"{line} {redirection}"):
+                done = place.shell(f"{line} {redirection}")
+                ended("it says why", done, 1, UNWRITTEN.format(why))
+                assert words_of_python(done) == []
+
+
+def test_messages_that_fail(place: Place, subtests: SubTests) -> None:
+    lines, old = tree(place), " ".join(place.by_file("old"))
     lines[WITH] = f"{WITH} decrypt {old} a.yml"
     lines[MERGE] = f"{MERGE} {old} a.yml a.yml a.yml a.yml"
-    for name, line in lines.items():
+    for line in lines.values():
         wrong = line.replace(place.secret("old"), place.secret("dev"))
         for redirection in ("2>&-", "2> /dev/full", ">&- 2>&-"):
-            done = place.shell(f"{wrong} {redirection}")
-            assert done.returncode == 1, f"{name} {redirection}: the status"
-            no_words_of_python(f"{name} {redirection}", done)
+            with subtests.test(f"{wrong} {redirection}"):
+                done = place.shell(f"{wrong} {redirection}")
+                assert (done.returncode, words_of_python(done)) == (1, [])
 
 
-def test_readers_that_go(place: Place) -> None:
+def test_readers_that_go(place: Place, subtests: SubTests) -> None:
     needs("bash")
     for name, line in tree(place).items():
-        done = place.shell(f"{{ {line}; echo $? >&2; }} | :", "bash")
-        wanted = [f"{name}: {UNWRITTEN.format('Broken pipe').strip()}", "1"]
-        assert done.stderr.splitlines() == wanted, f"{name}: the reader goes"
+        with subtests.test(name):
+            done = place.shell(f"{{ {line}; echo $? >&2; }} | :", "bash")
+            assert done.stderr == f"{name}: {UNWRITTEN.format('Broken pipe')}1\n"
 
 
-def test_closed_inputs(place: Place) -> None:
+def test_closed_inputs(place: Place, subtests: SubTests) -> None:
     """Neither the password's memory nor a file gets the number of a stream."""
     needs("bash")
     tree(place)
     typed = f"--vault-password-file <(cat {place.secret('old')})"
     for streams in ("<&-", "<&- >&- 2>&-", ">&-"):
-        place.put("a.yml", sealed("old"))
-        done = place.shell(f"{EDIT} {typed} a.yml {streams}", "bash")
-        silent(f"{EDIT} {streams}", done)
-        assert decrypted("old", place.get("a.yml")) == CHANGED, f"{streams}: the text is changed"
-        place.put("a.yml", sealed("old"))
-        done = place.shell(f"{WITH} decrypt {typed} a.yml {streams}", "bash")
-        silent(f"{WITH} {streams}", done)
-        assert place.get("a.yml") == TEXT, f"{streams}: it is decrypted"
-        words = " ".join(versions(place, "b.yml", sealed("old"), sealed("old"), sealed("old", CHANGED)))
-        silent(f"{MERGE} {streams}", place.shell(f"{MERGE} {typed} {words} {streams}", "bash"))
-        assert decrypted("old", place.get("b.yml")) == CHANGED, f"{streams}: it is merged"
+        with subtests.test(f"{EDIT} {streams}"):
+            place.put("a.yml", sealed("old"))
+            silent("an edit", place.shell(f"{EDIT} {typed} a.yml {streams}", "bash"))
+            assert decrypted("old", place.get("a.yml")) == CHANGED, "the text is changed"
+        with subtests.test(f"{WITH} {streams}"):
+            place.put("a.yml", sealed("old"))
+            silent("in place", place.shell(f"{WITH} decrypt {typed} a.yml {streams}", "bash"))
+            assert place.get("a.yml") == TEXT, "it is decrypted"
+        with subtests.test(f"{MERGE} {streams}"):
+            words = " ".join(versions(place, "b.yml", sealed("old"), sealed("old"), sealed("old", CHANGED)))
+            silent("a merge", place.shell(f"{MERGE} {typed} {words} {streams}", "bash"))
+            assert decrypted("old", place.get("b.yml")) == CHANGED, "it is merged"
     place.put("a.yml", sealed("old"))
     done = place.shell(f"{CHECK} {typed} a.yml <&-", "bash")
     ended("a closed input", done, 0, "1 decrypted, 0 not")
@@ -121,12 +126,13 @@ def test_ignored_interrupts(place: Place) -> None:
     assert (place.get("a.yml"), decrypted("new", place.get("b.yml"))) == (TEXT, CHANGED), "both are done"
 
 
-def test_all_ending_signals(place: Place) -> None:
+def test_all_ending_signals(cases: Companions, subtests: SubTests) -> None:
     """Every signal that would end a program is noted, so that the plaintext goes and what was saved is kept."""
     not_ending = {"KILL", "STOP", "CHLD", "CONT", "URG", "WINCH", "TSTP", "TTIN", "TTOU"}
     # A fault of Python itself would come again at once; what Python ignores stays ignored.
     others = {"SEGV", "BUS", "FPE", "ILL", "PIPE", "XFSZ"}
     wanted = signal.valid_signals() - {getattr(signal, f"SIG{name}") for name in not_ending | others}
+    place = cases.place()
     place.put("a.yml", sealed("old"))
     companion = "$(cut -d ' ' -f 4 /proc/$PPID/stat)"
     look = f"grep -h SigCgt /proc/{companion}/status > ../noted"
@@ -135,15 +141,16 @@ def test_all_ending_signals(place: Place) -> None:
     noted = {number for number in signal.valid_signals() if mask >> (number - 1) & 1}
     assert sorted(wanted - noted) == [], "all are noted"
     for number in (signal.SIGABRT, signal.SIGPWR, signal.SIGRTMIN, signal.SIGRTMAX):
+        place = cases.place()
+        place.put("a.yml", sealed("old"))
         editor = place.script(f"{CHANGE}; kill -{int(number)} {companion}; exec sleep 5", "editor")
-        done = place.run(EDIT, *place.by_file("old"), "a.yml", EDITOR=editor)
-        assert done.returncode == -number, f"signal {int(number)}: the status"
-        copies = [place.tree / name for name in place.names() if name.startswith(".ansible-vault-saved-a.yml-")]
-        texts = [decrypted("old", copy.read_bytes()) for copy in copies]
-        assert texts == [CHANGED], f"signal {int(number)}: what was saved is kept"
-        for copy in copies:
-            copy.unlink()
-        assert (place.names(), place.left()) == (["a.yml"], []), f"signal {int(number)}: nothing is left"
+        with subtests.test(f"signal {int(number)}"):
+            done = place.run(EDIT, *place.by_file("old"), "a.yml", EDITOR=editor)
+            assert done.returncode == -number, "the status"
+            copy, *others = place.names()
+            assert copy.startswith(".ansible-vault-saved-a.yml-"), "what was saved is kept"
+            assert decrypted("old", place.get(copy)) == CHANGED, "in a vault"
+            assert (others, place.left()) == (["a.yml"], []), "nothing else is left"
 
 
 def merges_with(path: str) -> list[list[str]]:
@@ -151,17 +158,13 @@ def merges_with(path: str) -> list[list[str]]:
     return [[path if place == number else "a.yml" for place in range(3)] + ["a.yml"] for number in range(3)]
 
 
-def test_waiting_pipes(place: Place) -> None:
+def test_waiting_pipes(place: Place, subtests: SubTests) -> None:
     """A pipe is no vault; opening it would wait for ever, deaf to signals."""
     os.mkfifo(place.tree / "pipe")
     old = place.by_file("old")
     place.put("a.yml", sealed("old"))
     runs = [[EDIT, *old, "pipe"], [TEXTCONV, *old, "pipe"], [WITH, "decrypt", *old, "pipe"]]
+    options = {"cwd": place.tree, "env": place.environment, "capture_output": True, "text": True, "timeout": 20}
     for words in [*runs, *([MERGE, *old, *merge] for merge in merges_with("pipe"))]:
-        try:
-            streams = {"capture_output": True, "text": True, "timeout": 20}
-            done = subprocess.run(words, cwd=place.tree, env=place.environment, **streams)
-        except subprocess.TimeoutExpired:
-            assert False, f"{words[0]} does not wait"
-            continue
-        ended(words[0], done, 1, "it is not a regular file")
+        with subtests.test(" ".join(words)):
+            ended("it does not wait", subprocess.run(words, **options), 1, "it is not a regular file")

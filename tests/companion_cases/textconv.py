@@ -3,8 +3,9 @@
 import re
 
 import pytest
+from pytest_subtests import SubTests
 
-from companion_cases import AWKWARD, MERGE, TEXT, TEXTCONV, Companions, Place, block, ended, sealed, silent
+from companion_cases import AWKWARD, MERGE, TEXT, TEXTCONV, Place, block, ended, sealed, silent
 from companion_cases.repository import add_and_commit, under_git
 from lib.needs import needs
 
@@ -20,24 +21,23 @@ def changed_lines(text: str) -> list[str]:
     return [line for line in text.splitlines() if re.match(r"[-+][^-+]", line)]
 
 
-def test_alone(place: Place) -> None:
+def test_alone(place: Place, subtests: SubTests) -> None:
     around = "# größe\r\n".encode()
+    blocks = around + block("old", b"one") + block("new", b"two\nthree", name="x") + b"# end"
     shown = {
         "a vault": (sealed("old"), TEXT),
         "a vault of another label": (sealed("old", b"\x00\xff", "prod"), b"\x00\xff"),
-        "blocks": (around + block("old", b"one") + block("new", b"two\nthree", name="x") + b"# end", None),
+        "blocks": (blocks, around + b"secret: !vault |-\n  one\nx: !vault |-\n  two\n  three\n# end"),
     }
+    command = [TEXTCONV, *place.by_file("old"), *place.by_file("new"), "file"]
     for name, (content, wanted) in shown.items():
         place.put("file", content)
-        command = [TEXTCONV, *place.by_file("old"), *place.by_file("new")]
-        done = place.run("sh", "-c", '"$@" > ../shown', "sh", *command, "file")
-        silent(name, done)
-        found = (place.path / "shown").read_bytes()
-        lines = around + b"secret: !vault |-\n  one\nx: !vault |-\n  two\n  three\n# end"
-        assert found == (lines if wanted is None else wanted), f"{name}: what is shown"
+        with subtests.test(name):
+            silent("it is shown", place.run("sh", "-c", '"$@" > ../shown', "sh", *command))
+            assert (place.path / "shown").read_bytes() == wanted
 
 
-def test_as_it_is(place: Place) -> None:
+def test_as_it_is(place: Place, subtests: SubTests) -> None:
     """What cannot be decrypted is shown as it is, with the reason, and git continues."""
     files = {
         "unknown.yml": (sealed("dev"), "no secret decrypts this vault"),
@@ -48,9 +48,10 @@ def test_as_it_is(place: Place) -> None:
     }
     for name, (content, part) in files.items():
         place.put(name, content)
-        done = place.run(TEXTCONV, *place.by_file("old"), name)
-        assert (done.returncode, done.stdout.encode()) == (0, content), f"{name}: as it is"
-        assert part in done.stderr and name in done.stderr, f"{name}: the reason is printed"
+        with subtests.test(name):
+            done = place.run(TEXTCONV, *place.by_file("old"), name)
+            assert (done.returncode, done.stdout.encode()) == (0, content), "as it is"
+            assert part in done.stderr and name in done.stderr, "the reason is printed"
     place.put("mixed.yml", block("dev") + block("old", b"shown"))
     done = place.run(TEXTCONV, *place.by_file("old"), "mixed.yml")
     wanted = block("dev").decode() + "secret: !vault |-\n  shown\n"
@@ -61,7 +62,8 @@ def test_as_it_is(place: Place) -> None:
     assert "missing: a password file cannot be opened" in done.stderr, "but it is reported"
     ended("no file", place.run(TEXTCONV, *place.by_file("old"), "missing.yml"), 1, "missing.yml")
     for words in ([], ["a.yml"], ["--loud", "a.yml"], place.by_file("old")[:1] + ["a.yml"]):
-        ended(f"{words}", place.run(TEXTCONV, *words), 2, "usage: ansible-vault-textconv")
+        with subtests.test(f"{words}"):
+            ended("it is refused", place.run(TEXTCONV, *words), 2, "usage: ansible-vault-textconv")
 
 
 def test_differences(place: Place) -> None:
@@ -74,12 +76,11 @@ def test_differences(place: Place) -> None:
         add_and_commit(place)
     wanted = ["-password: second", "+password: third", "-password: first", "+password: second", "+password: first"]
     (place.tree / "vars/inner").mkdir()
-    for folder in (".", "vars/inner"):
-        shown = place.shell("git log -p --format= -- :/vars", folder=folder)
-        assert (shown.returncode, changed_lines(shown.stdout)) == (0, wanted), f"in `{folder}`"
+    shown = [place.shell("git log -p --format= -- :/vars", folder=folder) for folder in (".", "vars/inner")]
+    assert [(done.returncode, changed_lines(done.stdout)) for done in shown] == [(0, wanted)] * 2
 
 
-def test_awkward_names(place: Place) -> None:
+def test_awkward_names(place: Place, subtests: SubTests) -> None:
     """No name ends the differences of the others."""
     needs("git")
     with_driver(place, *place.by_file("old"))
@@ -89,9 +90,10 @@ def test_awkward_names(place: Place) -> None:
     for name in AWKWARD:
         place.put(name, sealed("old", b"password: second\n"))
     for words in ("git diff", "git add -A && git diff --cached"):
-        done = place.shell(words)
-        found = (done.returncode, changed_lines(done.stdout), done.stderr)
-        assert found == (0, ["-password: first", "+password: second"] * len(AWKWARD), ""), words
+        with subtests.test(words):
+            done = place.shell(words)
+            found = (done.returncode, changed_lines(done.stdout), done.stderr)
+            assert found == (0, ["-password: first", "+password: second"] * len(AWKWARD), "")
 
 
 def test_untouched_differences(place: Place) -> None:
@@ -120,12 +122,11 @@ SETTINGS_OF_ALL_CLONES = [
 
 
 @pytest.mark.parametrize("words, variables, is_run", SETTINGS_OF_ALL_CLONES)
-def test_clones_of_others(cases: Companions, words, variables, is_run) -> None:
+def test_clones_of_others(place: Place, subtests: SubTests, words: str, variables: dict, is_run: bool) -> None:
     """A clone whose `ansible.cfg` names a script, and which has an executable file named as a password file: as the
     manual page says, neither `git diff` nor `git merge` runs them, where options or ANSIBLE_CONFIG name the secret by
     an absolute path."""
     needs("git")
-    place = cases.place()
     under_git(place, "*.yml diff=ansible-vault merge=ansible-vault\n")
     place.environment["GIT_CONFIG_GLOBAL"] = str(place.path / "config")
     words = words.format(home=place.path)
@@ -144,8 +145,8 @@ def test_clones_of_others(cases: Companions, words, variables, is_run) -> None:
     variables = {name: value.format(home=place.path) for name, value in variables.items()}
     run = place.path / "run"
     for command, status in (("git show --format=", 0), ("git merge --no-edit theirs", 1)):
-        done = place.shell(command, **variables)
-        what = f"{command} by `{words}` and {variables}"
-        assert (done.returncode, done.stderr.count("no secret")) == (status, 0), f"{what}: the status"
-        assert run.exists() == is_run, f"{what}: a script of the clone is run"
         run.unlink(missing_ok=True)
+        with subtests.test(command):
+            done = place.shell(command, **variables)
+            assert (done.returncode, done.stderr.count("no secret")) == (status, 0), done.stderr
+            assert run.exists() == is_run, "a script of the clone is run"

@@ -1,5 +1,8 @@
 """ansible-vault-edit on YAML with values that are vaults; PyYAML reads what the editor is shown."""
 
+import re
+import subprocess
+
 import pytest
 
 from companion_cases import TEXTCONV, Place, block, decrypted, ended, sealed, silent
@@ -24,49 +27,54 @@ TYPED = {
     "!vault |2+\n   a\n\n": b" a\n\n\n",
     "!vault &x secret": b"secret",
 }
+# What may be typed after the key of a block, and why it is refused.
 REFUSED = {
-    "!vault": "is missing after `!vault`",
-    "!vault a\n  b": "continues in further lines",
-    "!vault 'a\n  b'": "continues in further lines",
-    "!vault >\n  a": "is a folded scalar",
-    "!vault\n  a": "stands below its tag",
-    "!vault [a]": "is not a string",
-    "!vault {{ a }}": "is not a string",
-    "!vault\n  b: c": "is not a string",
-    "!vault |-\n  a\x01": "has control characters",
+    "!vault": "b is missing after `!vault`",
+    "!vault a\n  b": "b continues in further lines",
+    "!vault 'a\n  b'": "b continues in further lines",
+    "!vault >\n  a": "b is a folded scalar",
+    "!vault\n  a": "b stands below its tag",
+    "!vault [a]": "b is not a string",
+    "!vault {{ a }}": "b is not a string",
+    "!vault\n  b: c": "b is not a string",
+    "!vault |-\n  a\x01": "b has control characters",
+    '!vault "\\q"': "it cannot be read as YAML: found unknown escape character",
+    '!vault "\\ud800"': "it cannot be read as YAML: found invalid Unicode character escape code",
 }
-# What PyYAML refuses.
-NOT_YAML = {
-    '!vault "\\q"': "found unknown escape character",
-    '!vault "\\ud800"': "found invalid Unicode character escape code",
+# Plaintext that stands where it would not be encrypted.
+MISPLACED = {
+    "b: !vault |-\n  x\ny\n": "line 3: it cannot be read as YAML: could not find expected ':'",
+    "b: !vault |-\n   x\n  y\n": "line 3: it cannot be read as YAML: did not find expected key",
+    "# b: !vault |-\n#   x\n": "line 1: `!vault` within a comment",
+    "t: |\n  b: !vault |-\n    x\n": "line 2: `!vault` within",
+    "b: {c: !vault x}\n": "line 1: c is within brackets",
 }
-
-
-def copied(change: str) -> str:
-    """An editor that copies what it is shown."""
-    return f'cp "$1" ../shown; {change}'
+COPY = 'cp "$1" ../shown'
 
 
 @pytest.mark.parametrize("end", [b"", b"\n", b"\n\n\n", b"\n  # a comment\n", b"\n\nz: 1\n"])
-@pytest.mark.parametrize("text", SHOWN)
-def test_shown_literals(place: Place, text: str, end: bytes) -> None:
+def test_shown_literals(place: Place, end: bytes) -> None:
     """Each is a literal by PyYAML, too, and what is not changed keeps every byte."""
     needs_pyyaml()
     import yaml
 
     loader = type("Loader", (yaml.SafeLoader,), {})
     loader.add_constructor("!vault", lambda loader, node: loader.construct_scalar(node))
-    content = b"a: !vault |\n" + lines_of(sealed("old", text.encode()), 4) + end
-    place.put("vars.yml", content)
-    ended("it is shown", edit(place, copied("true"), *place.by_file("old"), "vars.yml"), 0, "nothing was changed")
-    assert place.get("vars.yml") == content, "it stays"
-    found = yaml.load((place.path / "shown").read_text(), loader)["a"]
+    vaults = [lines_of(sealed("old", text.encode()), 4) for text in SHOWN]
+    files = {f"{number}.yml": b"a: !vault |\n" + vault + end for number, vault in enumerate(vaults)}
+    for name, content in files.items():
+        place.put(name, content)
+    (place.path / "shown").mkdir()
+    done = edit(place, COPY, *place.by_file("old"), *files)
+    assert (done.returncode, done.stderr.count("nothing was changed")) == (0, len(files)), "they are shown"
+    assert place.files() == files, "they stay"
+    found = [yaml.load((place.path / "shown" / name).read_text(), loader)["a"] for name in files]
     # An empty text stays encrypted above a comment, which would become its text.
-    if b"#" in end and not text.strip("\n"):
-        found, text = found[:14], "$ANSIBLE_VAULT"
-    assert found == text, "by PyYAML"
-    done = edit(place, 'sed -i "1i y: 1" "$1"', *place.by_file("old"), "vars.yml")
-    assert (done.returncode, place.get("vars.yml")) == (0, b"y: 1\n" + content), "another change leaves it"
+    wanted = ["$ANSIBLE_VAULT" if b"#" in end and not text.strip("\n") else text for text in SHOWN]
+    assert [text[:14] if text.startswith("$ANSIBLE_VAULT") else text for text in found] == wanted, "by PyYAML"
+    done = edit(place, 'sed -i "1i y: 1" "$1"', *place.by_file("old"), *files)
+    after = {name: b"y: 1\n" + content for name, content in files.items()}
+    assert (done.returncode, place.files()) == (0, after), "another change leaves them"
 
 
 def test_what_changes(place: Place) -> None:
@@ -92,63 +100,47 @@ def test_what_changes(place: Place) -> None:
     ended("a tag that is removed", done, 0, "no longer encrypted: c")
 
 
-@pytest.mark.parametrize("form, text", TYPED.items())
-def test_typed_forms(place: Place, form: str, text: bytes) -> None:
-    place.put("vars.yml", b"a: 1\nb: !vault x\n")
-    place.put("typed", f"b: {form}\nc: 2\n".encode())
-    silent("it is typed", edit(place, 'cp typed "$1"', *place.by_file("old"), "vars.yml"))
-    after = place.get("vars.yml")
-    assert texts(after, "old") == [text], "it is encrypted"
-    assert after.endswith(b"\nc: 2\n"), "the rest stays"
+def typed(place: Place, content: bytes, forms: list[str]) -> subprocess.CompletedProcess:
+    """Each text is typed in a file of its own, which has this content and is named by its number."""
+    for number, text in enumerate(forms):
+        place.put(f"{number}.yml", content)
+        place.put(f"../typed/{number}.yml", text.encode())
+    names = [f"{number}.yml" for number in range(len(forms))]
+    return edit(place, 'cp "../typed/$(basename "$1")" "$1"', *place.by_file("old"), *names)
 
 
-WHY = {form: f"line 1: b {why}" for form, why in REFUSED.items()}
-WHY |= {form: f"line 1: it cannot be read as YAML: {why}" for form, why in NOT_YAML.items()}
+def test_typed_forms(place: Place) -> None:
+    silent("they are typed", typed(place, b"a: 1\nb: !vault x\n", [f"b: {form}\nc: 2\n" for form in TYPED]))
+    after = {form: place.get(f"{number}.yml") for number, form in enumerate(TYPED)}
+    found = {form: (texts(content, "old"), content.endswith(b"\nc: 2\n")) for form, content in after.items()}
+    assert found == {form: ([text], True) for form, text in TYPED.items()}, "each is encrypted, and the rest stays"
 
 
-@pytest.mark.parametrize("form, why", WHY.items())
-def test_refused_forms(place: Place, form: str, why: str) -> None:
+def test_refused_forms(place: Place) -> None:
+    """The file stays, and what was typed is kept."""
+    refused = {f"b: {form}\nc: 2\n": f"line 1: {why}" for form, why in REFUSED.items()} | MISPLACED
     content = block("old", b"x", name="b")
-    place.put("vars.yml", content)
-    place.put("typed", f"b: {form}\nc: 2\n".encode())
-    done = edit(place, 'cp typed "$1"', *place.by_file("old"), "vars.yml")
-    ended("it is typed", done, 1, why, "what you saved is encrypted in")
-    assert place.get("vars.yml") == content, "the file stays"
-    kept = done.stderr.strip().rpartition(" ")[2]
-    assert decrypted("old", place.get(kept)) == place.get("typed"), "what was typed is kept"
-
-
-MISPLACED = {
-    "b: !vault |-\n  x\ny\n": "line 3: it cannot be read as YAML: could not find expected ':'",
-    "b: !vault |-\n   x\n  y\n": "line 3: it cannot be read as YAML: did not find expected key",
-    "# b: !vault |-\n#   x\n": "line 1: `!vault` within a comment",
-    "t: |\n  b: !vault |-\n    x\n": "line 2: `!vault` within",
-    "b: {c: !vault x}\n": "line 1: c is within brackets",
-}
-
-
-@pytest.mark.parametrize("text, why", MISPLACED.items())
-def test_misplaced(place: Place, text, why) -> None:
-    """Plaintext that stands where it would not be encrypted is refused."""
-    content = block("old", b"x", name="b")
-    place.put("vars.yml", content)
-    place.put("typed", text.encode())
-    done = edit(place, 'cp typed "$1"', *place.by_file("old"), "vars.yml")
-    ended(repr(text), done, 1, why, "what you saved is encrypted in")
-    assert place.get("vars.yml") == content, f"{text!r}: the file stays"
+    done = typed(place, content, [*refused])
+    lines = done.stderr.splitlines()
+    rows = [(f"{number}.yml: {why}", line) for number, (why, line) in enumerate(zip(refused.values(), lines))]
+    assert (done.returncode, [row for row in rows if row[0] not in row[1]]) == (1, []), "why it is refused"
+    kept = [line.partition("; what you saved is encrypted in ")[2] for line in lines]
+    assert [decrypted("old", place.get(name)) for name in kept] == [text.encode() for text in refused]
+    assert [place.get(f"{number}.yml") for number in range(len(refused))] == [content] * len(refused)
 
 
 def test_closed(place: Place) -> None:
     """What YAML cannot show stays encrypted, and a comment says so for the time of the edit."""
-    for text, why in CLOSED.items():
-        content = b"x: 1\n" + block("old", text, name="a") + block("old", b"b", name="b")
-        place.put("vars.yml", content)
-        done = edit(place, copied('sed -i s/^x:.*/x:\\ 2/ "$1"'), *place.by_file("old"), "vars.yml")
-        silent(repr(text), done)
-        shown = (place.path / "shown").read_bytes()
-        parts = [b"# ansible-vault: a stays encrypted: ", why.encode()]
-        assert [part in shown for part in parts] == [True, True], f"{text!r}: a comment"
-        assert place.get("vars.yml") == content.replace(b"x: 1", b"x: 2"), f"{text!r}: all else stays"
+    plain = [b"x: 1\n" + block("old", text, name="a") + block("old", b"b", name="b") for text in CLOSED]
+    files = {f"{number}.yml": content for number, content in enumerate(plain)}
+    for name, content in files.items():
+        place.put(name, content)
+    (place.path / "shown").mkdir()
+    silent("a change", edit(place, f'{COPY}; sed -i s/^x:.*/x:\\ 2/ "$1"', *place.by_file("old"), *files))
+    assert place.files() == {name: content.replace(b"x: 1", b"x: 2") for name, content in files.items()}, "all else"
+    shown = [(place.path / "shown" / name).read_text(errors="replace") for name in files]
+    notes = ["".join(re.findall("# ansible-vault: a stays encrypted: (.*)", text)) for text in shown]
+    assert [row for row in zip(CLOSED.values(), notes) if row[0] not in row[1]] == [], "a comment"
     quoted = b'b: !vault "' + sealed("old").replace(b"\n", b"\\n") + b'"\n'
     place.put("vars.yml", block("old", b"a", name="a") + quoted)
     silent("beside quotes", edit(place, "sed -i 's/^  a$/  A/' \"$1\"", *place.by_file("old"), "vars.yml"))

@@ -28,10 +28,9 @@ def test_vaults(cases: Companions, place: Place) -> None:
     place.put("all.yml", sealed("old"))
     silent("edit", place.run(EDIT, *old, "all.yml"))
     assert decrypted("old", place.get("all.yml")) == TEXT.replace(b"correct", b"wrong"), "it is edited"
-    for command in ([TEXTCONV], [WITH, "view"]):
-        done = place.run(*command, *old, "all.yml")
-        found = (done.returncode, done.stdout, done.stderr)
-        assert found == (0, "db_password: wrong horse\n", ""), command[0]
+    runs = [place.run(*command, *old, "all.yml") for command in ([TEXTCONV], [WITH, "view"])]
+    shown = [(done.returncode, done.stdout, done.stderr) for done in runs]
+    assert shown == [(0, "db_password: wrong horse\n", "")] * 2, "textconv and view"
     for name, text in (("base", b"a: 1\n\nb: 1\n"), ("ours", b"a: 2\n\nb: 1\n"), ("theirs", b"a: 1\n\nb: 2\n")):
         place.put(name, sealed("old", text))
     needs("git")

@@ -2,9 +2,9 @@
 
 import os
 import re
-import subprocess
 
 import pytest
+from pytest_subtests import SubTests
 
 from companion_cases import CHECK, EDIT, MERGE, NOBODY, ROTATE, TEXT, WITH
 from companion_cases import Companions, Place, block, decrypted, ended, sealed, silent
@@ -15,11 +15,11 @@ from companion_cases.rotating import summary, to_new
 from lib.needs import needs
 
 
-def traced(place: Place, companion: str, words: list[str]) -> list[str]:
+def traced(place: Place, companion: str, *words: str) -> list[str]:
     """What was done to the new file and its folder, in its order."""
     trace = place.path / "trace"
     tracer = ["strace", "-f", "-y", "-o", str(trace), "-e", "trace=write,fsync,rename,link"]
-    assert place.run(*tracer, str(place.tools / companion), *words).returncode == 0, f"{companion}: status"
+    assert place.run(*tracer, str(place.tools / companion), *words).returncode == 0, "the status"
     file = rf"\d+<{re.escape(str(place.tree))}/\.ansible-vault-"
     steps = {
         "written": rf"\d+ +write\({file}",
@@ -31,36 +31,27 @@ def traced(place: Place, companion: str, words: list[str]) -> list[str]:
     return [step for line in lines for step, pattern in steps.items() if re.match(pattern, line)]
 
 
-def test_syncs(place: Place) -> None:
+def test_syncs(place: Place, subtests: SubTests) -> None:
     """The whole new file is on the disk before it has the name, and the folder before all is said to be well."""
     needs("strace")
-    wanted = ["written", "synced", "named", "folder synced"]
-    place.put("a.yml", sealed("old"))
-    assert traced(place, ROTATE, [*to_new(place), "a.yml"]) == wanted, "a rotation"
-    place.put("a.yml", sealed("old"))
-    place.environment["EDITOR"] = place.script(CHANGE, "editor")
-    # The first is that of `check_replaceable`.
-    found = traced(place, EDIT, [*place.by_file("old"), "a.yml"])
-    assert found == ["synced", *wanted], "an edit"
     place.environment["EDITOR"] = place.script('echo a > "$1"', "editor")
-    found = traced(place, EDIT, [*place.by_file("old"), "new.yml"])
-    assert found == ["synced", *wanted], "a new vault"
-    assert traced(place, MERGE, merge_of_two(place, "b.yml")) == wanted, "a merge"
-    for command, words in {"decrypt": place.by_file("old"), "rekey": to_new(place)}.items():
-        place.put("a.yml", sealed("old"))
-        assert traced(place, WITH, [command, *words, "a.yml"]) == wanted, command
-    assert traced(place, WITH, ["encrypt", *place.by_file("old"), plain(place)]) == wanted, "encrypt"
-
-
-def plain(place: Place) -> str:
     place.put("plain.yml", TEXT)
-    return "plain.yml"
-
-
-def merge_of_two(place: Place, name: str) -> list[str]:
-    """The arguments of a merge that takes the vault of theirs."""
-    before, after = sealed("old"), sealed("old", TEXT * 2)
-    return [*place.by_file("old"), *versions(place, name, before, before, after)]
+    old, before = place.by_file("old"), sealed("old")
+    runs = {
+        "a rotation": [ROTATE, *to_new(place), "a.yml"],
+        "an edit": [EDIT, *old, "a.yml"],
+        "a new vault": [EDIT, *old, "new.yml"],
+        "a merge": [MERGE, *old, *versions(place, "b.yml", before, before, sealed("old", TEXT * 2))],
+        "decrypt": [WITH, "decrypt", *old, "a.yml"],
+        "rekey": [WITH, "rekey", *to_new(place), "a.yml"],
+        "encrypt": [WITH, "encrypt", *old, "plain.yml"],
+    }
+    for what, words in runs.items():
+        place.put("a.yml", before)
+        # The first sync of an edit is that of `check_replaceable`.
+        wanted = [*(["synced"] if words[0] == EDIT else []), "written", "synced", "named", "folder synced"]
+        with subtests.test(what):
+            assert traced(place, *words) == wanted
 
 
 def test_unreadable_folders(place: Place) -> None:
@@ -84,9 +75,7 @@ def test_unreadable_folders(place: Place) -> None:
 def test_access_control_lists(place: Place) -> None:
     """A file that is replaced keeps its ACL, and inherits no entry of the folder's default ACL."""
     needs("setfacl")
-    acl = lambda name: subprocess.run(
-        ["getfacl", "-c", name], cwd=place.tree, capture_output=True, text=True
-    ).stdout.split()
+    acl = lambda name: place.run("getfacl", "-c", name).stdout.split()
     place.put("none.yml", sealed("old"), 0o640)
     place.put("own.yml", sealed("old"), 0o640)
     made = place.shell(f"setfacl -m u:{NOBODY}:r own.yml && setfacl -d -m u:{NOBODY}:rwx .")
@@ -99,20 +88,21 @@ def test_access_control_lists(place: Place) -> None:
     assert acl("none.yml") == before["none.yml"], "the ACL stays"
 
 
-def test_full_disks(place: Place) -> None:
+def test_full_disks(place: Place, subtests: SubTests) -> None:
     """Where the new file cannot be written whole, all stays, and nothing is left beside it."""
     long = TEXT * 4000
     place.put("a.yml", sealed("old", long))
     merge = versions(place, "b.yml", sealed("old", long), sealed("old", long), sealed("old", long + TEXT))
-    before = place.files()
     runs = {"a.yml": [WITH, "decrypt", *place.by_file("old"), "a.yml"], "b.yml": [MERGE, *place.by_file("old"), *merge]}
     for name, words in runs.items():
-        done = place.shell('ulimit -f 32; "$@"'.replace('"$@"', " ".join(words)), "bash")
-        ended(f"{words[0]}", done, 1, f"{name}: ", "File too large")
-        assert (place.files(), place.names()) == (before, sorted(before)), f"{words[0]}: all stays"
+        before = place.files(), place.names()
+        with subtests.test(words[0]):
+            done = place.shell(f"ulimit -f 32; {' '.join(words)}", "bash")
+            ended("it is too large", done, 1, f"{name}: ", "File too large")
+            assert (place.files(), place.names()) == before, "all stays"
 
 
-def test_dry_runs(place: Place) -> None:
+def test_dry_runs(place: Place, subtests: SubTests) -> None:
     """A dry run reports what the run would refuse, and leaves no file."""
     place.put("a.yml", sealed("old"))
     os.link(place.tree / "a.yml", place.path / "second name")
@@ -122,11 +112,11 @@ def test_dry_runs(place: Place) -> None:
         os.chown(place.tree / "c.yml", NOBODY, NOBODY)
     (place.tree / "closed").chmod(0o555)
     place.tree.chmod(0o777)
+    parts = ["./a.yml: it has 2 names (hard links)", "./closed/b.yml: Permission denied", "2 failed"]
     for words in (["--dry-run"], []):
-        done = place.as_nobody(ROTATE, *words, *to_new(place), ".")
-        parts = ["./a.yml: it has 2 names (hard links)", "./closed/b.yml: Permission denied", "2 failed"]
-        ended(f"{words or 'the run'}", done, 1, *parts)
-        assert place.names() == ["a.yml", "c.yml", "closed", "closed/b.yml"], "no other file is there"
+        with subtests.test(f"with {words}"):
+            ended("it is refused", place.as_nobody(ROTATE, *words, *to_new(place), "."), 1, *parts)
+            assert place.names() == ["a.yml", "c.yml", "closed", "closed/b.yml"], "no other file is there"
     (place.tree / "closed").chmod(0o755)
 
 
@@ -141,16 +131,16 @@ def test_no_hard_links(place: Place) -> None:
     assert found == ("0o600", ["new.yml"]), "for its owner alone, and nothing else"
 
 
-def test_named_paths(cases: Companions) -> None:
+def test_named_paths(cases: Companions, subtests: SubTests) -> None:
     """What is named and is neither a file nor a folder is a failure, as is a link that cannot be followed."""
     place = cases.place()
     place.put("a.yml", sealed("old"))
     os.mkfifo(place.tree / "pipe")
-    runs = [[ROTATE, *to_new(place)], [CHECK, *place.by_file("new")]]
-    for words in runs:
+    for words in ([ROTATE, *to_new(place)], [CHECK, *place.by_file("new")]):
         for path in ("pipe", "/dev/null"):
-            done = place.run(*words, path, "a.yml")
-            ended(f"{words[0]} {path}", done, 1, f"{path}: it is neither a file nor a folder")
+            with subtests.test(f"{words[0]} {path}"):
+                done = place.run(*words, path, "a.yml")
+                ended("it is refused", done, 1, f"{path}: it is neither a file nor a folder")
     done = place.shell(f"{CHECK} {' '.join(place.by_file('new'))} <(cat a.yml)", "bash")
     ended("a pipe of the shell", done, 1, "it is neither a file nor a folder", "0 decrypted, 1 not")
     place = cases.place()

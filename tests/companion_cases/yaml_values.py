@@ -5,6 +5,8 @@ from __future__ import annotations
 
 import binascii
 import random
+from collections import Counter
+from collections.abc import Iterator
 
 import pytest
 
@@ -131,7 +133,8 @@ def composed(text: str) -> list[tuple[tuple[str, ...], str]] | None:
                 walk(value, (*path, key.value if isinstance(key, yaml.ScalarNode) else ""))
 
     try:
-        for document in yaml.compose_all(text, getattr(yaml, "CSafeLoader", yaml.SafeLoader)):
+        # All at once, since the nodes of a later document could have the ids of those that are gone.
+        for document in [*yaml.compose_all(text, getattr(yaml, "CSafeLoader", yaml.SafeLoader))]:
             walk(document, ())
     except yaml.YAMLError:
         return None
@@ -150,69 +153,54 @@ def test_anything() -> None:
     """Whatever PyYAML composes is read in the same way."""
     needs_pyyaml()
     generator = random.Random(SEED)
-    count = 0
-    for _ in range(UNSTRUCTURED):
-        text = "".join(generator.choice(PIECES) for _ in range(generator.randint(1, 25)))
-        wanted = composed(text)
-        if wanted is None:
-            continue
-        found = scanned(text.encode())
-        count += len(wanted)
-        if found != wanted:
-            assert found == wanted, f"{text!r}"
-    assert count > 300, "many values are compared"
+    texts = ["".join(generator.choices(PIECES, k=generator.randint(1, 25))) for _ in range(UNSTRUCTURED)]
+    rows = [(text, scanned(text.encode()), wanted) for text in texts if (wanted := composed(text)) is not None]
+    assert [row for row in rows if row[1] != row[2]] == []
+    assert sum(len(wanted) for _, _, wanted in rows) > 300, "many values are compared"
+
+
+# What is compared, of which text, what is found, and what is wanted.
+Row = tuple[str, str, object, object]
 
 
 def test_shown_and_encrypted() -> None:
     needs_pyyaml()
-    counts = {"values": 0, "shown": 0, "changed": 0}
-    for number in range(STRUCTURED):
-        text = Generator(number).text()
-        data = text.encode()
-        wanted = composed(text)
-        if wanted is None:
-            continue
-        counts["values"] += len(wanted)
-        if scanned(data) != wanted:
-            assert scanned(data) == wanted, f"{text!r}"
-            continue
+    counts: Counter[str] = Counter()
+    rows = [row for number in range(STRUCTURED) for row in compared(number, counts)]
+    assert [row for row in rows if row[2] != row[3]] == []
+    assert min(counts["values"], counts["shown"], counts["changed"]) > 300, counts
+
+
+def compared(number: int, counts: Counter[str]) -> Iterator[Row]:
+    """Each value that is shown is the plaintext by PyYAML, too; and what is not changed keeps every byte."""
+    text = Generator(number).text()
+    data, wanted = text.encode(), composed(text)
+    if wanted is None:
+        return
+    yield "values", text, scanned(data), wanted
+    if scanned(data) == wanted:
         showing = inline.showing(data, decrypt, with_notes=True)
-        counts["shown"] += len(showing.decrypted)
-        check_shown(showing, wanted)
-        counts["changed"] += check_changed(showing, Generator(number).random)
-    for what, count in counts.items():
-        assert count > 300, (f"many values are {what}", str(counts))
+        counts.update(values=len(wanted), shown=len(showing.decrypted))
+        plain = [(path, shown.decode()) for (path, _), shown in zip(wanted, showing.contents(), strict=True)]
+        yield "shown", text, composed(showing.text().decode()), plain
+        yield "kept", text, encrypted(showing, showing.text()), data
+        yield from typed_anew(showing, Generator(number).random, counts)
 
 
-def check_shown(showing: inline.Showing, wanted: list) -> None:
-    """Each that is shown is the plaintext by PyYAML, too; and what is not changed keeps every byte."""
-    texts = iter(showing.contents())
-    plain = [(path, next(texts).decode()) for path, _ in wanted]
-    text = showing.text()
-    if composed(text.decode()) != plain:
-        assert composed(text.decode()) == plain, f"{showing.data!r}: shown"
-    kept = encrypted(showing, text)
-    if kept != showing.data:
-        assert kept == showing.data, f"{text!r}: nothing is changed"
-
-
-def check_changed(showing: inline.Showing, generator: random.Random) -> int:
-    """One value is typed anew."""
-    found = [value for value in Scan(showing.text()).values if value.style == yaml_nodes.LITERAL]
-    if not found:
-        return 0
-    value = generator.choice(found)
+def typed_anew(showing: inline.Showing, generator: random.Random, counts: Counter[str]) -> Iterator[Row]:
+    literals = [value for value in Scan(showing.text()).values if value.style == yaml_nodes.LITERAL]
+    if not literals:
+        return
+    value = generator.choice(literals)
     new = [Change(value.start, value.header_end, b'"neu\\n"'), Change(value.line_end, value.end, b"")]
     typed = changed(showing.text(), new)
-    wanted = composed(typed.decode())
     after = encrypted(showing, typed)
-    if after == inline.NO_PLACE:
-        return 0
-    found = isinstance(after, bytes) and [text.split() for _, text in composed(after.decode()) or []]
-    envelopes = [text if text.startswith("$") else envelope(text.encode()).decode() for _, text in wanted]
-    if found != [text.split() for text in envelopes]:
-        assert after == envelopes, f"{typed!r}: a value is typed"
-    return 1
+    if after != inline.NO_PLACE:
+        counts["changed"] += 1
+        texts = [text for _, text in composed(typed.decode())]
+        wanted = [text if text.startswith("$") else envelope(text.encode()).decode() for text in texts]
+        found = [text.split() for _, text in composed(after.decode()) or []] if isinstance(after, bytes) else after
+        yield "changed", typed.decode(), found, [text.split() for text in wanted]
 
 
 def encrypted(showing: inline.Showing, text: bytes) -> bytes | str:
