@@ -15,7 +15,9 @@ SKIP = "import pytest; pytest.skip('why')"
 ROOT_ONLY = "import os; os.geteuid = lambda: {user}; import pytest; import lib.needs; pytest.skip(lib.needs.TAKES_ROOT)"
 THREAD = "import threading; thread = threading.Thread(target=lambda: 1 / 0); thread.start(); thread.join()"
 ROWS = "for row in range(3):\n        with subtests.test(): assert row != 1"
-ENDLESS = "import time\n    for row in range(3):\n        with subtests.test(): time.sleep(600 if row else 0); assert row"
+ENDLESS = """import time
+    for row in range(3):
+        with subtests.test(): time.sleep(600 if row else 0); assert row"""
 # The body of a test, options of pytest, its exit status, and the line of counts.
 SAMPLES = {
     "it passes": ("pass", [], 0, "1 passed, 0 failed, 0 skipped"),
