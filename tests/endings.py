@@ -56,6 +56,7 @@ def test_ending(program: str, tmp_path: Path, body: str, options: list[str], sta
     done = run_sample(tmp_path, program, body, options)
     found = re.findall(r"^(\d+ passed, .*)$", done.stdout, re.MULTILINE)
     assert (done.returncode, found[0]) == (status, counts), done.stdout
+    assert done.stdout.count("\nskipped: tests/sample.py::test_it: ") == counts.endswith(" 1 skipped"), "and why"
     kept = {*re.findall(r"^kept in (.*)$", done.stdout, re.MULTILINE)}
     has_failed = status == 1 and "--floors" not in options
     assert [Path(each).is_dir() for each in kept] == [True] * has_failed, "a folder is kept where it fails"
