@@ -203,7 +203,12 @@ BROKEN = [
 ]
 
 
-@pytest.mark.parametrize("page, check", CHECKS, ids=lambda value: getattr(value, "__name__", None))
+def name_of(value: object) -> str | None:
+    """Of a page or a function."""
+    return getattr(value, "__name__", getattr(value, "stem", None))
+
+
+@pytest.mark.parametrize("page, check", CHECKS, ids=name_of)
 def test_page(page: Path, check: Callable[[str], Iterable[str]]) -> None:
     assert [*check(page.read_text())] == []
 
@@ -213,7 +218,7 @@ def test_links() -> None:
     assert [(page.name, link) for page in pages for link in dead_links(page.read_text(), page.parent)] == []
 
 
-@pytest.mark.parametrize(("page", "check", "old", "new"), BROKEN, ids=lambda value: getattr(value, "__name__", None))
+@pytest.mark.parametrize(("page", "check", "old", "new"), BROKEN, ids=name_of)
 def test_broken_page(page: Path, check: Callable[[str], Iterable[str]], old: str, new: str) -> None:
     """A page with a mistake is not taken."""
     broken = re.sub(old, new, page.read_text(), count=1, flags=re.MULTILINE)

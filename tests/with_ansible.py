@@ -4,6 +4,7 @@ label both write the same bytes, and both say what docs/coming-from-ansible.md s
 Ansible's tool (Debian's package `ansible-core`) is found as `lib/ansible.py` says.
 """
 
+import json
 import os
 import re
 import subprocess
@@ -114,31 +115,33 @@ def test_files(both: Both) -> None:
     both.ours("view FILE", ["view", *both.options, vault], b"", TEXTS["1024 bytes"])
 
 
-@pytest.mark.parametrize("words, written", ((["-n", "größe"], "größe".encode()), ([], b"")))
-@pytest.mark.parametrize("name, string", STRINGS.items())
-def test_blocks(both: Both, name, string, words, written) -> None:
-    """Blocks of the same string, one with a name and one without."""
-    block = both.theirs("encrypt_string", *both.options, *both.choice, *words, string).rstrip(b"\n") + b"\n"
-    vault = b"\n".join(line.strip() for line in block.split(b"\n")[1:])
-    salt = salt_of(vault)
-    assert yaml_block(both.sealed(string.encode(), salt), written) == block, f"{name}: the tests' own block"
-    salted = ["encrypt_string", *both.options, "--salt-file", both.cases.file(salt), *words, string]
-    both.ours(f"block of {name}", salted, b"", block)
+@pytest.mark.parametrize("name", ["größe", ""])
+def test_blocks(both: Both, subtests: SubTests, name: str) -> None:
+    """Blocks of the same strings, with a name or without one."""
+    named = ["-n", name] if name else []
+    shown = both.theirs("encrypt_string", *both.options, *both.choice, *named * len(STRINGS), *STRINGS.values())
+    blocks = re.findall(rb"^\S.*\n(?: .*\n)+", shown.rstrip(b"\n") + b"\n", re.MULTILINE)
+    assert len(blocks) == len(STRINGS), shown
+    for (what, string), block in zip(STRINGS.items(), blocks):
+        with subtests.test(what):
+            salt = salt_of(b"\n".join(line.strip() for line in block.split(b"\n")[1:]))
+            assert yaml_block(both.sealed(string.encode(), salt), name.encode()) == block, "the tests' own block"
+            salted = ["encrypt_string", *both.options, "--salt-file", both.cases.file(salt), *named, string]
+            both.ours("encrypt_string", salted, b"", block)
 
 
-@pytest.mark.parametrize("name, string", STRINGS.items())
-def test_playbook_values(both: Both, name, string) -> None:
+def test_playbook_values(both: Both) -> None:
     """Ansible reads our blocks as values of a file of variables."""
     tool = Path(both.ansible).parent / "ansible"
     needs(str(tool))
-    words = ["encrypt_string", *both.options, "--name", "secret"]
-    variables = both.cases.file(both.ours(f"block of {name}", [*words, string], b"", None))
-    written = both.cases.path()
-    copy = ["-m", "copy", "-a", f"content={{{{ secret }}}} dest={written}", "-e", f"@{variables}"]
-    command = [str(tool), "localhost", "-c", "local", *copy, *both.options]
-    done = both.in_folder(command)
-    value = Path(written).read_bytes() if done.returncode == 0 else done.stdout + done.stderr
-    assert value == string.encode(), f"{name}: the value in a playbook"
+    words = ["encrypt_string", *both.options, "--name"]
+    blocks = [both.ours(f"block of {name}", [*words, name, text], b"", None) for name, text in STRINGS.items()]
+    variables, written = both.cases.file(b"".join(blocks)), both.cases.path()
+    values = f"{{{{ [{', '.join(STRINGS)}] | to_json }}}}"
+    copy = ["-m", "copy", "-a", f"content='{values}' dest={written}", "-e", f"@{variables}"]
+    done = both.in_folder([str(tool), "localhost", "-c", "local", *copy, *both.options])
+    assert done.returncode == 0, done
+    assert json.loads(Path(written).read_bytes()) == [*STRINGS.values()]
 
 
 @pytest.mark.parametrize("new_label", ("", "prod"))
