@@ -36,25 +36,30 @@ def tracked_files() -> set[str]:
     return {name for name in listed.split("\0") if name}
 
 
-@pytest.fixture
-def archives(program: str, tmp_path: pathlib.Path) -> pathlib.Path:
+@pytest.fixture(scope="module")
+def archives(program: str, tmp_path_factory: pytest.TempPathFactory) -> pathlib.Path:
     needs("git")
-    made(program, tmp_path / "dist")
-    return tmp_path / "dist"
+    folder = tmp_path_factory.mktemp("archives") / "dist"
+    made(program, folder)
+    return folder
+
+
+@pytest.mark.parametrize("name", ARCHIVES)
+def test_members(archives: pathlib.Path, name: str) -> None:
+    with tarfile.open(archives / name) as archive:
+        members = archive.getmembers()
+    names = [each.name for each in members]
+    owners = {(each.uid, each.gid, each.uname, each.gname) for each in members}
+    times = {each.mtime for each in members}
+    assert (names, owners, len(times)) == (sorted(names), {(0, 0, "", "")}, 1), "sorted, nobody's and of one time"
 
 
 def test_contents(archives: pathlib.Path, tmp_path: pathlib.Path) -> None:
     for name in ARCHIVES:
-        with tarfile.open(archives / name) as archive:
-            members = archive.getmembers()
-        assert [each.name for each in members] == sorted(each.name for each in members), f"{name}: sorted"
-        owners = {(each.uid, each.gid, each.uname, each.gname) for each in members}
-        assert owners == {(0, 0, "", "")}, f"{name}: nobody's"
-        assert len({each.mtime for each in members}) == 1, f"{name}: of one time"
         unpacked(archives / name, tmp_path / name)
-    assert files_below(tmp_path / ARCHIVES[0] / SOURCE) == tracked_files(), "the sources are those of git"
     top = tmp_path / ARCHIVES[1] / PROGRAM
-    assert files_below(top) == PREFIX_FILES, "the program and what belongs to it"
+    found = files_below(tmp_path / ARCHIVES[0] / SOURCE), files_below(top)
+    assert found == (tracked_files(), PREFIX_FILES), "the sources are those of git, and all is there that is installed"
     check_program(top / "bin/ansible-vault", "the program of the archive")
     done = subprocess.run(["sha256sum", "--check", "--quiet", "SHA256SUMS"], cwd=archives, capture_output=True)
     assert (done.returncode, done.stdout) == (0, b""), "the sums"

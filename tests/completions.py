@@ -17,22 +17,34 @@ from shells import SHELLS, needs_shell, typed_in_bash
 
 FILES = ["one.pass", "one.yml", "two.yml", "with a space.pass", "-dash.yml"]
 
-# Command lines that end where a path begins, and the paths that are offered.
-PATHS = [
-    ("view on", {"one.pass", "one.yml"}),
-    ("encrypt folder/", {"folder/inner.yml"}),
-    ("rekey --vault-password-file one.p", {"one.pass"}),
-    ("decrypt --output tw", {"two.yml"}),
-    ("encrypt --salt-file one.y", {"one.yml"}),
-    ("rekey --new-vault-password-file one.p", {"one.pass"}),
-    ("view --vault-id one.p", {"one.pass"}),
-    ("encrypt_string --vault-password-file one.p", {"one.pass"}),
-    ("view -- on", {"one.pass", "one.yml"}),
-    ("encrypt -- -", {"-dash.yml"}),
-    ("decrypt --vault-password-file one.pass -- folder/", {"folder/inner.yml"}),
-]
-PATHS_BEHIND_LABELS = ["view --vault-id dev@one.p", "rekey --new-vault-id dev@one.p"]
-NO_FILES = ["encrypt_string on", "encrypt_string -- on", "encrypt --salt on", "encrypt --encrypt-vault-id on"]
+# The beginnings of command lines, and the commands and paths that are offered.
+OFFERED = {
+    "": set(OPTIONS),
+    "encr": {"encrypt", "encrypt_string"},
+    "view on": {"one.pass", "one.yml"},
+    "encrypt folder/": {"folder/inner.yml"},
+    "rekey --vault-password-file one.p": {"one.pass"},
+    "decrypt --output tw": {"two.yml"},
+    "encrypt --salt-file one.y": {"one.yml"},
+    "rekey --new-vault-password-file one.p": {"one.pass"},
+    "view --vault-id one.p": {"one.pass"},
+    "encrypt_string --vault-password-file one.p": {"one.pass"},
+    "view -- on": {"one.pass", "one.yml"},
+    "encrypt -- -": {"-dash.yml"},
+    "decrypt --vault-password-file one.pass -- folder/": {"folder/inner.yml"},
+    "view --vault-id dev@one.p": {"dev@one.pass"},
+    "rekey --new-vault-id dev@one.p": {"dev@one.pass"},
+    "encrypt_string on": set(),
+    "encrypt_string -- on": set(),
+    "encrypt --salt on": set(),
+    "encrypt --encrypt-vault-id on": set(),
+}
+
+
+@pytest.fixture(params=SHELLS)
+def shell(request: pytest.FixtureRequest) -> str:
+    needs_shell(request.param)
+    return request.param
 
 
 @pytest.fixture
@@ -43,20 +55,14 @@ def folder(tmp_path: pathlib.Path) -> pathlib.Path:
     return tmp_path
 
 
-@pytest.mark.parametrize("name", SHELLS)
-def test_program(name: str, folder: pathlib.Path) -> None:
-    needs_shell(name)
-    ask = lambda words: SHELLS[name](f"ansible-vault {words}", folder)
-    assert ask("") == set(OPTIONS), f"{name} offers the commands"
-    assert ask("encr") == {"encrypt", "encrypt_string"}, f"{name} offers the commands that begin so"
-    for words, wanted in PATHS:
-        assert ask(words) == wanted, f"{name} offers files for `{words}`"
-    for words in PATHS_BEHIND_LABELS:
-        # bash replaces what begins with the `@`, the others the whole value.
-        wanted = "@one.pass" if name == "bash" else "dev@one.pass"
-        assert ask(words) == {wanted}, f"{name} offers files for `{words}`"
-    for words in NO_FILES:
-        assert ask(words) == set(), f"{name} offers nothing for `{words}`"
+def replacing(shell: str, wanted: set[str]) -> set[str]:
+    """bash replaces what begins with the `@`, the others the whole value."""
+    return {each.replace("dev@", "@") if shell == "bash" else each for each in wanted}
+
+
+@pytest.mark.parametrize("words, wanted", OFFERED.items(), ids=OFFERED)
+def test_program(shell: str, folder: pathlib.Path, words: str, wanted: set[str]) -> None:
+    assert SHELLS[shell](f"ansible-vault {words}", folder) == replacing(shell, wanted)
 
 
 @pytest.fixture
@@ -68,51 +74,50 @@ def spaced(tmp_path: pathlib.Path, monkeypatch: pytest.MonkeyPatch) -> None:
         monkeypatch.setattr(shells, name, copy)
 
 
-@pytest.mark.parametrize("name", SHELLS)
-def test_checkout_with_a_space(name: str, folder: pathlib.Path, spaced: None) -> None:
-    needs_shell(name)
-    assert SHELLS[name]("ansible-vault view on", folder) == {"one.pass", "one.yml"}, f"{name} offers files"
+def test_checkout_with_a_space(shell: str, folder: pathlib.Path, spaced: None) -> None:
+    assert SHELLS[shell]("ansible-vault view on", folder) == {"one.pass", "one.yml"}
 
 
 def test_typed_with_a_space(folder: pathlib.Path, spaced: None) -> None:
-    assert typed_in_bash("encrypt_s", folder) == ["encrypt_string"], "bash on a terminal completes a command"
+    assert typed_in_bash("encrypt_s", folder) == ["encrypt_string"]
 
 
 # The same for the companions.
-WITH_COMMANDS = {*OPTIONS, "create", "edit"}
-COMPANION_PATHS = [
-    ("ansible-vault-edit on", {"one.pass", "one.yml"}),
-    ("ansible-vault-rotate folder/", {"folder/inner.yml"}),
-    ("ansible-vault-rotate one.yml tw", {"two.yml"}),
-    ("ansible-vault-check --vault-id one.p", {"one.pass"}),
-    ("ansible-vault-check one.yml tw", {"two.yml"}),
-    ("ansible-vault-rotate --new-vault-password-file one.p", {"one.pass"}),
-    ("ansible-vault-textconv --vault-password-file one.p", {"one.pass"}),
-    ("ansible-vault-edit one.yml tw", {"two.yml"}),
-    ("ansible-vault-edit --encrypt-vault-id on", set()),
-    ("ansible-vault-rotate --jobs on", set()),
-    ("ansible-vault-hook on", set()),
-    ("ansible-vault-hook --since on", set()),
-    ("ansible-vault-check --label on", set()),
-    ("ansible-vault-check one.yml -- -", {"-dash.yml"}),
-    ("ansible-vault-edit -- on", {"one.pass", "one.yml"}),
-    ("ansible-vault-merge one.yml two.yml folder/", {"folder/inner.yml"}),
-    ("ansible-vault-check --vault-pass-file one.p", {"one.pass"}),
-    ("ansible-vault-check --ask-vault-pass tw", {"two.yml"}),
-    ("ansible-vault-with ", WITH_COMMANDS),
-    ("ansible-vault-with --vault-id one.pass encr", {"encrypt", "encrypt_string"}),
-    ("ansible-vault-with --vault-id one.p", {"one.pass"}),
-    ("ansible-vault-with --vault-password-file one.pass view on", {"one.pass", "one.yml"}),
-    ("ansible-vault-with -J encrypt one.yml tw", {"two.yml"}),
-    ("ansible-vault-with decrypt --output tw", {"two.yml"}),
-    ("ansible-vault-with rekey --new-vault-password-file one.p", {"one.pass"}),
-    ("ansible-vault-with edit on", {"one.pass", "one.yml"}),
-    ("ansible-vault-with edit one.yml tw", {"two.yml"}),
-    ("ansible-vault-with view one.yml tw", {"two.yml"}),
-    ("ansible-vault-with encrypt_string on", set()),
-    ("ansible-vault-with encrypt --encrypt-vault-id on", set()),
-    ("ansible-vault-with view -- one.yml -", {"-dash.yml"}),
-]
+WITH_COMMANDS = [*OPTIONS, "create", "edit"]
+OFFERED_BY_COMPANIONS = {
+    "ansible-vault-edit on": {"one.pass", "one.yml"},
+    "ansible-vault-rotate folder/": {"folder/inner.yml"},
+    "ansible-vault-rotate one.yml tw": {"two.yml"},
+    "ansible-vault-check --vault-id one.p": {"one.pass"},
+    "ansible-vault-check one.yml tw": {"two.yml"},
+    "ansible-vault-rotate --new-vault-password-file one.p": {"one.pass"},
+    "ansible-vault-textconv --vault-password-file one.p": {"one.pass"},
+    "ansible-vault-edit one.yml tw": {"two.yml"},
+    "ansible-vault-rotate --new-vault-id dev@one.p": {"dev@one.pass"},
+    "ansible-vault-edit --encrypt-vault-id on": set(),
+    "ansible-vault-rotate --jobs on": set(),
+    "ansible-vault-hook on": set(),
+    "ansible-vault-hook --since on": set(),
+    "ansible-vault-check --label on": set(),
+    "ansible-vault-check one.yml -- -": {"-dash.yml"},
+    "ansible-vault-edit -- on": {"one.pass", "one.yml"},
+    "ansible-vault-merge one.yml two.yml folder/": {"folder/inner.yml"},
+    "ansible-vault-check --vault-pass-file one.p": {"one.pass"},
+    "ansible-vault-check --ask-vault-pass tw": {"two.yml"},
+    "ansible-vault-with ": {*WITH_COMMANDS},
+    "ansible-vault-with --vault-id one.pass encr": {"encrypt", "encrypt_string"},
+    "ansible-vault-with --vault-id one.p": {"one.pass"},
+    "ansible-vault-with --vault-password-file one.pass view on": {"one.pass", "one.yml"},
+    "ansible-vault-with -J encrypt one.yml tw": {"two.yml"},
+    "ansible-vault-with decrypt --output tw": {"two.yml"},
+    "ansible-vault-with rekey --new-vault-password-file one.p": {"one.pass"},
+    "ansible-vault-with edit on": {"one.pass", "one.yml"},
+    "ansible-vault-with edit one.yml tw": {"two.yml"},
+    "ansible-vault-with view one.yml tw": {"two.yml"},
+    "ansible-vault-with encrypt_string on": set(),
+    "ansible-vault-with encrypt --encrypt-vault-id on": set(),
+    "ansible-vault-with view -- one.yml -": {"-dash.yml"},
+}
 
 
 def offered_options(shell: str, words: str, folder: pathlib.Path, alias: str = "") -> list[str]:
@@ -125,63 +130,56 @@ def options_of(name: str) -> set[str]:
     return set().union(*companion_options(name))
 
 
-@pytest.mark.parametrize("shell", SHELLS)
-def test_companions(shell: str, folder: pathlib.Path) -> None:
-    needs_shell(shell)
-    for name in COMPANIONS:
-        what = f"{shell} offers the options of {name}"
-        assert offered_options(shell, name, folder) == sorted(options_of(name)), what
-    for line, wanted in COMPANION_PATHS:
-        assert SHELLS[shell](line, folder) == wanted, f"{shell} offers files for `{line}`"
-    wanted = "@one.pass" if shell == "bash" else "dev@one.pass"
-    line = "ansible-vault-rotate --new-vault-id dev@one.p"
-    assert SHELLS[shell](line, folder) == {wanted}, f"{shell} offers files for `{line}`"
+@pytest.mark.parametrize("name", COMPANIONS)
+def test_options_of_companions(shell: str, folder: pathlib.Path, name: str) -> None:
+    assert offered_options(shell, name, folder) == sorted(options_of(name))
 
 
-@pytest.mark.parametrize("shell", SHELLS)
-def test_with(shell: str, folder: pathlib.Path) -> None:
-    """After a command ansible-vault-with takes the options of the tool's, and its own for secrets."""
-    needs_shell(shell)
-    check_options_of_commands(shell, "ansible-vault-with", folder)
-
-
-def check_options_of_commands(shell: str, name: str, folder: pathlib.Path, alias: str = "") -> None:
-    own = options_of("ansible-vault-with") - {"-V", "--version"}
-    for command in WITH_COMMANDS:
-        is_tools = command in OPTIONS
-        of_tool = page_sets().get(command, set()) | own | OF_ANSIBLE.get(command, set())
-        wanted = of_tool if is_tools else options_of("ansible-vault-edit")
-        offered = offered_options(shell, f"{name} {command}", folder, alias)
-        assert offered == sorted(wanted), f"{shell} offers the options of {command}"
+@pytest.mark.parametrize("line, wanted", OFFERED_BY_COMPANIONS.items(), ids=OFFERED_BY_COMPANIONS)
+def test_companions(shell: str, folder: pathlib.Path, line: str, wanted: set[str]) -> None:
+    assert SHELLS[shell](line, folder) == replacing(shell, wanted)
 
 
 # Each makes one of the other for all that is typed.
-ALIASES = ["alias ansible-vault=ansible-vault-with", "alias ansible-vault='ansible-vault-with --vault-id one.pass'"]
+ALIASES = {
+    "short": "alias ansible-vault=ansible-vault-with",
+    "long": "alias ansible-vault='ansible-vault-with --vault-id one.pass'",
+}
+SHORT = ALIASES["short"]
 
 
-@pytest.mark.parametrize("shell", SHELLS)
-def test_alias(shell: str, folder: pathlib.Path) -> None:
-    """By an alias, ansible-vault has the completion of ansible-vault-with; without one it has its own."""
-    needs_shell(shell)
-    for alias in ALIASES:
-        for line, wanted in COMPANION_PATHS:
-            name, _, words = line.partition(" ")
-            if name == "ansible-vault-with":
-                offered = SHELLS[shell](f"ansible-vault {words}", folder, alias)
-                assert offered == wanted, f"{shell} offers files for `{words}` by {alias}"
-    check_options_of_commands(shell, "ansible-vault", folder, ALIASES[0])
-    # As somebody may have set it, and an alias of another tool.
-    if shell == "zsh":
-        offered = SHELLS[shell]("ansible-vault ", folder, f"setopt complete_aliases; {ALIASES[0]}")
-        assert offered == WITH_COMMANDS, "zsh offers the commands of an alias that it does not expand"
-    offered = SHELLS[shell]("ansible-vault ", folder, "alias ansible-vault-edit=ansible-vault-with")
-    assert offered == set(OPTIONS), f"{shell} offers those of the tool where it is no alias"
+@pytest.mark.parametrize("command", WITH_COMMANDS)
+@pytest.mark.parametrize("name, alias", [("ansible-vault-with", ""), ("ansible-vault", SHORT)], ids=["name", "alias"])
+def test_options_of_commands(shell: str, folder: pathlib.Path, name: str, alias: str, command: str) -> None:
+    """After a command ansible-vault-with takes the options of the tool's, and its own for secrets."""
+    own = options_of("ansible-vault-with") - {"-V", "--version"}
+    of_tool = page_sets().get(command, set()) | own | OF_ANSIBLE.get(command, set())
+    wanted = of_tool if command in OPTIONS else options_of("ansible-vault-edit")
+    assert offered_options(shell, f"{name} {command}", folder, alias) == sorted(wanted)
+
+
+@pytest.mark.parametrize("line", [line for line in OFFERED_BY_COMPANIONS if line.startswith("ansible-vault-with ")])
+@pytest.mark.parametrize("alias", ALIASES.values(), ids=ALIASES)
+def test_alias(shell: str, folder: pathlib.Path, alias: str, line: str) -> None:
+    """By an alias, ansible-vault has the completion of ansible-vault-with."""
+    words = line.removeprefix("ansible-vault-with ")
+    assert SHELLS[shell](f"ansible-vault {words}", folder, alias) == OFFERED_BY_COMPANIONS[line]
+
+
+def test_alias_of_another_tool(shell: str, folder: pathlib.Path) -> None:
+    assert SHELLS[shell]("ansible-vault ", folder, "alias ansible-vault-edit=ansible-vault-with") == set(OPTIONS)
+
+
+def test_alias_that_zsh_does_not_expand(folder: pathlib.Path) -> None:
+    """As somebody may have set it."""
+    needs_shell("zsh")
+    assert SHELLS["zsh"]("ansible-vault ", folder, f"setopt complete_aliases; {SHORT}") == {*WITH_COMMANDS}
 
 
 @pytest.mark.parametrize("line, wanted", {"cre": ["create"], "-J edit one.y": ["-J", "edit", "one.yml"]}.items())
 def test_alias_typed_in_bash(folder: pathlib.Path, line, wanted) -> None:
     needs_shell("bash")
-    assert typed_in_bash(line, folder, ALIASES[0]) == wanted, f"bash completes `{line}` by an alias"
+    assert typed_in_bash(line, folder, SHORT) == wanted
 
 
 # Where `~` begins a path, and whether the shell expands it there.
@@ -203,20 +201,17 @@ HOME_PATHS = {
 
 @pytest.mark.parametrize("words, is_expanded", HOME_PATHS.items())
 @pytest.mark.parametrize("name", ("ansible-vault", "ansible-vault-with"))
-@pytest.mark.parametrize("shell", SHELLS)
 def test_home(shell: str, folder: pathlib.Path, monkeypatch: pytest.MonkeyPatch, name, words, is_expanded) -> None:
     """`~` is offered where the shell expands it; elsewhere the path of the folder, and in fish nothing."""
-    needs_shell(shell)
     monkeypatch.setenv("HOME", str(folder))
     (folder / "work").mkdir()
-    line = f"{name} {words}"
-    offered = SHELLS[shell](line, folder / "work")
+    offered = SHELLS[shell](f"{name} {words}", folder / "work")
     if is_expanded:
-        assert offered == {"~/one.pass"}, f"{shell} completes `{line}`"
+        assert offered == {"~/one.pass"}
     elif shell == "fish":
-        assert offered == set(), f"{shell} offers nothing for `{line}`"
+        assert offered == set()
     else:
-        assert [each.partition("/")[2] for each in offered] == [f"{folder}/one.pass"[1:]], f"{shell} expands `{line}`"
+        assert [each.partition("/")[2] for each in offered] == [f"{folder}/one.pass"[1:]]
 
 
 # What is typed before a tab in bash, and the arguments that the command gets.
@@ -255,8 +250,7 @@ QUOTED = {
 def test_quoted_in_fish(folder: pathlib.Path, value, wanted, option) -> None:
     needs_shell("fish")
     start = option if option.endswith("=") else ""
-    offered = SHELLS["fish"](f"ansible-vault view {option}{value}", folder)
-    assert offered == {start + wanted}, f"fish completes `{option}{value}`"
+    assert SHELLS["fish"](f"ansible-vault view {option}{value}", folder) == {start + wanted}
 
 
 @pytest.mark.parametrize("line", TYPED)
@@ -264,4 +258,4 @@ def test_typed_in_bash(line: str, folder: pathlib.Path, monkeypatch: pytest.Monk
     needs_shell("bash")
     monkeypatch.setenv("HOME", str(folder))
     wanted = [word.replace("HOME", str(folder)) for word in TYPED[line]]
-    assert typed_in_bash(line, folder) == wanted, f"bash on a terminal completes `{line}`"
+    assert typed_in_bash(line, folder) == wanted

@@ -83,9 +83,8 @@ def document_limits() -> dict[str, str]:
 def test_formats() -> None:
     assert document_faults() == code_faults(), "docs/formats.md has the faults of the code"
     rows, limits = document_limits(), code_limits()
-    for what, constants in LIMITS.items():
-        wanted = {limits[constant] for constant in constants}
-        assert numbers(rows.get(what, "")) == wanted, f"docs/formats.md has the code's limit: {what}"
+    wanted = {what: {limits[constant] for constant in constants} for what, constants in LIMITS.items()}
+    assert {what: numbers(rows.get(what, "")) for what in LIMITS} == wanted, "and the code's limits"
 
 
 def test_page() -> None:
@@ -125,6 +124,5 @@ def test_examples() -> None:
     for page in CRATES.glob("vault_*/src/lib.rt"):
         if example := re.search(r"^//! ```rust\n(.*?)^//! ```", page.read_text(), re.MULTILINE | re.DOTALL):
             examples[page.parent.parent.name] = unspaced(example[1].replace("//! ", ""))
-    for crate in sorted(tested | examples):
-        assert examples.get(crate) == tested.get(crate), f"the example of {crate}"
+    assert examples == tested
     assert len(examples) > 6, "there are examples"

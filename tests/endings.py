@@ -15,7 +15,9 @@ SKIP = "import pytest; pytest.skip('why')"
 ROOT_ONLY = "import os; os.geteuid = lambda: {user}; import pytest; import lib.needs; pytest.skip(lib.needs.TAKES_ROOT)"
 THREAD = "import threading; thread = threading.Thread(target=lambda: 1 / 0); thread.start(); thread.join()"
 ROWS = "for row in range(3):\n        with subtests.test(): assert row != 1"
-ENDLESS = "import time\n    for row in range(3):\n        with subtests.test(): time.sleep(600 if row else 0); assert row"
+ENDLESS = """import time
+    for row in range(3):
+        with subtests.test(): time.sleep(600 if row else 0); assert row"""
 # The body of a test, options of pytest, its exit status, and the line of counts.
 SAMPLES = {
     "it passes": ("pass", [], 0, "1 passed, 0 failed, 0 skipped"),
@@ -54,6 +56,7 @@ def test_ending(program: str, tmp_path: Path, body: str, options: list[str], sta
     done = run_sample(tmp_path, program, body, options)
     found = re.findall(r"^(\d+ passed, .*)$", done.stdout, re.MULTILINE)
     assert (done.returncode, found[0]) == (status, counts), done.stdout
+    assert done.stdout.count("\nskipped: tests/sample.py::test_it: ") == counts.endswith(" 1 skipped"), "and why"
     kept = {*re.findall(r"^kept in (.*)$", done.stdout, re.MULTILINE)}
     has_failed = status == 1 and "--floors" not in options
     assert [Path(each).is_dir() for each in kept] == [True] * has_failed, "a folder is kept where it fails"

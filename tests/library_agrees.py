@@ -7,6 +7,8 @@ import re
 import subprocess
 from pathlib import Path
 
+import pytest
+
 from lib.contracts import crates
 from lib.paths import ROOT
 
@@ -43,10 +45,10 @@ def test_calls() -> None:
     """Each call of the table is one that its crate offers."""
     rows = ROW.findall(DOCUMENT.read_text())
     assert len(rows) > 10, "there is a table of calls"
-    for calls, crate in rows:
-        offered = (ROOT / "crates" / crate / "src" / "lib.rt").read_text()
-        for call in re.findall(r"`(\w+)[\w:]*`", calls):
-            assert bool(re.search(rf"^pub use .*\b{call}\b", offered, re.MULTILINE)), f"{crate} offers {call}"
+    named = {(crate, call) for calls, crate in rows for call in re.findall(r"`(\w+)[\w:]*`", calls)}
+    offered = {crate: (ROOT / "crates" / crate / "src" / "lib.rt").read_text() for crate, _ in named}
+    is_offered = lambda crate, call: re.search(rf"^pub use .*\b{call}\b", offered[crate], re.MULTILINE)
+    assert [pair for pair in sorted(named) if not is_offered(*pair)] == []
 
 
 def test_crate_lines() -> None:
@@ -54,10 +56,9 @@ def test_crate_lines() -> None:
     ours = dict(CRATE_LINE.findall((ROOT / "crates.txt").read_text()))
     shown = dict(re.findall(r"^    (vault_\w+):(.*)$", DOCUMENT.read_text(), re.MULTILINE))
     assert len(shown) > 3, "lines are shown"
-    for crate, needed in shown.items():
-        assert needed == ours.get(crate), f"the line of {crate}"
-        for name in needed.split():
-            assert not name.startswith("vault_") or name in shown, f"{name}, which {crate} needs, is shown"
+    assert shown == {crate: ours.get(crate) for crate in shown}
+    needed = {name for needed in shown.values() for name in needed.split() if name.startswith("vault_")}
+    assert needed - shown.keys() == set(), "what they need is shown, too"
 
 
 def test_crates() -> None:
@@ -70,13 +71,14 @@ def test_crates() -> None:
     assert sorted(listed) == sorted(crates()), "docs/architecture.md lists every crate"
 
 
-def test_paths() -> None:
+@pytest.mark.parametrize("name", ["docs/architecture.md", "CONTRIBUTING.md"])
+def test_paths(name: str) -> None:
     """Each path of a file is one of the crate that is named last before it, or of the repository."""
-    for name in ("docs/architecture.md", "CONTRIBUTING.md"):
-        crate = ""
-        for word in re.findall(r"`([\w/.-]+)`", (ROOT / name).read_text()):
-            if word.startswith("vault_") and "/" not in word:
-                crate = word
-            elif "/" in word and re.search(r"\.(rt|antt|py|md|1)$", word):
-                places = (ROOT / word, ROOT / "crates" / crate / word)
-                assert any(map(Path.is_file, places)), f"there is {word} of {crate}, which {name} names"
+    crate, missing = "", []
+    for word in re.findall(r"`([\w/.-]+)`", (ROOT / name).read_text()):
+        if word.startswith("vault_") and "/" not in word:
+            crate = word
+        elif "/" in word and re.search(r"\.(rt|antt|py|md|1)$", word):
+            places = (ROOT / word, ROOT / "crates" / crate / word)
+            missing += [] if any(map(Path.is_file, places)) else [(crate, word)]
+    assert missing == []

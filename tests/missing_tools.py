@@ -1,4 +1,4 @@
-"""Shows that tests name what they leave out where a tool is missing, and that they fail where all is required; that
+"""Shows that tests name what they lack where a tool is missing and all is required, and that no other fails then; that
 Ansible's tool is found in each locale and under each of its names, and that one that fails is not taken for missing.
 """
 
@@ -27,8 +27,8 @@ RUNS = [
     ("with_ansible.py", "fixed_salt", ["ansible-vault"]),
     ("options_agree.py", "completions or shown", ["zsh", "fish", "mandoc", "groff"]),
     ("completions.py", "test_program or quoted", ["zsh", "fish"]),
-    ("workflows.py", "caveat", ["git"]),
-    ("workflows.py", "Type and not typed", ["zsh"]),
+    ("manual_examples.py", "lost_password", ["git"]),
+    ("manual_examples.py", "example and password", ["zsh"]),
     ("cases/changing_files.py", "changing", ["cc"]),
     ("cases/closed_streams.py", "one_failing_write", ["strace"]),
     ("companion_cases/hook.py", "where_it_runs", ["git"]),
@@ -49,23 +49,22 @@ def link_programs(folder: Path, without: list[str]) -> None:
 
 
 def run_tests(program: str, file: str, name: str, **variables: str) -> tuple[int, list[int], list[str]]:
-    """The status, how many pass, fail and are skipped, and the lines that say so of those that are skipped."""
+    """The status, how many pass, fail and are skipped, and why tests fail since they would be skipped."""
     kept = {name: value for name, value in os.environ.items() if not name.startswith(("PYTEST_", "ANSIBLE_VAULT"))}
     options = ["-p", "no:cacheprovider", f"--program={program}", "-k", name, str(ROOT / "tests" / file)]
     command = [sys.executable, "-B", "-X", "utf8", "-m", "pytest", *options]
     done = subprocess.run(command, capture_output=True, text=True, env=kept | variables, cwd=ROOT)
     [counts] = re.findall(r"^(\d+) passed, (\d+) failed, (\d+) skipped$", done.stdout, re.MULTILINE)
-    return done.returncode, [*map(int, counts)], re.findall(r"^skipped: .*$", done.stdout, re.MULTILINE)
+    reasons = re.findall(r"^(.*): it is skipped, and --require-all is set$", done.stdout, re.MULTILINE)
+    return done.returncode, [*map(int, counts)], reasons
 
 
 @pytest.mark.parametrize("file, name, tools", RUNS)
 def test_missing_tools(tmp_path: Path, program: str, file: str, name: str, tools: list[str]) -> None:
     link_programs(tmp_path, tools)
-    status, (_, failed, skipped), lines = run_tests(program, file, name, PATH=str(tmp_path), REQUIRE_ALL="")
-    assert (status, failed, len(lines)) == (0, 0, skipped) and skipped > 0
-    assert all(any(tool in line for line in lines) for tool in tools), lines
-    status, (_, failed, skipped), _ = run_tests(program, file, name, PATH=str(tmp_path), REQUIRE_ALL="1")
-    assert (status, skipped) == (1, 0) and failed > 0
+    status, (_, failed, skipped), reasons = run_tests(program, file, name, PATH=str(tmp_path), REQUIRE_ALL="1")
+    assert (status, failed, skipped) == (1, len(reasons), 0)
+    assert [tool for tool in tools if not any(tool in reason for reason in reasons)] == [], reasons
 
 
 # As Ansible's tool does in a locale that is not UTF-8, and as it says what it is.

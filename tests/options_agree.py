@@ -7,6 +7,7 @@ import json
 import re
 import subprocess
 import sys
+from collections.abc import Iterable
 from pathlib import Path
 
 import pytest
@@ -14,7 +15,7 @@ import pytest
 from lib.needs import needs
 from lib.option_sets import OF_ANSIBLE, companion_options, companion_page, companion_statuses, described_options
 from lib.option_sets import help_commands, help_of, help_options, help_text, options_in, page_sets, sections, spellings
-from lib.option_table import code_in, constants_in, entries, helps_of, literals_in, named_in, table_options
+from lib.option_table import Entry, code_in, constants_in, entries, helps_of, literals_in, named_in, table_options
 from lib.paths import COMPANIONS, PAGE, ROOT, version
 from model.options import COMMON, FLAGS, OPTIONS
 from shells import SHELLS, needs_shell
@@ -46,6 +47,10 @@ SECTIONS = ["NAME", "SYNOPSIS", "DESCRIPTION", "OPTIONS", "ENVIRONMENT", "FILES"
 FURTHER = ["CAVEATS", "SECURITY CONSIDERATIONS"]
 
 
+def long(options: Iterable[str]) -> set[str]:
+    return {option for option in options if option.startswith("--")}
+
+
 def completed(name: str, command: str | None) -> set[str]:
     """The options that a shell offers, after one dash and after two."""
     start = f"ansible-vault {command} " if command else "ansible-vault "
@@ -55,25 +60,30 @@ def completed(name: str, command: str | None) -> set[str]:
 @pytest.mark.parametrize("shell", SHELLS)
 def test_completions(shell: str) -> None:
     needs_shell(shell)
-    missing = {entry.option for entry in table_options()}
-    for command, wanted in page_sets().items():
-        found = completed(shell, command)
-        missing -= found
-        what = f"{shell} offers the page's options of {command or 'the program'}"
-        assert sorted(found) == sorted(wanted), what
-    assert sorted(missing) == [], f"{shell} offers each option of the table"
+    found = {command: completed(shell, command) for command in page_sets()}
+    assert found == page_sets(), "it offers the options of the page"
+    missing = {entry.option for entry in table_options()}.difference(*found.values())
+    assert missing == set(), "and each of the table"
 
 
-def test_code() -> None:
-    """The code and the definitions name what the table has, and the code has no name of its own."""
+@pytest.fixture(scope="module")
+def names() -> set[str]:
+    """What the table has."""
     names = {entry.name for entry in entries()}
-    assert len(names) > 10, ("the table is read", sorted(names))
-    for files in CODE:
-        used = {entry.name for entry in entries() if entry.constant in constants_in(files)}
-        assert sorted(names - used) == [], f"{files} use each name of the table"
-        assert literals_in(code_in(files)) & names == set(), f"{files} have no name beside the table"
-    for specs in SPECS:
-        assert sorted(names - named_in(specs)) == [], f"{specs} names each entry of the table"
+    assert len(names) > 10, names
+    return names
+
+
+@pytest.mark.parametrize("files", CODE, ids=" and ".join)
+def test_code(names: set[str], files: tuple[str, ...]) -> None:
+    used = {entry.name for entry in entries() if entry.constant in constants_in(files)}
+    assert names - used == set(), "they use each name of the table"
+    assert literals_in(code_in(files)) & names == set(), "they have no name of their own"
+
+
+@pytest.mark.parametrize("specs", SPECS)
+def test_definitions(names: set[str], specs: str) -> None:
+    assert names - named_in(specs) == set(), "they name each entry of the table"
 
 
 def page_values(text: str, name: str) -> set[str]:
@@ -83,22 +93,22 @@ def page_values(text: str, name: str) -> set[str]:
 
 def test_table() -> None:
     """The page, the model and the stored texts have what the table has."""
-    page, known = PAGE.read_text(), COMMON.union(*OPTIONS.values())
     table = {entry.option for entry in table_options()}
-    dashed = {option for option in described_options() if option.startswith("--")}
-    assert sorted(dashed - {"--help", "--version"}) == sorted(table), "the page describes the table's options"
-    assert sorted(known) == sorted(table), "the model knows the table's options"
+    assert COMMON.union(*OPTIONS.values()) == table, "the model knows the table's options"
     assert sorted(FLAGS) == [entry.option for entry in table_options() if not entry.value_name], "and its flags"
-    items = "\n".join(re.findall(r"^\.It Fl .*$", page, re.MULTILINE)).replace(" , ", "\n.It ")
-    for entry in table_options():
-        values = page_values(items, entry.name)
-        assert values == {entry.value_name.lower()}, f"the page has the value of {entry.option}"
+    assert long(described_options()) - {"--help", "--version"} == table, "the page describes the table's options"
+    items = "\n".join(re.findall(r"^\.It Fl .*$", PAGE.read_text(), re.MULTILINE)).replace(" , ", "\n.It ")
+    values = {entry.constant: page_values(items, entry.name) for entry in table_options()}
+    assert values == {entry.constant: {entry.value_name.lower()} for entry in table_options()}, "and their values"
     texts = "".join(path.read_text() for path in sorted((ROOT / "tests" / "texts").glob("*.help.txt")))
-    for entry in entries():
-        value = f" <{entry.value_name}>" if entry.value_name else ""
-        start = re.escape(f"{entry.option}{value}" if entry.is_option else f"[{entry.name}]")
-        said = set(re.findall(rf"^ .*(?<![\w-]){start}  +(.*)$", texts, re.MULTILINE))
-        assert said == helps_of(entry.name), f"the stored texts have the help of {entry.name}"
+    said = {entry.constant: helps_in(texts, entry) for entry in entries()}
+    assert said == {entry.constant: helps_of(entry.name) for entry in entries()}, "the stored texts have the helps"
+
+
+def helps_in(texts: str, entry: Entry) -> set[str]:
+    value = f" <{entry.value_name}>" if entry.value_name else ""
+    start = re.escape(f"{entry.option}{value}" if entry.is_option else f"[{entry.name}]")
+    return set(re.findall(rf"^ .*(?<![\w-]){start}  +(.*)$", texts, re.MULTILINE))
 
 
 # The end of a command line, by the value's name of an option, and the files that are offered.
@@ -124,42 +134,40 @@ def test_completed_values(shell: str, tmp_path: Path, entry) -> None:
         assert found == wanted, f"{shell} completes the value of {entry.option}"
 
 
-def test_help(program: str) -> None:
-    sets = page_sets()
-    commands = [command for command in sets if command]
-    assert help_commands(help_text(program, None)) == commands, "the help names the page's commands"
-    for command in [None, *commands]:
-        text = help_text(program, command)
-        found = help_options(text)
-        what = f"the help of {command or 'the program'} has the page's options"
-        assert sorted(found) == sorted(sets[command]), what
-        silent = [option for option in REQUIRED.keys() & found if REQUIRED[option] not in help_of(text, option)]
-        assert silent == [], "and says of them what it has to"
-        takes_file = "[FILE]" in text
-        assert ("FILE" in text) == takes_file, "and names FILE if the command takes one"
-        if "--output" in found:
-            needed = "required if FILE is given" in help_of(text, "--output")
-            assert needed == takes_file, "and says that FILE requires --output"
-        for entry in table_options():
-            if entry.option in found:
-                value = f"<{entry.value_name}> " if entry.value_name else ""
-                said = help_of(text, entry.option)
-                wanted = {value + each for each in helps_of(entry.name)}
-                assert said in wanted, f"and of {entry.option} what the table has"
-        assert "envelope" not in text, "and needs no word that it does not explain"
+def test_commands_in_help(program: str) -> None:
+    assert help_commands(help_text(program, None)) == [command for command in page_sets() if command]
+
+
+@pytest.mark.parametrize("command", page_sets(), ids=str)
+def test_help(program: str, command: str | None) -> None:
+    text = help_text(program, command)
+    found = help_options(text)
+    assert found == page_sets()[command], "it has the options of the page"
+    silent = [option for option in REQUIRED.keys() & found if REQUIRED[option] not in help_of(text, option)]
+    assert silent == [], "and says of them what it has to"
+    takes_file = "[FILE]" in text
+    assert ("FILE" in text) == takes_file, "and names FILE if the command takes one"
+    if "--output" in found:
+        needed = "required if FILE is given" in help_of(text, "--output")
+        assert needed == takes_file, "and says that FILE requires --output"
+    others = [entry.option for entry in table_options() if entry.option in found and not is_helped(entry, text)]
+    assert others == [], "and of each what the table has"
+    assert "envelope" not in text, "and needs no word that it does not explain"
+
+
+def is_helped(entry: Entry, text: str) -> bool:
+    value = f"<{entry.value_name}> " if entry.value_name else ""
+    return help_of(text, entry.option) in {value + each for each in helps_of(entry.name)}
 
 
 @pytest.mark.parametrize("command, options", OPTIONS.items())
 def test_model(command, options) -> None:
-    sets = page_sets()
-    long = lambda options: {option for option in options if option.startswith("--")} - {"--help"}
-    what = f"the model knows the page's options of {command}"
-    assert sorted(options | COMMON) == sorted(long(sets[command])), what
+    assert options | COMMON == long(page_sets()[command]) - {"--help"}
 
 
 def test_page() -> None:
     named = set().union(*page_sets().values())
-    assert sorted(described_options()) == sorted(named), "the page describes what its synopsis names"
+    assert described_options() == named, "the page describes what its synopsis names"
 
 
 def flat(sets: list[set[str]]) -> list[str]:
@@ -237,12 +245,10 @@ def test_abbreviations() -> None:
         "import json; print(json.dumps({name: [*HELP, *SECRETS, *each] for name, each in OPTIONS.items()}))"
     )
     done = subprocess.run([sys.executable, "-B", "-c", program], capture_output=True, check=True)
-    known = json.loads(done.stdout)
-    sets = page_sets()
-    for command in filter(None, sets):
-        of_ansible = {"--vault-pass-file", "--ask-vault-password", "--ask-vault-pass", *OF_ANSIBLE.get(command, ())}
-        wanted = {each for each in sets[command] | of_ansible if each.startswith("--")}
-        assert {each for each in known[command] if each.startswith("--")} == wanted, command
+    known, sets = json.loads(done.stdout), page_sets()
+    of_ansible = {"--vault-pass-file", "--ask-vault-password", "--ask-vault-pass"}
+    wanted = {name: long(sets[name] | of_ansible | OF_ANSIBLE.get(name, set())) for name in sets if name}
+    assert {name: long(known[name]) for name in wanted} == wanted
 
 
 @pytest.mark.parametrize("document", DOCUMENTS, ids=lambda path: path.name)

@@ -2,6 +2,7 @@
 stand-in for Ansible's package.
 """
 
+import fcntl
 import os
 import pathlib
 import shutil
@@ -26,13 +27,31 @@ def field(package: pathlib.Path, name: str) -> str:
     return printed("dpkg-deb", "-f", str(package), name).strip()
 
 
-def check_package(package: pathlib.Path, folder: pathlib.Path):
+@pytest.fixture(scope="module")
+def package(program: str, tmp_path_factory: pytest.TempPathFactory) -> pathlib.Path:
+    """It is made once, for all processes that run these tests."""
+    needs("dpkg-deb")
+    folder = tmp_path_factory.getbasetemp()
+    folder = folder.parent if "PYTEST_XDIST_WORKER" in os.environ else folder
+    architecture = printed("dpkg", "--print-architecture").strip()
+    package = folder / f"ansible-vault_{VERSION}_{architecture}.deb"
+    with open(folder / "package.lock", "w") as lock:
+        fcntl.flock(lock, fcntl.LOCK_EX)
+        if not package.exists():
+            done = run_make(program, "package")
+            assert done.returncode == 0, done.stderr
+            shutil.copy(ROOT / "bin" / package.name, package)
+    return package
+
+
+def test_contents(package: pathlib.Path, tmp_path: pathlib.Path) -> None:
     """What the package holds and says of itself."""
     assert field(package, "Version") == VERSION, "the package has the program's version"
     assert "libc6" in field(package, "Depends"), "the package depends on the C library"
     assert "python3" in field(package, "Depends"), "and on Python, for the companions"
     assert "python3-yaml" in field(package, "Recommends"), "it recommends PyYAML, for blocks in YAML"
     assert field(package, "Conflicts") + field(package, "Breaks") == "", "the package takes no other away"
+    folder = tmp_path / "package"
     subprocess.run(["dpkg-deb", "-R", str(package), str(folder)], check=True)
     assert files_below(folder / "usr") == PACKAGE_FILES, "the package puts its files below /usr"
     assert {each.name for each in folder.iterdir()} == {"usr", "DEBIAN"}, "and none elsewhere"
@@ -43,52 +62,57 @@ def check_package(package: pathlib.Path, folder: pathlib.Path):
     sums = printed("md5sum", *files, cwd=folder)
     recorded = (folder / "DEBIAN" / "md5sums").read_text()
     assert sorted(recorded.splitlines()) == sorted(sums.splitlines()), "it has the sums of its files"
-    check_lint(package)
 
 
-def check_changelog():
+def test_lint(package: pathlib.Path) -> None:
+    needs("lintian")
+    found = subprocess.run(["lintian", "--pedantic", str(package)], capture_output=True, text=True)
+    assert (found.returncode, found.stdout) == (0, "")
+
+
+def test_changelog() -> None:
     """The package's changelog is that of the project."""
     made = printed(str(ROOT / "tools/debian-changelog"))
     assert (ROOT / "debian/changelog").read_text() == made, "debian/changelog is made from CHANGELOG.md"
     assert made.startswith(f"ansible-vault ({VERSION}) "), ("and names this version first", made[:80])
 
 
-def check_same(folder: pathlib.Path, package: pathlib.Path, program: str):
-    """A folder with a space, another time, umask and zone make the same bytes, of the program that was built last:
-    nothing is built anew."""
-    (folder / "rt").write_text("#!/bin/sh\necho rt is run >&2\nexit 1\n")
-    (folder / "rt").chmod(0o755)
-    copy = folder / "two words"
-    shutil.copytree(ROOT, copy, symlinks=True, ignore=shutil.ignore_patterns("out", ".git", "*.deb"))
-    (copy / "man/ansible-vault.1").touch()
+@pytest.fixture
+def copy(tmp_path: pathlib.Path, program: str) -> pathlib.Path:
+    """A copy of the repository below a path with a space; its program is newer than its sources."""
+    needs("dpkg-deb")
+    copy = tmp_path / "two words"
+    shutil.copytree(ROOT, copy, symlinks=True, ignore=shutil.ignore_patterns("bin", "crates", ".git"))
+    (copy / "crates").symlink_to(ROOT / "crates")
+    (copy / "bin").mkdir()
     (copy / "bin/processor").write_text("\n")
     shutil.copy(program, copy / "bin/ansible-vault")
-    environment = os.environ | {"TZ": "Asia/Tokyo", "PATH": f"{folder}{os.pathsep}{os.environ['PATH']}"}
+    return copy
+
+
+def test_made_again(copy: pathlib.Path, package: pathlib.Path) -> None:
+    """A folder with a space, another time, umask and zone make the same bytes, of the program that was built last:
+    nothing is built anew."""
+    (copy.parent / "rt").write_text("#!/bin/sh\necho rt is run >&2\nexit 1\n")
+    (copy.parent / "rt").chmod(0o755)
+    (copy / "man/ansible-vault.1").touch()
+    environment = os.environ | {"TZ": "Asia/Tokyo", "PATH": f"{copy.parent}{os.pathsep}{os.environ['PATH']}"}
     done = run_make(str(ROOT / "bin/ansible-vault"), "package", at=copy, umask=0o077, env=environment)
-    assert done.returncode == 0, ("make package ends well in a copy", done.stderr)
-    assert (copy / "bin" / package.name).read_bytes() == package.read_bytes(), "two builds of the package are the same"
-    check_processor(copy, environment)
+    assert done.returncode == 0, done.stderr
+    assert (copy / "bin" / package.name).read_bytes() == package.read_bytes()
 
 
-def check_processor(copy: pathlib.Path, environment: dict):
+@pytest.mark.parametrize("command", ["make -s package", "debian/rules override_dh_auto_install"])
+def test_newer_processor(copy: pathlib.Path, command: str) -> None:
     """A package is for all processors: none is made of a program that was built for a newer one."""
     (copy / "bin/processor").write_text("x86-64-v3\n")
     (copy / "bin/ansible-vault").touch()
-    for package in copy.glob("bin/*.deb"):
-        package.unlink()
+    # Not what a `make` above gives, which may choose the processor.
+    variables = {name: value for name, value in os.environ.items() if name not in ("MAKEFLAGS", "CPU")}
+    done = subprocess.run(command.split(), cwd=copy, env=variables, capture_output=True, text=True)
     wanted = "bin/ansible-vault is built for x86-64-v3, and packages and archives are for all processors: make CPU=\n"
-    for command in (["make", "-s", "package"], ["debian/rules", "override_dh_auto_install"]):
-        # Not what a `make` above gives, which may choose the processor.
-        variables = {name: value for name, value in environment.items() if name not in ("MAKEFLAGS", "CPU")}
-        done = subprocess.run(command, cwd=copy, env=variables, capture_output=True, text=True)
-        assert done.returncode != 0 and wanted in done.stderr, f"{command[0]} refuses a newer processor"
+    assert done.returncode != 0 and wanted in done.stderr, done.stderr
     assert [*copy.glob("bin/*.deb"), *copy.glob("debian/ansible-vault")] == [], "no package is made of it"
-
-
-def check_lint(package: pathlib.Path):
-    needs("lintian")
-    found = subprocess.run(["lintian", "--pedantic", str(package)], capture_output=True, text=True)
-    assert (found.returncode, found.stdout) == (0, ""), "lintian finds nothing in the package"
 
 
 # Files of Ansible's package, as a stand-in has them.
@@ -116,9 +140,7 @@ class Beside:
 
     def do(self, what: str, *words: str):
         done = self.root.dpkg(*words)
-        assert done.returncode == 0, f"dpkg: {what}"
-        if done.returncode:
-            print(done.stdout + done.stderr)
+        assert done.returncode == 0, (what, done.stdout + done.stderr)
 
     def theirs(self, version: str, mark: str = "") -> str:
         """Ansible's package, each of its files with a mark at its end."""
@@ -150,81 +172,70 @@ class Beside:
         left = {f"usr/share/{path}" for path in files_below(self.root.path / "usr/share") if "ansible" in path}
         assert left - THEIRS.keys() == set(), f"{when}: no other file is left"
 
-    def check_ours_behind_theirs(self):
-        self.do("Ansible", "-i", self.theirs("2.14"))
-        self.do("our package", "-i", str(self.package))
-        self.check_both("installed")
-        self.do("an upgrade of ours", "-i", str(later(self.package, self.folder, VERSION + "+later")))
-        self.check_both("ours upgraded")
-        self.do("an upgrade of Ansible", "-i", self.theirs("2.15", "# later\n"))
-        self.check_both("Ansible upgraded", "# later\n")
-        self.do("removal", "-r", "ansible-vault")
-        self.check_theirs("removed", "# later\n")
-        self.do("our package again", "-i", str(self.package))
-        self.check_both("installed again", "# later\n")
-        self.do("purge", "-P", "ansible-vault")
-        self.check_theirs("purged", "# later\n")
-        assert self.root.dpkg("-s", "ansible-vault").returncode == 1, "purged: unknown to dpkg"
-        self.do("removal of Ansible", "-P", "ansible-core")
-
-    def check_failed_unpacking(self):
-        """A package has a file that ours has, too: ours cannot be unpacked, and leaves all as it was."""
-        self.do("Ansible", "-i", self.theirs("2.14"))
-        taken = "usr/lib/ansible-vault/ansible-vault-check"
-        self.do("a package in the way", "-i", str(stand_in(self.folder, "in-the-way", "1", {taken: "taken\n"})))
-        done = self.root.dpkg("-i", str(self.package))
-
-        assert done.returncode != 0, "a package with a file that is taken is refused"
-        assert f"trying to overwrite '/{taken}'" in done.stderr, "and dpkg says why"
-        self.check_theirs("unpacking failed")
-        assert self.root.read(taken) == "taken\n", "unpacking failed: the file stays"
-        status = self.root.dpkg("-s", "ansible-vault").stdout
-        assert " not-installed\n" in status, "unpacking failed: dpkg says so"
-        self.do("removal of what was in the way", "-P", "in-the-way")
-        self.do("our package", "-i", str(self.package))
-        self.check_both("installed after a failure")
-        self.check_failed_upgrade()
-        self.do("purge", "-P", "ansible-vault")
-        self.check_theirs("purged after failures")
-        self.do("removal of Ansible", "-P", "ansible-core")
-
-    def check_failed_upgrade(self):
-        """A later version of ours has a file of a third package: the version that is installed stays as it was."""
-        taken = "usr/share/in-the-way"
-        self.do("a package in the way", "-i", str(stand_in(self.folder, "in-the-way", "2", {taken: "taken\n"})))
-        upgrade = later(self.package, self.folder, VERSION + "+in-the-way", {taken: "ours\n"})
-        done = self.root.dpkg("-i", str(upgrade))
-        assert done.returncode != 0, "an upgrade with a file that is taken fails"
-        self.check_both("upgrade failed")
-        assert self.root.read(taken) == "taken\n", "upgrade failed: the file stays"
-        self.do("removal of what was in the way", "-P", "in-the-way")
-
-    def check_theirs_behind_ours(self):
-        self.do("our package", "-i", str(self.package))
-        self.do("Ansible", "-i", self.theirs("2.14"))
-        self.check_both("Ansible after ours")
-        self.do("removal of Ansible", "-P", "ansible-core")
-        output = self.root.run("/usr/bin/ansible-vault", "--version")
-        assert output == f"ansible-vault {VERSION}\n", "Ansible removed: our program stays"
-        self.do("purge", "-P", "ansible-vault")
-        self.check_nothing_left("both removed")
-        assert files_below(self.root.path / "usr/bin") == {"dpkg-divert", "sh"}, "both removed: no program"
-
 
 @pytest.fixture
-def package(program: str) -> pathlib.Path:
-    needs("dpkg-deb")
-    check_changelog()
-    assert run_make(program, "package").returncode == 0, "make package ends well"
-    architecture = printed("dpkg", "--print-architecture").strip()
-    return ROOT / "bin" / f"ansible-vault_{VERSION}_{architecture}.deb"
-
-
-def test_package(tmp_path: pathlib.Path, package: pathlib.Path, program: str) -> None:
-    check_package(package, tmp_path / "package")
-    check_same(tmp_path, package, program)
+def beside(package: pathlib.Path, tmp_path: pathlib.Path, program: str) -> Beside:
     needs_root()
-    beside = Beside(package, tmp_path, program)
-    beside.check_ours_behind_theirs()
-    beside.check_failed_unpacking()
-    beside.check_theirs_behind_ours()
+    return Beside(package, tmp_path, program)
+
+
+def test_behind_theirs(beside: Beside) -> None:
+    beside.do("Ansible", "-i", beside.theirs("2.14"))
+    beside.do("our package", "-i", str(beside.package))
+    beside.check_both("installed")
+    beside.do("an upgrade of ours", "-i", str(later(beside.package, beside.folder, VERSION + "+later")))
+    beside.check_both("ours upgraded")
+    beside.do("an upgrade of Ansible", "-i", beside.theirs("2.15", "# later\n"))
+    beside.check_both("Ansible upgraded", "# later\n")
+    beside.do("removal", "-r", "ansible-vault")
+    beside.check_theirs("removed", "# later\n")
+    beside.do("our package again", "-i", str(beside.package))
+    beside.check_both("installed again", "# later\n")
+    beside.do("purge", "-P", "ansible-vault")
+    beside.check_theirs("purged", "# later\n")
+    assert beside.root.dpkg("-s", "ansible-vault").returncode == 1, "purged: unknown to dpkg"
+    beside.do("removal of Ansible", "-P", "ansible-core")
+
+
+def test_failed_unpacking(beside: Beside) -> None:
+    """A package has a file that ours has, too: ours cannot be unpacked, and leaves all as it was."""
+    beside.do("Ansible", "-i", beside.theirs("2.14"))
+    taken = "usr/lib/ansible-vault/ansible-vault-check"
+    beside.do("a package in the way", "-i", str(stand_in(beside.folder, "in-the-way", "1", {taken: "taken\n"})))
+    done = beside.root.dpkg("-i", str(beside.package))
+
+    assert done.returncode != 0, "a package with a file that is taken is refused"
+    assert f"trying to overwrite '/{taken}'" in done.stderr, "and dpkg says why"
+    beside.check_theirs("unpacking failed")
+    assert beside.root.read(taken) == "taken\n", "unpacking failed: the file stays"
+    status = beside.root.dpkg("-s", "ansible-vault").stdout
+    assert " not-installed\n" in status, "unpacking failed: dpkg says so"
+    beside.do("removal of what was in the way", "-P", "in-the-way")
+    beside.do("our package", "-i", str(beside.package))
+    beside.check_both("installed after a failure")
+
+
+def test_failed_upgrade(beside: Beside) -> None:
+    """A later version of ours has a file of a third package: the version that is installed stays as it was."""
+    beside.do("Ansible", "-i", beside.theirs("2.14"))
+    beside.do("our package", "-i", str(beside.package))
+    taken = "usr/share/in-the-way"
+    beside.do("a package in the way", "-i", str(stand_in(beside.folder, "in-the-way", "2", {taken: "taken\n"})))
+    upgrade = later(beside.package, beside.folder, VERSION + "+in-the-way", {taken: "ours\n"})
+    assert beside.root.dpkg("-i", str(upgrade)).returncode != 0, "an upgrade with a file that is taken fails"
+    beside.check_both("upgrade failed")
+    assert beside.root.read(taken) == "taken\n", "upgrade failed: the file stays"
+    beside.do("purge", "-P", "ansible-vault")
+    beside.check_theirs("purged after a failure")
+
+
+def test_before_theirs(beside: Beside) -> None:
+    beside.do("our package", "-i", str(beside.package))
+    beside.do("Ansible", "-i", beside.theirs("2.14"))
+    beside.check_both("Ansible after ours")
+    beside.do("removal of Ansible", "-P", "ansible-core")
+    output = beside.root.run("/usr/bin/ansible-vault", "--version")
+    assert output == f"ansible-vault {VERSION}\n", "Ansible removed: our program stays"
+    beside.do("purge", "-P", "ansible-vault")
+    beside.check_nothing_left("both removed")
+    assert files_below(beside.root.path / "usr/bin") == {"dpkg-divert", "sh"}, "both removed: no program"

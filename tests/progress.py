@@ -69,7 +69,6 @@ def test_progress_without_the_command(tmp_path: pathlib.Path) -> None:
 
 def run_mutants(folder: pathlib.Path, said: list[str], status: int, *names: str) -> subprocess.CompletedProcess:
     """tools/mutants where this stands for `rt`, which notes its words and the edits that it is to try."""
-    folder.mkdir(exist_ok=True)
     (folder / "said").write_text("".join(f"rt: {line}\n" for line in said))
     notes = f"echo \"$*\" > '{folder}/words'; ls crates/*/must-fail/* > '{folder}/edits'"
     (folder / "rt").write_text(f"#!/bin/sh\n{notes}\ncat '{folder}/said'\nexit {status}\n")
@@ -79,24 +78,26 @@ def run_mutants(folder: pathlib.Path, said: list[str], status: int, *names: str)
     return subprocess.run(command, capture_output=True, text=True, env=environment)
 
 
-def test_mutants(tmp_path: pathlib.Path) -> None:
-    folder = tmp_path
-    by_goal = "must-fail vault_aes/one.edit: refused, as it must be: note: src/laws.rt:58:1: it is not proved"
-    by_name = "must-fail vault_aes/two.edit: refused, as it must be (only because a proof file names it): proofs/x"
-    missed = "must-fail vault_aes/two.edit: NOT REFUSED: why"
-    wanted = {
-        "each is rejected": ([by_goal, "vault_aes: a note"], 0, (0, "1 passed, 0 failed")),
-        "one for a lost name alone": ([by_goal, by_name], 0, (1, "1 passed, 1 failed")),
-        "one is not rejected": ([by_goal, missed], 1, (1, "1 passed, 1 failed")),
-        "the prover stops": ([by_goal], 2, (1, "1 passed, 1 failed")),
-        "there are none": ([], 0, (1, "0 passed, 1 failed")),
-    }
-    for what, (said, status, end) in wanted.items():
-        done = run_mutants(folder, said, status, "vault_aes", "vault_kdf")
-        assert (done.returncode, done.stdout.splitlines()[-1]) == end, f"mutants, {what}"
-    assert (folder / "words").read_text() == "must-fail vault_aes vault_kdf\n", "the words of rt"
+BY_GOAL = "must-fail vault_aes/one.edit: refused, as it must be: note: src/laws.rt:58:1: it is not proved"
+BY_NAME = "must-fail vault_aes/two.edit: refused, as it must be (only because a proof file names it): proofs/x"
+MISSED = "must-fail vault_aes/two.edit: NOT REFUSED: why"
+# What rt says, its status, and how tools/mutants ends.
+MUTANTS = {
+    "each is rejected": ([BY_GOAL, "vault_aes: a note"], 0, (0, "1 passed, 0 failed")),
+    "one for a lost name alone": ([BY_GOAL, BY_NAME], 0, (1, "1 passed, 1 failed")),
+    "one is not rejected": ([BY_GOAL, MISSED], 1, (1, "1 passed, 1 failed")),
+    "the prover stops": ([BY_GOAL], 2, (1, "1 passed, 1 failed")),
+    "there are none": ([], 0, (1, "0 passed, 1 failed")),
+}
+
+
+@pytest.mark.parametrize("said, status, end", MUTANTS.values(), ids=MUTANTS)
+def test_mutants(tmp_path: pathlib.Path, said: list[str], status: int, end: tuple[int, str]) -> None:
+    done = run_mutants(tmp_path, said, status, "vault_aes", "vault_kdf")
+    assert (done.returncode, done.stdout.splitlines()[-1]) == end
+    assert (tmp_path / "words").read_text() == "must-fail vault_aes vault_kdf\n", "the words of rt"
     mutants = sorted(f"{path.parent.parent.name}/{path.name}" for path in ROOT.glob("crates/*/mutants/*"))
-    tried = [re.sub(r"crates/(\w+)/must-fail/", r"\1/", line) for line in (folder / "edits").read_text().split()]
+    tried = [re.sub(r"crates/(\w+)/must-fail/", r"\1/", line) for line in (tmp_path / "edits").read_text().split()]
     assert sorted(tried) == mutants, "the edits that rt is to try"
 
 
@@ -142,16 +143,15 @@ RUNS = {
 }
 
 
-@pytest.mark.parametrize("what", RUNS)
-def test_ci(tmp_path: pathlib.Path, what: str) -> None:
-    check, status, installs, end = RUNS[what]
+@pytest.mark.parametrize("check, status, installs, end", RUNS.values(), ids=RUNS)
+def test_ci(tmp_path: pathlib.Path, check: str, status: int, installs: bool, end: tuple[int, str]) -> None:
     done = run_ci(tmp_path, check, status, installs, installed=False)
     first = "REQUIRE_ALL is 1, and the words check CPU= PARTIAL=yes"
-    assert done.stdout.splitlines()[0] == first, f"{what}: all is required, of every processor"
-    assert (done.returncode, done.stdout.splitlines()[-1]) == end, f"{what}: the end"
-    assert ("E: no package" in done.stdout) == (not installs), f"{what}: the reason is printed"
+    assert done.stdout.splitlines()[0] == first, "all is required, of every processor"
+    assert (done.returncode, done.stdout.splitlines()[-1]) == end
+    assert ("E: no package" in done.stdout) == (not installs), "the reason is printed"
     asked = (tmp_path / "bin" / "install.log").read_text().split()
-    assert "fish" in asked and "gcc" not in asked, f"{what}: only what is missing is installed"
+    assert "fish" in asked and "gcc" not in asked, "only what is missing is installed"
 
 
 def test_ci_with_all_installed(tmp_path: pathlib.Path) -> None:

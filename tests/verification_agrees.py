@@ -3,8 +3,9 @@ and sign that they name, and what `tools/write_documents` takes from the code: t
 kit, the code that is printed, and where each call stands.
 """
 
+import difflib
 import re
-from collections.abc import Callable
+from collections.abc import Callable, Iterable, Iterator
 from functools import cache
 from pathlib import Path
 
@@ -100,12 +101,13 @@ def written(page: str) -> str:
     return PLACE.sub(place, page)
 
 
-def check_written(page: str) -> None:
-    """The page is as tools/write_documents writes it, and all places are found."""
-    lines, wanted = page.splitlines(), written(page)
-    changed = [line for line in wanted.splitlines() if line not in lines]
-    assert page == wanted, ("tools/write_documents changes nothing", changed)
-    assert re.findall(r"\S+:0`", page) == [], "places that are not found"
+# Each of these functions finds what is wrong in a page.
+
+
+def unwritten(page: str) -> list[str]:
+    """What tools/write_documents changes, and places that are not found."""
+    changes = difflib.unified_diff(page.splitlines(True), written(page).splitlines(True), n=0)
+    return [*changes, *re.findall(r"\S+:0`", page)]
 
 
 @cache
@@ -121,57 +123,49 @@ def contracts_of(call: str) -> list[str]:
     return [each for each in found if "ensures" in each]
 
 
-def check_claims(page: str) -> None:
+def unproved(page: str) -> Iterator[str]:
+    """Calls without a contract, clauses that theirs do not have, and tests that are not there."""
     for proved, tests in CLAIM.findall(page):
-        for part in proved.split(";"):
-            if not (call := CONTRACT.match(part.strip())):
-                continue
+        for call in filter(None, (CONTRACT.match(part.strip()) for part in proved.split(";"))):
             contracts = contracts_of(call[1])
-            assert contracts != [], f"{call[1]} has a contract"
-            for clause in CODE.findall(call[2] or ""):
-                has = any(re.search(rf"\bensures {clause}\b", each) for each in contracts)
-                assert has, f"{call[1]} has the clause {clause}"
-        check_tests(tests)
+            clauses = CODE.findall(call[2] or "")
+            has = lambda clause: any(re.search(rf"\bensures {clause}\b", each) for each in contracts)
+            yield from [] if contracts else [f"{call[1]} has no contract"]
+            yield from (f"{call[1]} has no clause {clause}" for clause in clauses if not has(clause))
+        for name, functions in TEST.findall(tests):
+            path = ROOT / name if name.startswith("tests/") else CRATES / name
+            files = [file for file in [path, *path.glob("src/**/*.rt")] if file.is_file()]
+            text = "".join(file.read_text() for file in files)
+            has = lambda function: re.search(rf"\b(?:def test_|fn ){function}\b", text)
+            yield from [] if path.exists() else [f"there is no {name}"]
+            yield from (f"{name} has no {function}" for function in CODE.findall(functions) if not has(function))
 
 
-def check_tests(cell: str) -> None:
-    for name, functions in TEST.findall(cell):
-        path = ROOT / name if name.startswith("tests/") else CRATES / name
-        assert path.exists(), f"there is {name}"
-        files = path.glob("src/**/*.rt") if path.is_dir() else [path] if path.is_file() else []
-        text = "".join(file.read_text() for file in files)
-        for function in CODE.findall(functions):
-            assert bool(re.search(rf"\b(?:def test_|fn ){function}\b", text)), f"{name} has {function}"
-
-
-def check_definitions(page: str) -> None:
-    """Each definition is in the one listed file of its name."""
+def undefined(page: str) -> Iterator[str]:
+    """Definitions that are not in the one listed file of the name."""
     for names, place in DEFINITIONS.findall(page):
-        files = [file for file in sum(needed(), []) if str(file).endswith(f"/{place}")]
-        assert len(files) == 1, (f"one listed file is {place}", [str(file) for file in files])
-        declared = declared_in(str(files[0].relative_to(CRATES))) if files else {}
-        for name in CODE.findall(names):
-            assert name in declared, f"{place} defines {name}"
+        files = [str(file.relative_to(CRATES)) for file in sum(needed(), []) if str(file).endswith(f"/{place}")]
+        yield from [] if len(files) == 1 else [f"listed files of the name {place}: {files}"]
+        declared = set().union(*map(declared_in, files))
+        yield from (f"{place} does not define {name}" for name in CODE.findall(names) if name not in declared)
 
 
-def check_axioms(page: str) -> None:
+def wrong_axioms(page: str) -> Iterator[str]:
     """The numbers of axioms are those of the logs of builds that are there, and add up."""
     total, library, system = re.search(r"`axioms=(\d+)`[^,]*, (\d+) of the C library and (\d+) of", page).groups()
-    assert int(library) + int(system) == int(total), "the axioms add up"
+    yield from [] if int(library) + int(system) == int(total) else ["the axioms do not add up"]
     for log in (ROOT / "bin").glob("*.log"):
-        text = log.read_text()
-        for kind, count in (("libc", library), ("os", system)):
-            for found in re.findall(rf"^axioms {kind}: .*\((\d+) of", text, re.MULTILINE):
-                assert count == found, f"{log.name} counts the axioms of {kind}"
+        found = {*re.findall(r"^axioms (libc|os): .*\((\d+) of", log.read_text(), re.MULTILINE)}
+        yield from (f"{log.name}: {pair}" for pair in found - {("libc", library), ("os", system)})
 
 
-def check_signs(page: str) -> None:
-    """Each sign beyond ASCII in a listed definition is explained in the reference."""
+def unexplained(page: str) -> Iterator[str]:
+    """Signs beyond ASCII in a listed definition that the reference does not explain."""
     explained = set("".join(CODE.findall(page)))
     for file in (file for file in sum(needed(), []) if file.suffix == ".antt"):
         lines = [line for line in file.read_text().splitlines() if not line.lstrip().startswith("--")]
         signs = {sign for sign in "".join(lines) if not sign.isascii()}
-        assert signs - explained == set(), f"the signs of {file.name} that nothing explains"
+        yield from (f"{file.name}: {sign}" for sign in signs - explained)
 
 
 def heading_links(text: str) -> set[str]:
@@ -180,50 +174,53 @@ def heading_links(text: str) -> set[str]:
     return {re.sub(r"[^\w -]", "", title.lower()).replace(" ", "-") for title in titles}
 
 
-def check_links(page: str, folder: Path = PAGE.parent) -> None:
-    """Links lead to a file and to a heading."""
+def dead_links(page: str, folder: Path = PAGE.parent) -> Iterator[str]:
+    """Those that lead to no file or heading."""
     for path, heading in re.findall(r"\]\((?!http)([\w./-]*)(?:#([\w-]+))?\)", page):
         file = folder / path
         text = page if not path else file.read_text() if file.is_file() and heading else ""
-        assert file.exists(), f"there is {path}"
-        assert not heading or heading in heading_links(text), f"{path} has the heading {heading}"
+        if not file.exists() or heading and heading not in heading_links(text):
+            yield f"{path}#{heading}"
 
 
-CHECKS = {
-    PAGE: [check_written, check_claims, check_definitions, check_axioms],
-    REFERENCE: [check_written, check_claims, check_definitions, check_signs],
-}
+CHECKS = [
+    *((PAGE, check) for check in (unwritten, unproved, undefined, wrong_axioms)),
+    *((REFERENCE, check) for check in (unwritten, unproved, undefined, unexplained)),
+]
 # Changes that each break a page for a check: what is found, and what takes its place once.
 BROKEN = [
-    (PAGE, check_written, r"`load` at `(\w+)/src", r"`load` at `\1/sources"),
-    (PAGE, check_written, r"^fn open_directory", "fn open_folder"),
-    (PAGE, check_claims, r"`drive_over`: `answered`", "`drive_over`: `replied`"),
-    (PAGE, check_claims, r"`refused_leaves_outputs`", "`refused_leaves_nothing`"),
-    (PAGE, check_claims, r"`tests/faults.py`", "`tests/no_faults.py`"),
-    (PAGE, check_definitions, r"`opened_paths` \(", "`opened_from` ("),
-    (PAGE, check_links, r"\(security.md\)", "(secure.md)"),
-    (PAGE, check_axioms, r"\d+ of the C library", "30 of the C library"),
-    (REFERENCE, check_written, r"^ +\d+ specs/OpenedPaths.antt\n", ""),
-    (REFERENCE, check_claims, r"`ctr_apply`", "`ctr_applied`"),
-    (REFERENCE, check_signs, r", `A ⊎ B`", ""),
+    (PAGE, unwritten, r"`load` at `(\w+)/src", r"`load` at `\1/sources"),
+    (PAGE, unwritten, r"^fn open_directory", "fn open_folder"),
+    (PAGE, unproved, r"`drive_over`: `answered`", "`drive_over`: `replied`"),
+    (PAGE, unproved, r"`refused_leaves_outputs`", "`refused_leaves_nothing`"),
+    (PAGE, unproved, r"`tests/faults.py`", "`tests/no_faults.py`"),
+    (PAGE, undefined, r"`opened_paths` \(", "`opened_from` ("),
+    (PAGE, dead_links, r"\(security.md\)", "(secure.md)"),
+    (PAGE, wrong_axioms, r"\d+ of the C library", "30 of the C library"),
+    (REFERENCE, unwritten, r"^ +\d+ specs/OpenedPaths.antt\n", ""),
+    (REFERENCE, unproved, r"`ctr_apply`", "`ctr_applied`"),
+    (REFERENCE, unexplained, r", `A ⊎ B`", ""),
 ]
 
 
-@pytest.mark.parametrize("page", CHECKS, ids=lambda page: page.stem)
-def test_page(page: Path) -> None:
-    for check in CHECKS[page]:
-        check(page.read_text())
+def name_of(value: object) -> str | None:
+    """Of a page or a function."""
+    return getattr(value, "__name__", getattr(value, "stem", None))
+
+
+@pytest.mark.parametrize("page, check", CHECKS, ids=name_of)
+def test_page(page: Path, check: Callable[[str], Iterable[str]]) -> None:
+    assert [*check(page.read_text())] == []
 
 
 def test_links() -> None:
-    for page in (*ROOT.glob("*.md"), *ROOT.glob("docs/*.md"), ROOT / "tests" / "README.md"):
-        check_links(page.read_text(), page.parent)
+    pages = [*ROOT.glob("*.md"), *ROOT.glob("docs/*.md"), ROOT / "tests" / "README.md"]
+    assert [(page.name, link) for page in pages for link in dead_links(page.read_text(), page.parent)] == []
 
 
-@pytest.mark.parametrize(("page", "check", "old", "new"), BROKEN, ids=lambda value: getattr(value, "__name__", None))
-def test_broken_page(page: Path, check: Callable[[str], None], old: str, new: str) -> None:
+@pytest.mark.parametrize(("page", "check", "old", "new"), BROKEN, ids=name_of)
+def test_broken_page(page: Path, check: Callable[[str], Iterable[str]], old: str, new: str) -> None:
     """A page with a mistake is not taken."""
     broken = re.sub(old, new, page.read_text(), count=1, flags=re.MULTILINE)
     assert broken != page.read_text(), "the page is changed"
-    with pytest.raises(AssertionError):
-        check(broken)
+    assert [*check(broken)] != []

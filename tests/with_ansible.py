@@ -4,12 +4,14 @@ label both write the same bytes, and both say what docs/coming-from-ansible.md s
 Ansible's tool (Debian's package `ansible-core`) is found as `lib/ansible.py` says.
 """
 
+import json
 import os
 import re
 import subprocess
 from pathlib import Path
 
 import pytest
+from pytest_subtests import SubTests
 
 from cases import SECONDS, Cases, by_file, by_id
 from lib.needs import needs, needs_ansible
@@ -79,24 +81,27 @@ def both(cases: Cases, request: pytest.FixtureRequest) -> Both:
     return Both(cases, ansible, request.param)
 
 
-def test_theirs_to_ours(both: Both) -> None:
+def test_theirs_to_ours(both: Both, subtests: SubTests) -> None:
     """Their vaults are decrypted here; encrypted here with their salts, they are the same bytes."""
     vaults = both.changed_by_them("encrypt", [*both.options, *both.choice], list(TEXTS.values()))
     for (name, text), vault in zip(TEXTS.items(), vaults):
-        salt = salt_of(vault)
-        assert both.sealed(text, salt) == vault, f"{name}: the tests' own vault"
-        for command in ("decrypt", "view"):
-            both.ours(f"{command} of their vault of {name}", [command, *both.options], vault, text)
-        words = ["encrypt", *both.options, "--salt-file", both.cases.file(salt)]
-        both.ours(f"encrypt of {name} with their salt", words, text, vault)
+        with subtests.test(name):
+            salt = salt_of(vault)
+            assert both.sealed(text, salt) == vault, "the tests' own vault"
+            both.cases.decrypts("their vault", both.options, vault, text)
+            both.ours("encrypt", ["encrypt", *both.options, "--salt-file", both.cases.file(salt)], text, vault)
 
 
 def test_ours_to_theirs(both: Both) -> None:
     """Our vaults are decrypted there."""
     words = ["encrypt", *both.options]
     vaults = [both.ours(f"encrypt {name}", words, text, None) for name, text in TEXTS.items()]
-    for (name, text), plaintext in zip(TEXTS.items(), both.changed_by_them("decrypt", both.options, vaults)):
-        assert plaintext == text, f"{name}: Ansible's tool decrypts it, label {both.label!r}"
+    assert differing(both.changed_by_them("decrypt", both.options, vaults)) == []
+
+
+def differing(texts: list[bytes]) -> list[str]:
+    """The names of TEXTS that are not among these at their places."""
+    return [name for name, text in zip(TEXTS, texts) if text != TEXTS[name]]
 
 
 def test_files(both: Both) -> None:
@@ -110,51 +115,49 @@ def test_files(both: Both) -> None:
     both.ours("view FILE", ["view", *both.options, vault], b"", TEXTS["1024 bytes"])
 
 
-@pytest.mark.parametrize("words, written", ((["-n", "größe"], "größe".encode()), ([], b"")))
-@pytest.mark.parametrize("name, string", STRINGS.items())
-def test_blocks(both: Both, name, string, words, written) -> None:
-    """Blocks of the same string, one with a name and one without."""
-    block = both.theirs("encrypt_string", *both.options, *both.choice, *words, string).rstrip(b"\n") + b"\n"
-    vault = b"\n".join(line.strip() for line in block.split(b"\n")[1:])
-    salt = salt_of(vault)
-    assert yaml_block(both.sealed(string.encode(), salt), written) == block, f"{name}: the tests' own block"
-    salted = ["encrypt_string", *both.options, "--salt-file", both.cases.file(salt), *words, string]
-    both.ours(f"block of {name}", salted, b"", block)
+@pytest.mark.parametrize("name", ["größe", ""])
+def test_blocks(both: Both, subtests: SubTests, name: str) -> None:
+    """Blocks of the same strings, with a name or without one."""
+    named = ["-n", name] if name else []
+    shown = both.theirs("encrypt_string", *both.options, *both.choice, *named * len(STRINGS), *STRINGS.values())
+    blocks = re.findall(rb"^\S.*\n(?: .*\n)+", shown.rstrip(b"\n") + b"\n", re.MULTILINE)
+    assert len(blocks) == len(STRINGS), shown
+    for (what, string), block in zip(STRINGS.items(), blocks):
+        with subtests.test(what):
+            salt = salt_of(b"\n".join(line.strip() for line in block.split(b"\n")[1:]))
+            assert yaml_block(both.sealed(string.encode(), salt), name.encode()) == block, "the tests' own block"
+            salted = ["encrypt_string", *both.options, "--salt-file", both.cases.file(salt), *named, string]
+            both.ours("encrypt_string", salted, b"", block)
 
 
-@pytest.mark.parametrize("name, string", STRINGS.items())
-def test_playbook_values(both: Both, name, string) -> None:
+def test_playbook_values(both: Both) -> None:
     """Ansible reads our blocks as values of a file of variables."""
     tool = Path(both.ansible).parent / "ansible"
     needs(str(tool))
-    words = ["encrypt_string", *both.options, "--name", "secret"]
-    variables = both.cases.file(both.ours(f"block of {name}", [*words, string], b"", None))
-    written = both.cases.path()
-    copy = ["-m", "copy", "-a", f"content={{{{ secret }}}} dest={written}", "-e", f"@{variables}"]
-    command = [str(tool), "localhost", "-c", "local", *copy, *both.options]
-    done = both.in_folder(command)
-    value = Path(written).read_bytes() if done.returncode == 0 else done.stdout + done.stderr
-    assert value == string.encode(), f"{name}: the value in a playbook"
+    words = ["encrypt_string", *both.options, "--name"]
+    blocks = [both.ours(f"block of {name}", [*words, name, text], b"", None) for name, text in STRINGS.items()]
+    variables, written = both.cases.file(b"".join(blocks)), both.cases.path()
+    values = f"{{{{ [{', '.join(STRINGS)}] | to_json }}}}"
+    copy = ["-m", "copy", "-a", f"content='{values}' dest={written}", "-e", f"@{variables}"]
+    done = both.in_folder([str(tool), "localhost", "-c", "local", *copy, *both.options])
+    assert done.returncode == 0, done
+    assert json.loads(Path(written).read_bytes()) == [*STRINGS.values()]
 
 
 @pytest.mark.parametrize("new_label", ("", "prod"))
-def test_rekeyed(both: Both, new_label) -> None:
+def test_rekeyed(both: Both, subtests: SubTests, new_label: str) -> None:
     """Rekeyed here, decrypted and rekeyed back there, decrypted here."""
     options = ["--new-vault-id", f"{new_label}@{both.new}"]
     new = by_id(both.new, new_label) if new_label else by_file(both.new)
     words = ["rekey", *both.options, *options]
     given = [both.sealed(text, bytes(32)) for text in TEXTS.values()]
     ours = [both.ours(f"rekey of {name}", words, vault, None) for name, vault in zip(TEXTS, given)]
-    decrypted = both.changed_by_them("decrypt", new, ours)
-    assert decrypted == list(TEXTS.values()), "Ansible's tool decrypts them"
-    back = (
-        ["--new-vault-id", f"{both.label}@{both.password}"]
-        if both.label
-        else ["--new-vault-password-file", both.password]
-    )
-    theirs = both.changed_by_them("rekey", [*new, *back], ours)
+    assert differing(both.changed_by_them("decrypt", new, ours)) == [], "Ansible's tool decrypts them"
+    option, value = both.options
+    theirs = both.changed_by_them("rekey", [*new, option.replace("--", "--new-"), value], ours)
     for (name, text), vault in zip(TEXTS.items(), theirs):
-        both.ours(f"view of {name}, rekeyed by them", ["view", *both.options], vault, text)
+        with subtests.test(name):
+            both.ours("view", ["view", *both.options], vault, text)
 
 
 def test_fixed_salt(both: Both) -> None:
@@ -197,16 +200,18 @@ def message_rows() -> dict[str, list[tuple[str, int]]]:
     return {what: [(theirs, int(first)), (ours, int(second))] for what, theirs, first, ours, second in rows}
 
 
-def test_messages(cases: Cases) -> None:
+def test_rows_of_messages() -> None:
+    assert sorted(message_rows()) == sorted(REFUSED)
+
+
+@pytest.mark.parametrize("what", REFUSED)
+@pytest.mark.parametrize("tool", [0, 1], ids=["theirs", "ours"])
+def test_messages(cases: Cases, tool: int, what: str) -> None:
     ansible = needs_ansible()
-    both = Both(cases, ansible, "")
     for name, content in refused_files().items():
         (cases.folder / name).write_bytes(content)
-    rows = message_rows()
-    assert sorted(rows) == sorted(REFUSED), "the page has a row for each"
-    for what, said in rows.items():
-        for tool, (text, status) in zip((ansible, cases.program), said):
-            done = both.in_folder([tool, *REFUSED[what].split()])
-            pattern = ".*".join(map(re.escape, f"ERROR! {text}".split("...")))
-            is_said = any(re.fullmatch(pattern, line) for line in done.stderr.decode().splitlines())
-            assert (done.returncode, is_said) == (status, True), f"{what}: {tool}"
+    text, status = message_rows()[what][tool]
+    done = Both(cases, ansible, "").in_folder([(ansible, cases.program)[tool], *REFUSED[what].split()])
+    pattern = ".*".join(map(re.escape, f"ERROR! {text}".split("...")))
+    is_said = any(re.fullmatch(pattern, line) for line in done.stderr.decode().splitlines())
+    assert (done.returncode, is_said) == (status, True), done.stderr

@@ -1,37 +1,17 @@
-"""Runs the shell of docs/workflows.md and the examples of the manual pages as they stand there, and what the CAVEATS
-of the program's warn of, with the program as `ansible-vault` and its companions beside it. What the companions do
-otherwise is tested by `companion_cases`.
+"""Runs the shell of docs/workflows.md as it stands there. What the companions do otherwise is tested by
+`companion_cases`.
 """
 
-import os
 import pathlib
-import pty
 import re
-import stat
-import subprocess
-import termios
-import time
-from collections.abc import Callable
 
 import pytest
 
-from lib.limits import SECONDS
 from lib.needs import needs
-from lib.option_sets import sections
-from lib.paths import COMPANIONS, PAGE, ROOT
-from model.vaults import seal, yaml_block
-from shells import all_shown
+from lib.paths import ROOT
+from lib.repository import MARKS, PASSWORDS, SETTINGS, Repository, block
+from model.vaults import seal
 
-# One has what some shells' `echo` would interpret.
-PASSWORDS = {
-    "old.pass": b"the old one",
-    "new.pass": b"the new one",
-    "prod.pass": b"in production",
-    "ci.pass": rb"of \CI\t\\",
-}
-# As the document marks files.
-MARKS = "*.vault.yml diff=ansible-vault merge=ansible-vault\nvault.yml diff=ansible-vault merge=ansible-vault\n"
-SETTINGS = "[defaults]\nvault_identity_list = prod@~/.vault/prod.pass\n"
 INVENTORY = "web1 ansible_connection=local\n"
 # The tools that a recipe needs besides git.
 TOOLS = {
@@ -39,7 +19,6 @@ TOOLS = {
     "Vaults and blocks for playbooks": ["ansible-playbook"],
     "A password that is typed": ["bash"],
     "A pipeline": ["ansible-playbook"],
-    "Type a password,": ["bash", "zsh"],
 }
 PLAYBOOK = """\
 - hosts: all
@@ -77,75 +56,6 @@ def shown_settings() -> str:
     return re.search(r"^```ini\n(.*?)^```$", document, re.MULTILINE | re.DOTALL)[1]
 
 
-def examples(page: pathlib.Path = PAGE) -> dict[str, str]:
-    """The shell of each of the EXAMPLES of a manual page, by the first three words of the text before it."""
-    display = r"(?:\A|^\.Pp)\n((?:(?!\.Pp$).+\n)+?)\.Bd .*\n((?:.*\n)+?)\.Ed$"
-    found = re.findall(display, sections(page.read_text())["EXAMPLES"], re.MULTILINE)
-    lines = lambda text: [line.removeprefix("$ ") for line in shown(text).splitlines()]
-    return {" ".join(words.split()[:3]): "\n".join(lines(text)) + "\n" for words, text in found}
-
-
-def shown(text: str) -> str:
-    """What a display of the page shows."""
-    for spelling, character in ((r"\(aq", "'"), (r"\(ha", "^"), (r"\e", "\\")):
-        text = text.replace(spelling, character)
-    return text
-
-
-class Repository:
-    """A folder under git, where `ansible-vault` is the program. The password files are in it, for the examples of the
-    manual page, and below the home folder."""
-
-    def __init__(self, path: pathlib.Path, program: str):
-        self.folder = path / "repository"
-        tools = path / "tools"
-        tools.mkdir()
-        (tools / "ansible-vault").symlink_to(program)
-        for companion in (ROOT / "companions").glob("ansible-vault-*"):
-            (tools / companion.name).symlink_to(companion)
-        names = {"GIT_AUTHOR_NAME": "a", "GIT_AUTHOR_EMAIL": "a@b", "GIT_COMMITTER_NAME": "a"}
-        self.environment = (
-            os.environ
-            | names
-            | {
-                "GIT_COMMITTER_EMAIL": "a@b",
-                "GIT_CONFIG_GLOBAL": "/dev/null",
-                "HOME": str(path),
-                "PATH": f"{tools}{os.pathsep}{os.environ['PATH']}",
-            }
-        )
-        self.folder.mkdir()
-        self.shell("git init -q && echo '*.pass' > .gitignore")
-        (path / ".vault").mkdir(mode=0o700)
-        for name, password in PASSWORDS.items():
-            self.put(name, password + b"\n")
-            (path / ".vault" / name).write_bytes(password + b"\n")
-
-    def put(self, name: str, content: bytes):
-        path = self.folder / name
-        path.parent.mkdir(parents=True, exist_ok=True)
-        path.write_bytes(content)
-
-    def get(self, name: str) -> bytes:
-        return (self.folder / name).read_bytes()
-
-    def mode(self, name: str) -> str:
-        return oct(stat.S_IMODE((self.folder / name).stat().st_mode))
-
-    def script(self, text: str, name: str = "script") -> str:
-        """The path of a program that runs this shell; it is on PATH."""
-        path = self.folder.parent / "tools" / name
-        path.write_text(f"#!/bin/sh\n{text}\n")
-        path.chmod(0o755)
-        return str(path)
-
-    def shell(self, text: str, folder: str = ".", stdin: str = "", interpreter: str = "sh", **variables: str):
-        where, environment = self.folder / folder, self.environment | variables
-        return subprocess.run(
-            [interpreter, "-c", text], cwd=where, env=environment, input=stdin, capture_output=True, text=True
-        )
-
-
 def check_differences(repository: Repository, shell: str):
     """A file that is at first not encrypted, then under the old password, then under the new one."""
     name = "group_vars/all/vault.yml"
@@ -161,10 +71,9 @@ def check_differences(repository: Repository, shell: str):
     assert ran.stdout.splitlines() == shown, "git shows and finds the plaintext"
     changes = [("-", "second"), ("+", "third"), ("-", "first"), ("+", "second"), ("+", "first")]
     wanted = [f"{sign}db_password: {text}" for sign, text in changes]
-    for folder in (".", "group_vars"):
-        shown = repository.shell("git log -p --format=", folder)
-        found = [line for line in shown.stdout.splitlines() if re.match(r"[-+]db_password", line)]
-        assert (shown.returncode, found) == (0, wanted), f"git shows the plaintext of each commit in `{folder}`"
+    ran = [repository.shell("git log -p --format=", folder) for folder in (".", "group_vars")]
+    found = [(each.returncode, re.findall(r"^[-+]db_password.*$", each.stdout, re.MULTILINE)) for each in ran]
+    assert found == [(0, wanted)] * 2, "git shows the plaintext of each commit, in each folder"
 
 
 def played(shown: str) -> list[str]:
@@ -183,9 +92,9 @@ def check_settings(repository: Repository, shell: str):
     assert shown_settings() == SETTINGS, "the other recipes have the same settings"
     assert ran.stdout.splitlines()[:1] == ["shared: battery staple"], "the vault is shown"
     assert played(ran.stdout) == ["battery staple"], "ansible-playbook reads it by the same settings"
-    for name in ("host_vars/web1/secrets.yml", "group_vars/all/vault.yml"):
-        first = repository.get(name).splitlines()[0]
-        assert first == b"$ANSIBLE_VAULT;1.2;AES256;prod", f"{name} is a vault of the label"
+    names = ("host_vars/web1/secrets.yml", "group_vars/all/vault.yml")
+    first_lines = [repository.get(name).partition(b"\n")[0] for name in names]
+    assert first_lines == [b"$ANSIBLE_VAULT;1.2;AES256;prod"] * 2, "both are vaults of the label"
 
 
 def check_playbook(repository: Repository, shell: str):
@@ -213,49 +122,10 @@ def check_edit(repository: Repository, shell: str):
 
 def check_asked(repository: Repository, shell: str):
     repository.put("group_vars/all/vault.yml", seal(PASSWORDS["old.pass"], b"shown\n"))
-    for password, wanted in ((PASSWORDS["old.pass"], True), (b"another", False)):
-        shown = pasted(repository, f"{shell.rstrip()}; exit\n", password.decode())
-        assert ("shown\r\n" in shown) == wanted, f"`{password.decode()}` is typed"
-        assert shown.count(password.decode()) == 0, "and is not shown"
-
-
-def check_typed(repository: Repository, shell: str):
-    repository.put("vault.yml", seal(PASSWORDS["old.pass"], b"shown\n"))
-    for interpreter in ("bash", "zsh"):
-        for password, wanted in ((PASSWORDS["old.pass"], (0, "shown\n")), (b"another", (1, ""))):
-            ran = repository.shell(shell, stdin=password.decode() + "\n", interpreter=interpreter)
-            assert (ran.returncode, ran.stdout) == wanted, f"{interpreter}: `{password.decode()}` is typed"
-    shown = pasted(repository, shell, PASSWORDS["old.pass"].decode())
-    assert "shown\r\n" in shown, "pasted on a terminal it waits for the password"
-    assert shown.count(PASSWORDS["old.pass"].decode()) == 0, "and the password is not shown"
-
-
-def pasted(repository: Repository, shell: str, password: str) -> str:
-    """What a terminal shows where the shell is pasted, and the password is typed when it is waited for."""
-    controller, terminal = pty.openpty()
-    command = ["bash", "--norc", "--noprofile", "-i"]
-    environment = repository.environment | {"PS1": "$ ", "TERM": "dumb"}
-    streams = {"stdin": terminal, "stdout": terminal, "stderr": terminal}
-    process = subprocess.Popen(command, cwd=repository.folder, env=environment, start_new_session=True, **streams)
-    os.close(terminal)
-    os.write(controller, shell.encode())
-    wait_for_question(controller)
-    os.write(controller, f"{password}\nexit\n".encode())
-    shown = all_shown(controller)
-    process.kill()
-    process.wait()
-    os.close(controller)
-    return shown.decode()
-
-
-def wait_for_question(terminal: int):
-    """Until the shell reads a line and shows nothing of it; a line that is edited comes key by key."""
-    end = time.monotonic() + SECONDS
-    while time.monotonic() < end:
-        mode = termios.tcgetattr(terminal)[3]
-        if mode & termios.ICANON and not mode & termios.ECHO:
-            return
-        time.sleep(0.02)
+    passwords = ("the old one", "another")
+    shown = [repository.pasted(f"{shell.rstrip()}; exit\n", password) for password in passwords]
+    assert ["shown\r\n" in each for each in shown] == [True, False], "one of them is right"
+    assert [each for each, password in zip(shown, passwords) if password in each] == [], "and none is shown"
 
 
 def check_rotation(repository: Repository, shell: str):
@@ -286,10 +156,6 @@ def check_check(repository: Repository, shell: str):
     assert (ran.returncode, ran.stdout.splitlines(), ran.stderr) == (0, lines, ""), "a check"
     repository.put("b.yml", seal(b"unknown", b"b"))
     assert repository.shell(shell).returncode == 1, "a stray vault"
-
-
-def block(name: str, text: str, password: str, label: str) -> str:
-    return yaml_block(seal(PASSWORDS[password], text.encode(), label.encode()), name.encode()).decode()
 
 
 def check_hook(repository: Repository, shell: str):
@@ -413,15 +279,14 @@ def check_pipeline(repository: Repository, shell: str):
     repository.put("inventory", INVENTORY.encode())
     repository.put("playbook.yml", SHORT_PLAYBOOK.encode())
     repository.shell("git add -A && git commit -qm one && git update-ref refs/remotes/origin/main HEAD")
-    ran = repository.shell(f"set -e\n{shell}", VAULT_PASSWORD=PASSWORDS["ci.pass"].decode())
+    password = {"VAULT_PASSWORD": PASSWORDS["ci.pass"].decode()}
+    ran = repository.shell(f"set -e\n{shell}", **password)
     assert (ran.returncode, ran.stderr) == (0, ""), "all is well"
     counts = "1 decrypted, 0 not, 1 of other labels (prod 1)"
     assert counts in ran.stdout.splitlines(), "and counted"
     assert played(ran.stdout) == ["battery staple"], "the playbook is run with the same password"
     checks = shell.splitlines()[:4]
-    statuses = lambda: [
-        repository.shell(line, VAULT_PASSWORD=PASSWORDS["ci.pass"].decode()).returncode for line in checks
-    ]
+    statuses = lambda: [repository.shell(line, **password).returncode for line in checks]
     repository.put("vault.yml", b"a: 1\n")
     repository.shell("git add -A && git commit -qm two --no-verify")
     assert statuses() == [1, 1, 0, 1], "plaintext"
@@ -430,55 +295,6 @@ def check_pipeline(repository: Repository, shell: str):
     assert statuses() == [0, 1, 0, 0], "plaintext in between"
     ran = repository.shell(f"set -e\n{shell}", VAULT_PASSWORD="another")
     assert ran.returncode == 1, "another password"
-
-
-def check_encrypt(repository: Repository, shell: str):
-    repository.put("plain.yml", b"plain: text\n")
-    repository.put("group_vars/all/.keep", b"")
-    ran = repository.shell(shell)
-    assert (ran.returncode, ran.stderr) == (0, ""), "a file is encrypted and decrypted"
-    first = repository.get("group_vars/all/vault.yml").splitlines()[0]
-    assert first == b"$ANSIBLE_VAULT;1.2;AES256;prod", "one is a vault"
-    assert repository.get("other.yml") == b"plain: text\n", "the other is its plaintext"
-
-
-def check_string(repository: Repository, shell: str):
-    repository.put("vars.yml", b"first: 1\n")
-    ran = repository.shell(shell, secret="correct horse")
-    assert (ran.returncode, ran.stderr) == (0, ""), "a block is made"
-    first, second, text = repository.get("vars.yml").decode().split("\n", 2)
-    assert (first, second) == ("first: 1", "db_password: !vault |"), "it is appended"
-    repository.put("block", "".join(line.strip() + "\n" for line in text.splitlines()).encode())
-    shown = repository.shell("ansible-vault view --vault-password-file prod.pass block").stdout
-    assert shown == "correct horse", "of the secret"
-
-
-LOST_PASSWORD = """\
-ansible-vault encrypt --vault-password-file pass --output pass plain
-ansible-vault view --vault-password-file pass pass
-"""
-CUT_LOG = """\
-ansible-vault encrypt --vault-password-file pass --output vault plain
-ansible-vault decrypt --vault-password-file pass --output {} vault >> log
-"""
-
-
-def check_lost_password(repository: Repository, shell: str):
-    repository.put("pass", b"a password\n")
-    repository.put("plain", b"text\n")
-    ran = repository.shell(shell)
-    wanted = (1, "", "ERROR! a password file is itself a vault\n")
-    assert (ran.returncode, ran.stdout, ran.stderr) == wanted, "the only copy of a password is lost"
-
-
-def check_cut_log(repository: Repository, shell: str):
-    repository.put("pass", b"a password\n")
-    repository.put("plain", b"text\n")
-    for path, wanted in (("/dev/stdout", b"text\n"), ("-", b"first\ntext\n")):
-        repository.put("log", b"first\n")
-        ran = repository.shell(shell.format(path))
-        found = ran.returncode, ran.stderr, repository.get("log")
-        assert found == (0, "", wanted), f"a log with --output {path}"
 
 
 RECIPES = {
@@ -497,90 +313,13 @@ RECIPES = {
     "A hook against plaintext": check_hook,
     "A pipeline": check_pipeline,
 }
-DISPLAYS = {"Encrypt a file": check_encrypt, "Make a block": check_string, "Type a password,": check_typed}
-# Those of a companion's page that need more than `example_repository` has.
-ROTATED = "old.pass"
-CODE = """\
-[ "$1" = --wait ] || exit 1
-shift
-exec "$EDITOR_OF_TEST" "$@"
-"""
-
-
-def example_repository(repository: Repository, password: str) -> str:
-    """What the examples of the companions' pages work on; and the editor."""
-    vault = lambda text: seal(PASSWORDS[password], text, b"prod")
-    repository.put("ansible.cfg", SETTINGS.encode())
-    repository.put(".gitattributes", MARKS.encode())
-    for name in ("group_vars/all/vault.yml", "one.vault.yml", "a.yml", "b.yml"):
-        repository.put(name, vault(b"a: 1\nb: 2\nc: 3\nd: 4\n"))
-    repository.put("host_vars/web1.yml", block("db_password", "correct horse", password, "prod").encode())
-    repository.put("get-pass", b"#!/bin/sh\ncat prod.pass\n")
-    (repository.folder / "get-pass").chmod(0o755)
-    repository.shell("git add -A && git commit -qm one && git update-ref refs/remotes/origin/main HEAD")
-    repository.shell("git checkout -qb branch")
-    repository.put("one.vault.yml", vault(b"a: 1\nb: 2\nc: 3\nd: 5\n"))
-    repository.shell("git commit -qam two && git checkout -q -")
-    repository.put("one.vault.yml", vault(b"a: 0\nb: 2\nc: 3\nd: 4\n"))
-    repository.shell("git commit -qam three")
-    repository.script(CODE, "code")
-    return repository.script("sed -i -e 's/horse/staple/' -e 's/a: 1/a: 2/' \"$1\"")
-
-
-def check_example(repository: Repository, name: str, shell: str) -> None:
-    """It ends well, and says nothing on standard error; a password that is asked for is typed."""
-    editor = example_repository(repository, ROTATED if name == "ansible-vault-rotate" else "prod.pass")
-    if "prompt" in shell or "--ask-" in shell:
-        typed = pasted(repository, shell.rstrip() + " && echo d''one; exit\n", PASSWORDS["prod.pass"].decode())
-        assert "done\r\n" in typed, "it ends well"
-        return
-    ran = repository.shell(shell, EDITOR=editor, EDITOR_OF_TEST=editor, secret="correct horse", GIT_EDITOR="true")
-    status = 1 if "--dry-run" in shell else 0
-    assert (ran.returncode, ran.stderr) == (status, ""), "it ends well"
-
-
-EXAMPLES = [(name, title) for name in COMPANIONS for title in examples(PAGE.with_name(f"{name}.1"))]
-
-
-@pytest.mark.parametrize("name, title", EXAMPLES)
-def test_companion_example(repository: Repository, name: str, title: str) -> None:
-    check_example(repository, name, examples(PAGE.with_name(f"{name}.1"))[title])
-
-
-def test_companions_have_examples() -> None:
-    assert {name for name, _ in EXAMPLES} == {*COMPANIONS}, "each companion's page has examples"
-
-
-WARNINGS = {"A lost password": (LOST_PASSWORD, check_lost_password), "A cut log": (CUT_LOG, check_cut_log)}
 
 
 def test_each_recipe_is_run() -> None:
-    assert sorted(recipes()) == sorted(RECIPES), "the sections of docs/workflows.md"
-    assert sorted(examples()) == sorted(DISPLAYS), "the examples of the manual page"
-
-
-@pytest.fixture
-def repository(tmp_path: pathlib.Path, program: str) -> Repository:
-    needs("git")
-    return Repository(tmp_path, program)
-
-
-def check_recipe(repository: Repository, title: str, check: Callable, shell: str) -> None:
-    needs(*TOOLS.get(title, []))
-    check(repository, shell)
+    assert sorted(recipes()) == sorted(RECIPES)
 
 
 @pytest.mark.parametrize("title", RECIPES)
-def test_recipe(repository: Repository, title: str) -> None:
-    check_recipe(repository, title, RECIPES[title], recipes()[title])
-
-
-@pytest.mark.parametrize("title", DISPLAYS)
-def test_example(repository: Repository, title: str) -> None:
-    check_recipe(repository, title, DISPLAYS[title], examples()[title])
-
-
-@pytest.mark.parametrize("title", WARNINGS)
-def test_caveat(repository: Repository, title: str) -> None:
-    shell, check = WARNINGS[title]
-    check(repository, shell)
+def test_recipe(tmp_path: pathlib.Path, program: str, title: str) -> None:
+    needs("git", *TOOLS.get(title, []))
+    RECIPES[title](Repository(tmp_path, program), recipes()[title])

@@ -2,6 +2,7 @@
 environment variable ANSIBLE_VAULT.
 """
 
+import functools
 import os
 import shutil
 import subprocess
@@ -13,6 +14,7 @@ from lib.locales import PLAIN
 NAMES = ("ansible-vault", "ansible-vault-original")
 
 
+@functools.cache
 def is_ansible(path: str) -> bool:
     """Fails if the tool does: one that is there and does not run is no reason to leave out a test."""
     environment = os.environ | PLAIN

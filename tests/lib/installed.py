@@ -59,9 +59,9 @@ def check_program(program: pathlib.Path, where: str):
 
 def check_companions(program: pathlib.Path, where: str, secret: list[str]):
     """Each runs and says what it is; and one calls the program beside it."""
-    for name in sorted(COMPANIONS):
-        output = printed(str(program.with_name(name)), "--help", PATH=os.defpath)
-        assert output.startswith(f"usage: {name}"), f"{name} beside {where} has a help"
+    helps = {name: printed(str(program.with_name(name)), "--help", PATH=os.defpath) for name in COMPANIONS}
+    silent = [name for name, text in helps.items() if not text.startswith(f"usage: {name}")]
+    assert silent == [], f"the companions beside {where} that have no help"
     vault = str(FIXTURES / "format-1.1.vault")
     output = printed(str(program.with_name("ansible-vault-check")), *secret, vault, PATH=os.defpath)
     wanted = f"{vault}: default: decrypted by {secret[-1]}\n1 decrypted, 0 not\n"

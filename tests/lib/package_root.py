@@ -50,7 +50,7 @@ def build_package(top: Path, folder: Path, control: str) -> Path:
     (top / "DEBIAN/control").write_text(control)
     fields = dict(re.findall(r"^(Package|Version): (.*)$", control, re.MULTILINE))
     package = folder / f"{fields['Package']}_{fields['Version']}.deb"
-    command = ["dpkg-deb", "--root-owner-group", "-b", str(top), str(package)]
+    command = ["dpkg-deb", "--root-owner-group", "-Znone", "-b", str(top), str(package)]
     subprocess.run(command, check=True, capture_output=True)
     return package
 

@@ -1,5 +1,6 @@
 """What bash, zsh and fish offer for a command line of the program or of a companion."""
 
+import functools
 import os
 import pathlib
 import pty
@@ -101,10 +102,16 @@ def fish(line: str, folder: pathlib.Path, alias: str = "") -> set[str]:
     return {match.split("\t")[0] for match in found}
 
 
+@functools.cache
+def zsh_functions(completions: pathlib.Path) -> tempfile.TemporaryDirectory:
+    """A folder with the completion by the name that zsh looks for, where it notes all the functions that it found."""
+    functions = tempfile.TemporaryDirectory()
+    shutil.copy(completions / f"{NAME}.zsh", pathlib.Path(functions.name) / f"_{NAME}")
+    return functions
+
+
 def zsh(line: str, folder: pathlib.Path, alias: str = "") -> set[str]:
-    with tempfile.TemporaryDirectory() as functions:
-        shutil.copy(COMPLETIONS / f"{NAME}.zsh", pathlib.Path(functions) / f"_{NAME}")
-        return printed([str(HERE / "zsh_matches"), functions, line, alias], folder)
+    return printed([str(HERE / "zsh_matches"), zsh_functions(COMPLETIONS).name, line, alias], folder)
 
 
 SHELLS = {"bash": bash, "zsh": zsh, "fish": fish}

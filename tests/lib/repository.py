@@ -1,0 +1,110 @@
+"""A repository of git, in which the shell of a document is run with the program as `ansible-vault` and its companions
+beside it.
+"""
+
+import os
+import pathlib
+import pty
+import stat
+import subprocess
+import termios
+import time
+
+from lib.limits import SECONDS
+from lib.paths import COMPANIONS
+from model.vaults import seal, yaml_block
+from shells import all_shown
+
+# One has what some shells' `echo` would interpret.
+PASSWORDS = {
+    "old.pass": b"the old one",
+    "new.pass": b"the new one",
+    "prod.pass": b"in production",
+    "ci.pass": rb"of \CI\t\\",
+}
+# As the document marks files.
+MARKS = "*.vault.yml diff=ansible-vault merge=ansible-vault\nvault.yml diff=ansible-vault merge=ansible-vault\n"
+SETTINGS = "[defaults]\nvault_identity_list = prod@~/.vault/prod.pass\n"
+
+
+class Repository:
+    """A folder under git, where `ansible-vault` is the program. The password files are in it, for the examples of the
+    manual page, and below the home folder."""
+
+    def __init__(self, path: pathlib.Path, program: str):
+        self.folder = path / "repository"
+        tools = path / "tools"
+        tools.mkdir()
+        (tools / "ansible-vault").symlink_to(program)
+        for name, companion in COMPANIONS.items():
+            (tools / name).symlink_to(companion)
+        self.environment = os.environ | {
+            "GIT_AUTHOR_NAME": "a",
+            "GIT_AUTHOR_EMAIL": "a@b",
+            "GIT_COMMITTER_NAME": "a",
+            "GIT_COMMITTER_EMAIL": "a@b",
+            "GIT_CONFIG_GLOBAL": "/dev/null",
+            "HOME": str(path),
+            "PATH": f"{tools}{os.pathsep}{os.environ['PATH']}",
+        }
+        self.folder.mkdir()
+        self.shell("git init -q && echo '*.pass' > .gitignore")
+        (path / ".vault").mkdir(mode=0o700)
+        for name, password in PASSWORDS.items():
+            self.put(name, password + b"\n")
+            (path / ".vault" / name).write_bytes(password + b"\n")
+
+    def put(self, name: str, content: bytes):
+        path = self.folder / name
+        path.parent.mkdir(parents=True, exist_ok=True)
+        path.write_bytes(content)
+
+    def get(self, name: str) -> bytes:
+        return (self.folder / name).read_bytes()
+
+    def mode(self, name: str) -> str:
+        return oct(stat.S_IMODE((self.folder / name).stat().st_mode))
+
+    def script(self, text: str, name: str = "script") -> str:
+        """The path of a program that runs this shell; it is on PATH."""
+        path = self.folder.parent / "tools" / name
+        path.write_text(f"#!/bin/sh\n{text}\n")
+        path.chmod(0o755)
+        return str(path)
+
+    def shell(self, text: str, folder: str = ".", stdin: str = "", interpreter: str = "sh", **variables: str):
+        where, environment = self.folder / folder, self.environment | variables
+        return subprocess.run(
+            [interpreter, "-c", text], cwd=where, env=environment, input=stdin, capture_output=True, text=True
+        )
+
+    def pasted(self, shell: str, password: str) -> str:
+        """What a terminal shows where the shell is pasted, and the password is typed when it is waited for."""
+        controller, terminal = pty.openpty()
+        command = ["bash", "--norc", "--noprofile", "-i"]
+        environment = self.environment | {"PS1": "$ ", "TERM": "dumb"}
+        streams = {"stdin": terminal, "stdout": terminal, "stderr": terminal}
+        process = subprocess.Popen(command, cwd=self.folder, env=environment, start_new_session=True, **streams)
+        os.close(terminal)
+        os.write(controller, shell.encode())
+        wait_for_question(controller)
+        os.write(controller, f"{password}\nexit\n".encode())
+        shown = all_shown(controller)
+        process.kill()
+        process.wait()
+        os.close(controller)
+        return shown.decode()
+
+
+def wait_for_question(terminal: int):
+    """Until the shell reads a line and shows nothing of it; a line that is edited comes key by key."""
+    end = time.monotonic() + SECONDS
+    while time.monotonic() < end:
+        mode = termios.tcgetattr(terminal)[3]
+        if mode & termios.ICANON and not mode & termios.ECHO:
+            return
+        time.sleep(0.02)
+
+
+def block(name: str, text: str, password: str, label: str) -> str:
+    return yaml_block(seal(PASSWORDS[password], text.encode(), label.encode()), name.encode()).decode()
