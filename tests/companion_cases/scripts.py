@@ -172,11 +172,23 @@ def test_secrecy(place: Place) -> None:
     assert holding == [], "and none is written"
 
 
-def test_signals(place: Place) -> None:
+# Runs a companion whose waits are not interrupted by a signal: another thread takes it.
+BESIDE_A_THREAD = """
+import os, runpy, signal, sys, threading
+threading.Thread(target=threading.Event().wait, daemon=True).start()
+signal.pthread_sigmask(signal.SIG_BLOCK, [signal.SIGTERM])
+sys.argv = sys.argv[1:]
+sys.path[0] = os.path.dirname(os.path.realpath(sys.argv[0]))
+runpy.run_path(sys.argv[0], run_name="__main__")
+"""
+
+
+@pytest.mark.parametrize("words", [[], ["python3", "-c", BESIDE_A_THREAD]], ids=["alone", "beside a thread"])
+def test_signals(place: Place, words: list[str]) -> None:
     """A signal ends the script, too, and the companion as it would have ended it."""
     place.put("a.yml", sealed("dev"))
     place.script("sleep 600 & echo $! > ../sleeping; kill -TERM $PPID; wait")
-    done = place.run(CHECK, "--vault-password-file", "../script", "a.yml")
+    done = place.run(*words, str(place.tools / CHECK), "--vault-password-file", "../script", "a.yml")
     assert (done.returncode, done.stdout, done.stderr) == (-15, "", ""), "it ends by the signal"
     sleeping = Path("/proc", (place.path / "sleeping").read_text().strip(), "stat")
     state = sleeping.read_text().rpartition(")")[2].split()[0] if sleeping.exists() else "Z"
