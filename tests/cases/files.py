@@ -103,8 +103,6 @@ def test_outputs(cases: Cases, subtests: SubTests, command: str) -> None:
     with subtests.test("to -"):
         cases.run([*sample.words, "--output", "-"], *to_stdout)
         assert not os.path.exists("-"), "no file called -"
-    with subtests.test("to a device"):
-        cases.run([*sample.words, "--output", cases.device("null")], sample.stdin)
     with subtests.test("to standard output by name"):
         cases.run([*sample.words, "--output=/dev/stdout"], *to_stdout)
 
