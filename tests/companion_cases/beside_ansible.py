@@ -19,11 +19,9 @@ FILES_OF_A_LABEL = 3
 PLAYBOOK = """\
 - hosts: all
   gather_facts: false
-  vars_files: [{files}]
   tasks:
     - ansible.builtin.debug:
-        msg: "{{{{ item }}}}={{{{ lookup('vars', item) }}}}"
-      loop: [{names}]
+        msg: "{{{{ query('vars', {names}) | join(';') }}}}"
     - ansible.builtin.copy:
         src: whole.txt
         dest: "{{{{ playbook_dir }}}}/../copied"
@@ -59,17 +57,17 @@ def make_repository(place: Place, ansible: str) -> tuple[list[str], list[str]]:
         texts = {f"{label}_block{number}": f"block {number} of {label}" for number in range(3)}
         inner = {f"{following}_inner": f"in a vault of {following}"}
         first, second, third, within = encrypted_strings(place, ansible, label, texts | inner)
-        place.put(f"vars/{label}_blocks.yml", f"# blocks\n{first}{second}".encode())
-        place.put(f"vars/{label}_more.yml", third.rstrip("\n").replace("\n", "\r\n").encode())
-        place.put(f"vars/{following}_nested.yml", f"{following}_outer: around it\n{within}".encode())
+        place.put(f"group_vars/all/{label}_blocks.yml", f"# blocks\n{first}{second}".encode())
+        place.put(f"group_vars/all/{label}_more.yml", third.rstrip("\n").replace("\n", "\r\n").encode())
+        place.put(f"group_vars/all/{following}_nested.yml", f"{following}_outer: around it\n{within}".encode())
         names += [*texts, f"{label}_outer", f"{label}_inner"]
-        files += [f"vars/{label}_{name}.yml" for name in ("blocks", "more")]
+        files += [f"group_vars/all/{label}_{name}.yml" for name in ("blocks", "more")]
     place.put("files/whole.txt", b"a whole file\n")
     for label, (old, _) in LABELS.items():
-        vaults = [f"vars/{label}{number}.yml" for number in range(FILES_OF_A_LABEL)]
+        vaults = [f"group_vars/all/{label}{number}.yml" for number in range(FILES_OF_A_LABEL)]
         for number, name in enumerate(vaults):
             place.put(name, f"{label}{number}: text {number} of {label}\n".encode())
-        vaults += [f"vars/{label}_nested.yml", *(["files/whole.txt"] if label == "prod" else [])]
+        vaults += [f"group_vars/all/{label}_nested.yml", *(["files/whole.txt"] if label == "prod" else [])]
         theirs(place, ansible, "encrypt", *place.by_id(label, old), "--encrypt-vault-id", label, *vaults)
         names += [f"{label}{number}" for number in range(FILES_OF_A_LABEL)]
         files += vaults
@@ -79,7 +77,8 @@ def make_repository(place: Place, ansible: str) -> tuple[list[str], list[str]]:
 def played(place: Place, playbook: str, which: int) -> list[str]:
     (place.path / "copied").unlink(missing_ok=True)
     done = theirs(place, playbook, *secrets(place, which), "-i", "localhost,", "-c", "local", "play.yml")
-    return [*re.findall(r'"msg": "(.*)"', done.stdout.decode()), (place.path / "copied").read_text()]
+    [message] = re.findall(r'"msg": "(.*)"', done.stdout.decode())
+    return [*message.split(";"), (place.path / "copied").read_text()]
 
 
 def test_a_repository(place: Place, subtests: SubTests) -> None:
@@ -87,8 +86,7 @@ def test_a_repository(place: Place, subtests: SubTests) -> None:
     playbook = Path(ansible).with_name("ansible-playbook")
     needs(str(playbook))
     files, names = make_repository(place, ansible)
-    listed = ", ".join(name for name in files if name.startswith("vars/"))
-    place.put("play.yml", PLAYBOOK.format(files=listed, names=", ".join(names)).encode())
+    place.put("play.yml", PLAYBOOK.format(names=str(names)[1:-1]).encode())
     assert len(files) == 19, "how many files the repository has"
     before = played(place, str(playbook), 0)
     assert len(before) == len(names) + 1, "the playbook reads each"
@@ -103,7 +101,7 @@ def test_a_repository(place: Place, subtests: SubTests) -> None:
     ended("the old secrets decrypt none", place.run(CHECK, *secrets(place, 0), "."), 1, counts)
     for label, (_, new) in LABELS.items():
         with subtests.test(label):
-            vaults = [name for name in files if re.match(rf"vars/{label}\d", name)]
+            vaults = [name for name in files if re.match(rf"group_vars/all/{label}\d", name)]
             header = "1.1;AES256" if label == "default" else f"1.2;AES256;{label}"
             first_lines = {place.get(name).partition(b"\n")[0] for name in vaults}
             assert first_lines == {f"$ANSIBLE_VAULT;{header}".encode()}, "the label"

@@ -157,20 +157,19 @@ def blocks(data: bytes) -> list[tuple]:
     return [(part.partition(b"\n")[0] if b"!vault" in part else b"", described(part)) for part in parts if part]
 
 
-@pytest.mark.parametrize("row", ROWS)
-def test_lines(cases: Companions, row) -> None:
+@pytest.mark.parametrize("row", ROWS, ids=lambda row: f"{row.line}: {row.does}")
+def test_lines(cases: Companions, row: Row) -> None:
     needs("bash")
-    what = f"{row.line}: {row.does}"
     place = cases.place()
     session = run(place, WITH, row)
     ours = outcome(place, session)
-    assert ours[0] is True, f"{what}: status ({session.stderr} {session.shown})"
+    assert ours[0] is True, f"status ({session.stderr} {session.shown})"
     ansible = needs_ansible()
     place = cases.place()
     with for_ansible(place):
         session = run(place, ansible, row._replace(typed=[]) if row.refused else row)
         theirs = outcome(place, session)
     if row.refused:
-        assert row.refused in session.stderr, f"{row.line}: Ansible's tool refuses it"
+        assert row.refused in session.stderr, "Ansible's tool refuses it"
     else:
-        assert ours == theirs, f"{what}: as Ansible's tool ({session.stderr})"
+        assert ours == theirs, f"as Ansible's tool ({session.stderr})"
