@@ -7,7 +7,8 @@ from pathlib import Path
 import pytest
 
 from companion_cases import Companions, Place, copy_tools
-from lib.needs import needs
+from lib.ansible_runs import AnsibleRuns
+from lib.needs import needs, needs_ansible
 
 
 @pytest.fixture(scope="session")
@@ -27,6 +28,14 @@ def cases(copies: Path, tmp_path: Path) -> Companions:
 def place(cases: Companions) -> Place:
     """A tree of files, with the companions and the program on PATH, and password files."""
     return cases.place()
+
+
+@pytest.fixture(scope="session")
+def ansible_runs() -> Iterator[AnsibleRuns]:
+    """Ansible's tool. What a test compares without it comes before `request.getfixturevalue`, which may skip it."""
+    with tempfile.TemporaryDirectory(prefix="ansible-vault-home-") as home:
+        with AnsibleRuns(needs_ansible(), Path(home)) as runs:
+            yield runs
 
 
 @pytest.fixture

@@ -158,12 +158,13 @@ def test_what_is_typed(place: Place, subtests: SubTests) -> None:
     words = [WITH, "encrypt", "--vault-id", "dev@prompt", "a.yml"]
     for what, (answers, part) in refused.items():
         place.put("a.yml", TEXT)
+        before = place.names()
         with subtests.test(what):
             session = ask(place, *words, answers=answers)
             expected = (1, "", f"{WITH}: dev@prompt: {part}\n")
             assert (session.returncode, session.stdout, session.stderr) == expected
             assert session.echoes is True, "the terminal echoes again"
-            assert (place.get("a.yml"), place.names()) == (TEXT, ["a.yml"]), "nothing is changed"
+            assert (place.get("a.yml"), place.names()) == (TEXT, before), "nothing is changed"
     place.put("a.yml", TEXT)
     around = b"  " + PASSWORDS["dev"] + b" \n"
     session = ask(place, *words, answers=[(NEW_OF_DEV, around), (AGAIN_OF_DEV, PASSWORDS["dev"] + b"\n")])

@@ -16,7 +16,6 @@ from pytest_subtests import SubTests
 from companion_cases import PASSWORDS, SECONDS, TEXT, WITH, Place, decrypted, sealed
 from companion_cases.running import envelope_of
 from lib.ansible_runs import AnsibleRuns
-from lib.needs import needs_ansible
 
 SEED = 62
 # How long command lines are compared, in seconds, where their number is not given.
@@ -291,20 +290,20 @@ def opened(content: bytes, passwords: list[str]) -> tuple:
     return envelope.partition(b"\n")[0], next(((name, text) for name, text in texts if text is not None), None)
 
 
-def test_command_lines(place: Place, subtests: SubTests, pytestconfig: pytest.Config) -> None:
+def test_command_lines(
+    place: Place, ansible_runs: AnsibleRuns, subtests: SubTests, pytestconfig: pytest.Config
+) -> None:
     """Prints how many were compared."""
-    ansible = needs_ansible()
     most = pytestconfig.getoption("--comparisons")
     random, counts = Random(SEED), {"succeed in both": 0, "refused by both": 0, "refused only here, as documented": 0}
     end = time.monotonic() + SHARE
-    with AnsibleRuns(ansible, place.runtime) as runs:
-        both = Both(place, runs)
-        while sum(counts.values()) < most or not most and time.monotonic() < end:
-            case = random_case(random, place.secrets)
-            ours, theirs, messages = both.outcome(case)
-            if ours != (wanted := theirs or (False, None, {})):
-                with subtests.test(f"{sum(counts.values())}: {case.line.words(case.abbreviate)} {case}"):
-                    assert ours == wanted, messages
-            kind = 2 if theirs is None else 0 if theirs[0] else 1
-            counts[[*counts][kind]] += 1
+    both = Both(place, ansible_runs)
+    while sum(counts.values()) < most or not most and time.monotonic() < end:
+        case = random_case(random, place.secrets)
+        ours, theirs, messages = both.outcome(case)
+        if ours != (wanted := theirs or (False, None, {})):
+            with subtests.test(f"{sum(counts.values())}: {case.line.words(case.abbreviate)} {case}"):
+                assert ours == wanted, messages
+        kind = 2 if theirs is None else 0 if theirs[0] else 1
+        counts[[*counts][kind]] += 1
     print(f"random command lines: {', '.join(f'{count} {what}' for what, count in counts.items())}")

@@ -8,10 +8,9 @@ from pytest_subtests import SubTests
 
 from companion_cases import CHECK, EDIT, PASSWORDS, ROTATE, TEXT, TEXTCONV, WITH
 from companion_cases import Place, decrypted, ended, sealed, silent
-from companion_cases.both import ours, theirs
+from companion_cases.both import ours
 from companion_cases.secrecy import NOTE
 from companion_cases.terminal import at_terminal
-from lib.needs import needs_ansible
 
 # Records its arguments, and writes the password.
 RECORDING = 'echo "$0" "$@" > ../started; cat ../secrets/dev'
@@ -44,7 +43,7 @@ FAILING = {
 
 
 @pytest.mark.parametrize("option, arguments", STARTS.items())
-def test_how_they_start(place: Place, option: str, arguments: str) -> None:
+def test_how_they_start(place: Place, request: pytest.FixtureRequest, option: str, arguments: str) -> None:
     name = option.rpartition("/")[2]
     place.script(RECORDING, name)
     place.put("a.yml", sealed("dev"))
@@ -53,10 +52,11 @@ def test_how_they_start(place: Place, option: str, arguments: str) -> None:
     assert (done.returncode, done.stdout) == (0, TEXT.decode()), done.stderr
     recorded = started.read_text()
     assert recorded == f"{place.path}/{name}{arguments}\n", "its arguments"
-    ansible = needs_ansible()
+    ansible = request.getfixturevalue("ansible_runs")
     started.unlink()
-    done = theirs(place, ansible, "view", option, "a.yml")
-    assert TEXT.decode() in done.stdout, ("Ansible's tool decrypts it", done.stderr)
+    ansible.begin(["view", option, "a.yml"], place.tree, place.environment)
+    _, output, errors = ansible.end()
+    assert TEXT in output, ("Ansible's tool decrypts it", errors)
     assert started.read_text() == recorded, "it starts it so"
 
 

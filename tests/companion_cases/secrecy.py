@@ -46,14 +46,14 @@ def test_words_and_environment(place: Place) -> None:
 def test_written_files(place: Place, subtests: SubTests) -> None:
     """No plaintext is written but below the private folder of an edit."""
     needs("strace")
-    place.put("a.yml", sealed("old"))
-    place.put("b.yml", block("old"))
     place.environment["EDITOR"] = place.script('echo "db: changed" > "$1"', "editor")
     old = place.by_file("old")
     runs = [[EDIT, *old, "a.yml"], [CHECK, *old, "."], [TEXTCONV, *old, "b.yml"], [ROTATE, *to_new(place), "."]]
     trace = place.path / "trace"
     tracer = ["strace", "-f", "-s", "4096", "-o", str(trace), "-e", f"trace={CREATING}"]
     for name, *words in runs:
+        place.put("a.yml", sealed("old"))
+        place.put("b.yml", block("old"))
         with subtests.test(name):
             ended("under strace", place.run(*tracer, str(place.tools / name), *words), 0)
             lines = [line for line in trace.read_text().splitlines() if "O_CREAT" in line or "mkdir" in line]

@@ -2,10 +2,7 @@
 
 import json
 import subprocess
-from collections.abc import Iterator
-from pathlib import Path
 from random import Random
-from tempfile import TemporaryDirectory
 
 import pytest
 from pytest_subtests import SubTests
@@ -13,7 +10,6 @@ from pytest_subtests import SubTests
 from companion_cases import CHECK, EDIT, MERGE, ROTATE, SECONDS, TEXT, TEXTCONV, WITH
 from companion_cases import Companions, Place, block, decrypted, ended, sealed, silent
 from companion_cases.both import ours, theirs
-from lib.ansible_runs import AnsibleRuns
 from lib.needs import needs_ansible
 
 OPEN = ("old", "dev", "prod")
@@ -54,12 +50,6 @@ FILES = {
 }
 
 
-@pytest.fixture(scope="module")
-def ansible() -> Iterator[AnsibleRuns]:
-    with TemporaryDirectory() as home, AnsibleRuns(needs_ansible(), Path(home)) as runs:
-        yield runs
-
-
 @pytest.mark.parametrize("settings, files, wanted", [*VARIABLES.values(), *FILES.values()], ids=[*VARIABLES, *FILES])
 def test_variables_and_files(
     place: Place, request: pytest.FixtureRequest, settings: dict, files: dict, wanted: set
@@ -74,10 +64,10 @@ def test_variables_and_files(
     variables = {prefix(name): fill(text) for name, text in settings.items()} | {"WHICH": "prod"}
     done = ours(place, "view", *(f"{name}.yml" for name in OPEN), **variables)
     assert (done.returncode, done.stdout) == (1, "".join(f"{name}\n" for name in OPEN if name in wanted))
-    runs, found = request.getfixturevalue("ansible"), {}
+    ansible, found = request.getfixturevalue("ansible_runs"), {}
     for name in OPEN:
-        runs.begin(["view", f"{name}.yml"], place.tree, place.environment | variables)
-        status, output, _ = runs.end()
+        ansible.begin(["view", f"{name}.yml"], place.tree, place.environment | variables)
+        status, output, _ = ansible.end()
         found[name] = min(1, status), output.decode().strip()
     assert found == {name: (0, name) if name in wanted else (1, "") for name in OPEN}, "by Ansible's tool"
 
