@@ -78,7 +78,8 @@ def test_install(tmp_path: pathlib.Path, make: Callable) -> None:
     prefix = tmp_path / "opt" / "vault"
     assert files_below(prefix) == LOCAL_FILES, "make install puts the files below the prefix"
     check_program(prefix / "bin" / "ansible-vault", "the installed program")
-    assert dead_links(prefix / "share/doc/ansible-vault") == []
+    dead = dead_links(prefix / "share/doc/ansible-vault")
+    assert dead == [], dead
     assert make("uninstall", *words).returncode == 0, "make uninstall ends well"
     assert files_below(tmp_path) == set(), "make uninstall leaves no file"
     assert [*tmp_path.rglob("ansible*")] == [], "nor a folder of its own"
