@@ -55,7 +55,8 @@ def session(program: str, top: pathlib.Path) -> Iterator[tuple[Step, str]]:
 
 def test_five_minutes(program: str, tmp_path: pathlib.Path) -> None:
     assert len(steps(README.read_text())) > 0, "the README has a first session"
-    assert [(step, printed) for step, printed in session(program, tmp_path) if not step.is_met_by(printed)] == []
+    others = [(step, printed) for step, printed in session(program, tmp_path) if not step.is_met_by(printed)]
+    assert others == [], others
 
 
 def test_demo(program: str) -> None:

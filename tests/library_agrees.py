@@ -48,7 +48,8 @@ def test_calls() -> None:
     named = {(crate, call) for calls, crate in rows for call in re.findall(r"`(\w+)[\w:]*`", calls)}
     offered = {crate: (ROOT / "crates" / crate / "src" / "lib.rt").read_text() for crate, _ in named}
     is_offered = lambda crate, call: re.search(rf"^pub use .*\b{call}\b", offered[crate], re.MULTILINE)
-    assert [pair for pair in sorted(named) if not is_offered(*pair)] == []
+    missing = [pair for pair in sorted(named) if not is_offered(*pair)]
+    assert missing == [], missing
 
 
 def test_crate_lines() -> None:
@@ -81,4 +82,4 @@ def test_paths(name: str) -> None:
         elif "/" in word and re.search(r"\.(rt|antt|py|md|1)$", word):
             places = (ROOT / word, ROOT / "crates" / crate / word)
             missing += [] if any(map(Path.is_file, places)) else [(crate, word)]
-    assert missing == []
+    assert missing == [], missing

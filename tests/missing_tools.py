@@ -26,7 +26,7 @@ RUNS = [
     ("with_strace.py", "parsing", ["strace"]),
     ("with_ansible.py", "fixed_salt", ["ansible-vault"]),
     ("options_agree.py", "completions or shown", ["zsh", "fish", "mandoc", "groff"]),
-    ("completions.py", "test_program or quoted", ["zsh", "fish"]),
+    ("completions.py", "checkout_with", ["zsh", "fish"]),
     ("manual_examples.py", "lost_password", ["git"]),
     ("manual_examples.py", "example and password", ["zsh"]),
     ("cases/changing_files.py", "changing", ["cc"]),

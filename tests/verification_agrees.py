@@ -216,12 +216,14 @@ def name_of(value: object) -> str | None:
 
 @pytest.mark.parametrize("page, check", CHECKS, ids=name_of)
 def test_page(page: Path, check: Callable[[str], Iterable[str]]) -> None:
-    assert [*check(page.read_text())] == []
+    wrong = [*check(page.read_text())]
+    assert wrong == [], wrong
 
 
 def test_links() -> None:
     pages = [*ROOT.glob("*.md"), *ROOT.glob("docs/*.md"), ROOT / "tests" / "README.md"]
-    assert [(page.name, link) for page in pages for link in dead_links(page.read_text(), page.parent)] == []
+    dead = [(page.name, link) for page in pages for link in dead_links(page.read_text(), page.parent)]
+    assert dead == [], dead
 
 
 @pytest.mark.parametrize(("page", "check", "old", "new"), BROKEN, ids=name_of)

@@ -115,7 +115,7 @@ def test_files(both: Both) -> None:
     both.ours("view FILE", ["view", *both.options, vault], b"", TEXTS["1024 bytes"])
 
 
-@pytest.mark.parametrize("name", ["größe", ""])
+@pytest.mark.parametrize("name", ["größe", ""], ids=["named", "unnamed"])
 def test_blocks(both: Both, subtests: SubTests, name: str) -> None:
     """Blocks of the same strings, with a name or without one."""
     named = ["-n", name] if name else []
