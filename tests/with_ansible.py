@@ -88,7 +88,7 @@ def test_theirs_to_ours(both: Both, subtests: SubTests) -> None:
         with subtests.test(name):
             salt = salt_of(vault)
             assert both.sealed(text, salt) == vault, "the tests' own vault"
-            both.cases.decrypts("their vault", both.options, vault, text)
+            both.cases.decrypts(both.options, vault, text)
             both.ours("encrypt", ["encrypt", *both.options, "--salt-file", both.cases.file(salt)], text, vault)
 
 
