@@ -26,9 +26,10 @@ from lib.signals import heed_signals
 PROGRAM = ROOT / "bin" / "ansible-vault"
 OUTCOMES = "outcomes"
 # How many tests of each part have to be run with --floors, the others by their markers; and how much they have to make
-# of what they record.
-FLOORS = {OUTCOMES: 1700, "fuzz": 6, "faults": 44, "allocations": 40, "valgrind": 45}
-LEAST = {"random requests": 200, "refused calls": 700, "signals": 36, "refused allocations": 1200}
+# of what they record. Rows that are no tests of their own are counted as one kind.
+FLOORS = {OUTCOMES: 2600, "fuzz": 6, "faults": 44, "allocations": 40, "valgrind": 45}
+ROWS = "subtests"
+LEAST = {ROWS: 4500, "random requests": 200, "refused calls": 700, "signals": 36, "refused allocations": 1200}
 
 
 def seed_of_commit() -> int:
@@ -92,9 +93,13 @@ def pytest_exception_interact(node: pytest.Item | pytest.Collector, report: pyte
         node.ihook.pytest_timeout_set_timer(item=node, settings=settings)
 
 
-def ends_of_tests(config: pytest.Config) -> list[pytest.TestReport | pytest.CollectReport]:
+def reports_of(config: pytest.Config, *kinds: str) -> list[pytest.TestReport | pytest.CollectReport]:
     terminal = config.pluginmanager.get_plugin("terminalreporter")
-    reports = [each for kind in ("passed", "failed", "error", "skipped") for each in terminal.getreports(kind)]
+    return [each for kind in kinds for each in terminal.getreports(kind)]
+
+
+def ends_of_tests(config: pytest.Config) -> list[pytest.TestReport | pytest.CollectReport]:
+    reports = reports_of(config, "passed", "failed", "error", "skipped")
     return [each for each in reports if each.when == "call" or not each.passed]
 
 
@@ -109,6 +114,7 @@ def too_few(config: pytest.Config) -> list[str]:
     ends = ends_of_tests(config)
     made = Counter(f"{part_of(each)} tests" for each in ends if not each.skipped)
     made.update({what: amount for what, (amount, _) in amounts(ends).items()})
+    made[ROWS] = len(reports_of(config, "subtests passed"))
     floors = {f"{part} tests": least for part, least in FLOORS.items()} | LEAST
     return [f"{what}: {made[what]}, of at least {least}" for what, least in floors.items() if made[what] < least]
 
