@@ -54,6 +54,19 @@ def test_links(place: Place) -> None:
     ended("a path that leads nowhere", done, 1, "tree/dangling.yml: No such file")
 
 
+def test_checked_links(place: Place) -> None:
+    """The check follows links to files, and those to folders only where they are the path."""
+    place.put("tree/all.yml", sealed("old"))
+    place.put("shared/vault.yml", sealed("old"))
+    place.put("elsewhere/deep.yml", sealed("old"))
+    targets = {"outside.yml": "../shared/vault.yml", "folder": "../elsewhere", "dangling.yml": "nowhere"}
+    for name, target in targets.items():
+        (place.tree / "tree" / name).symlink_to(target)
+    below, behind = found(place, "tree"), found(place, "tree/folder")
+    wanted = (["tree/all.yml", "tree/outside.yml"], ["tree/folder/deep.yml"])
+    assert (below, behind) == wanted, "a folder with links, and a link to a folder"
+
+
 def test_hard_links(place: Place) -> None:
     place.put("a.yml", sealed("old"))
     os.link(place.tree / "a.yml", place.path / "second name")
