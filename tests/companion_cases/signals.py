@@ -67,18 +67,22 @@ def merge_of(place: Place, name: str) -> list[str]:
     return [MERGE, *secrets, f"../versions/base-{name}", name, f"../versions/theirs-{name}", name]
 
 
+RUNS = (EDIT, ROTATE, CHECK, TEXTCONV, "merge", "merge of blocks", "rekey", "decrypt")
+
+
 def runs_of(place: Place) -> dict[str, list[str]]:
     old = place.by_file("old")
-    return {
-        EDIT: [EDIT, *old, "a.yml"],
-        ROTATE: [ROTATE, *to_new(place), "--jobs", "1", "."],
-        CHECK: [CHECK, *old, "."],
-        TEXTCONV: [TEXTCONV, *old, "b.yml"],
-        "merge": merge_of(place, "a.yml"),
-        "merge of blocks": merge_of(place, "b.yml"),
-        "rekey": [WITH, "rekey", *to_new(place), "a.yml"],
-        "decrypt": [WITH, "decrypt", *old, "a.yml"],
-    }
+    lines = [
+        [EDIT, *old, "a.yml"],
+        [ROTATE, *to_new(place), "--jobs", "1", "."],
+        [CHECK, *old, "."],
+        [TEXTCONV, *old, "b.yml"],
+        merge_of(place, "a.yml"),
+        merge_of(place, "b.yml"),
+        [WITH, "rekey", *to_new(place), "a.yml"],
+        [WITH, "decrypt", *old, "a.yml"],
+    ]
+    return dict(zip(RUNS, lines, strict=True))
 
 
 def check_whole(what: str, place: Place) -> None:
@@ -112,29 +116,28 @@ def check_saved(what: str, place: Place, errors: str | None, wanted: bytes = CHA
         copy.unlink()
 
 
-def test_at_each_run(cases: Companions, subtests: SubTests) -> None:
+@pytest.mark.parametrize("companion", RUNS)
+def test_at_each_run(cases: Companions, subtests: SubTests, companion: str) -> None:
     """Before each run of the program, or of git, which dies by the signal, or goes on in spite of it."""
-    for companion in runs_of(cases.place()):
-        for number in range(1, 20):
-            place = cases.place()
-            tree(place)
-            words = runs_of(place)[companion]
-            trap, name = ("", "TERM") if number % 2 else ("trap '' INT; ", "INT")
-            text = AT_RUN.format(number=number, trap=trap, signal=name)
-            for program in ("ansible-vault", "git") if words[0] == MERGE else ("ansible-vault",):
-                place.wrap_tool(text, program)
-            done = place.run(*words)
-            what = f"{companion}, run {number}"
-            with subtests.test(what):
-                assert done.returncode in (0, -signal.Signals[f"SIG{name}"]), "the status"
-                assert "Traceback" not in done.stderr, "no word of Python"
-                if companion == EDIT:
-                    check_saved(what, place, done.stderr)
-                check_whole(what, place)
-            if done.returncode == 0:
-                break
-        with subtests.test(companion):
-            assert 3 < number < 19, "there were such runs"
+    for number in range(1, 20):
+        place = cases.place()
+        tree(place)
+        words = runs_of(place)[companion]
+        trap, name = ("", "TERM") if number % 2 else ("trap '' INT; ", "INT")
+        text = AT_RUN.format(number=number, trap=trap, signal=name)
+        for program in ("ansible-vault", "git") if words[0] == MERGE else ("ansible-vault",):
+            place.wrap_tool(text, program)
+        done = place.run(*words)
+        what = f"run {number}"
+        with subtests.test(what):
+            assert done.returncode in (0, -signal.Signals[f"SIG{name}"]), "the status"
+            assert "Traceback" not in done.stderr, "no word of Python"
+            if companion == EDIT:
+                check_saved(what, place, done.stderr)
+            check_whole(what, place)
+        if done.returncode == 0:
+            break
+    assert 3 < number < 19, "there were such runs"
 
 
 RUNS_AND_CALLS = [(EDIT, call) for call in CALLS]
