@@ -62,9 +62,6 @@ class Both:
             raise AssertionError(f"Ansible's {command} fails: {done.stderr.decode()}")
         return done.stdout
 
-    def ours(self, name: str, words: list[str], stdin: bytes, expected) -> bytes:
-        return self.cases.run(words, stdin, 0, expected)
-
     def changed_by_them(self, command: str, options: list[str], contents: list[bytes]) -> list[bytes]:
         """Ansible's tool changes all the files in one run."""
         paths = [self.cases.file(content) for content in contents]
@@ -89,13 +86,13 @@ def test_theirs_to_ours(both: Both, subtests: SubTests) -> None:
             salt = salt_of(vault)
             assert both.sealed(text, salt) == vault, "the tests' own vault"
             both.cases.decrypts(both.options, vault, text)
-            both.ours("encrypt", ["encrypt", *both.options, "--salt-file", both.cases.file(salt)], text, vault)
+            both.cases.run(["encrypt", *both.options, "--salt-file", both.cases.file(salt)], text, out=vault)
 
 
 def test_ours_to_theirs(both: Both) -> None:
     """Our vaults are decrypted there."""
     words = ["encrypt", *both.options]
-    vaults = [both.ours(f"encrypt {name}", words, text, None) for name, text in TEXTS.items()]
+    vaults = [both.cases.run(words, text, out=None) for name, text in TEXTS.items()]
     assert differing(both.changed_by_them("decrypt", both.options, vaults)) == []
 
 
@@ -106,13 +103,13 @@ def differing(texts: list[bytes]) -> list[str]:
 
 def test_files(both: Both) -> None:
     plain, vault, back = both.cases.file(TEXTS["1024 bytes"]), both.cases.path(), both.cases.path()
-    both.ours("encrypt FILE", ["encrypt", *both.options, plain, "--output", vault], b"", b"")
+    both.cases.run(["encrypt", *both.options, plain, "--output", vault])
     both.theirs("decrypt", *both.options, "--output", back, vault)
     assert Path(back).read_bytes() == TEXTS["1024 bytes"], "their decrypt of our file"
     both.theirs("encrypt", *both.options, *both.choice, back)
-    both.ours("decrypt FILE", ["decrypt", *both.options, "--output", back, back], b"", b"")
+    both.cases.run(["decrypt", *both.options, "--output", back, back])
     assert Path(back).read_bytes() == TEXTS["1024 bytes"], "our decrypt of their file"
-    both.ours("view FILE", ["view", *both.options, vault], b"", TEXTS["1024 bytes"])
+    both.cases.run(["view", *both.options, vault], out=TEXTS["1024 bytes"])
 
 
 @pytest.mark.parametrize("name", ["größe", ""], ids=["named", "unnamed"])
@@ -127,7 +124,7 @@ def test_blocks(both: Both, subtests: SubTests, name: str) -> None:
             salt = salt_of(b"\n".join(line.strip() for line in block.split(b"\n")[1:]))
             assert yaml_block(both.sealed(string.encode(), salt), name.encode()) == block, "the tests' own block"
             salted = ["encrypt_string", *both.options, "--salt-file", both.cases.file(salt), *named, string]
-            both.ours("encrypt_string", salted, b"", block)
+            both.cases.run(salted, out=block)
 
 
 def test_playbook_values(both: Both) -> None:
@@ -135,7 +132,7 @@ def test_playbook_values(both: Both) -> None:
     tool = Path(both.ansible).parent / "ansible"
     needs(str(tool))
     words = ["encrypt_string", *both.options, "--name"]
-    blocks = [both.ours(f"block of {name}", [*words, name, text], b"", None) for name, text in STRINGS.items()]
+    blocks = [both.cases.run([*words, name, text], out=None) for name, text in STRINGS.items()]
     variables, written = both.cases.file(b"".join(blocks)), both.cases.path()
     values = f"{{{{ [{', '.join(STRINGS)}] | to_json }}}}"
     copy = ["-m", "copy", "-a", f"content='{values}' dest={written}", "-e", f"@{variables}"]
@@ -151,13 +148,13 @@ def test_rekeyed(both: Both, subtests: SubTests, new_label: str) -> None:
     new = by_id(both.new, new_label) if new_label else by_file(both.new)
     words = ["rekey", *both.options, *options]
     given = [both.sealed(text, bytes(32)) for text in TEXTS.values()]
-    ours = [both.ours(f"rekey of {name}", words, vault, None) for name, vault in zip(TEXTS, given)]
+    ours = [both.cases.run(words, vault, out=None) for name, vault in zip(TEXTS, given)]
     assert differing(both.changed_by_them("decrypt", new, ours)) == [], "Ansible's tool decrypts them"
     option, value = both.options
     theirs = both.changed_by_them("rekey", [*new, option.replace("--", "--new-"), value], ours)
     for (name, text), vault in zip(TEXTS.items(), theirs):
         with subtests.test(name):
-            both.ours("view", ["view", *both.options], vault, text)
+            both.cases.run(["view", *both.options], vault, out=text)
 
 
 def test_fixed_salt(both: Both) -> None:
@@ -166,9 +163,9 @@ def test_fixed_salt(both: Both) -> None:
     path = both.cases.file(text)
     both.theirs("encrypt", *both.options, *both.choice, path, ANSIBLE_VAULT_ENCRYPT_SALT=salt)
     vault = Path(path).read_bytes()
-    both.ours("view of what they encrypt", ["view", *both.options], vault, text)
+    both.cases.run(["view", *both.options], vault, out=text)
     if salt_of(vault) == salt.encode():
-        both.ours("encrypt with a salt text", ["encrypt", *both.options, "--salt", salt], text, vault)
+        both.cases.run(["encrypt", *both.options, "--salt", salt], text, out=vault)
 
 
 # What each row of the messages in docs/coming-from-ansible.md is about.
