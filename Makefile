@@ -53,9 +53,9 @@ ARCHIVE = tar --create --format=gnu --sort=name --mtime=@$(SOURCE_DATE_EPOCH) --
 # The sums of the files that were installed, so that no other is uninstalled.
 SUMS := $(LIBRARY)/installed.sha256
 
-# What runs the tests, and in how many processes.
+# What runs the tests, and in how many processes: more than there are processors, since many tests wait.
 PYTEST ?= /usr/bin/python3 -B -X utf8 -m pytest
-PYTEST_PROCESSES ?= 4
+PYTEST_PROCESSES ?= $(shell expr $$(nproc) + 2)
 TESTING := $(PYTEST) --quiet --numprocesses=$(PYTEST_PROCESSES)
 # How many percent of the companions' lines are run at least.
 LEAST_COVERED := 95
@@ -115,9 +115,9 @@ mutants: all
 	@echo "Trying the mutants; what became of each is printed once all are tried"
 	@tools/mutants
 
-# All of them. A part with fewer tests than its floor fails, and the last line counts the tests.
+# All of them, file by file. A part with fewer tests than its floor fails, and the last line counts the tests.
 test: packages all bin/vault_allocation_failures
-	$(TESTING) --floors --runs=6000 --seconds=120 --share=20
+	$(TESTING) --dist=loadfile --floors --runs=6000 --seconds=120 --share=20
 
 # No part of the gate: plants faults in copies of the repository, and runs the test that is to catch each.
 planted: all
