@@ -9,7 +9,7 @@ from functools import partial
 
 import pytest
 
-from lib.installed import NAMES, PREFIX_FILES, VERSION, check_program, files_below, printed, run_make
+from lib.installed import NAMES, PREFIX_FILES, check_program, files_below, printed, run_make
 from lib.needs import needs
 from lib.paths import ROOT
 
@@ -146,7 +146,8 @@ def test_replaced(tmp_path: pathlib.Path, make: Callable) -> None:
     program.parent.mkdir()
     program.write_text("theirs")
     assert make("install", *words, "REPLACE=yes").returncode == 0, "REPLACE=yes overwrites it"
-    assert printed(str(program), "--version") == f"ansible-vault {VERSION}\n", "with the program"
+    check_program(program, "the program that replaced another")
+    assert files_below(tmp_path) == LOCAL_FILES, "with all that is installed"
     assert make("install", *words).returncode == 0, "and it is then ours"
     program.write_text("theirs again")
     assert make("install", *words).returncode != 0, "a file that was changed since is not overwritten"

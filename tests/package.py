@@ -213,6 +213,8 @@ def test_failed_unpacking(beside: Beside) -> None:
     beside.do("removal of what was in the way", "-P", "in-the-way")
     beside.do("our package", "-i", str(beside.package))
     beside.check_both("installed after a failure")
+    beside.do("purge", "-P", "ansible-vault")
+    beside.check_theirs("purged after a failure")
 
 
 def test_failed_upgrade(beside: Beside) -> None:

@@ -161,7 +161,9 @@ def wrong_axioms(page: str) -> Iterator[str]:
     total, library, system = re.search(r"`axioms=(\d+)`[^,]*, (\d+) of the C library and (\d+) of", page).groups()
     yield from [] if int(library) + int(system) == int(total) else ["the axioms do not add up"]
     for log in (ROOT / "bin").glob("*.log"):
-        found = {*AXIOMS.findall(log.read_text())}
+        text = log.read_text()
+        found = {*AXIOMS.findall(text)}
+        yield from [f"{log.name}: axioms that are not found"] if "=out/ansible_vault.o," in text and not found else []
         yield from (f"{log.name}: {pair}" for pair in found - {(library, system)})
 
 

@@ -98,7 +98,7 @@ def test_ours_to_theirs(both: Both) -> None:
 
 def differing(texts: list[bytes]) -> list[str]:
     """The names of TEXTS that are not among these at their places."""
-    return [name for name, text in zip(TEXTS, texts) if text != TEXTS[name]]
+    return [name for name, text in zip(TEXTS, texts, strict=True) if text != TEXTS[name]]
 
 
 def test_files(both: Both) -> None:

@@ -200,9 +200,9 @@ def _run(words: list[str], data: bytes | None = None, **options: Any) -> subproc
 
 
 def _wait_for_end(program: subprocess.Popen[bytes], data: bytes | None) -> tuple[bytes, bytes]:
+    # What reads data ends by itself; and Python does not write the rest of them after a timeout.
+    if data is not None:
+        return program.communicate(data)
     while True:
-        try:
-            return program.communicate(data, timeout=WAITING_PERIOD)
-        except subprocess.TimeoutExpired:
-            # What is left of it is still written.
-            data = None
+        with suppress(subprocess.TimeoutExpired):
+            return program.communicate(timeout=WAITING_PERIOD)

@@ -207,8 +207,9 @@ def test_full_file_system(cases: Cases, subtests: SubTests, command: str) -> Non
             pytest.skip(TAKES_ROOT)
         for closed in COMBINATIONS:
             with subtests.test(closings(closed)):
+                (folder / NEW_FILE).unlink(missing_ok=True)
                 check_write_fault(cases, command, closed, str(folder / NEW_FILE))
-                (folder / NEW_FILE).unlink()
+                assert (folder / NEW_FILE).exists()
 
 
 @each_to_output

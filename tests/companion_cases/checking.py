@@ -55,6 +55,13 @@ def test_what_cannot_be_decrypted(place: Place) -> None:
     ended("a header", place.run(CHECK, *place.by_file("old"), "header.yml"), 1, "header.yml: no label: vault")
 
 
+def test_slow_tool(place: Place) -> None:
+    """What is longer than a pipe is written whole, also if the tool reads it late."""
+    place.put("a.yml", sealed("old", TEXT * 20_000))
+    place.wrap_tool("sleep 1.5")
+    ended("a long vault", place.run(CHECK, *place.by_file("old"), "a.yml"), 0, "1 decrypted, 0 not")
+
+
 def test_nothing(place: Place, subtests: SubTests) -> None:
     place.put("plain.yml", TEXT)
     done = place.run(CHECK, *place.by_file("old"), ".")

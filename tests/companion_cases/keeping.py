@@ -50,6 +50,7 @@ STOPS = {
     "the editor fails": (f"{CHANGE}; exit 3", "the editor failed", sealed("old")),
     "a hard link": (f"{CHANGE}; ln all.yml ../second", "it has 2 names (hard links)", sealed("old")),
     "another change": (f"{CHANGE}; echo theirs > all.yml", "all.yml: it was changed meanwhile", b"theirs\n"),
+    "another vault": (f"{CHANGE}; echo >> all.yml", "all.yml: it was changed meanwhile", sealed("old") + b"\n"),
     "a folder in its place": (f"{CHANGE}; rm all.yml; mkdir all.yml", "Is a directory", None),
     "it is gone": (f"{CHANGE}; rm all.yml", "all.yml: it was changed meanwhile", None),
 }

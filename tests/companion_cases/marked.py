@@ -38,6 +38,7 @@ def test_marked_files(place: Place, subtests: SubTests) -> None:
             done = place.run(*check, *paths)
             lines = sorted(f"{folder}/{name}: {why}" for name, (_, why) in plain.items())
             assert (done.returncode, sorted(done.stderr.splitlines())) == (1, lines)
+            assert done.stdout.endswith(f" decrypted, {len(plain)} not\n")
     for name, (_, why) in plain.items():
         with subtests.test(name):
             ended("by its name", place.run(*check, name), 1, f"{name}: {why}\n", "1 not\n")

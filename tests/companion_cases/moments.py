@@ -17,7 +17,7 @@ from companion_cases.signals import check_whole, runs_of, tree, wait_until
 
 SEED = 1
 # How many moments of each run.
-OF_EDITS, OF_OTHERS = 8, 4
+OF_EDITS, OF_OTHERS = 15, 8
 SAVES = 6
 # Saves several times, and notes each save after it.
 EDITOR = f"""
