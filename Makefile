@@ -1,13 +1,20 @@
+# A pipe fails if any of its commands does.
+SHELL := bash
+.SHELLFLAGS := -o pipefail -c
+
 PREFIX ?= /usr/local
 DESTDIR ?=
-# The program that is tested and installed; one that is named is not built.
+# The program that is tested, measured and installed; one that is named is not built.
 PROGRAM := bin/ansible-vault
 # The processor that the program is built for, as x86-64-v3; by default that of the last build, at first x86-64-v2.
 CPU ?= $(shell cat bin/processor 2> /dev/null)
 # Whether `make install` may replace files that it did not install.
 REPLACE ?= no
-# Whether `make test` skips what needs a Debian package that is not installed. If not, it stops at once.
+# Whether `make test` skips what needs a tool that is not installed, `rt` among them. If not, it stops at once.
 PARTIAL ?= no
+# Whether `make bench` makes one short round of each, to see that it works. Its figures then mean nothing.
+QUICK ?= no
+QUICKLY := $(if $(filter yes,$(QUICK)),--quick)
 
 VERSION := $(shell sed -n 's/^const VERSION: &str = "\(.*\)";$$/\1/p' crates/vault_request/src/command_line.rt)
 SOURCES := $(shell find crates/*/src crates/*/specs crates/*/proofs) crates.txt
@@ -56,22 +63,30 @@ SUMS := $(LIBRARY)/installed.sha256
 # What runs the tests, and in how many processes: more than there are processors, since many tests wait.
 PYTEST ?= /usr/bin/python3 -B -X utf8 -m pytest
 PYTEST_PROCESSES ?= $(shell expr $$(nproc) + 2)
-TESTING := $(PYTEST) --quiet --numprocesses=$(PYTEST_PROCESSES)
-# How many percent of the companions' lines are run at least.
+TESTING = $(PYTEST) --quiet --numprocesses=$(PYTEST_PROCESSES) "--program=$(PROGRAM)"
+# What `make coverage` runs, and how many percent of the companions' lines that is at least.
+COVERED := tests/companion_cases
 LEAST_COVERED := 97
-# For how long `make fuzz` makes requests.
+# The arguments of tools/plant_faults, tools/mutants and tools/fresh_machine.
+PLANTED :=
+MUTANTS :=
+MACHINE :=
+# For how long `make fuzz` makes requests, and what part of the faults `make faults` tries: one in SHARE.
 SECONDS ?= 3600
+SHARE ?= 1
 
 .DELETE_ON_ERROR:
-.PHONY: all demo packages check mutants test planted coverage fuzz faults bench install uninstall portable dist package lint clean FORCE
+.PHONY: all demo packages check mutants test planted coverage fuzz faults bench install uninstall portable dist package lint \
+	fresh-machine clean FORCE
 
 all: $(PROGRAM)
 
-# Proves the program and the crates that it stands on, and builds it.
+# Proves a program and the crates below it, where they changed, and builds it.
+BUILD = mkdir -p bin && cd crates/$(1) && "$(CURDIR)/tools/progress.py" "$(CURDIR)/bin/$(1).log" rt run
+
 bin/ansible-vault: $(SOURCES) bin/processor
 	@echo "Proving the program and the crates below it, if they changed; from scratch it takes minutes"
-	@tools/progress.py bin/build.log \
-		tools/build_program ansible_vault $(if $(CPU),--cpu $(CPU)) -- --version
+	@$(call BUILD,ansible_vault) $(if $(CPU),--cpu $(CPU)) -- --version
 	@cp crates/ansible_vault/out/ansible_vault $@
 
 # Runs the examples of the README in a folder of their own, and prints them.
@@ -87,8 +102,7 @@ packages:
 
 # The program that tests/failed_allocations_in_memory runs.
 bin/vault_allocation_failures: $(SOURCES)
-	@mkdir -p bin
-	@tools/progress.py bin/failed_allocations.log tools/build_program vault_allocation_failures -- drive view < /dev/null
+	@$(call BUILD,vault_allocation_failures) -- drive view < /dev/null
 	@cp crates/vault_allocation_failures/out/vault_allocation_failures $@
 
 # Changes if the processor does.
@@ -113,21 +127,21 @@ check: packages bin/processor
 # No part of the gate: the mutants of each crate beside its must-fail edits, before a release.
 mutants: all
 	@echo "Trying the mutants; what became of each is printed once all are tried"
-	@tools/mutants
+	@tools/mutants $(MUTANTS)
 
 # All of them, file by file. A part with fewer tests than its floor fails, and the last line counts the tests.
-test: packages all bin/vault_allocation_failures
+test: packages all $(if $(shell command -v rt),bin/vault_allocation_failures)
 	$(TESTING) --dist=loadfile --floors --runs=6000 --seconds=120 --share=20
 
 # No part of the gate: plants faults in copies of the repository, and runs the test that is to catch each.
 planted: all
-	tools/plant_faults
+	tools/plant_faults "--program=$(PROGRAM)" $(PLANTED)
 
 # No part of the gate: which lines of the companions no test of theirs runs. Tests that watch what a companion writes
 # fail here, since it notes its lines, too.
 coverage: all
 	@rm -rf bin/coverage && mkdir -p bin/coverage && chmod a+rwx bin/coverage
-	-LINES_RUN=$(abspath bin/coverage) $(TESTING) tests/companion_cases
+	-LINES_RUN=$(abspath bin/coverage) $(TESTING) $(COVERED)
 	@/usr/bin/python3 -m coverage combine --quiet --rcfile=tests/lines_run.ini
 	@/usr/bin/python3 -m coverage report --rcfile=tests/lines_run.ini --fail-under=$(LEAST_COVERED)
 
@@ -137,15 +151,21 @@ fuzz: all
 
 # Makes every system call fail in turn, and injects the other faults.
 faults: all
-	$(TESTING) -m faults --share=1 --timeout=0
+	$(TESTING) -m faults --share=$(SHARE) --timeout=0
 
-bench: all
-	bench/commands.py bin/ansible-vault --chart docs/speed.svg
-	bench/parts.py bin/ansible-vault
-	bench/rotation.py bin/ansible-vault
-	bench/envelope.py
-	bench/counter_mode.py
-	bench/key_derivation.py
+# The program that does parts of the work alone, for the benchmarks.
+bin/vault_bench: $(SOURCES) bin/processor
+	@$(call BUILD,vault_bench) $(if $(CPU),--cpu $(CPU)) -- counter-mode 48 1
+	@cp crates/vault_bench/out/vault_bench $@
+
+bench: CHART := docs/speed.svg
+bench: all bin/vault_bench
+	bench/commands.py "$(PROGRAM)" --chart $(CHART) $(QUICKLY)
+	bench/parts.py "$(PROGRAM)" $(QUICKLY)
+	bench/rotation.py "$(PROGRAM)" $(QUICKLY)
+	bench/envelope.py $(QUICKLY)
+	bench/counter_mode.py $(QUICKLY)
+	bench/key_derivation.py $(QUICKLY)
 
 # Refuses to overwrite a file of another program.
 install: all
@@ -166,6 +186,10 @@ portable:
 # The archives of a version, with their sums: its sources, as git lists them, and what `make install` puts below a
 # prefix. They have the same bytes wherever and whenever they are made of the same sources and program.
 dist: portable all
+	@git ls-files --error-unmatch Makefile > /dev/null 2>&1 || { \
+		echo "make dist archives what git tracks: run it in a git checkout" >&2; \
+		exit 1; \
+	}
 	@rm -rf $(DIST) && mkdir -p $(DIST)
 	@git ls-files -z | $(ARCHIVE) --null --files-from=- --transform='flags=r;s,^,$(SOURCE_NAME)/,' \
 		| gzip --no-name > $(DIST)/$(SOURCE_NAME).tar.gz
@@ -187,6 +211,10 @@ package: portable all
 # The scripts in Python, sh and bash, the manual pages, the length of lines, and names that nothing uses.
 lint:
 	tools/lint
+
+# Types the README's commands on a Debian that has nothing else, as root; MACHINE is its suite, and before it --kept.
+fresh-machine:
+	tools/fresh_machine $(MACHINE)
 
 clean:
 	rm -rf bin crates/*/out

@@ -1,4 +1,4 @@
-#!/usr/bin/python3
+#!/usr/bin/env -S /usr/bin/python3 -B
 """Draws processor time and memory of `view` against the size of the plaintext, from what `commands.py` measured.
 
 Usage: chart.py FILE.svg, with the points as JSON on standard input.
@@ -6,6 +6,7 @@ Usage: chart.py FILE.svg, with the points as JSON on standard input.
 
 import json
 import sys
+from typing import Any
 
 try:
     import matplotlib
@@ -18,25 +19,27 @@ matplotlib.rcParams["svg.hashsalt"] = "ansible-vault"
 
 from matplotlib import pyplot
 
+Point = dict[str, Any]
+
 NAMES = {"ours": "this tool", "theirs": "Ansible's tool"}
 UNITS = [(1 << 20, "MiB"), (1 << 10, "KiB"), (1, "B")]
 # Where ticks of a logarithmic axis may stand.
 TICKS = [digit * 10**power for power in range(6) for digit in (1, 2, 5)]
 
 
-def size_name(size):
+def size_name(size: int) -> str:
     unit, name = next((unit, name) for unit, name in UNITS if size >= unit)
     return f"{size // unit} {name}"
 
 
-def ticks_around(values):
+def ticks_around(values: list[float]) -> list[int]:
     """The ticks from the last one below all values to the first one above them."""
     low = max((tick for tick in TICKS if tick < min(values)), default=TICKS[0])
     high = min((tick for tick in TICKS if tick > max(values)), default=TICKS[-1])
     return [tick for tick in TICKS if low <= tick <= high]
 
 
-def draw(axes, points, quantity, title, unit):
+def draw(axes: Any, points: list[Point], quantity: str, title: str, unit: str) -> None:
     for tool, name in NAMES.items():
         mine = [point for point in points if point["tool"] == tool]
         if mine:
@@ -56,7 +59,7 @@ def draw(axes, points, quantity, title, unit):
     axes.legend()
 
 
-def main():
+def main() -> None:
     points = json.load(sys.stdin)
     figure, (times, memory) = pyplot.subplots(1, 2, figsize=(10, 4.8))
     draw(times, points, "milliseconds", "Processor time of view", "milliseconds")

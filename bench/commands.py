@@ -1,7 +1,7 @@
 #!/usr/bin/env -S python3 -B
 """Times the commands of the built program and of Ansible's own tool, in alternation, and `view` also by the alias.
 
-Usage: commands.py PROGRAM [--runs N] [--time clock|processor] [--only START] [--chart FILE.svg]
+Usage: commands.py PROGRAM [--runs N] [--time clock|processor] [--only START] [--chart FILE.svg] [--quick]
 
 Of five or more runs of a tool the median is shown, with the minimum and the maximum in parentheses. A ratio is that of
 the medians, with the extremes of single turns in parentheses. It is of processor time, which other work on the machine
@@ -16,19 +16,22 @@ import os
 import subprocess
 import sys
 import tempfile
+from collections.abc import Callable, Iterator
+from functools import partial
 from pathlib import Path
-from typing import NamedTuple
+from typing import Any, NamedTuple
 
 HERE = Path(__file__).resolve().parent
 TESTS = HERE.parent / "tests"
 sys.path.insert(0, str(TESTS))
 
 from lib.ansible import ansible_vault
-from measured import CLOCK, PROCESSOR, Spread, Times, Task, spread, measure_in_turn
+from measured import CLOCK, PROCESSOR, Spread, Task, Times, measure_in_turn, options, spread
 from model.vaults import seal
 
 SIZES = {"1 KiB": 1 << 10, "64 KiB": 1 << 16, "1 MiB": 1 << 20, "16 MiB": 1 << 24}
 CHART_SIZES = {"4 KiB": 1 << 12, "16 KiB": 1 << 14, "256 KiB": 1 << 18, "4 MiB": 1 << 22}
+QUICK_SIZES, QUICK_CHART_SIZES = {"1 KiB": 1 << 10}, {"4 KiB": 1 << 12}
 # The default, and the fewest whose median is shown.
 RUNS = 5
 RIGHT = b"the right password"
@@ -78,7 +81,7 @@ class Rows:
         (self.folder / name).write_bytes(content)
         return str(self.folder / name)
 
-    def both(self, ours: Task, theirs: list[str], **other) -> dict[str, Task]:
+    def both(self, ours: Task, theirs: list[str], **other: Any) -> dict[str, Task]:
         """Theirs has the input and the test of ours where it has none of its own."""
         tasks = {OURS: Task([self.program, *ours.command], ours.stdin, ours.accepts)}
         if self.ansible is not None:
@@ -130,12 +133,20 @@ class Rows:
             tasks[THEIRS] = Task([self.ansible, "decrypt", *self.alone, "--output", "-", path], b"", accepts)
         return Row("view, 1 KiB, by the alias", 1 << 10, tasks)
 
-    def every(self) -> list[Row]:
-        rows = [self.view(name, size, self.alone) for name, size in SIZES.items()]
-        rows.append(self.view("1 KiB, the last of 16 secrets", 1 << 10, self.last))
-        for make in (self.view_file, self.encrypt, self.rekey):
-            rows += [make(name, size) for name, size in SIZES.items()]
-        return rows
+    def chosen(self, sizes: dict[str, int], start: str) -> Iterator[Row]:
+        """The rows whose names begin so; no other is prepared."""
+        makers: dict[str, Callable[[], Row]] = {}
+        for name, size in sizes.items():
+            makers[f"view, {name}"] = partial(self.view, name, size, self.alone)
+        makers["view, 1 KiB, the last of 16 secrets"] = partial(
+            self.view, "1 KiB, the last of 16 secrets", 1 << 10, self.last
+        )
+        for kind, make in (("view FILE", self.view_file), ("encrypt", self.encrypt), ("rekey", self.rekey)):
+            for name, size in sizes.items():
+                makers[f"{kind}, {name}"] = partial(make, name, size)
+        for name, maker in makers.items():
+            if name.startswith(start):
+                yield maker()
 
 
 def plaintext(size: int) -> bytes:
@@ -189,32 +200,32 @@ def print_alias(row: Row, runs: int, kind: str) -> None:
     print(f"{row.name}: {each}; {ratio}")
 
 
-def draw(points: list[dict], path: str) -> None:
-    done = subprocess.run([str(HERE / "chart.py"), path], input=json.dumps(points).encode())
-    if done.returncode != 0:
-        print(f"{path} is not drawn")
+def draw(points: list[dict[str, Any]], path: str) -> None:
+    subprocess.run([str(HERE / "chart.py"), path], input=json.dumps(points).encode(), check=True)
 
 
-def chart_points(rows: Rows, runs: int, kind: str, measured: dict[str, dict[str, Times]]) -> list[dict]:
+def chart_points(rows: Rows, args: argparse.Namespace, measured: dict[str, dict[str, Times]]) -> list[dict[str, Any]]:
     taken = {size: measured[f"view, {name}"] for name, size in SIZES.items() if f"view, {name}" in measured}
-    for name, size in CHART_SIZES.items():
-        taken[size] = measure_in_turn(rows.view(name, size, rows.alone).tasks, runs)
+    for name, size in (QUICK_CHART_SIZES if args.quick else CHART_SIZES).items():
+        taken[size] = measure_in_turn(rows.view(name, size, rows.alone).tasks, args.runs)
     return [
-        {"size": size, "tool": tool, "milliseconds": spread(took.of(kind)).median, "memory": took.memory}
+        {"size": size, "tool": tool, "milliseconds": spread(took.of(args.time)).median, "memory": took.memory}
         for size, times in sorted(taken.items())
         for tool, took in times.items()
     ]
 
 
 def parsed_arguments() -> argparse.Namespace:
-    parser = argparse.ArgumentParser(description=__doc__.splitlines()[0])
+    parser = options(__doc__)
     parser.add_argument("program")
     parser.add_argument("--runs", type=int, default=RUNS)
     parser.add_argument("--time", choices=list(TIMES), default=PROCESSOR, help="what ratios, table and chart are of")
     parser.add_argument("--only", default="", help="rows whose names begin so")
     parser.add_argument("--chart")
     args = parser.parse_args()
-    if args.runs < RUNS:
+    if args.quick:
+        args.runs = 1
+    elif args.runs < RUNS:
         parser.error(f"at least {RUNS} runs")
     return args
 
@@ -228,14 +239,13 @@ def main() -> None:
     with tempfile.TemporaryDirectory() as folder:
         rows = Rows(os.path.abspath(args.program), ansible, Path(folder))
         print(heading(ansible is not None, args.time))
-        for row in rows.every():
-            if row.name.startswith(args.only):
-                measured[row.name] = measure_in_turn(row.tasks, args.runs)
-                print(line_of(row.name, measured[row.name], args.time), flush=True)
+        for row in rows.chosen(QUICK_SIZES if args.quick else SIZES, args.only):
+            measured[row.name] = measure_in_turn(row.tasks, args.runs)
+            print(line_of(row.name, measured[row.name], args.time), flush=True)
         if rows.alias.__name__.startswith(args.only):
             print_alias(rows.alias(), args.runs, args.time)
         if args.chart:
-            draw(chart_points(rows, args.runs, args.time, measured), args.chart)
+            draw(chart_points(rows, args, measured), args.chart)
     print_table(measured, args.runs, args.time)
 
 

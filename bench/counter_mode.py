@@ -1,7 +1,6 @@
-#!/usr/bin/env python3
-"""Times counter mode over 16 MiB: this repository's, plain C by tables, and OpenSSL's.
+#!/usr/bin/env -S python3 -B
+"""Times counter mode over 16 MiB: this repository's, plain C by tables, and OpenSSL's: counter_mode.py [--quick]
 
-It builds the program crate vault_bench, which proves it first, and compiles counter_mode.c.
 A run over one pass is taken from a run over several, so that start-up and memory drop out, and of
 several rounds the best counts.
 """
@@ -14,19 +13,19 @@ import subprocess
 import tempfile
 import time
 
+from measured import BENCHMARK, options
+
 HERE = pathlib.Path(__file__).resolve().parent
-CRATE = HERE.parent / "crates" / "vault_bench"
-PROGRAM = CRATE / "out" / "vault_bench"
 LENGTH = 16 * 1024 * 1024
 ROUNDS = 15
 # What OPENSSL_ia32cap takes to hide AES-NI and the vector instructions that replace it.
 NO_AES = "~0x200000200000000"
 
 
-def best_seconds(commands):
+def best_seconds(commands: dict[str, list[str]], rounds: int) -> dict[str, float]:
     """The least time of one pass of each command, by rounds that take turns."""
-    times = {}
-    for _ in range(ROUNDS):
+    times: dict[tuple[str, int], float] = {}
+    for _ in range(rounds):
         for name, command in commands.items():
             for passes in (1, 2):
                 begin = time.perf_counter()
@@ -37,13 +36,13 @@ def best_seconds(commands):
     return {name: times[name, 2] - times[name, 1] for name in commands}
 
 
-def last_block(command):
+def last_block(command: list[str]) -> str:
     """What a command prints of one pass over the length and three bytes."""
     run = subprocess.run([*command, str(LENGTH + 3), "1"], check=True, capture_output=True, text=True)
     return run.stdout
 
 
-def openssl_speed(environment):
+def openssl_speed(environment: dict[str, str]) -> float | None:
     """OpenSSL's own figure for pieces of 16 KiB, in MB/s, or None."""
     command = ["openssl", "speed", "-seconds", "1", "-bytes", "16384", "-evp", "aes-256-ctr"]
     run = subprocess.run(command, env={**os.environ, **environment}, capture_output=True, text=True)
@@ -51,21 +50,19 @@ def openssl_speed(environment):
     return float(found.group(1)) / 1000 if found else None
 
 
-def main():
-    built = subprocess.run(["rt", "run", "--", "counter-mode", "48", "1"], cwd=CRATE, capture_output=True, text=True)
-    if built.returncode != 0:
-        raise SystemExit(built.stdout + built.stderr)
+def main() -> None:
+    rounds = 1 if options(__doc__).parse_args().quick else ROUNDS
     compiler = shutil.which("clang") or shutil.which("cc")
     with tempfile.TemporaryDirectory() as folder:
-        commands = {"this repository": [str(PROGRAM), "counter-mode"]}
+        commands = {"this repository": [BENCHMARK, "counter-mode"]}
         if compiler:
             baseline = [str(pathlib.Path(folder) / "counter_mode")]
-            subprocess.run([compiler, "-O2", "-o", *baseline, HERE / "counter_mode.c"], check=True)
+            subprocess.run([compiler, "-O2", "-o", *baseline, str(HERE / "counter_mode.c")], check=True)
             commands["C tables"] = baseline
             if last_block(baseline) != last_block(commands["this repository"]):
                 raise SystemExit("counter mode: the C program gives other bytes")
-        seconds = best_seconds(commands)
-    speeds = {name: LENGTH / 1e6 / taken for name, taken in seconds.items()}
+        seconds = best_seconds(commands, rounds)
+    speeds: dict[str, float | None] = {name: LENGTH / 1e6 / taken for name, taken in seconds.items()}
     if not compiler:
         print("C tables: no C compiler is installed")
     if shutil.which("openssl"):
@@ -74,7 +71,7 @@ def main():
     else:
         print("OpenSSL: not installed")
     print("AES-256 in counter mode over 16 MiB:")
-    ours = speeds["this repository"]
+    ours = LENGTH / 1e6 / seconds["this repository"]
     for name, speed in speeds.items():
         if speed is None:
             print(f"  {name:<34} no figure")

@@ -1,5 +1,5 @@
-#!/usr/bin/env python3
-"""Times reading and writing of envelopes, in MB of their text a second.
+#!/usr/bin/env -S python3 -B
+"""Times reading and writing of envelopes, in MB of their text a second: envelope.py [--quick]
 
 Beside reading stands python3's `bytes.fromhex` twice on the same body. All are taken in turn in one
 run, and of each the best time counts.
@@ -9,10 +9,11 @@ import os
 import subprocess
 import tempfile
 import time
-from pathlib import Path
+from collections.abc import Callable
+from typing import IO
 
-CRATE = Path(__file__).resolve().parent.parent / "crates" / "vault_bench"
-PROGRAM = CRATE / "out" / "vault_bench"
+from measured import BENCHMARK, options
+
 CIPHER_LENGTH = 1 << 20
 HEADER = b"$ANSIBLE_VAULT;1.1;AES256\n"
 REPEATS = 20
@@ -20,56 +21,54 @@ RUNS = 7
 READING_TARGET, WRITING_TARGET = 150, 250
 
 
-def build():
-    """Builds the program, and shows that it writes the length that the format gives."""
-    command = [os.environ.get("RT", "rt"), "run", "--", "write", str(CIPHER_LENGTH), "1"]
-    run = subprocess.run(command, cwd=CRATE, stdout=subprocess.PIPE, stderr=subprocess.PIPE, text=True)
-    if run.returncode != 0:
-        raise SystemExit(run.stderr)
+def check_length() -> None:
+    """The program writes the length that the format gives."""
+    run = subprocess.run([BENCHMARK, "write", str(CIPHER_LENGTH), "1"], stdout=subprocess.PIPE, check=True)
     if int(run.stdout) != len(envelope(80, CIPHER_LENGTH)):
         raise SystemExit("the program writes an envelope of another length")
 
 
-def envelope(width, length):
+def envelope(width: int, length: int) -> bytes:
     """An envelope of that much ciphertext, with lines of that many digits."""
     parts = bytes([7] * 32), bytes([9] * 32), os.urandom(length)
     digits = b"\n".join(part.hex().encode() for part in parts).hex().encode()
     return HEADER + b"".join(digits[i : i + width] + b"\n" for i in range(0, len(digits), width))
 
 
-def python_twice(text):
+def python_twice(text: bytes) -> list[bytes]:
     """Both levels of hexadecimal, and no more of the format."""
     inner = bytes.fromhex(text[len(HEADER) :].decode()).split(b"\n")
     return [bytes.fromhex(part.decode()) for part in inner]
 
 
-def read(file, length):
+def read(file: IO[bytes], length: int) -> None:
     file.seek(0)
     os.lseek(file.fileno(), 0, os.SEEK_SET)
-    command = [PROGRAM, "read", str(REPEATS)]
+    command = [BENCHMARK, "read", str(REPEATS)]
     run = subprocess.run(command, stdin=file, stdout=subprocess.PIPE, check=True)
     if int(run.stdout) != length:
         raise SystemExit("the program reads an envelope of another length")
 
 
-def write():
-    subprocess.run([PROGRAM, "write", str(CIPHER_LENGTH), str(REPEATS)], stdout=subprocess.DEVNULL, check=True)
+def write() -> None:
+    subprocess.run([BENCHMARK, "write", str(CIPHER_LENGTH), str(REPEATS)], stdout=subprocess.DEVNULL, check=True)
 
 
-def repeated_python(text):
+def repeated_python(text: bytes) -> None:
     for _ in range(REPEATS):
         python_twice(text)
 
 
-def rate(work, size):
+def rate(work: Callable[[], None], size: int) -> float:
     """MB of text a second."""
     start = time.perf_counter()
     work()
     return size * REPEATS / 1e6 / (time.perf_counter() - start)
 
 
-def main():
-    build()
+def main() -> None:
+    runs = 1 if options(__doc__).parse_args().quick else RUNS
+    check_length()
     print(f"{'text of an envelope':36} {'MB/s':>6} {'python3':>8} {'ratio':>6}")
     rows = [("read, lines of 80 digits", 80, CIPHER_LENGTH), ("read, 6 MiB in lines of 2 digits", 2, CIPHER_LENGTH)]
     for name, width, length in rows:
@@ -77,10 +76,10 @@ def main():
         with tempfile.TemporaryFile() as file:
             file.write(text)
             file.flush()
-            ours = max(rate(lambda: read(file, length), len(text)) for _ in range(RUNS))
+            ours = max(rate(lambda: read(file, length), len(text)) for _ in range(runs))
             theirs = max(rate(lambda: repeated_python(text), len(text)) for _ in range(2))
         print(f"{name:36} {ours:6.0f} {theirs:8.0f} {ours / theirs:6.2f}")
-    written = max(rate(write, len(envelope(80, CIPHER_LENGTH))) for _ in range(RUNS))
+    written = max(rate(write, len(envelope(80, CIPHER_LENGTH))) for _ in range(runs))
     print(f"{'write, lines of 80 digits':36} {written:6.0f}")
     print(f"targets: {READING_TARGET} MB/s of reading, {WRITING_TARGET} MB/s of writing")
 

@@ -1,5 +1,5 @@
-#!/usr/bin/env python3
-"""Times the derivation of a vault's keys: ten thousand rounds of PBKDF2 into 80 bytes.
+#!/usr/bin/env -S python3 -B
+"""Times the derivation of a vault's keys, ten thousand rounds of PBKDF2 into 80 bytes: key_derivation.py [--quick]
 
 Beside it stand 60,000 compressions by the kit's `sha2`, as many as these rounds take, one by one, and
 OpenSSL's PBKDF2, called through `hashlib`. All are taken in turn in one run, and of each the least
@@ -7,14 +7,13 @@ processor time counts.
 """
 
 import hashlib
-import os
 import resource
 import ssl
 import subprocess
-from pathlib import Path
+from collections.abc import Callable
 
-CRATE = Path(__file__).resolve().parent.parent / "crates" / "vault_bench"
-PROGRAM = CRATE / "out" / "vault_bench"
+from measured import BENCHMARK, options
+
 PASSWORD = b"password"
 SALT = bytes(32)
 REPEATS = 5
@@ -22,52 +21,49 @@ RUNS = 40
 TARGET = 1.06
 
 
-def build():
-    """Builds the program, and shows that it derives what OpenSSL does."""
-    rt = os.environ.get("RT", "rt")
-    command = [rt, "run", "--", "derive", "1"]
-    run = subprocess.run(command, cwd=CRATE, stdout=subprocess.PIPE, stderr=subprocess.PIPE, text=True)
-    if run.returncode != 0:
-        raise SystemExit(run.stderr)
+def check_keys() -> None:
+    """The program derives what OpenSSL does."""
+    run = subprocess.run([BENCHMARK, "derive", "1"], stdout=subprocess.PIPE, text=True, check=True)
     if run.stdout.strip() != str(list(openssl()[:32])):
         raise SystemExit("the program and OpenSSL derive different keys")
 
 
-def openssl():
+def openssl() -> bytes:
     return hashlib.pbkdf2_hmac("sha256", PASSWORD, SALT, 10_000, 80)
 
 
-def program(work):
-    subprocess.run([PROGRAM, work, str(REPEATS)], stdout=subprocess.DEVNULL, check=True)
+def program(work: str) -> None:
+    subprocess.run([BENCHMARK, work, str(REPEATS)], stdout=subprocess.DEVNULL, check=True)
 
 
-def repeated_openssl():
+def repeated_openssl() -> None:
     for _ in range(REPEATS):
         openssl()
 
 
-def processor_seconds():
+def processor_seconds() -> float:
     """What this program has used so far, and the programs that it ran."""
     used = [resource.getrusage(resource.RUSAGE_SELF), resource.getrusage(resource.RUSAGE_CHILDREN)]
     return sum(part.ru_utime + part.ru_stime for part in used)
 
 
-def milliseconds(work):
+def milliseconds(work: Callable[[], None]) -> float:
     """The processor time that one of the repeats takes."""
     start = processor_seconds()
     work()
     return (processor_seconds() - start) * 1000 / REPEATS
 
 
-def main():
-    build()
-    tasks = {
+def main() -> None:
+    runs = 1 if options(__doc__).parse_args().quick else RUNS
+    check_keys()
+    tasks: dict[str, Callable[[], None]] = {
         "derivation": lambda: program("derive"),
         "compressions": lambda: program("compressions"),
         "openssl": repeated_openssl,
     }
     best = dict.fromkeys(tasks, float("inf"))
-    for _ in range(RUNS):
+    for _ in range(runs):
         for name, work in tasks.items():
             best[name] = min(best[name], milliseconds(work))
     derivation = best["derivation"]

@@ -1,5 +1,6 @@
 """Runs of programs that take turns: time of the clock, processor time and peak memory of each."""
 
+import argparse
 import os
 import subprocess
 import sys
@@ -11,11 +12,20 @@ from pathlib import Path
 from statistics import median
 from typing import Callable, NamedTuple
 
+# The program that does parts of the work alone; `make bin/vault_bench` builds it.
+BENCHMARK = str(Path(__file__).resolve().parent.parent / "bin" / "vault_bench")
 CLOCK, PROCESSOR = "clock", "processor"
 # Times of the clock and of the processor that differ by more than this part show that the machine was busy.
 TOLERANCE = 0.5
 # How often the memory of a running program is looked at, in seconds.
 SAMPLING_INTERVAL = 0.0005
+
+
+def options(description: str | None) -> argparse.ArgumentParser:
+    """The options of each benchmark."""
+    parser = argparse.ArgumentParser(description=description, formatter_class=argparse.RawDescriptionHelpFormatter)
+    parser.add_argument("--quick", action="store_true", help="one short round, whose figures mean nothing")
+    return parser
 
 
 @dataclass
@@ -109,8 +119,7 @@ def memory_of(task: Task) -> float:
         child = subprocess.Popen(task.command, stdin=stdin, stdout=subprocess.PIPE, stderr=subprocess.DEVNULL)
         sampler = threading.Thread(target=peak_memory, args=(child.pid, seen))
         sampler.start()
-        child.stdout.read()
-        child.stdout.close()
+        child.communicate()
         sampler.join()
         child.wait()
     return max(seen)

@@ -1,7 +1,7 @@
 #!/usr/bin/env -S python3 -B
 """Says where the time of `view` and `encrypt` goes, by the program that does each part alone.
 
-Usage: parts.py PROGRAM. All is processor time, taken in turn in one run; of several rounds the least counts,
+Usage: parts.py PROGRAM [--quick]. All is processor time, taken in turn in one run; of several rounds the least counts,
 since what else a machine does slows each part by another share.
 Beside a part stands the least that it could take: the compressions of `sha2` alone, or a copy of the envelope.
 The kernel's part is the whole program's; the rest is its start, its arguments, line ends and what is not
@@ -20,6 +20,7 @@ from typing import NamedTuple
 
 sys.path.insert(0, str(Path(__file__).resolve().parent.parent / "tests"))
 
+from measured import BENCHMARK, options
 from model.vaults import seal
 
 ROUNDS = 9
@@ -31,8 +32,6 @@ DERIVATION = 60_000
 BLOCK = 64
 # What a part is repeated for: some MiB of it, and at most MOST times.
 REPEATED, MOST = 8 * MIB, 2_000
-CRATE = Path(__file__).resolve().parent.parent / "crates" / "vault_bench"
-BENCHMARK = str(CRATE / "out" / "vault_bench")
 
 
 class Used(NamedTuple):
@@ -83,16 +82,10 @@ def tag_compressions(size: int) -> int:
     return 1 + (size + 9 + BLOCK - 1) // BLOCK + 2
 
 
-def build() -> None:
-    command = [os.environ.get("RT", "rt"), "run", "--", "derive", "1"]
-    subprocess.run(command, cwd=CRATE, capture_output=True, check=True)
-
-
 class Parts:
     """What is measured, by its name: each part alone, and the whole runs of the program."""
 
-    def __init__(self, program: str, folder: Path) -> None:
-        build()
+    def __init__(self, program: str, folder: Path, sizes: dict[str, int]) -> None:
         self.parts = {
             "derivation": Part([BENCHMARK, "derive"], 5),
             "compressions": Part([BENCHMARK, "compressions"], 5),
@@ -102,7 +95,7 @@ class Parts:
         self.copies: dict[str, int] = {}
         password = folder / "password"
         password.write_bytes(PASSWORD)
-        for name, size in SIZES.items():
+        for name, size in sizes.items():
             text, vault = folder / f"text{size}", folder / f"vault{size}"
             text.write_bytes(bytes(size))
             vault.write_bytes(seal(PASSWORD, bytes(size)))
@@ -114,11 +107,11 @@ class Parts:
                 self.runs[f"{command} {name}"] = words, str(stdin)
             self.copies[name] = vault.stat().st_size
 
-    def measure(self) -> tuple[dict[str, float], dict[str, float]]:
+    def measure(self, rounds: int) -> tuple[dict[str, float], dict[str, float]]:
         """The milliseconds of each by its name, and the kernel's share of each run."""
         taken: dict[str, list[float]] = {}
         kernel: dict[str, list[float]] = {}
-        for _ in range(ROUNDS):
+        for _ in range(rounds):
             for name, part in self.parts.items():
                 taken.setdefault(name, []).append(part.milliseconds())
             for name, length in self.copies.items():
@@ -155,11 +148,15 @@ def print_run(command: str, name: str, taken: dict[str, float], kernel: float) -
 
 
 def main() -> None:
+    parser = options(__doc__)
+    parser.add_argument("program")
+    args = parser.parse_args()
+    rounds, sizes = (1, {"1 KiB": KIB}) if args.quick else (ROUNDS, SIZES)
     with tempfile.TemporaryDirectory() as folder:
-        taken, kernel = Parts(os.path.abspath(sys.argv[1]), Path(folder)).measure()
-    print(f"parts of the processor time, the least of {ROUNDS} rounds, and the least that a part could take:")
+        taken, kernel = Parts(os.path.abspath(args.program), Path(folder), sizes).measure(rounds)
+    print(f"parts of the processor time, the least of {rounds} rounds, and the least that a part could take:")
     for command in ("view", "encrypt"):
-        for name in SIZES:
+        for name in sizes:
             print_run(command, name, taken, kernel[f"{command} {name}"])
 
 

@@ -1,12 +1,11 @@
 #!/usr/bin/env -S python3 -B
 """Times how many vaults get a new secret: by ansible-vault-rotate and by Ansible's own tool, in one run each, in turn.
 
-Usage: rotation.py PROGRAM [--vaults N] [--runs N]
+Usage: rotation.py PROGRAM [--vaults N] [--runs N] [--quick]
 
 The vaults are of 1 KiB, and are made anew before each run.
 """
 
-import argparse
 import sys
 import tempfile
 from pathlib import Path
@@ -15,7 +14,7 @@ ROOT = Path(__file__).resolve().parent.parent
 sys.path.insert(0, str(ROOT / "tests"))
 
 from lib.ansible import ansible_vault
-from measured import Task, measure_in_turn, spread
+from measured import Task, measure_in_turn, options, spread
 from model.vaults import seal
 
 ROTATE = "ansible-vault-rotate"
@@ -45,11 +44,13 @@ class Vaults:
 
 
 def main() -> None:
-    parser = argparse.ArgumentParser(description=__doc__, formatter_class=argparse.RawDescriptionHelpFormatter)
+    parser = options(__doc__)
     parser.add_argument("program", type=Path)
     parser.add_argument("--vaults", type=int, default=200, metavar="N")
     parser.add_argument("--runs", type=int, default=5, metavar="N")
     args = parser.parse_args()
+    if args.quick:
+        args.vaults, args.runs = 4, 1
     with tempfile.TemporaryDirectory() as folder:
         vaults = Vaults(Path(folder), args.program, args.vaults)
         tasks = {ROTATE: vaults.task(str(vaults.folder / ROTATE))}

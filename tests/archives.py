@@ -9,7 +9,7 @@ import tarfile
 import pytest
 
 from lib.installed import PREFIX_FILES, VERSION, check_program, files_below, run_make
-from lib.needs import needs
+from lib.needs import needs_checkout
 from lib.paths import ROOT
 
 SOURCE = f"ansible-vault-{VERSION}"
@@ -38,7 +38,7 @@ def tracked_files() -> set[str]:
 
 @pytest.fixture(scope="module")
 def archives(program: str, tmp_path_factory: pytest.TempPathFactory) -> pathlib.Path:
-    needs("git")
+    needs_checkout()
     folder = tmp_path_factory.mktemp("archives") / "dist"
     made(program, folder)
     return folder

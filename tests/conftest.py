@@ -19,7 +19,7 @@ from pytest_subtests import SubTestReport
 
 from cases import Cases
 from lib.locales import use_plain_locale
-from lib.needs import TAKES_ROOT
+from lib.needs import TAKES_MOUNTS, TAKES_ROOT, is_confined
 from lib.paths import ROOT
 from lib.signals import heed_signals
 
@@ -72,12 +72,26 @@ def pytest_sessionstart(session: pytest.Session) -> None:
         pytest.exit("this locale is not UTF-8: try `python3 -X utf8 -m pytest`", pytest.ExitCode.USAGE_ERROR)
 
 
+def missing_tool(error: BaseException | None) -> str | None:
+    """The command that could not be run since no folder of PATH has it."""
+    if isinstance(error, FileNotFoundError) and isinstance(error.filename, str) and "/" not in error.filename:
+        return None if shutil.which(error.filename) else error.filename
+    return None
+
+
+def may_be_left_out(reason: str) -> bool:
+    """Even where all is required."""
+    return reason == TAKES_ROOT and os.geteuid() != 0 or reason == TAKES_MOUNTS and is_confined()
+
+
 @pytest.hookimpl(hookwrapper=True)
 def pytest_runtest_makereport(item: pytest.Function, call: pytest.CallInfo) -> Iterator[None]:
     report = (yield).get_result()
+    if tool := missing_tool(call.excinfo and call.excinfo.value):
+        report.outcome, report.longrepr = "skipped", (str(item.path), None, f"Skipped: without {tool}")
     if report.skipped and item.config.getoption("--require-all"):
         reason = report.longrepr[2].removeprefix("Skipped: ")
-        if reason != TAKES_ROOT or os.geteuid() == 0:
+        if not may_be_left_out(reason):
             report.outcome, report.longrepr = "failed", f"{reason}: it is skipped, and --require-all is set"
     if report.failed:
         item.has_failed = True

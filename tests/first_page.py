@@ -1,5 +1,5 @@
 """Runs the commands of the README's section "Five minutes" one after the other, with a program as
-`ansible-vault` and the companions beside it, and compares what they print.
+`ansible-vault` and the companions beside it, and compares what they print. `newcomer` types the other commands.
 
 `first_page.py PROGRAM` prints them, and fails if one prints something else than the README says.
 """
@@ -30,9 +30,28 @@ class Step(NamedTuple):
         return re.fullmatch(pattern, printed.strip("\n"), re.DOTALL) is not None
 
 
+def sections(document: str) -> tuple[str, str]:
+    """The session, and all the rest."""
+    before, _, rest = document.partition(SECTION)
+    session, heading, after = rest.partition("\n## ")
+    return session, before + "\n\n" + heading + after
+
+
+def commands(document: str) -> list[str]:
+    """Those outside of the session, without their comments. Steps of the session that are shown there, too, are left
+    out; behind a prompt stands a command, and else each line is one."""
+    session, rest = sections(document)
+    found: list[str] = []
+    for block in re.findall(r"(?<=\n\n)(?: {4}.*\n)+", rest):
+        lines = [re.sub(r"\s+#.*", "", line.strip()) for line in block.splitlines()]
+        found += [line.removeprefix("$ ") for line in lines if line.startswith("$ ")] or lines
+    shown = {step.command for step in steps(document)}
+    return [command for command in found if command not in shown]
+
+
 def steps(document: str) -> list[Step]:
-    section = document.partition(SECTION)[2].partition("\n## ")[0]
-    lines = [line[4:] for line in section.splitlines() if line.startswith("    ")]
+    session, _ = sections(document)
+    lines = [line[4:] for line in session.splitlines() if line.startswith("    ")]
     _, *parts = re.split(r"^\$ ((?:.*\\\n)*.*)$", "\n".join(lines), flags=re.MULTILINE)
     return [Step(command, printed.strip("\n")) for command, printed in zip(parts[::2], parts[1::2])]
 

@@ -17,7 +17,7 @@ from cases import SECONDS, TEXT, Cases, answer_of, by_file
 from cases.samples import OF_FILE, SALT_WORDS, Sample, each_command, sample_of
 from lib import resident
 from lib.mounts import tmpfs
-from lib.needs import TAKES_ROOT
+from lib.needs import needs_mounts
 from model.faults import Fault
 from model.vaults import PLAINTEXT_LIMIT, seal
 
@@ -116,8 +116,7 @@ def test_full_file_system(cases: Cases, subtests: SubTests, command: str) -> Non
     """A small file system in memory, where the tests may mount one."""
     folder, sample = Path(cases.path()), sample_of(cases, command, TEXT * FILE_SYSTEM_SIZE)
     with tmpfs(folder, FILE_SYSTEM_SIZE) as is_mounted:
-        if not is_mounted:
-            pytest.skip(TAKES_ROOT)
+        needs_mounts(is_mounted)
         path = folder / "file"
         with subtests.test("standard output"), path.open("wb") as out:
             cases.run_streams(sample.words, 3, Fault.NOT_WRITTEN.line, input=sample.stdin, stdout=out)

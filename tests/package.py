@@ -30,7 +30,7 @@ def field(package: pathlib.Path, name: str) -> str:
 @pytest.fixture(scope="module")
 def package(program: str, tmp_path_factory: pytest.TempPathFactory) -> pathlib.Path:
     """It is made once, for all processes that run these tests."""
-    needs("dpkg-deb")
+    needs("dpkg-deb", "dh")
     folder = tmp_path_factory.getbasetemp()
     folder = folder.parent if "PYTEST_XDIST_WORKER" in os.environ else folder
     architecture = printed("dpkg", "--print-architecture").strip()
@@ -80,7 +80,7 @@ def test_changelog() -> None:
 @pytest.fixture
 def copy(tmp_path: pathlib.Path, program: str) -> pathlib.Path:
     """A copy of the repository below a path with a space; its program is newer than its sources."""
-    needs("dpkg-deb")
+    needs("dpkg-deb", "dh")
     copy = tmp_path / "two words"
     shutil.copytree(ROOT, copy, symlinks=True, ignore=shutil.ignore_patterns("bin", "crates", ".git"))
     (copy / "crates").symlink_to(ROOT / "crates")

@@ -17,7 +17,7 @@ from pytest_subtests import SubTests
 from cases import SECONDS, TEXT, Cases, answer_of, by_file
 from cases.samples import Sample, each_command, each_to_output, sample_of
 from lib.mounts import PAGE, tmpfs
-from lib.needs import TAKES_ROOT, needs
+from lib.needs import needs, needs_mounts
 from model.compared import contents
 from model.faults import Fault
 
@@ -203,8 +203,7 @@ def test_full_standard_output(cases: Cases, command: str, closed: set[int]) -> N
 def test_full_file_system(cases: Cases, subtests: SubTests, command: str) -> None:
     folder = Path(cases.path())
     with tmpfs(folder, PAGE) as is_mounted:
-        if not is_mounted:
-            pytest.skip(TAKES_ROOT)
+        needs_mounts(is_mounted)
         for closed in COMBINATIONS:
             with subtests.test(closings(closed)):
                 (folder / NEW_FILE).unlink(missing_ok=True)

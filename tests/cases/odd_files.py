@@ -16,7 +16,7 @@ from cases.files import NOT_ASKED, to_output
 from cases.modes import OLD, mode
 from cases.samples import OF_FILE, SALT_TEXT, SALT_WORDS, TO_OUTPUT, Sample, each_command, sample_of
 from lib.mounts import PAGE, remount_read_only, tmpfs
-from lib.needs import TAKES_ROOT
+from lib.needs import needs_mounts
 from lib.processes import started
 from model.faults import Fault
 from model.vaults import SALT, seal
@@ -135,8 +135,7 @@ def test_read_only(cases: Cases, subtests: SubTests) -> None:
         if is_mounted:
             old.write_bytes(OLD)
             old.chmod(0o644)
-        if not is_mounted or not remount_read_only(folder):
-            pytest.skip(TAKES_ROOT)
+        needs_mounts(is_mounted and remount_read_only(folder))
         for command, path in itertools.product(TO_OUTPUT, (old, new)):
             with subtests.test(f"{command} to {path.name}"):
                 sample = sample_of(cases, command)

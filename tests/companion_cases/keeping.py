@@ -11,7 +11,7 @@ from pytest_subtests import SubTests
 
 from companion_cases import EDIT, TEXT, Companions, Place, decrypted, ended, sealed, silent
 from companion_cases.editing import ABOVE_EDITOR, CHANGE, CHANGED, edit
-from lib.needs import TAKES_ROOT
+from lib.needs import needs_mounts
 
 ENCRYPTED = re.compile(r"; what you saved is encrypted in (.+)\n\Z")
 PLAIN = re.compile(r"; what you saved is left in plaintext in (.+)\n\Z")
@@ -139,8 +139,7 @@ replacing._write_beside, replacing.check_replaceable = full, lambda target: None
 
 def test_mounted_vaults(place: Place) -> None:
     """No file can take the place of one that is mounted by itself, as containers have it."""
-    if os.geteuid() != 0 or subprocess.run(["unshare", "-m", "true"], capture_output=True).returncode != 0:
-        pytest.skip(TAKES_ROOT)
+    needs_mounts(subprocess.run(["unshare", "-m", "mount", "--make-rprivate", "/"], capture_output=True).returncode == 0)
     place.put("all.yml", sealed("old"))
     words = f"{EDIT} {' '.join(place.by_file('old'))} all.yml"
     place.environment["EDITOR"] = place.script(f"touch ../started; {CHANGE}", "editor")

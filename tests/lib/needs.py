@@ -1,15 +1,23 @@
 """What a test needs of the machine. Without it the test is skipped, and with --require-all it fails."""
 
 import os
+import re
 import shutil
+import subprocess
 from importlib.util import find_spec
+from pathlib import Path
 
 import pytest
 
 from lib.ansible import ansible_vault
+from lib.paths import ROOT
 
-# Even where all is required, another user than root may leave this out.
+# Where all is required, these are left out nevertheless: the first by another user than root, and the second where
+# root is confined.
 TAKES_ROOT = "it takes the rights of root"
+TAKES_MOUNTS = "it mounts, which root may not do in a container or a chroot"
+# The number of the capability to mount.
+CAP_SYS_ADMIN = 21
 
 
 def needs(*tools: str) -> None:
@@ -19,9 +27,31 @@ def needs(*tools: str) -> None:
         pytest.skip(f"without {', '.join(missing)}")
 
 
+def needs_checkout() -> None:
+    """A checkout of git, where git is installed."""
+    needs("git")
+    command = ["git", "-C", str(ROOT), "ls-files", "--error-unmatch", "Makefile"]
+    if subprocess.run(command, capture_output=True).returncode != 0:
+        pytest.skip("without a checkout of git")
+
+
 def needs_root() -> None:
     if os.geteuid() != 0:
         pytest.skip(TAKES_ROOT)
+
+
+def is_confined() -> bool:
+    """Whether root has lost the right to mount, as in a container, or is in a chroot, where `/` is no mount point."""
+    status = Path("/proc/self/status").read_text()
+    [effective] = re.findall(r"^CapEff:\s+(\w+)$", status, re.MULTILINE)
+    mounted = {line.split()[4] for line in Path("/proc/self/mountinfo").read_text().splitlines()}
+    return not int(effective, 16) >> CAP_SYS_ADMIN & 1 or "/" not in mounted
+
+
+def needs_mounts(can_mount: bool) -> None:
+    """Skips the test if what it mounts could not be mounted."""
+    if not can_mount:
+        pytest.skip(TAKES_MOUNTS if os.geteuid() == 0 else TAKES_ROOT)
 
 
 def needs_pyyaml() -> None:

@@ -52,9 +52,9 @@ def wait_for_sleep(process: int) -> None:
         time.sleep(PAUSE)
 
 
-def drain(reader: int, process: int) -> tuple[bytes, int]:
-    """All that comes through the pipe, and the most memory that was seen on the way."""
-    chunks, resident = [], peak(process)
+def drain(reader: int, process: int, resident: int) -> tuple[bytes, int]:
+    """All that comes through the pipe, and the most memory that was seen on the way, and before."""
+    chunks = []
     while chunk := os.read(reader, CHUNK_SIZE):
         chunks.append(chunk)
         resident = max(resident, peak(process))
@@ -74,6 +74,8 @@ def run(command: list[str], text: bytes, path: str | None) -> Run:
             child.stdin.write(text)
             child.stdin.close()
         wait_for_sleep(child.pid)
+        # It cannot end before the pipe takes more.
+        resident = peak(child.pid)
         fcntl.fcntl(reader, fcntl.F_SETPIPE_SZ, CHUNK_SIZE)
-        output, resident = drain(reader, child.pid)
+        output, resident = drain(reader, child.pid, resident)
         return Run(child.wait(SECONDS), output[filler_length:], resident)
