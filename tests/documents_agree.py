@@ -28,7 +28,7 @@ LIMITS = {
 
 def code_texts() -> dict[str, list[str]]:
     """The texts of each fault, one for each role if it has several."""
-    texts = {}
+    texts: dict[str, list[str]] = {}
     for name, text in re.findall(r'Fault::(\w+)(?:\(Role::\w+\))? =>\s*"(.*)",', FAULTS):
         texts.setdefault(name, []).append(text)
     return texts
@@ -59,7 +59,7 @@ def document_faults() -> dict[int, tuple[list[str], int]]:
 
 def code_limits() -> dict[str, int]:
     """The constants of the files `limits.rt`."""
-    values = {}
+    values: dict[str, int] = {}
     for file in sorted(CRATES.glob("vault_*/src/limits.rt")):
         constants = re.findall(r"^(?:pub )?const (\w+): \w+ = (.*);$", file.read_text(), re.MULTILINE)
         for name, expression in constants:
@@ -93,7 +93,7 @@ def test_page() -> None:
     texts = [text for texts in code_texts().values() for text in texts]
     assert sorted(messages) == sorted(texts), "the manual page explains every message"
     longest = re.search(r"Plaintext has at most ([\d,]+) bytes", diagnostics)
-    assert numbers(longest[1]) == {code_limits()["PLAINTEXT_LIMIT"]}, "and names the longest plaintext"
+    assert longest and numbers(longest[1]) == {code_limits()["PLAINTEXT_LIMIT"]}, "and names the longest plaintext"
 
 
 def code_codes() -> set[int]:

@@ -31,8 +31,8 @@ SAMPLES = {
     "a skip, and all is required": (SKIP, ["--require-all"], 1, "0 passed, 1 failed, 0 skipped"),
     "only root can do it": (ROOT_ONLY.format(user=1), ["--require-all"], 0, "0 passed, 0 failed, 1 skipped"),
     "root cannot do it": (ROOT_ONLY.format(user=0), ["--require-all"], 1, "0 passed, 1 failed, 0 skipped"),
-    "too few": ("pass", ["--floors"], 1, "1 passed, 10 failed, 0 skipped"),
-    "too few in two processes": ("pass", ["--floors", "--numprocesses=2"], 1, "1 passed, 10 failed, 0 skipped"),
+    "too few": ("pass", ["--floors"], 1, "1 passed, 11 failed, 0 skipped"),
+    "too few in two processes": ("pass", ["--floors", "--numprocesses=2"], 1, "1 passed, 11 failed, 0 skipped"),
     "no test of that name": ("pass", ["-k", "another"], 5, "0 passed, 0 failed, 0 skipped"),
 }
 

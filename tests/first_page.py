@@ -61,7 +61,7 @@ def session(program: str, top: pathlib.Path) -> Iterator[tuple[Step, str]]:
     folder, tools = top / "folder", top / "tools"
     folder.mkdir()
     tools.mkdir()
-    for name, path in {**COMPANIONS, "ansible-vault": program}.items():
+    for name, path in (*COMPANIONS.items(), ("ansible-vault", pathlib.Path(program))):
         (tools / name).symlink_to(path)
     environment = os.environ | {"PATH": f"{tools}{os.pathsep}{os.environ['PATH']}"}
     for step in steps(README.read_text()):

@@ -58,8 +58,9 @@ def clone(tmp_path_factory: pytest.TempPathFactory) -> Path:
     needs("git", "rt")
     needs_checkout()
     folder = tmp_path_factory.mktemp("newcomer") / "ansible-vault"
+    state = git("stash", "create") or git("rev-parse", "HEAD")
     git("clone", "--quiet", "--no-checkout", str(ROOT), str(folder))
-    git("checkout", "--quiet", "--detach", git("stash", "create") or git("rev-parse", "HEAD"), at=folder)
+    git("checkout", "--quiet", "--detach", state, at=folder)
     return folder
 
 
@@ -103,7 +104,7 @@ def test_session(clone: Path, prefix: Path, tmp_path: Path) -> None:
     assert len(found) > 5
 
 
-@pytest.mark.parametrize("command, wanted", SMALL.items())
+@pytest.mark.parametrize("command, wanted", SMALL.items(), ids=SMALL)
 def test_target(clone: Path, request: pytest.FixtureRequest, command: str, wanted: str) -> None:
     printed = typed(command.format(seed=request.config.getoption("--seed")), clone)
     assert re.search(wanted, printed), printed
@@ -139,7 +140,8 @@ def test_all_are_typed() -> None:
     typed_words = " ".join([*commands(README.read_text()), *SMALL, "make uninstall make clean"])
     goals = {goal for goal in phony.split() if goal not in ("\\", "FORCE") and not re.search(rf"\b{goal}\b", typed_words)}
     assert goals == RUN_BY_OTHERS.keys()
-    callers = {path: (ROOT / path).read_text() for path in ("Makefile", ".ci/run", *scripts())}
+    tests = (str(path.relative_to(ROOT)) for path in ROOT.glob("tests/*.py"))
+    callers = {path: (ROOT / path).read_text() for path in ("Makefile", ".ci/run", *scripts(), *tests)}
     for name in scripts():
         texts = [typed_words, *(text for path, text in callers.items() if path != name)]
         assert any(re.search(rf"\b{re.escape(Path(name).stem)}\b", text) for text in texts), f"nothing runs {name}"

@@ -3,7 +3,9 @@
 import os
 import stat
 import subprocess
+from collections.abc import Sequence
 from pathlib import Path
+from typing import Any
 
 from lib.limits import SECONDS
 from model.faults import Fault
@@ -22,11 +24,11 @@ def by_id(path: str, label: str = "default") -> list[str]:
     return ["--vault-id", f"{label}@{path}"]
 
 
-def run_captured(words, stdin=b"", **options) -> subprocess.CompletedProcess:
+def run_captured(words: Sequence[str], stdin: bytes = b"", **options: Any) -> subprocess.CompletedProcess[bytes]:
     return subprocess.run(words, input=stdin, capture_output=True, timeout=SECONDS, **options)
 
 
-def answer_of(done: subprocess.CompletedProcess) -> tuple[int, bytes, bytes]:
+def answer_of(done: subprocess.CompletedProcess[bytes]) -> tuple[int, bytes, bytes]:
     return done.returncode, done.stdout, done.stderr
 
 
@@ -76,37 +78,39 @@ class Cases:
             return None
         return copy
 
-    def done(self, words, stdin=b"", **options) -> subprocess.CompletedProcess:
+    def done(self, words: Sequence[str], stdin: bytes = b"", **options: Any) -> subprocess.CompletedProcess[bytes]:
         return run_captured([self.program, *words], stdin, **options)
 
-    def run(self, words, stdin=b"", status=0, out: bytes | None = b"", err=b"") -> bytes:
+    def run(
+        self, words: Sequence[str], stdin: bytes = b"", status: int = 0, out: bytes | None = b"", err: bytes = b""
+    ) -> bytes:
         """Compares the status and both streams, and returns the output, which is not compared if `out` is None."""
         done = self.done(words, stdin)
         assert answer_of(done) == (status, done.stdout if out is None else out, err)
         return done.stdout
 
-    def refused(self, words, fault: Fault, stdin=b"") -> None:
+    def refused(self, words: Sequence[str], fault: Fault, stdin: bytes = b"") -> None:
         self.run(words, stdin, fault.status, b"", fault.line)
 
-    def decrypts(self, options, vault, plaintext) -> None:
+    def decrypts(self, options: Sequence[str], vault: bytes, plaintext: bytes) -> None:
         self.read(options, vault, (0, plaintext, b""))
 
-    def refuses(self, options, stdin, fault: Fault) -> None:
+    def refuses(self, options: Sequence[str], stdin: bytes, fault: Fault) -> None:
         self.read(options, stdin, refusal(fault))
 
-    def read(self, options, stdin, wanted: tuple[int, bytes, bytes]) -> None:
+    def read(self, options: Sequence[str], stdin: bytes, wanted: tuple[int, bytes, bytes]) -> None:
         """Both commands that read have this answer."""
         found = {command: answer_of(self.done([command, *options], stdin)) for command in READING}
         assert found == dict.fromkeys(READING, wanted)
 
-    def usage_error(self, words, part: bytes) -> None:
+    def usage_error(self, words: Sequence[str], part: bytes) -> None:
         """The parser refuses the words in a text that holds this part."""
         status, output, message = answer_of(self.done(words))
         assert (status, output) == (2, b"") and part in message, message
 
-    def run_streams(self, words, status, err=None, **streams) -> None:
+    def run_streams(self, words: Sequence[str], status: int, err: bytes | None = None, **streams: Any) -> None:
         """Runs with these streams. Standard output is discarded by default; standard error is checked only if `err`
         is given."""
-        given = {"stdout": subprocess.DEVNULL, "stderr": subprocess.DEVNULL if err is None else subprocess.PIPE}
+        given: dict[str, Any] = {"stdout": subprocess.DEVNULL, "stderr": subprocess.DEVNULL if err is None else subprocess.PIPE}
         done = subprocess.run([self.program, *words], timeout=SECONDS, **given | streams)
         assert (done.returncode, done.stderr if err is not None else None) == (status, err)

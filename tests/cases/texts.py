@@ -2,7 +2,7 @@
 answer to each command line that is a mistake, below the line itself.
 
 The texts are clap's, and no outside source has them. They were stored as the program printed them and
-read over by eye, against the help of each option in `crates/vault_command_line`. `tests/store_texts PROGRAM`
+read over by eye, against the help of each option in `crates/vault_request`. `tests/store_texts PROGRAM`
 stores them anew; what it changes is to be read over again.
 """
 
@@ -12,7 +12,7 @@ import subprocess
 from pathlib import Path
 from typing import NamedTuple
 
-from cases import SECONDS
+from lib.limits import SECONDS
 from lib.paths import ROOT
 from model.options import OPTIONS
 

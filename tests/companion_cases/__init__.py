@@ -127,11 +127,11 @@ class Place:
         """Wraps the program, or git, in a script that first runs this shell text."""
         path = self.tools / name
         path.unlink(missing_ok=True)
-        program = self.program if name == "ansible-vault" else shutil.which(name)
+        program = str(self.program) if name == "ansible-vault" else shutil.which(name)
         path.write_text(f'#!/bin/sh\n{text}\nexec {program} "$@"\n')
         path.chmod(0o755)
 
-    def run(self, *words: str, **variables: str) -> subprocess.CompletedProcess:
+    def run(self, *words: str, **variables: str) -> subprocess.CompletedProcess[str]:
         return subprocess.run(
             [*words],
             cwd=self.tree,
@@ -143,7 +143,9 @@ class Place:
             timeout=SECONDS,
         )
 
-    def shell(self, text: str, interpreter: str = "sh", folder: str = ".", **variables: str):
+    def shell(
+        self, text: str, interpreter: str = "sh", folder: str = ".", **variables: str
+    ) -> subprocess.CompletedProcess[str]:
         return subprocess.run(
             [interpreter, "-c", text],
             cwd=self.tree / folder,
@@ -154,7 +156,7 @@ class Place:
             timeout=SECONDS,
         )
 
-    def as_nobody(self, *words: str) -> subprocess.CompletedProcess:
+    def as_nobody(self, *words: str) -> subprocess.CompletedProcess[str]:
         """As somebody who owns nothing, where root runs the tests; root may read and write everything."""
         if os.geteuid() == 0:
             words = ("setpriv", f"--reuid={NOBODY}", f"--regid={NOBODY}", "--clear-groups", *words)
@@ -186,13 +188,13 @@ class Companions:
         return Place(path, self.program, self.companions)
 
 
-def ended(what: str, done: subprocess.CompletedProcess, status: int, *parts: str) -> None:
+def ended(what: str, done: subprocess.CompletedProcess[str], status: int, *parts: str) -> None:
     """The status, and that each part is printed, on either stream."""
     output = done.stdout + done.stderr
     missing = [part for part in parts if part not in output]
     assert (done.returncode, missing) == (status, []), (what, output)
 
 
-def silent(what: str, done: subprocess.CompletedProcess) -> None:
+def silent(what: str, done: subprocess.CompletedProcess[str]) -> None:
     """It ends well and prints nothing."""
     assert (done.returncode, done.stdout, done.stderr) == (0, "", ""), what

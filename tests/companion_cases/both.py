@@ -9,11 +9,11 @@ from companion_cases import WITH, Place
 from companion_cases.terminal import Session, at_terminal
 
 
-def ours(place: Place, *words: str, **variables: str) -> subprocess.CompletedProcess:
+def ours(place: Place, *words: str, **variables: str) -> subprocess.CompletedProcess[str]:
     return place.run("setsid", "--wait", WITH, *words, **variables)
 
 
-def theirs(place: Place, ansible: str, *words: str, **variables: str) -> subprocess.CompletedProcess:
+def theirs(place: Place, ansible: str, *words: str, **variables: str) -> subprocess.CompletedProcess[str]:
     with for_ansible(place):
         return place.run("setsid", "--wait", ansible, *words, **variables)
 

@@ -66,7 +66,8 @@ def test_nothing(place: Place, subtests: SubTests) -> None:
     place.put("plain.yml", TEXT)
     done = place.run(CHECK, *place.by_file("old"), ".")
     assert (done.returncode, done.stdout, done.stderr) == (0, "0 decrypted, 0 not\n", ""), "nothing"
-    for words in ([], ["."], place.by_file("old"), [*place.by_file("old"), "--loud", "."]):
+    wrong: list[list[str]] = [[], ["."], place.by_file("old"), [*place.by_file("old"), "--loud", "."]]
+    for words in wrong:
         with subtests.test(f"{words}"):
             ended("the words", place.run(CHECK, *words), 2, "usage: ansible-vault-check")
 

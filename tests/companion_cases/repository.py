@@ -1,5 +1,7 @@
 """A tree under git."""
 
+import subprocess
+
 from companion_cases import Place
 
 AUTHOR = {f"GIT_{who}_{what}": "a@b" for who in ("AUTHOR", "COMMITTER") for what in ("NAME", "EMAIL")}
@@ -11,10 +13,10 @@ def under_git(place: Place, attributes: str) -> None:
     place.put(".gitattributes", attributes.encode())
 
 
-def commit(place: Place, *words: str, folder: str = "."):
+def commit(place: Place, *words: str, folder: str = ".") -> subprocess.CompletedProcess[str]:
     return place.shell(f"git commit -qm change {' '.join(words)}", folder=folder)
 
 
-def add_and_commit(place: Place):
+def add_and_commit(place: Place) -> subprocess.CompletedProcess[str]:
     place.shell("git add -A")
     return commit(place)

@@ -8,8 +8,10 @@ import subprocess
 import termios
 import time
 from dataclasses import dataclass
+from typing import Any
 
-from companion_cases import SECONDS, Place
+from companion_cases import Place
+from lib.limits import SECONDS
 
 CHUNK_SIZE = 4096
 # The session leader: when it exits the terminal is hung up, so it writes the terminal's modes to $MODES before.
@@ -32,11 +34,11 @@ class Session:
 def at_terminal(place: Place, words: list[str], *answers: tuple[str, bytes], **variables: str) -> Session:
     """Runs a program, waits for each question and types what answers it. The standard streams are no terminal."""
     controller, terminal = os.openpty()
-    pipes = {"stdin": subprocess.DEVNULL, "stdout": subprocess.PIPE, "stderr": subprocess.PIPE}
+    pipes: dict[str, Any] = {"stdin": subprocess.DEVNULL, "stdout": subprocess.PIPE, "stderr": subprocess.PIPE}
     begin = lambda: fcntl.ioctl(terminal, termios.TIOCSCTTY, 0)
     modes = place.path / "modes"
     environment = place.environment | variables | {"MODES": str(modes)}
-    options = {"cwd": place.tree, "env": environment, "start_new_session": True, "preexec_fn": begin}
+    options: dict[str, Any] = {"cwd": place.tree, "env": environment, "start_new_session": True, "preexec_fn": begin}
     with subprocess.Popen(["sh", "-c", LEADER, "sh", *words], pass_fds=[terminal], **pipes, **options) as program:
         os.close(terminal)
         shown = b""

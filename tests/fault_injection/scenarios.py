@@ -23,7 +23,10 @@ class Request(NamedTuple):
 
 def requests(cases: Cases, text: bytes, salt: bytes) -> list[Request]:
     """One of each command; a salt of 32 bytes comes from a file, and a shorter one is a text."""
-    right = lambda: by_file(cases.file(b"right\n"))
+
+    def right() -> list[str]:
+        return by_file(cases.file(b"right\n"))
+
     new = ["--new-vault-id", f"prod@{cases.file(b'new')}"]
     salted = ["--salt-file", cases.file(salt)] if len(salt) == len(SALT) else ["--salt", salt.decode()]
     vault = seal(b"right", text, salt=salt)
@@ -47,7 +50,7 @@ def targets(request: Request) -> list[tuple[Target, list[str]]]:
 def inputs(cases: Cases, request: Request) -> list[tuple[str, list[str], str]]:
     """The name, the words and the standard input of each way in which the input comes."""
     path, other = cases.file(request.input), cases.file(b"not asked for")
-    ways = [("standard input", [], path)]
+    ways: list[tuple[str, list[str], str]] = [("standard input", [], path)]
     if request.words[0] != "encrypt_string":
         ways.append(("FILE", [path], other))
     elif len(request.input) <= KIB:

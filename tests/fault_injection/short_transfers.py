@@ -2,6 +2,7 @@
 
 import os
 import tempfile
+from collections.abc import Sequence
 from pathlib import Path
 
 from fault_injection import Left, Scenario, run
@@ -22,12 +23,15 @@ def run_short(program: str, library: str, scenario: Scenario, most: int) -> tupl
         return run(scenario, [program], environment), marker.exists()
 
 
+def most_bytes(scenario: Scenario) -> Sequence[int]:
+    return SMALL_MOST if len(scenario.whole) < LARGE else LARGE_MOST
+
+
 def short_transfers(program: str, scenarios: list[Scenario]) -> None:
-    most_of = lambda scenario: SMALL_MOST if len(scenario.whole) < LARGE else LARGE_MOST
     differing = []
     with tempfile.TemporaryDirectory() as folder:
         library = os.path.abspath(build_library(folder, LIBRARY))
-        for scenario, most in [(scenario, most) for scenario in scenarios for most in most_of(scenario)]:
+        for scenario, most in [(scenario, most) for scenario in scenarios for most in most_bytes(scenario)]:
             left, is_cut = run_short(program, library, scenario, most)
             if (left, is_cut) != (scenario.fault_free(), True):
                 differing.append(f"{scenario.name}, at most {most} bytes a call: {left}, a call is cut short: {is_cut}")

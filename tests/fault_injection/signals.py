@@ -7,10 +7,11 @@ import tempfile
 import time
 from pathlib import Path
 from random import Random
-from typing import NamedTuple
+from typing import Any, NamedTuple
 
 from cases import TEXT, Cases, by_file
-from fault_injection import OLD, OLD_MODE, OUTPUT, SCRATCH, SECONDS, Left, Scenario, files_in
+from fault_injection import OLD, OLD_MODE, OUTPUT, SCRATCH, Left, Scenario, files_in
+from lib.limits import SECONDS
 from model.vaults import seal
 
 SIGNALS = signal.SIGTERM, signal.SIGINT, signal.SIGHUP
@@ -32,19 +33,19 @@ def has_begun(folder: str) -> bool:
     return path.exists() and path.stat().st_size != len(OLD)
 
 
-def wait_for_output(child: subprocess.Popen, folder: str) -> None:
+def wait_for_output(child: subprocess.Popen[bytes], folder: str) -> None:
     while not has_begun(folder) and child.poll() is None:
         time.sleep(PAUSE)
 
 
-def start(program: str, scenario: Scenario, folder: str) -> subprocess.Popen:
+def start(program: str, scenario: Scenario, folder: str) -> subprocess.Popen[bytes]:
     scenario.lay_out(folder)
     with open(scenario.stdin, "rb") as stdin:
         words = [program, *scenario.words]
         return subprocess.Popen(words, stdin=stdin, stdout=subprocess.PIPE, stderr=subprocess.PIPE, cwd=folder)
 
 
-def finish(child: subprocess.Popen, folder: str) -> Left:
+def finish(child: subprocess.Popen[bytes], folder: str) -> Left:
     output, message = child.communicate(timeout=SECONDS)
     return Left(child.returncode, output, message, files_in(folder))
 
@@ -103,19 +104,21 @@ def signal_while_blocked(cases: Cases, number: signal.Signals) -> None:
     """It ends a run that cannot go on by itself."""
     secret, text = by_file(cases.file(b"right\n")), (TEXT * MORE_THAN_A_PIPE)[:MORE_THAN_A_PIPE]
     vault = cases.file(seal(b"right", text))
-    pipes = dict.fromkeys(("stdin", "stdout", "stderr"), subprocess.PIPE)
+    pipes: dict[str, Any] = dict.fromkeys(("stdin", "stdout", "stderr"), subprocess.PIPE)
     reading = subprocess.Popen([cases.program, "encrypt", *secret], bufsize=0, **pipes)
     # It has read of this when all is written.
+    assert reading.stdin
     reading.stdin.write(text)
     assert send_signal(reading, number) == (-number, b"", b""), "where the input is waited for"
     writing = subprocess.Popen([cases.program, "view", *secret, vault], bufsize=0, **pipes)
+    assert writing.stdout
     begun = writing.stdout.read(1)
     status, output, message = send_signal(writing, number)
     is_part = text.startswith(begun + output) and begun + output != text
     assert (status, is_part, message) == (-number, True, b""), "where the output is not taken"
 
 
-def send_signal(child: subprocess.Popen, number: signal.Signals) -> tuple[int, bytes, bytes]:
+def send_signal(child: subprocess.Popen[bytes], number: signal.Signals) -> tuple[int, bytes, bytes]:
     """Sends a signal, and then closes the streams, so that a run that ignores it ends, too."""
     child.send_signal(number)
     output, message = child.communicate(timeout=SECONDS)

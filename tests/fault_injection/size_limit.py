@@ -16,8 +16,11 @@ def wanted(scenario: Scenario, amount: int) -> Left:
     return scenario.written(-signal.SIGXFSZ, b"", amount, scenario.last_mode())
 
 
+def amounts(length: int) -> tuple[int, ...]:
+    return 0, 1, length // 2, length - 1, length
+
+
 def size_limit(program: str, scenarios: list[Scenario]) -> None:
-    amounts = lambda length: (0, 1, length // 2, length - 1, length)
     differing = []
     for scenario, amount in [(scenario, amount) for scenario in scenarios for amount in amounts(len(scenario.whole))]:
         left = run_limited(program, scenario, amount)

@@ -10,7 +10,9 @@ LIBRARY = "refuse_allocation"
 REPORT_DESCRIPTOR = 3
 
 
-def run_refusing(library: str, words: list[str], stdin: bytes, number: int):
+def run_refusing(
+    library: str, words: list[str], stdin: bytes, number: int
+) -> tuple[subprocess.CompletedProcess[bytes], bool]:
     """A run of these words whose allocation of this number, from 1, is refused, and whether it had one."""
     reading, writing = os.pipe()
     with open(reading, "rb") as report:

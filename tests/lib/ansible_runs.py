@@ -11,6 +11,7 @@ import subprocess
 import sys
 import tempfile
 from pathlib import Path
+from typing import Any
 
 SETTINGS = [
     "DEFAULT_ASK_VAULT_PASS",
@@ -29,23 +30,26 @@ class AnsibleRuns:
         interpreter = Path(ansible).resolve().read_bytes().partition(b"\n")[0].decode().removeprefix("#!").split()
         environment = {"HOME": str(home), "PATH": os.environ["PATH"], "LC_ALL": "C.UTF-8"}
         words = [*interpreter, "-B", __file__]
-        pipes = {"stdin": subprocess.PIPE, "stdout": subprocess.PIPE}
-        self.process = subprocess.Popen(words, env=environment, cwd=home, text=True, **pipes)
+        self.process = subprocess.Popen(
+            words, env=environment, cwd=home, text=True, stdin=subprocess.PIPE, stdout=subprocess.PIPE
+        )
+        assert self.process.stdin and self.process.stdout
+        self.requests, self.answers = self.process.stdin, self.process.stdout
 
     def __enter__(self) -> "AnsibleRuns":
         return self
 
-    def __exit__(self, *_fault) -> None:
-        self.process.stdin.close()
+    def __exit__(self, *_fault: object) -> None:
+        self.requests.close()
         self.process.wait()
 
     def begin(self, words: list[str], folder: Path, environment: dict[str, str]) -> None:
-        self.process.stdin.write(json.dumps([words, str(folder), environment]) + "\n")
-        self.process.stdin.flush()
+        self.requests.write(json.dumps([words, str(folder), environment]) + "\n")
+        self.requests.flush()
 
     def end(self) -> tuple[int, bytes, str]:
         """Status, standard output and standard error of the run that was begun."""
-        status, output, errors = json.loads(self.process.stdout.readline())
+        status, output, errors = json.loads(self.answers.readline())
         return status, output.encode("latin-1"), errors
 
 
@@ -77,14 +81,14 @@ def run(words: list[str], folder: str, environment: dict[str, str], output: int,
     try:
         VaultCLI.cli_executor(["ansible-vault", *words])
     except SystemExit as end:
-        return end.code or 0
+        return int(end.code or 0)
     finally:
         sys.stdout.flush()
         sys.stderr.flush()
     return 0
 
 
-def forked(request: list) -> list:
+def forked(request: list[Any]) -> list[Any]:
     with tempfile.TemporaryFile() as output, tempfile.TemporaryFile() as errors:
         child = os.fork()
         if not child:

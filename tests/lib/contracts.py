@@ -87,7 +87,7 @@ def named_by(item: str) -> Iterator[Path]:
     """The files that the contract of a call names, or all contracts in the file of a type."""
     text = code()[file_with(item)]
     contract = re.search(rf"^(?:pub(?:\(crate\))? )?{item}\b.*?^\{{", text, re.MULTILINE | re.DOTALL)
-    yield from imported(text, contract[0] if item.startswith("fn ") else None)
+    yield from imported(text, contract[0] if contract and item.startswith("fn ") else None)
 
 
 def reached(items: list[str], laws: list[Path]) -> list[Path]:

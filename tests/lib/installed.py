@@ -3,6 +3,7 @@
 import os
 import pathlib
 import subprocess
+from typing import Any
 
 from lib.paths import FIXTURES, ROOT, version
 
@@ -27,8 +28,8 @@ PREFIX_FILES = FILES | {*(f"share/man/man1/{name}.1" for name in NAMES), "share/
 
 
 def run_make(
-    program: str, *words: str, at: pathlib.Path = ROOT, env: dict | None = None, **options
-) -> subprocess.CompletedProcess:
+    program: str, *words: str, at: pathlib.Path = ROOT, env: dict[str, str] | None = None, **options: Any
+) -> subprocess.CompletedProcess[str]:
     """Runs make as a shell would, though this test may itself be run by make; it installs this program."""
     environment = dict(os.environ if env is None else env)
     environment.pop("MAKEFLAGS", None)
@@ -46,7 +47,7 @@ def files_below(folder: pathlib.Path) -> set[str]:
     return {str(each.relative_to(folder)) for each in folder.rglob("*") if not each.is_dir()}
 
 
-def check_program(program: pathlib.Path, where: str):
+def check_program(program: pathlib.Path, where: str) -> None:
     output = printed(str(program), "--version").strip()
     assert output == f"ansible-vault {VERSION}", f"{where} prints its version"
     password = str(FIXTURES / "one.password")
@@ -57,7 +58,7 @@ def check_program(program: pathlib.Path, where: str):
     check_companions(program, where, ["--vault-password-file", password])
 
 
-def check_companions(program: pathlib.Path, where: str, secret: list[str]):
+def check_companions(program: pathlib.Path, where: str, secret: list[str]) -> None:
     """Each runs and says what it is; and one calls the program beside it."""
     helps = {name: printed(str(program.with_name(name)), "--help", PATH=os.defpath) for name in COMPANIONS}
     silent = [name for name, text in helps.items() if not text.startswith(f"usage: {name}")]

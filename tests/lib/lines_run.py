@@ -32,5 +32,5 @@ def note_lines(companions: Path) -> None:
     for path in companions.glob("ansible-vault-*") if FOLDER else []:
         text = path.read_text()
         interpreter = text.partition("\n")[0]
-        file = os.path.join(FOLDER, "lines")
+        file = os.path.join(FOLDER or "", "lines")
         path.write_text(NOTING.format(interpreter=interpreter, file=file, text=text, path=str(path)))

@@ -33,11 +33,11 @@ def page_sets() -> dict[str | None, set[str]]:
     """The options of each command in the synopsis, in all their spellings, in the page's order."""
     page = sections(PAGE.read_text())
     described = spellings(page["DESCRIPTION"])
-    sets = {}
+    sets: dict[str | None, set[str]] = {}
     for part in re.split(r"^\.Nm$", page["SYNOPSIS"], flags=re.MULTILINE)[1:]:
         command = re.search(r"^\.Cm (\S+)$", part, re.MULTILINE)
         named = options_in(part)
-        sets[command and command[1]] = named.union(*(each for each in described if each & named))
+        sets[command[1] if command else None] = named.union(*(each for each in described if each & named))
     return sets
 
 

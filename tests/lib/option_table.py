@@ -36,7 +36,9 @@ class Entry:
 def entries() -> list[Entry]:
     """The entries of the table, with each help in one line."""
     found = ENTRY.findall(TABLE.read_text())
-    return [Entry(*names, re.sub(r"\\\n *", "", text)) for *names, text in found]
+    return [
+        Entry(constant, name, value_name, re.sub(r"\\\n *", "", text)) for constant, name, value_name, text in found
+    ]
 
 
 def table_options() -> list[Entry]:

@@ -77,7 +77,7 @@ class Root:
         copy.parent.mkdir(parents=True, exist_ok=True)
         shutil.copy(path, copy)
 
-    def dpkg(self, *words: str) -> subprocess.CompletedProcess:
+    def dpkg(self, *words: str) -> subprocess.CompletedProcess[str]:
         command = ["dpkg", f"--root={self.path}", *words]
         return subprocess.run(command, capture_output=True, text=True, env={**os.environ, "LC_ALL": "C"})
 

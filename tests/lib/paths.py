@@ -13,4 +13,5 @@ COMMAND_LINE = ROOT / "crates" / "vault_request" / "src" / "command_line.rt"
 
 def version() -> str:
     """The program's version, from the one place where it stands."""
-    return re.search(r'^const VERSION: &str = "(.*)";$', COMMAND_LINE.read_text(), re.MULTILINE)[1]
+    [found] = re.findall(r'^const VERSION: &str = "(.*)";$', COMMAND_LINE.read_text(), re.MULTILINE)
+    return str(found)

@@ -5,7 +5,8 @@ import errno
 import os
 import subprocess
 import time
-from collections.abc import Iterator
+from collections.abc import Iterator, Sequence
+from typing import Any
 
 from lib.limits import SECONDS
 
@@ -14,7 +15,7 @@ PAUSE = 0.001
 
 
 @contextlib.contextmanager
-def started(words, **options) -> Iterator[subprocess.Popen]:
+def started(words: Sequence[str], **options: Any) -> Iterator[subprocess.Popen[Any]]:
     """A process that is killed at the end, if it still runs."""
     process = subprocess.Popen(words, **options)
     try:
@@ -38,7 +39,7 @@ def read_to_end(reader: int) -> bytes:
         return pipe.read()
 
 
-def open_to_write(path: str, process: subprocess.Popen) -> int | None:
+def open_to_write(path: str, process: subprocess.Popen[Any]) -> int | None:
     """The writing end of a named pipe, once the process has opened it to read; None if the process ends before."""
     end = time.monotonic() + SECONDS
     while time.monotonic() < end:

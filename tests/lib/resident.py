@@ -10,7 +10,7 @@ import os
 import subprocess
 import time
 from pathlib import Path
-from typing import NamedTuple
+from typing import Any, NamedTuple
 
 from lib.limits import SECONDS
 from lib.processes import PAUSE, started
@@ -65,12 +65,12 @@ def drain(reader: int, process: int, resident: int) -> tuple[bytes, int]:
 def run(command: list[str], text: bytes, path: str | None) -> Run:
     """The run with the file at the path as its standard input, or with the text through a pipe."""
     reader, writer, filler_length = full_pipe()
-    stdin = open(path, "rb") if path else subprocess.PIPE
+    stdin: Any = open(path, "rb") if path else subprocess.PIPE
     with started(command, stdin=stdin, stdout=writer, stderr=subprocess.DEVNULL) as child:
         os.close(writer)
         if path:
             stdin.close()
-        else:
+        elif child.stdin:
             child.stdin.write(text)
             child.stdin.close()
         wait_for_sleep(child.pid)

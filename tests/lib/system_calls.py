@@ -3,7 +3,7 @@
 import re
 import subprocess
 from pathlib import Path
-from typing import NamedTuple
+from typing import Any, NamedTuple
 
 from lib.limits import SECONDS
 
@@ -28,7 +28,8 @@ class Call(NamedTuple):
 
     @property
     def path(self) -> str:
-        return PATH.search(self.args)[1]
+        [path, *_] = PATH.findall(self.args)
+        return str(path)
 
     @property
     def fd(self) -> int:
@@ -86,6 +87,6 @@ def tracing(log: Path) -> list[str]:
     return ["strace", "-f", "-i", "-s", "0", "-o", str(log)]
 
 
-def trace(words: list[str], log: Path, programs: int = 1, **streams) -> Traced:
+def trace(words: list[str], log: Path, programs: int = 1, **streams: Any) -> Traced:
     done = subprocess.run([*tracing(log), *words], timeout=SECONDS, **streams)
     return Traced(done.returncode, done.stdout, done.stderr, *own_calls(log, programs))

@@ -61,7 +61,7 @@ class CannotOpen(Exception):
 class HostFiles:
     """The files of the host."""
 
-    def open(self, path: str) -> BinaryIO:
+    def open(self, path: str) -> "Descriptor":
         try:
             descriptor = os.open(path, os.O_RDONLY)
         except (OSError, ValueError):
@@ -165,15 +165,16 @@ def read(envelope: bytes) -> Payload:
         raise Refused(Fault.TOO_LONG)
     if not envelope.startswith(MAGIC):
         raise Refused(Fault.NOT_VAULT)
-    line = re.match(rb"[^\r\n]*", envelope)[0]
+    line = re.split(rb"[\r\n]", envelope, 1)[0]
     label = header_label(line)
     inner = unhex(envelope[len(line) :].translate(None, b"\r\n"))
     if inner is None:
         raise Refused(Fault.BAD_HEX)
-    pieces = [unhex(part) for part in inner.split(b"\n", 2)]
-    if len(pieces) < 3 or None in pieces:
-        raise Refused(Fault.BAD_PAYLOAD)
-    salt, tag, ciphertext = pieces
+    match [unhex(part) for part in inner.split(b"\n", 2)]:
+        case [bytes(salt), bytes(tag), bytes(ciphertext)]:
+            pass
+        case _:
+            raise Refused(Fault.BAD_PAYLOAD)
     if len(salt) > SALT_READ_LIMIT or len(tag) != TAG_LENGTH:
         raise Refused(Fault.BAD_PAYLOAD)
     if len(ciphertext) > CIPHERTEXT_LIMIT:

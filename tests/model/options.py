@@ -1,5 +1,6 @@
 """From the words of a command line to a request, or to the fault that comes first."""
 
+from collections.abc import Iterator
 from dataclasses import dataclass, field
 
 from model.faults import Fault, Refused
@@ -107,7 +108,7 @@ def parse(words: list[str]) -> Matches:
     return matches
 
 
-def given_value(option: str, value: str | None, rest) -> str:
+def given_value(option: str, value: str | None, rest: Iterator[str]) -> str:
     if option in FLAGS:
         if value is not None:
             raise NotParsed(f"{option} takes no value")
@@ -155,7 +156,7 @@ def new_secret(matches: Matches) -> SecretFile | None:
     text, path = matches.one("--new-vault-id"), matches.one("--new-vault-password-file")
     if (text is None) == (path is None):
         raise Refused(Fault.NEED_NEW_SECRET)
-    return vault_id(text) if path is None else SecretFile(DEFAULT_LABEL, path)
+    return SecretFile(DEFAULT_LABEL, path) if text is None else vault_id(text)
 
 
 def variable_name(matches: Matches, positional: str | None) -> str | None:
@@ -181,7 +182,7 @@ def salts(matches: Matches) -> tuple[str | None, str | None]:
 
 
 def settle(matches: Matches) -> Request:
-    [positional] = matches.positionals or [None]
+    [positional, *_] = [*matches.positionals, None]
     if positional == "-":
         positional = None
     is_string = matches.command == "encrypt_string"

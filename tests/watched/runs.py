@@ -1,6 +1,7 @@
 """The runs that are watched: each command, what it refuses, and when."""
 
 from pathlib import Path
+from typing import Any
 
 from cases import TEXT, Cases, by_file, by_id
 from model.faults import Fault
@@ -45,7 +46,7 @@ class Files:
         return ["--output", self.cases.file(b"old" * 1_000)]
 
 
-def created(name: str, words: list[str], to: list[str], read: dict[str, int], written: int, **more) -> Run:
+def created(name: str, words: list[str], to: list[str], read: dict[str, int], written: int, **more: Any) -> Run:
     return Run(name, [*words, *to], read, to[1], written, **more)
 
 
@@ -156,6 +157,9 @@ def unread_files(files: Files) -> list[Run]:
     short, empty = ["--salt-file", files.short], by_file(files.empty)
     passwords = files.one, files.two
     runs = []
+    way: str
+    given: list[str]
+    opened: list[str]
     for way, given, opened in (("FILE", [files.unread], [files.unread]), ("standard input", [], [])):
         many, unknown = Fault.MANY_ENCRYPT_SECRETS, Fault.UNKNOWN_ENCRYPT_ID
         chosen = [*both, "--encrypt-vault-id", "x"]
