@@ -72,11 +72,13 @@ def pytest_sessionstart(session: pytest.Session) -> None:
         pytest.exit("this locale is not UTF-8: try `python3 -X utf8 -m pytest`", pytest.ExitCode.USAGE_ERROR)
 
 
-def missing_tool(error: BaseException | None) -> str | None:
+def missing_tool(raised: pytest.ExceptionInfo[BaseException] | None) -> str | None:
     """The command that could not be run since no folder of PATH has it."""
-    if isinstance(error, FileNotFoundError) and isinstance(error.filename, str) and "/" not in error.filename:
-        return None if shutil.which(error.filename) else error.filename
-    return None
+    if raised is None or not isinstance(raised.value, FileNotFoundError):
+        return None
+    is_command = str(raised.traceback[-1].path).endswith("/subprocess.py")
+    name = str(raised.value.filename)
+    return name if is_command and "/" not in name and not shutil.which(name) else None
 
 
 def may_be_left_out(reason: str) -> bool:
@@ -87,7 +89,7 @@ def may_be_left_out(reason: str) -> bool:
 @pytest.hookimpl(hookwrapper=True)
 def pytest_runtest_makereport(item: pytest.Function, call: pytest.CallInfo) -> Iterator[None]:
     report = (yield).get_result()
-    if tool := missing_tool(call.excinfo and call.excinfo.value):
+    if tool := missing_tool(call.excinfo):
         report.outcome, report.longrepr = "skipped", (str(item.path), None, f"Skipped: without {tool}")
     if report.skipped and item.config.getoption("--require-all"):
         reason = report.longrepr[2].removeprefix("Skipped: ")

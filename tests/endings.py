@@ -13,6 +13,9 @@ from lib.paths import ROOT
 
 SKIP = "import pytest; pytest.skip('why')"
 ROOT_ONLY = "import os; os.geteuid = lambda: {user}; import pytest; import lib.needs; pytest.skip(lib.needs.TAKES_ROOT)"
+MOUNTS_ONLY = "import conftest, pytest, lib.needs; conftest.is_confined = lambda: {}; pytest.skip(lib.needs.TAKES_MOUNTS)"
+NO_TOOL = "import subprocess; subprocess.run(['no-such-tool'])"
+NO_FILE = "open('no-such-file')"
 THREAD = "import threading; thread = threading.Thread(target=lambda: 1 / 0); thread.start(); thread.join()"
 ROWS = "for row in range(3):\n        with subtests.test(): assert row != 1"
 ENDLESS = """import time
@@ -31,6 +34,11 @@ SAMPLES = {
     "a skip, and all is required": (SKIP, ["--require-all"], 1, "0 passed, 1 failed, 0 skipped"),
     "only root can do it": (ROOT_ONLY.format(user=1), ["--require-all"], 0, "0 passed, 0 failed, 1 skipped"),
     "root cannot do it": (ROOT_ONLY.format(user=0), ["--require-all"], 1, "0 passed, 1 failed, 0 skipped"),
+    "it may not mount": (MOUNTS_ONLY.format(True), ["--require-all"], 0, "0 passed, 0 failed, 1 skipped"),
+    "it could mount": (MOUNTS_ONLY.format(False), ["--require-all"], 1, "0 passed, 1 failed, 0 skipped"),
+    "a tool is missing": (NO_TOOL, [], 0, "0 passed, 0 failed, 1 skipped"),
+    "a tool is missing, and all is required": (NO_TOOL, ["--require-all"], 1, "0 passed, 1 failed, 0 skipped"),
+    "a file is missing": (NO_FILE, [], 1, "0 passed, 1 failed, 0 skipped"),
     "too few": ("pass", ["--floors"], 1, "1 passed, 11 failed, 0 skipped"),
     "too few in two processes": ("pass", ["--floors", "--numprocesses=2"], 1, "1 passed, 11 failed, 0 skipped"),
     "no test of that name": ("pass", ["-k", "another"], 5, "0 passed, 0 failed, 0 skipped"),

@@ -22,7 +22,7 @@ ROW = re.compile(r"^\| [^|]+ \| ([^|]*`[^|]*) \| `(vault_\w+)` \|$", re.MULTILIN
 CRATE_LINE = re.compile(r"^(\w+):(.*)$", re.MULTILINE)
 
 
-def listing(found: re.Match) -> str:
+def listing(found: re.Match[str]) -> str:
     path = f"{SOURCES}/{found[1]}"
     return f"{path}`:\n\n```rust\n{(ROOT / path).read_text()}```"
 
@@ -47,8 +47,11 @@ def test_calls() -> None:
     assert len(rows) > 10, "there is a table of calls"
     named = {(crate, call) for calls, crate in rows for call in re.findall(r"`(\w+)[\w:]*`", calls)}
     offered = {crate: (ROOT / "crates" / crate / "src" / "lib.rt").read_text() for crate, _ in named}
-    is_offered = lambda crate, call: re.search(rf"^pub use .*\b{call}\b", offered[crate], re.MULTILINE)
-    missing = [pair for pair in sorted(named) if not is_offered(*pair)]
+    missing = [
+        (crate, call)
+        for crate, call in sorted(named)
+        if not re.search(rf"^pub use .*\b{call}\b", offered[crate], re.MULTILINE)
+    ]
     assert missing == [], missing
 
 

@@ -69,7 +69,7 @@ def printed(pattern: str) -> str:
     return "".join(f"{line}\n" for line in lines if line.strip() and not re.match(r" *(//|ghost )", line))
 
 
-def place(found: re.Match) -> str:
+def place(found: re.Match[str]) -> str:
     """A place with its line, and its file if only one other has the name."""
     name, path = found[1].split("::")[-1], found[2]
     files = [*code(), *(str(file.relative_to(CRATES)) for file in sum(needed(), []) if file.suffix == ".antt")]
@@ -129,16 +129,18 @@ def unproved(page: str) -> Iterator[str]:
         for call in filter(None, (CONTRACT.match(part.strip()) for part in proved.split(";"))):
             contracts = contracts_of(call[1])
             clauses = CODE.findall(call[2] or "")
-            has = lambda clause: any(re.search(rf"\bensures {clause}\b", each) for each in contracts)
             yield from [] if contracts else [f"{call[1]} has no contract"]
-            yield from (f"{call[1]} has no clause {clause}" for clause in clauses if not has(clause))
+            for clause in clauses:
+                if not any(re.search(rf"\bensures {clause}\b", each) for each in contracts):
+                    yield f"{call[1]} has no clause {clause}"
         for name, functions in TEST.findall(tests):
             path = ROOT / name if name.startswith("tests/") else CRATES / name
             files = [file for file in [path, *path.glob("src/**/*.rt")] if file.is_file()]
             text = "".join(file.read_text() for file in files)
-            has = lambda function: re.search(rf"\b(?:def test_|fn ){function}\b", text)
             yield from [] if path.exists() else [f"there is no {name}"]
-            yield from (f"{name} has no {function}" for function in CODE.findall(functions) if not has(function))
+            for function in CODE.findall(functions):
+                if not re.search(rf"\b(?:def test_|fn ){function}\b", text):
+                    yield f"{name} has no {function}"
 
 
 def undefined(page: str) -> Iterator[str]:
@@ -158,7 +160,7 @@ AXIOMS = re.compile(
 
 def wrong_axioms(page: str) -> Iterator[str]:
     """The numbers of axioms are those of the logs of builds that are there, and add up."""
-    total, library, system = re.search(r"`axioms=(\d+)`[^,]*, (\d+) of the C library and (\d+) of", page).groups()
+    [(total, library, system)] = re.findall(r"`axioms=(\d+)`[^,]*, (\d+) of the C library and (\d+) of", page)
     yield from [] if int(library) + int(system) == int(total) else ["the axioms do not add up"]
     for log in (ROOT / "bin").glob("*.log"):
         text = log.read_text()

@@ -58,7 +58,7 @@ def used_crates() -> dict[str, list[str]]:
 
 def direct(uses: dict[str, list[str]]) -> dict[str, list[str]]:
     """What each uses of the repository and does not reach through another."""
-    reached = {}
+    reached: dict[str, set[str]] = {}
     for crate in reversed(uses):
         ours = [name for name in uses[crate] if name in uses]
         reached[crate] = set(ours).union(*(reached[name] for name in ours))
@@ -107,8 +107,8 @@ def drawn() -> str:
     for depth, row in enumerate(rows):
         ways = sum(bool(target) for _, target in row)
         room = WIDTH - 2 * MARGIN - GAP * (len(row) - 1) - WAY_WIDTH * ways
-        width, left, top = min(room / (len(row) - ways), 535), MARGIN, TOP + ROW_HEIGHT * depth
-        left += (room - width * (len(row) - ways)) / 2
+        width, top = min(room / (len(row) - ways), 535), TOP + ROW_HEIGHT * depth
+        left = MARGIN + (room - width * (len(row) - ways)) / 2
         for crate, target in row:
             wide = WAY_WIDTH if target else width
             places[crate, target] = (left + wide / 2, top)

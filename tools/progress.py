@@ -16,21 +16,28 @@ from pathlib import Path
 
 # Seconds between two lines.
 PAUSE = 60
-SAID = re.compile(r"^rt: (.*)$", re.MULTILINE)
-PROVED = re.compile(r"^rt: \w+ proved$", re.MULTILINE)
+SAID = re.compile(r"^(?:rt|so far): (.*)$", re.MULTILINE)
+# As the gate and as a build say it.
+PROVED = re.compile(r"^(?:rt: (\w+) proved|crate (\w+): modules .*)$", re.MULTILINE)
 COUNT = re.compile(r"\d+ passed, \d+ failed\Z")
 
 
 def state(log: str) -> str:
     """How many crates are proved, and the last line of the prover itself."""
     said = SAID.findall(log) or ["nothing is said yet"]
-    return f"{len(PROVED.findall(log))} crates are proved; {said[-1]}"
+    proved = {of_gate or of_build for of_gate, of_build in PROVED.findall(log)}
+    return f"{len(proved)} crates are proved; {said[-1]}"
 
 
 def main(words: list[str]) -> int:
     path, command, begun = Path(words[0]), words[1:], time.monotonic()
-    read = lambda: path.read_text(errors="replace")
-    report = lambda text: print(f"{(time.monotonic() - begun) / 60:5.0f} min  {text}", flush=True)
+
+    def read() -> str:
+        return path.read_text(errors="replace")
+
+    def report(text: str) -> None:
+        print(f"{(time.monotonic() - begun) / 60:5.0f} min  {text}", flush=True)
+
     with open(path, "w") as log:
         try:
             process = subprocess.Popen(command, stdout=log, stderr=subprocess.STDOUT)
