@@ -10,8 +10,9 @@ import subprocess
 import sys
 import tempfile
 from collections import Counter
-from collections.abc import Iterator
+from collections.abc import Generator, Iterator
 from pathlib import Path
+from typing import Any
 
 import pytest
 import pytest_timeout
@@ -29,6 +30,7 @@ OUTCOMES = "outcomes"
 # of what they record. Rows that are no tests of their own are counted as one kind.
 FLOORS = {OUTCOMES: 2600, "fuzz": 6, "faults": 44, "allocations": 40, "valgrind": 45, "newcomer": 16}
 ROWS = "subtests"
+HAS_FAILED = pytest.StashKey[bool]()
 LEAST = {ROWS: 4500, "random requests": 200, "refused calls": 700, "signals": 36, "refused allocations": 1200}
 
 
@@ -87,7 +89,7 @@ def may_be_left_out(reason: str) -> bool:
 
 
 @pytest.hookimpl(hookwrapper=True)
-def pytest_runtest_makereport(item: pytest.Function, call: pytest.CallInfo) -> Iterator[None]:
+def pytest_runtest_makereport(item: pytest.Function, call: pytest.CallInfo[None]) -> Generator[None, Any, None]:
     report = (yield).get_result()
     if tool := missing_tool(call.excinfo):
         report.outcome, report.longrepr = "skipped", (str(item.path), None, f"Skipped: without {tool}")
@@ -96,7 +98,7 @@ def pytest_runtest_makereport(item: pytest.Function, call: pytest.CallInfo) -> I
         if not may_be_left_out(reason):
             report.outcome, report.longrepr = "failed", f"{reason}: it is skipped, and --require-all is set"
     if report.failed:
-        item.has_failed = True
+        item.stash[HAS_FAILED] = True
         if "tmp_path" in item.funcargs:
             report.sections.append(("files", f"kept in {item.funcargs['tmp_path']}"))
 
@@ -109,12 +111,13 @@ def pytest_exception_interact(node: pytest.Item | pytest.Collector, report: pyte
         node.ihook.pytest_timeout_set_timer(item=node, settings=settings)
 
 
-def reports_of(config: pytest.Config, *kinds: str) -> list[pytest.TestReport | pytest.CollectReport]:
+def reports_of(config: pytest.Config, *kinds: str) -> list[Any]:
     terminal = config.pluginmanager.get_plugin("terminalreporter")
     return [each for kind in kinds for each in terminal.getreports(kind)]
 
 
-def ends_of_tests(config: pytest.Config) -> list[pytest.TestReport | pytest.CollectReport]:
+def ends_of_tests(config: pytest.Config) -> list[Any]:
+    """Reports of tests, and of what could not be collected."""
     reports = reports_of(config, "passed", "failed", "error", "skipped")
     return [each for each in reports if each.when == "call" or not each.passed]
 
@@ -151,7 +154,7 @@ def amounts(ends: list[pytest.TestReport]) -> dict[str, tuple[int, int]]:
     return added
 
 
-def pytest_terminal_summary(terminalreporter, config: pytest.Config) -> None:
+def pytest_terminal_summary(terminalreporter: Any, config: pytest.Config) -> None:
     """Says what was left out, and what was made of what was asked. Its last line counts the tests."""
     if config.option.collectonly:
         return
@@ -164,7 +167,7 @@ def pytest_terminal_summary(terminalreporter, config: pytest.Config) -> None:
         say(f"{what}: {made} of {asked}")
     for failure in failures:
         say(f"FAILED {failure}")
-    counts = Counter(each.outcome for each in ends)
+    counts: Counter[str] = Counter(each.outcome for each in ends)
     counts["failed"] += len(failures)
     say(", ".join(f"{counts[what]} {what}" for what in ("passed", "failed", "skipped")))
 
@@ -180,7 +183,7 @@ def tmp_path(request: pytest.FixtureRequest) -> Iterator[Path]:
     folder = Path(tempfile.mkdtemp(prefix="ansible-vault-test-"))
     folder.chmod(0o755)
     yield folder
-    if not getattr(request.node, "has_failed", False):
+    if not request.node.stash.get(HAS_FAILED, False):
         subprocess.run(["chmod", "-R", "u+rwX", str(folder)], check=True)
         shutil.rmtree(folder)
 

@@ -8,12 +8,14 @@ import concurrent.futures
 import re
 import subprocess
 import tempfile
+from collections.abc import Callable
 from typing import NamedTuple
 
 import pytest
 
-from cases import SECONDS, TEXT, Cases, by_file, by_id
+from cases import TEXT, Cases, by_file, by_id
 from cases.samples import SALT_TEXT, SALT_WORDS
+from lib.limits import SECONDS
 from lib.needs import needs
 from model.faults import Fault
 from model.vaults import ENVELOPE, parts, seal, serialized
@@ -41,7 +43,7 @@ class Run(NamedTuple):
 def runs(cases: Cases) -> list[Run]:
     right, wrong, new = (cases.file(each) for each in (b"right\n", b"wrong\n", b"new\n"))
     vault, rekeyed = seal(b"right", TEXT), seal(b"new", TEXT, salt=SALT_TEXT)
-    others = lambda count: by_id(wrong, "other") * count
+    others: Callable[[int], list[str]] = lambda count: by_id(wrong, "other") * count
     unpadded = serialized(*parts(b"right", bytes(16)))
     refused = Fault.NO_SECRET_FITS.status
     to_new = ["--new-vault-password-file", new, *SALT_WORDS]
@@ -68,7 +70,7 @@ def runs(cases: Cases) -> list[Run]:
     ]
 
 
-def collected(program: str, run: Run) -> tuple[subprocess.CompletedProcess, int]:
+def collected(program: str, run: Run) -> tuple[subprocess.CompletedProcess[bytes], int]:
     """The run, and how many instructions it took."""
     with tempfile.NamedTemporaryFile("r") as log:
         tool = ["--tool=callgrind", "--callgrind-out-file=/dev/null", f"--log-file={log.name}"]
@@ -90,4 +92,4 @@ def test_derivations(cases: Cases) -> None:
     base, one = counted[0][1], counted[1][1] - counted[0][1]
     assert one > LEAST_DERIVATION, f"a derivation takes {one} instructions"
     found = {run.name: (count - base) / one for run, (_, count) in zip(every, counted)}
-    assert found == {run.name: pytest.approx(run.derivations, abs=TOLERANCE) for run in every}
+    assert found == pytest.approx({run.name: run.derivations for run in every}, abs=TOLERANCE)

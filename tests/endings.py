@@ -45,7 +45,7 @@ SAMPLES = {
 }
 
 
-def run_sample(folder: Path, program: str, body: str, options: list[str]) -> subprocess.CompletedProcess:
+def run_sample(folder: Path, program: str, body: str, options: list[str]) -> subprocess.CompletedProcess[str]:
     """In a copy of the tests."""
     shutil.copytree(ROOT / "tests", folder / "tests")
     shutil.copy(ROOT / "pytest.ini", folder)

@@ -42,7 +42,7 @@ class Run(NamedTuple):
         return [*self.sample.words, *([] if self.path is None else ["--output", str(self.path)])]
 
     def prepare(self) -> None:
-        if self.before is not None:
+        if self.path is not None and self.before is not None:
             self.path.write_bytes(self.before)
         elif self.path is not None:
             self.path.unlink(missing_ok=True)
@@ -76,8 +76,12 @@ def is_outputs_own(answer: Answer, run: Run) -> bool:
     return written == b"" and content is not None and run.sample.output.startswith(content)
 
 
+Record = Callable[[str, object], None]
+Refuse = Callable[[Run, Answer], None]
+
+
 @pytest.fixture
-def refuse_each(cases: Cases, tmp_path: Path, record_property: Callable) -> Callable[[Run, Answer], None]:
+def refuse_each(cases: Cases, tmp_path: Path, record_property: Record) -> Refuse:
     """Compares the run with each allocation refused, and the run with all of them, which has this answer."""
     needs("cc")
     library = build_library(str(tmp_path), LIBRARY)
@@ -99,7 +103,7 @@ def refuse_each(cases: Cases, tmp_path: Path, record_property: Callable) -> Call
 
 
 @pytest.mark.parametrize("command, to", OUTPUTS)
-def test_output(cases: Cases, refuse_each: Callable, command: str, to: str) -> None:
+def test_output(cases: Cases, refuse_each: Refuse, command: str, to: str) -> None:
     sample = sample_of(cases, command)
     if to == TO_STREAM:
         refuse_each(Run(sample), Answer(0, sample.output, b""))
@@ -108,10 +112,10 @@ def test_output(cases: Cases, refuse_each: Callable, command: str, to: str) -> N
         refuse_each(run, Answer(0, b"", b"", sample.output))
 
 
-def test_no_vault(refuse_each: Callable) -> None:
+def test_no_vault(refuse_each: Refuse) -> None:
     refuse_each(Run(Sample(["view"], b"", b"")), Answer(Fault.NOT_VAULT.status, b"", Fault.NOT_VAULT.line))
 
 
-def test_mistake(refuse_each: Callable) -> None:
+def test_mistake(refuse_each: Refuse) -> None:
     text = stored_mistakes("view")["view x y"].replace("'y'", r"'\u{a}'")
     refuse_each(Run(Sample(["view", "x", "\n"], b"", b"")), Answer(2, b"", text.encode()))

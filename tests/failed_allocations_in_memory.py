@@ -10,6 +10,7 @@ of a message.
 
 from collections import Counter
 from collections.abc import Callable
+from operator import attrgetter
 from typing import NamedTuple
 
 import pytest
@@ -125,7 +126,7 @@ def library(tmp_path_factory: pytest.TempPathFactory) -> str:
     return build_library(str(tmp_path_factory.mktemp("library")), LIBRARY)
 
 
-def way_of_refused(printed: bytes, run: Run, ways: Counter) -> str | None:
+def way_of_refused(printed: bytes, run: Run, ways: Counter[str | None]) -> str | None:
     """The way in which this run with an allocation refused has ended; None if it may not end so."""
     if printed == b"" and set(ways) <= {BEFORE, WHOLE}:
         return BEFORE
@@ -137,11 +138,11 @@ def way_of_refused(printed: bytes, run: Run, ways: Counter) -> str | None:
     return way
 
 
-@pytest.mark.parametrize("run", [*runs_of("drive"), *runs_of("run")], ids=lambda run: run.name)
-def test_refused(library: str, run: Run, record_property: Callable) -> None:
+@pytest.mark.parametrize("run", [*runs_of("drive"), *runs_of("run")], ids=attrgetter("name"))
+def test_refused(library: str, run: Run, record_property: Callable[[str, object], None]) -> None:
     if not PROGRAM.exists():
         pytest.skip("without bin/vault_allocation_failures, which make builds")
-    number, ways, differing = 1, Counter(), {}
+    number, ways, differing = 1, Counter[str | None](), dict[int, bytes]()
     done, refused = run_refusing(library, [str(PROGRAM), *run.words], run.stdin, number)
     while refused:
         way = way_of_refused(done.stdout, run, ways)

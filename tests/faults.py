@@ -32,6 +32,8 @@ MOMENTS, FEWEST = 20, 2
 each_target = pytest.mark.parametrize("command, target", TARGETS)
 
 
+Record = Callable[[str, object], None]
+
 @pytest.fixture(scope="module")
 def module_cases(program: str, tmp_path_factory: pytest.TempPathFactory) -> Cases:
     """The runs write only in folders of their own, so that all of them can use the same files."""
@@ -50,34 +52,34 @@ def scenarios(every_scenario: list[Scenario], command: str, target: Target) -> l
 
 @pytest.fixture
 def share(pytestconfig: pytest.Config) -> int:
-    return pytestconfig.getoption("--share")
+    return int(pytestconfig.getoption("--share"))
 
 
 @pytest.fixture
 def seed(pytestconfig: pytest.Config) -> int:
-    return pytestconfig.getoption("--seed")
+    return int(pytestconfig.getoption("--seed"))
 
 
 @each_target
-def test_refused_calls(program: str, scenarios: list, seed: int, share: int, record_property: Callable) -> None:
+def test_refused_calls(program: str, scenarios: list[Scenario], seed: int, share: int, record_property: Record) -> None:
     needs("strace")
     record_property("refused calls", refused_calls(program, scenarios, seed, share))
 
 
-def test_calls_of_refused_runs(module_cases: Cases, seed: int, share: int, record_property: Callable) -> None:
+def test_calls_of_refused_runs(module_cases: Cases, seed: int, share: int, record_property: Record) -> None:
     needs("strace")
     found = refused_calls(module_cases.program, refused_scenarios(module_cases), seed, share)
     record_property("refused calls", found)
 
 
 @each_target
-def test_short_transfers(program: str, scenarios: list) -> None:
+def test_short_transfers(program: str, scenarios: list[Scenario]) -> None:
     needs("cc")
     short_transfers(program, scenarios)
 
 
 @pytest.mark.parametrize("command, target", TO_FILES)
-def test_size_limit(program: str, scenarios: list) -> None:
+def test_size_limit(program: str, scenarios: list[Scenario]) -> None:
     size_limit(program, scenarios)
 
 
@@ -92,7 +94,15 @@ def every_long_scenario(module_cases: Cases) -> list[Scenario]:
 
 
 @pytest.mark.parametrize("command, target", [each for each in TO_FILES if each[0] != "encrypt_string"])
-def test_signals(program, every_long_scenario, command: str, target: Target, seed: int, share: int, record_property):
+def test_signals(
+    program: str,
+    every_long_scenario: list[Scenario],
+    command: str,
+    target: Target,
+    seed: int,
+    share: int,
+    record_property: Record,
+) -> None:
     [scenario] = [each for each in every_long_scenario if (each.words[0], each.target) == (command, target)]
     made = signals(program, scenario, seed, max(MOMENTS // share, FEWEST))
     record_property("signals", (made, MOMENTS * len(SIGNALS)))

@@ -8,6 +8,7 @@ it makes some of the vaults anew, and a change of one of those is repeated by wh
 
 import shlex
 import time
+from collections.abc import Callable
 
 import pytest
 
@@ -15,6 +16,7 @@ from lib.ansible import ansible_vault
 from lib.needs import needs_ansible
 from lib.paths import FIXTURES
 from model import changed_vaults
+from model.changed_vaults import Vault
 from model.compared import differences
 from model.random_requests import Case, load, make, save
 
@@ -54,7 +56,13 @@ def test_corpus(program: str) -> None:
 
 
 @pytest.mark.parametrize("part", range(PARTS))
-def test_random_requests(program: str, vaults: list, part: int, pytestconfig: pytest.Config, record_property) -> None:
+def test_random_requests(
+    program: str,
+    vaults: list[Vault],
+    part: int,
+    pytestconfig: pytest.Config,
+    record_property: Callable[[str, object], None],
+) -> None:
     seed, first, runs, seconds = map(pytestconfig.getoption, ("--seed", "--first", "--runs", "--seconds"))
     numbers = range(first + part, first + runs, PARTS)
     end, made, found = time.monotonic() + seconds, 0, []

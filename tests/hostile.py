@@ -9,13 +9,15 @@ import itertools
 import resource
 import subprocess
 from pathlib import Path
+from typing import Any
 
 import pytest
 from pytest_subtests import SubTests
 
-from cases import SECONDS, TEXT, Cases, answer_of, by_file
+from cases import TEXT, Cases, answer_of, by_file
 from cases.samples import OF_FILE, SALT_WORDS, Sample, each_command, sample_of
 from lib import resident
+from lib.limits import SECONDS
 from lib.mounts import tmpfs
 from lib.needs import needs_mounts
 from model.faults import Fault
@@ -34,7 +36,7 @@ RESIDENT = {KIB: 3, MIB: 5, PLAINTEXT_LIMIT: 20}
 STEPS = 20
 
 
-def run_with(program: str, words: list[str], limit: int, amount: int, **streams) -> subprocess.CompletedProcess:
+def run_with(program: str, words: list[str], limit: int, amount: int, **streams: Any) -> subprocess.CompletedProcess[bytes]:
     """Runs with a resource limit. SIGXFSZ stays ignored, as in Python, so that a write past the limit of file size
     fails instead of ending the program."""
 
@@ -45,7 +47,7 @@ def run_with(program: str, words: list[str], limit: int, amount: int, **streams)
     return subprocess.run([program, *words], preexec_fn=restrict, restore_signals=False, timeout=SECONDS, **streams)
 
 
-def in_memory(program: str, sample: Sample, amount: int) -> subprocess.CompletedProcess:
+def in_memory(program: str, sample: Sample, amount: int) -> subprocess.CompletedProcess[bytes]:
     streams = {"stdout": subprocess.PIPE, "stderr": subprocess.PIPE, "input": sample.stdin}
     return run_with(program, sample.words, resource.RLIMIT_AS, amount, **streams)
 
@@ -54,15 +56,14 @@ def in_memory(program: str, sample: Sample, amount: int) -> subprocess.Completed
 def least_memory(program: str) -> int:
     """The least address space, in whole pages, in which `--version` succeeds."""
     version = Sample(["--version"], b"", b"")
-    fits = lambda pages: in_memory(program, version, pages * resource.getpagesize()).returncode == 0
     low, high = 1, 1 << 16
     while low < high:
         middle = (low + high) // 2
-        low, high = (low, middle) if fits(middle) else (middle + 1, high)
+        low, high = (low, middle) if in_memory(program, version, middle * resource.getpagesize()).returncode == 0 else (middle + 1, high)
     return low * resource.getpagesize()
 
 
-def outcome(done: subprocess.CompletedProcess, sample: Sample) -> str:
+def outcome(done: subprocess.CompletedProcess[bytes], sample: Sample) -> str:
     answer = answer_of(done)
     if answer == (Fault.MEMORY.status, b"", Fault.MEMORY.line):
         return "refused"
@@ -99,7 +100,7 @@ def test_limited_files(cases: Cases, subtests: SubTests, command: str) -> None:
     """A file that takes that many bytes, as standard output and by name, where SIGXFSZ is ignored: `faults`
     shows how the signal ends a run."""
     sample, path = sample_of(cases, command, TEXT * 20), Path(cases.path())
-    length, ways = len(sample.output), {"standard output": []}
+    length, ways = len(sample.output), {"standard output": list[str]()}
     if command != "view":
         ways["by name"] = ["--output", str(path)]
     for amount, (way, to_output) in itertools.product((0, 1, 2, 100, length - 1, length, length + 1), ways.items()):

@@ -4,6 +4,7 @@ import os
 import pathlib
 import re
 import shutil
+import subprocess
 from collections.abc import Callable
 from functools import partial
 
@@ -21,8 +22,11 @@ BASH = "source {} && _completion_loader ansible-vault; complete -p ansible-vault
 BASH_COMPLETION = pathlib.Path("/usr/share/bash-completion/bash_completion")
 
 
+Make = Callable[..., subprocess.CompletedProcess[str]]
+
+
 @pytest.fixture
-def make(program: str) -> Callable:
+def make(program: str) -> Make:
     return partial(run_make, program)
 
 
@@ -72,7 +76,7 @@ def test_found_by_bash_completion(prefix: pathlib.Path) -> None:
     assert "_ansible_vault_companion" in loaded, "bash-completion finds that of a companion"
 
 
-def test_install(tmp_path: pathlib.Path, make: Callable) -> None:
+def test_install(tmp_path: pathlib.Path, make: Make) -> None:
     words = [f"DESTDIR={tmp_path}", "PREFIX=/opt/vault"]
     assert make("install", *words).returncode == 0, "make install ends well"
     prefix = tmp_path / "opt" / "vault"
@@ -95,7 +99,7 @@ def dead_links(documents: pathlib.Path) -> list[tuple[pathlib.Path, str]]:
     return [(page, target) for page, target in links if not (page.parent / target).exists()]
 
 
-def test_next_step(tmp_path: pathlib.Path, make: Callable) -> None:
+def test_next_step(tmp_path: pathlib.Path, make: Make) -> None:
     """Without DESTDIR, a line says what to type next."""
     done = make("install", "DESTDIR=", f"PREFIX={tmp_path}")
     wanted = (0, "Type next: hash -r; ansible-vault --version\n", "")
@@ -111,7 +115,7 @@ DPKG_QUERY = """\
 
 
 @pytest.mark.parametrize("name", ["bin/ansible-vault", "share/man/man1/ansible-vault-edit.1"])
-def test_owned(tmp_path: pathlib.Path, make: Callable, name: str) -> None:
+def test_owned(tmp_path: pathlib.Path, make: Make, name: str) -> None:
     """No file of a package is overwritten, whichever of ours it is."""
     prefix, tools = tmp_path / "usr", tmp_path / "tools"
     tools.mkdir()
@@ -127,7 +131,7 @@ def test_owned(tmp_path: pathlib.Path, make: Callable, name: str) -> None:
 
 
 @pytest.mark.parametrize("name", ["bin/ansible-vault", "bin/ansible-vault-edit"])
-def test_not_replaced(tmp_path: pathlib.Path, make: Callable, name: str) -> None:
+def test_not_replaced(tmp_path: pathlib.Path, make: Make, name: str) -> None:
     """What another installer put at one of the paths, as pip does, stays unless the caller says otherwise."""
     words = ["DESTDIR=", f"PREFIX={tmp_path}"]
     path = tmp_path / name
@@ -140,7 +144,7 @@ def test_not_replaced(tmp_path: pathlib.Path, make: Callable, name: str) -> None
     assert make("uninstall", *words).returncode != 0 and path.exists(), "make uninstall refuses, too"
 
 
-def test_replaced(tmp_path: pathlib.Path, make: Callable) -> None:
+def test_replaced(tmp_path: pathlib.Path, make: Make) -> None:
     words = ["DESTDIR=", f"PREFIX={tmp_path}"]
     program = tmp_path / "bin/ansible-vault"
     program.parent.mkdir()
@@ -158,7 +162,7 @@ def test_replaced(tmp_path: pathlib.Path, make: Callable) -> None:
 
 @pytest.mark.parametrize("replace", ["no", "yes"])
 @pytest.mark.parametrize("name", ["bin/ansible-vault", "bin/ansible-vault-edit"])
-def test_folders(tmp_path: pathlib.Path, make: Callable, name: str, replace: str) -> None:
+def test_folders(tmp_path: pathlib.Path, make: Make, name: str, replace: str) -> None:
     """A folder at a path is not replaced, and nothing is put into it."""
     path = tmp_path / name
     path.mkdir(parents=True)
@@ -168,7 +172,7 @@ def test_folders(tmp_path: pathlib.Path, make: Callable, name: str, replace: str
     assert files_below(tmp_path) == set(), "nothing is written"
 
 
-def test_link_to_a_folder(tmp_path: pathlib.Path, make: Callable) -> None:
+def test_link_to_a_folder(tmp_path: pathlib.Path, make: Make) -> None:
     folder, path = tmp_path / "folder", tmp_path / "linked/bin/ansible-vault"
     folder.mkdir()
     path.parent.mkdir(parents=True)
@@ -178,7 +182,7 @@ def test_link_to_a_folder(tmp_path: pathlib.Path, make: Callable) -> None:
     assert files_below(folder) == set(), "and the folder stays"
 
 
-def test_spaces(tmp_path: pathlib.Path, make: Callable) -> None:
+def test_spaces(tmp_path: pathlib.Path, make: Make) -> None:
     words = [f"DESTDIR={tmp_path}/a folder", "PREFIX=/opt/two words"]
     prefix = tmp_path / "a folder/opt/two words"
     assert make("install", *words).returncode == 0, "make install below a path with spaces"
@@ -198,7 +202,7 @@ exec {tool} "$@"
 
 
 @pytest.mark.parametrize("tool, number", [("mv", 1), ("mv", 2), ("mv", 12), ("install", 9), ("ln", 1), ("ln", 9)])
-def test_interrupted(tmp_path: pathlib.Path, make: Callable, tool: str, number: int) -> None:
+def test_interrupted(tmp_path: pathlib.Path, make: Make, tool: str, number: int) -> None:
     """After an installation that ended early another one is possible, and so is its removal."""
     tools, prefix, copy = (tmp_path / name for name in ("tools", "prefix", "copy"))
     words = ["DESTDIR=", f"PREFIX={prefix}"]
@@ -214,7 +218,7 @@ def test_interrupted(tmp_path: pathlib.Path, make: Callable, tool: str, number: 
     assert (make("uninstall", *words).returncode, files_below(prefix)) == (0, set()), "removed then"
 
 
-def test_changed(tmp_path: pathlib.Path, make: Callable) -> None:
+def test_changed(tmp_path: pathlib.Path, make: Make) -> None:
     """make uninstall leaves what it did not put there, and lists what was changed."""
     words = ["DESTDIR=", f"PREFIX={tmp_path}"]
     make("install", *words)
@@ -234,7 +238,7 @@ def test_changed(tmp_path: pathlib.Path, make: Callable) -> None:
     assert (done.returncode, {*done.stdout.splitlines()}) == (0, listed), "and lists it"
 
 
-def test_upgraded(tmp_path: pathlib.Path, make: Callable) -> None:
+def test_upgraded(tmp_path: pathlib.Path, make: Make) -> None:
     """A second make install keeps in mind what the first one put there."""
     words = ["DESTDIR=", f"PREFIX={tmp_path}"]
     make("install", *words)

@@ -6,6 +6,7 @@ import os
 import re
 import subprocess
 import sys
+from collections.abc import Callable
 from pathlib import Path
 
 import pytest
@@ -71,10 +72,11 @@ def test_missing_tools(tmp_path: Path, program: str, file: str, name: str, tools
 STRICT = "case $LC_ALL in *UTF-8) ;; *) echo 'the locale encoding has to be UTF-8' >&2; exit 1 ;; esac; "
 THEIRS = "echo 'ansible-vault [core 2.14.18]'"
 OURS = "echo 'ansible-vault 0.4.0'"
+MakeTools = Callable[..., dict[str, Path]]
 
 
 @pytest.fixture
-def only_tools(tmp_path: Path, monkeypatch: pytest.MonkeyPatch):
+def only_tools(tmp_path: Path, monkeypatch: pytest.MonkeyPatch) -> MakeTools:
     """Makes scripts of these names and lines the only tools on PATH."""
 
     def make(**scripts: str) -> dict[str, Path]:
@@ -89,29 +91,29 @@ def only_tools(tmp_path: Path, monkeypatch: pytest.MonkeyPatch):
     return make
 
 
-def test_ansible_in_another_locale(only_tools, monkeypatch: pytest.MonkeyPatch) -> None:
+def test_ansible_in_another_locale(only_tools: MakeTools, monkeypatch: pytest.MonkeyPatch) -> None:
     monkeypatch.setenv("LC_ALL", "C")
     tools = only_tools(ansible_vault=STRICT + THEIRS)
     assert ansible_vault() == str(tools["ansible_vault"])
 
 
-def test_ansible_behind_our_package(only_tools) -> None:
+def test_ansible_behind_our_package(only_tools: MakeTools) -> None:
     tools = only_tools(ansible_vault=OURS, ansible_vault_original=THEIRS)
     assert ansible_vault() == str(tools["ansible_vault_original"])
 
 
-def test_no_ansible(only_tools) -> None:
+def test_no_ansible(only_tools: MakeTools) -> None:
     only_tools(ansible_vault=OURS)
     assert ansible_vault() is None
 
 
-def test_ansible_that_fails(only_tools, monkeypatch: pytest.MonkeyPatch) -> None:
+def test_ansible_that_fails(only_tools: MakeTools, monkeypatch: pytest.MonkeyPatch) -> None:
     only_tools(ansible_vault="echo 'no module named ansible' >&2; exit 1")
     with pytest.raises(RuntimeError, match="no module named ansible"):
         ansible_vault()
 
 
-def test_another_tool_named_as_ansible(only_tools, monkeypatch: pytest.MonkeyPatch) -> None:
+def test_another_tool_named_as_ansible(only_tools: MakeTools, monkeypatch: pytest.MonkeyPatch) -> None:
     tools = only_tools(ansible_vault=OURS)
     monkeypatch.setenv("ANSIBLE_VAULT", str(tools["ansible_vault"]))
     with pytest.raises(RuntimeError, match="not of Ansible's core"):

@@ -138,7 +138,7 @@ class Beside:
         for name in ("libc6", "python3"):
             self.do(f"a stand-in for {name}", "-i", str(stand_in(folder, name, "99", {})))
 
-    def do(self, what: str, *words: str):
+    def do(self, what: str, *words: str) -> None:
         done = self.root.dpkg(*words)
         assert done.returncode == 0, (what, done.stdout + done.stderr)
 
@@ -147,7 +147,7 @@ class Beside:
         files = {path: content + mark for path, content in THEIRS.items()}
         return str(stand_in(self.folder, "ansible-core", version, files))
 
-    def check_both(self, when: str, mark: str = ""):
+    def check_both(self, when: str, mark: str = "") -> None:
         """Our program has its name, all of theirs stands aside, and playbooks run."""
         output = self.root.run("/usr/bin/ansible-vault", "--version")
         assert output == f"ansible-vault {VERSION}\n", f"{when}: our program has the name"
@@ -157,17 +157,17 @@ class Beside:
         assert self.root.run(OTHER) == "the other\n", f"{when}: their program runs there"
         self.check_playbook(when)
 
-    def check_playbook(self, when: str):
+    def check_playbook(self, when: str) -> None:
         assert self.root.run("/usr/bin/ansible-playbook") == "played\n", f"{when}: ansible-playbook runs"
 
-    def check_theirs(self, when: str, mark: str = ""):
+    def check_theirs(self, when: str, mark: str = "") -> None:
         """All is theirs, as if our package had never been there."""
         found = {path: self.root.read(path) for path in THEIRS}
         assert found == {path: text + mark for path, text in THEIRS.items()}, f"{when}: their files are back"
         self.check_nothing_left(when)
         self.check_playbook(when)
 
-    def check_nothing_left(self, when: str):
+    def check_nothing_left(self, when: str) -> None:
         assert self.root.diverted() == "", f"{when}: nothing stands aside"
         left = {f"usr/share/{path}" for path in files_below(self.root.path / "usr/share") if "ansible" in path}
         assert left - THEIRS.keys() == set(), f"{when}: no other file is left"

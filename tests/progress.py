@@ -55,6 +55,7 @@ def test_progress_each_minute(tmp_path: pathlib.Path) -> None:
     script = f"printf '{GATE}'; until [ -e '{seen}' ]; do sleep 0.05; done"
     words = [sys.executable, "-c", IMPATIENT, PROGRESS, str(log), "sh", "-c", script]
     with subprocess.Popen(words, stdout=subprocess.PIPE, text=True) as child:
+        assert child.stdout
         lines = iter(child.stdout.readline, "")
         assert "    0 min  2 crates are proved; vault_kdf proved\n" in lines
         seen.touch()
@@ -67,7 +68,7 @@ def test_progress_without_the_command(tmp_path: pathlib.Path) -> None:
     assert (done.returncode, done.stderr) == (1, "no-such-command is not on PATH; it comes with the Rattle kit\n")
 
 
-def run_mutants(folder: pathlib.Path, said: list[str], status: int, *names: str) -> subprocess.CompletedProcess:
+def run_mutants(folder: pathlib.Path, said: list[str], status: int, *names: str) -> subprocess.CompletedProcess[str]:
     """tools/mutants where this stands for `rt`, which notes its words and the edits that it is to try."""
     (folder / "said").write_text("".join(f"rt: {line}\n" for line in said))
     notes = f"echo \"$*\" > '{folder}/words'; ls crates/*/must-fail/* > '{folder}/edits'"
@@ -105,7 +106,7 @@ def test_mutants(tmp_path: pathlib.Path, said: list[str], status: int, end: tupl
 INSTALLED = 'shift 2; for each; do echo "$each installed"; done'
 
 
-def run_ci(folder: pathlib.Path, check: str, status: int, installs: bool, installed: bool):
+def run_ci(folder: pathlib.Path, check: str, status: int, installs: bool, installed: bool) -> subprocess.CompletedProcess[str]:
     """.ci/run where these stand for `make`, `apt-get` and `dpkg-query`."""
     tools = folder / "stand-ins"
     for path in (".ci/run", "tools/missing_packages"):

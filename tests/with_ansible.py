@@ -13,7 +13,8 @@ from pathlib import Path
 import pytest
 from pytest_subtests import SubTests
 
-from cases import SECONDS, Cases, by_file, by_id
+from cases import Cases, by_file, by_id
+from lib.limits import SECONDS
 from lib.needs import needs, needs_ansible
 from lib.paths import ROOT
 from model.vaults import seal, yaml_block
@@ -50,7 +51,7 @@ class Both:
         self.options = by_id(self.password, label) if label else by_file(self.password)
         self.choice = ["--encrypt-vault-id", label] if label else []
 
-    def in_folder(self, command: list[str], **variables: str) -> subprocess.CompletedProcess:
+    def in_folder(self, command: list[str], **variables: str) -> subprocess.CompletedProcess[bytes]:
         """Runs one of Ansible's tools where no file of settings is found."""
         folder = self.cases.folder
         environment = {**ENVIRONMENT, "HOME": str(folder), **variables}

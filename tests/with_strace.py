@@ -46,7 +46,7 @@ def check_loading(watched: Watched, allowed: set[str]) -> None:
 def check_opens(run: Run, watched: Watched) -> None:
     files, created = watched.files(), [run.created] if run.created else []
     assert [opened.path for opened in files] == [*run.read, *created], "what is opened"
-    how = lambda path: (CREATING, OWNER_ALONE) if path == run.created else (READING, "")
+    how: Callable[[str], tuple[set[str], str]] = lambda path: (CREATING, OWNER_ALONE) if path == run.created else (READING, "")
     others = [opened for opened in watched.opened if (opened.flags - HARMLESS, opened.mode) != how(opened.path)]
     assert others == [], "what is opened otherwise"
     taken = [opened.fd for opened in watched.stand_ins()]
@@ -56,13 +56,13 @@ def check_opens(run: Run, watched: Watched) -> None:
 
 
 def check_reads(run: Run, watched: Watched, limits: dict[str, int]) -> None:
-    wanted = {path: size for path, size in run.read.items() if size}
+    wanted: dict[str | int, int] = {path: size for path, size in run.read.items() if size}
     if run.stdin is not None:
         wanted[STDIN] = len(run.stdin)
     given = {source: sum(max(got, 0) for _, got in reads) for source, reads in watched.reads.items()}
     assert {source: size for source, size in given.items() if size} == wanted, "what is read"
     assert (STDIN in watched.reads) == (run.stdin is not None), "standard input is asked"
-    limit_of = lambda source: limits.get(source, ENVELOPE_LIMIT + 1)
+    limit_of: Callable[[str | int], int] = lambda source: limits.get(str(source), ENVELOPE_LIMIT + 1)
     others = {source: reads for source, reads in watched.reads.items() if not to_end(reads, limit_of(source))}
     assert others == {}, "what is not asked to its end or its limit, or past it"
 
@@ -109,7 +109,7 @@ def check_lengths(run: Run, watched: Watched, target: int | None) -> None:
             lengths[call.fd] = lengths.get(call.fd, 0) + max(call.result, 0)
     wanted = {number: 0 for number in (target, STDOUT, STDERR)}
     if run.written is None:
-        wanted[STDERR if run.status else STDOUT] = len(traced.message if run.status else traced.output)
+        wanted[STDERR if run.status else STDOUT] = len((traced.message if run.status else traced.output) or b"")
     else:
         wanted[target] = run.written
     if run.fault and STDERR not in run.closed:
@@ -133,7 +133,7 @@ def check_others(watched: Watched) -> None:
     assert by_path == [], "paths that are looked for"
 
 
-@pytest.mark.parametrize("group", GROUPS, ids=lambda group: group.__name__)
+@pytest.mark.parametrize("group", GROUPS, ids=[group.__name__ for group in GROUPS])
 def test_calls(cases: Cases, subtests: SubTests, group: Callable[[Files], list[Run]]) -> None:
     needs("strace")
     files = Files(cases)

@@ -32,7 +32,7 @@ def is_small(case: Case, answered: Answer) -> bool:
 
 
 def long_inputs() -> list[Case]:
-    files = {"right": b"right\n"}
+    files: dict[str, bytes | None] = {"right": b"right\n"}
     encrypt, view = ([command, "--vault-password-file", "right"] for command in ("encrypt", "view"))
     return [
         Case(encrypt, files, bytes(PLAINTEXT_LIMIT + 1)),

@@ -1,11 +1,13 @@
 """Command lines: help, the version, and invalid ones."""
 
+import os
 import subprocess
 
 import pytest
 
-from cases import SECONDS, Cases
+from cases import Cases
 from cases.texts import MISTAKES, PROGRAM, Mistake, help_path, mistakes_path, stored_mistakes
+from lib.limits import SECONDS
 from lib.paths import version
 from lib.processes import started
 from model.faults import Fault
@@ -52,7 +54,7 @@ def test_mistakes(cases: Cases, name: str, mistake: Mistake) -> None:
 
 
 def test_not_utf8(cases: Cases) -> None:
-    cases.run([b"view", b"\xff"], status=2, err=b"error: an argument is not UTF-8\n")
+    cases.run(["view", os.fsdecode(b"\xff")], status=2, err=b"error: an argument is not UTF-8\n")
 
 
 def test_endless_pipe(cases: Cases) -> None:

@@ -124,9 +124,12 @@ def test_salts(cases: Cases, right: list[str], size: int) -> None:
     cases.decrypts(right, seal(b"right", TEXT, salt=EVERY_BYTE[:size]), TEXT)
 
 
+def flipped(part: bytes, place: int) -> bytes:
+    return part[:place] + bytes([part[place] ^ 1]) + part[place + 1 :]
+
+
 def test_damaged(cases: Cases, subtests: SubTests, right: list[str]) -> None:
     salt, tag, ciphertext = parts(b"right", padded(b"a" * 40))
-    flipped = lambda part, place: part[:place] + bytes([part[place] ^ 1]) + part[place + 1 :]
     changed = [(f"tag, byte {place}", (salt, flipped(tag, place), ciphertext)) for place in (0, 15, 16, 31)]
     changed += [(f"ciphertext, byte {place}", (salt, tag, flipped(ciphertext, place))) for place in (0, 20, 47)]
     changed += [(f"salt, byte {place}", (flipped(salt, place), tag, ciphertext)) for place in (0, 31)]

@@ -61,7 +61,7 @@ def test_worked(cases: Cases) -> None:
 def test_refused_options(cases: Cases, subtests: SubTests) -> None:
     right, new, missing, empty = cases.file(b"right\n"), cases.file(b"new\n"), cases.path(), cases.file(b"")
     vault = seal(b"right", TEXT)
-    refused = [
+    refused: list[tuple[str, list[str], Fault]] = [
         ("no new secret", [], Fault.NEED_NEW_SECRET),
         ("two new secrets", ["--new-vault-id", new, "--new-vault-password-file", new], Fault.NEED_NEW_SECRET),
         (

@@ -1,5 +1,6 @@
 """One good run of each command, with what it writes."""
 
+from functools import partial
 from typing import NamedTuple
 
 import pytest
@@ -36,7 +37,7 @@ def sample_of(cases: Cases, command: str, text: bytes = TEXT) -> Sample:
     """A run of the command over this plaintext."""
     right, new = cases.file(b"right\n"), cases.file(b"new\n")
     given = by_file(right)
-    vault, sealed = (lambda: seal(b"right", text)), (lambda: seal(b"right", text, salt=SALT_TEXT))
+    vault, sealed = partial(seal, b"right", text), partial(seal, b"right", text, salt=SALT_TEXT)
     match command:
         case "encrypt":
             return Sample(["encrypt", *given, *SALT_WORDS], text, sealed())

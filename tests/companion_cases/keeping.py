@@ -139,7 +139,8 @@ replacing._write_beside, replacing.check_replaceable = full, lambda target: None
 
 def test_mounted_vaults(place: Place) -> None:
     """No file can take the place of one that is mounted by itself, as containers have it."""
-    needs_mounts(subprocess.run(["unshare", "-m", "mount", "--make-rprivate", "/"], capture_output=True).returncode == 0)
+    unshared = ["unshare", "-m", "mount", "--make-rprivate", "/"]
+    needs_mounts(subprocess.run(unshared, capture_output=True).returncode == 0)
     place.put("all.yml", sealed("old"))
     words = f"{EDIT} {' '.join(place.by_file('old'))} all.yml"
     place.environment["EDITOR"] = place.script(f"touch ../started; {CHANGE}", "editor")

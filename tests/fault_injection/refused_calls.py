@@ -89,7 +89,7 @@ def subject(call: Call, paths: dict[int, str]) -> str | int | None:
 
 
 def steps(scenario: Scenario, loading: list[Call], own: list[Call]) -> Iterator[Step]:
-    counts, paths = Counter(call.name for call in loading), dict[str, str]()
+    counts, paths = Counter(call.name for call in loading), dict[int, str]()
     written, mode, message_length = None, scenario.first_mode(), 0
     for call in own:
         about = subject(call, paths)

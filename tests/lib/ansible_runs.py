@@ -94,7 +94,8 @@ def forked(request: list[Any]) -> list[Any]:
         if not child:
             status = 250
             try:
-                status = run(*request, output.fileno(), errors.fileno())
+                words, folder, environment = request
+                status = run(words, folder, environment, output.fileno(), errors.fileno())
             finally:
                 os._exit(status)
         status = os.waitstatus_to_exitcode(os.waitpid(child, 0)[1])

@@ -7,7 +7,7 @@ import os
 import re
 import string
 from dataclasses import dataclass
-from typing import BinaryIO, NamedTuple, Protocol
+from typing import NamedTuple, Protocol
 
 from model.faults import Fault, Refused
 from model.options import DEFAULT_LABEL, NotParsed, Request, is_label, parse, settle
@@ -48,10 +48,14 @@ class Answer:
 USAGE_ERROR = Answer(None, None, None, 2)
 
 
+class Readable(Protocol):
+    def read(self, size: int, /) -> bytes: ...
+
+
 class Store(Protocol):
     """Files: `open` raises CannotOpen, and reading what it gives raises OSError."""
 
-    def open(self, path: str) -> BinaryIO: ...
+    def open(self, path: str) -> Readable: ...
 
 
 class CannotOpen(Exception):
@@ -61,7 +65,7 @@ class CannotOpen(Exception):
 class HostFiles:
     """The files of the host."""
 
-    def open(self, path: str) -> "Descriptor":
+    def open(self, path: str) -> Readable:
         try:
             descriptor = os.open(path, os.O_RDONLY)
         except (OSError, ValueError):
@@ -83,7 +87,7 @@ class Descriptor:
             os.close(self.descriptor)
 
 
-def prefix_of(source: BinaryIO, size: int, unread: Fault) -> bytes:
+def prefix_of(source: Readable, size: int, unread: Fault) -> bytes:
     """What the source gives up to its end, and no more than that many bytes."""
     pieces = []
     while size > 0:
@@ -98,7 +102,7 @@ def prefix_of(source: BinaryIO, size: int, unread: Fault) -> bytes:
     return b"".join(pieces)
 
 
-def opened(store: Store, path: str, fault: Fault) -> BinaryIO:
+def opened(store: Store, path: str, fault: Fault) -> Readable:
     try:
         return store.open(path)
     except CannotOpen:
@@ -237,7 +241,7 @@ def rekeyed(new: Secret, salt: bytes, plaintext: bytes) -> bytes:
     return written(encrypt_payload(new, salt, plaintext))
 
 
-def result(request: Request, contents: list[bytes], salt: bytes, source: BinaryIO | None) -> bytes:
+def result(request: Request, contents: list[bytes], salt: bytes, source: Readable | None) -> bytes:
     """The output. The source is read only if the passwords, the choice and the salt are valid; it is None if there is
     a STRING."""
     passwords = [password(content) for content in contents]
@@ -248,6 +252,7 @@ def result(request: Request, contents: list[bytes], salt: bytes, source: BinaryI
     if request.string is not None:
         given = request.string.encode()
     else:
+        assert source is not None
         given = prefix_of(source, input_limit(request) + 1, Fault.INPUT_NOT_READ)
     if secret is not None:
         return encrypted(request, secret, sealing_salt, given)
@@ -255,7 +260,7 @@ def result(request: Request, contents: list[bytes], salt: bytes, source: BinaryI
     return rekeyed(held[-1], sealing_salt, plaintext) if request.new_secret else plaintext
 
 
-def performed(request: Request, store: Store, stdin: BinaryIO) -> bytes:
+def performed(request: Request, store: Store, stdin: Readable) -> bytes:
     """Opens the files in their order, and then makes the output."""
     contents = []
     for file in request.files:
@@ -274,7 +279,7 @@ def refusal(fault: Fault) -> Answer:
     return Answer(None, None, fault.line, fault.status)
 
 
-def answer(words: list[str], store: Store, stdin: BinaryIO) -> Answer:
+def answer(words: list[str], store: Store, stdin: Readable) -> Answer:
     """The answer to the words after the program's name, where the output can be written."""
     try:
         request = settle(parse(words))

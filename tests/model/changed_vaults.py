@@ -95,7 +95,8 @@ def flip_piece(random: Random, one: bytes, _: bytes) -> bytes:
     pieces = list(pieces_of(one))
     changed = random.choice([index for index, piece in enumerate(pieces) if piece])
     pieces[changed] = flipped(random, pieces[changed])
-    return serialized(*pieces, label_of(one))
+    salt, tag, ciphertext = pieces
+    return serialized(salt, tag, ciphertext, label_of(one))
 
 
 def cut(random: Random, one: bytes, _: bytes) -> bytes:
@@ -118,8 +119,8 @@ def splice(random: Random, one: bytes, other: bytes) -> bytes:
 
 def splice_pieces(random: Random, one: bytes, other: bytes) -> bytes:
     """Each of the parts from either; the salt among them."""
-    both = zip(pieces_of(one), pieces_of(other))
-    return serialized(*(random.choice(pair) for pair in both), label_of(random.choice([one, other])))
+    salt, tag, ciphertext = (random.choice(pair) for pair in zip(pieces_of(one), pieces_of(other)))
+    return serialized(salt, tag, ciphertext, label_of(random.choice([one, other])))
 
 
 def other_salt(random: Random, one: bytes, other: bytes) -> bytes:

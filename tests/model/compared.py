@@ -9,7 +9,7 @@ from pathlib import Path
 from typing import Iterable
 
 from lib.limits import SECONDS
-from model.answers import SALT_LENGTH, Answer, CannotOpen, HostFiles, answer, refusal
+from model.answers import SALT_LENGTH, Answer, CannotOpen, HostFiles, Readable, answer, refusal
 from model.faults import Fault
 from model.options import SALT_FILE
 from model.random_requests import Case
@@ -22,9 +22,9 @@ class CaseFiles(HostFiles):
     """The files of a case and those of the host, with these bytes as the content of /dev/urandom."""
 
     def __init__(self, case: Case, salt: bytes) -> None:
-        self.files = {**case.files, SALT_FILE: salt}
+        self.files: dict[str, bytes | None] = {**case.files, SALT_FILE: salt}
 
-    def open(self, path: str):
+    def open(self, path: str) -> Readable:
         if os.path.isabs(path) and path not in self.files:
             return super().open(path)
         if path not in self.files:
@@ -35,9 +35,12 @@ class CaseFiles(HostFiles):
     def can_be_written(self, answered: Answer) -> bool:
         if answered.path == FULL_DEVICE:
             return answered.output == b""
-        folder = os.path.dirname(answered.path)
-        is_folder = lambda path: path in self.files and self.files[path] is None
-        return answered.path != "" and not is_folder(answered.path) and (folder == "" or is_folder(folder))
+        path = answered.path or ""
+        folder = os.path.dirname(path)
+        return path != "" and not self.is_folder(path) and (folder == "" or self.is_folder(folder))
+
+    def is_folder(self, path: str) -> bool:
+        return path in self.files and self.files[path] is None
 
 
 class Folder:
@@ -75,7 +78,7 @@ def expected(case: Case, salt: bytes) -> Answer:
     return answered
 
 
-def run(case: Case, program: list[str], folder: Path) -> subprocess.CompletedProcess:
+def run(case: Case, program: list[str], folder: Path) -> subprocess.CompletedProcess[bytes]:
     return subprocess.run(
         [*program, *case.words], input=case.stdin, capture_output=True, cwd=folder, timeout=SECONDS
     )
@@ -99,7 +102,7 @@ def differences(case: Case, program: list[str]) -> list[str]:
     if want.path is not None and want.path != FULL_DEVICE:
         if want.path not in before or case.words[0] == "decrypt":
             old_modes[want.path] = OWNER_ALONE
-        before[want.path] = want.output
+        before[want.path] = want.output or b""
     pairs = {
         "status": (done.returncode, want.status),
         "message": (done.stderr, want.message if want.message is not None else done.stderr or b"a text"),

@@ -156,7 +156,7 @@ def new_secret(matches: Matches) -> SecretFile | None:
     text, path = matches.one("--new-vault-id"), matches.one("--new-vault-password-file")
     if (text is None) == (path is None):
         raise Refused(Fault.NEED_NEW_SECRET)
-    return SecretFile(DEFAULT_LABEL, path) if text is None else vault_id(text)
+    return vault_id(text) if text is not None else SecretFile(DEFAULT_LABEL, path or "")
 
 
 def variable_name(matches: Matches, positional: str | None) -> str | None:
@@ -182,9 +182,7 @@ def salts(matches: Matches) -> tuple[str | None, str | None]:
 
 
 def settle(matches: Matches) -> Request:
-    [positional, *_] = [*matches.positionals, None]
-    if positional == "-":
-        positional = None
+    positional = next((each for each in matches.positionals if each != "-"), None)
     is_string = matches.command == "encrypt_string"
     secrets = secret_files(matches)
     choice = chosen_label(matches)

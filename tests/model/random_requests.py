@@ -65,8 +65,15 @@ class Case:
                 (folder / path).write_bytes(content)
 
 
+def encoded(content: bytes | None) -> str | None:
+    return None if content is None else base64.b85encode(content).decode()
+
+
+def decoded(text: str | None) -> bytes | None:
+    return None if text is None else base64.b85decode(text)
+
+
 def save(case: Case, path: Path) -> None:
-    encoded = lambda content: None if content is None else base64.b85encode(content).decode()
     files = {name: encoded(content) for name, content in case.files.items()}
     record = {"words": case.words, "files": files, "stdin": encoded(case.stdin)}
     path.parent.mkdir(exist_ok=True)
@@ -75,9 +82,8 @@ def save(case: Case, path: Path) -> None:
 
 def load(path: Path) -> Case:
     record = json.loads(path.read_text())
-    decoded = lambda text: None if text is None else base64.b85decode(text)
     files = {name: decoded(text) for name, text in record["files"].items()}
-    return Case(record["words"], files, decoded(record["stdin"]))
+    return Case(record["words"], files, decoded(record["stdin"]) or b"")
 
 
 class Maker:
@@ -173,10 +179,10 @@ class Maker:
                     self.add(option, self.mostly(NAMES, BAD_NAMES, 0.9))
 
     def add_output(self, input_path: str | None) -> None:
-        named = input_path not in (None, "-")
+        named = [input_path] if input_path is not None and input_path != "-" else []
         if self.has("--output") and self.likely(0.95 if named else 0.3):
             old = self.file("old", b"what stood there before\n" * 40)
-            good = ["-", "new", "new", old, f"{FOLDER}/new"] + ([input_path] if named else [])
+            good = ["-", "new", "new", old, f"{FOLDER}/new"] + named
             bad = [FOLDER, "missing/new", "", "/dev/full", f"{old}/new"]
             self.add("--output", self.mostly(good, bad, 0.9))
 

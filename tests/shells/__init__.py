@@ -103,7 +103,7 @@ def fish(line: str, folder: pathlib.Path, alias: str = "") -> set[str]:
 
 
 @functools.cache
-def zsh_functions(completions: pathlib.Path) -> tempfile.TemporaryDirectory:
+def zsh_functions(completions: pathlib.Path) -> tempfile.TemporaryDirectory[str]:
     """A folder with the completion by the name that zsh looks for, where it notes all the functions that it found."""
     functions = tempfile.TemporaryDirectory()
     shutil.copy(completions / f"{NAME}.zsh", pathlib.Path(functions.name) / f"_{NAME}")

@@ -157,48 +157,47 @@ def unread_files(files: Files) -> list[Run]:
     short, empty = ["--salt-file", files.short], by_file(files.empty)
     passwords = files.one, files.two
     runs = []
-    way: str
-    given: list[str]
-    opened: list[str]
-    for way, given, opened in (("FILE", [files.unread], [files.unread]), ("standard input", [], [])):
+    ways: list[tuple[str, list[str]]] = [("FILE", [files.unread]), ("standard input", [])]
+    for way, given in ways:
         many, unknown = Fault.MANY_ENCRYPT_SECRETS, Fault.UNKNOWN_ENCRYPT_ID
         chosen = [*both, "--encrypt-vault-id", "x"]
         runs += [
-            Run(f"no secret and {way}", ["encrypt", *to, *given], read(RANDOM, *opened), fault=Fault.NO_ENCRYPT_SECRET),
+            Run(f"no secret and {way}", ["encrypt", *to, *given], read(RANDOM, *given), fault=Fault.NO_ENCRYPT_SECRET),
             Run(
-                f"several secrets and {way}", ["encrypt", *both, *to, *given], read(*passwords, RANDOM, *opened),
+                f"several secrets and {way}", ["encrypt", *both, *to, *given], read(*passwords, RANDOM, *given),
                 fault=many,
             ),
             Run(
-                f"an unknown label and {way}", ["encrypt", *chosen, *to, *given], read(*passwords, RANDOM, *opened),
+                f"an unknown label and {way}", ["encrypt", *chosen, *to, *given], read(*passwords, RANDOM, *given),
                 fault=unknown,
             ),
             Run(
                 f"a short salt and {way}", ["encrypt", *one, *short, *to, *given],
-                read(files.one, files.short, *opened), fault=Fault.SALT_SHORT,
+                read(files.one, files.short, *given), fault=Fault.SALT_SHORT,
             ),
             Run(
-                f"an empty password and {way}", ["encrypt", *empty, *to, *given], read(files.empty, RANDOM, *opened),
+                f"an empty password and {way}", ["encrypt", *empty, *to, *given], read(files.empty, RANDOM, *given),
                 fault=Fault.SECRET_EMPTY,
             ),
         ]
-    for way, given, opened in (("FILE", [files.unread_vault], [files.unread_vault]), ("standard input", [], [])):
+    ways = [("FILE", [files.unread_vault]), ("standard input", [])]
+    for way, given in ways:
         rekey, fault = ["rekey", *one, *to], Fault.SECRET_EMPTY
         runs += [
             Run(
                 f"rekey, a short salt and {way}", [*rekey, *new, *short, *given],
-                read(*passwords, files.short, *opened), fault=Fault.SALT_SHORT,
+                read(*passwords, files.short, *given), fault=Fault.SALT_SHORT,
             ),
             Run(
                 f"rekey, an empty new password and {way}", [*rekey, "--new-vault-password-file", files.empty, *given],
-                read(files.one, files.empty, RANDOM, *opened), fault=fault,
+                read(files.one, files.empty, RANDOM, *given), fault=fault,
             ),
             Run(
                 f"view, an empty password and {way}", ["view", *one, *empty, *given],
-                read(files.one, files.empty, *opened), fault=fault,
+                read(files.one, files.empty, *given), fault=fault,
             ),
             Run(
-                f"decrypt, an empty password and {way}", ["decrypt", *empty, *to, *given], read(files.empty, *opened),
+                f"decrypt, an empty password and {way}", ["decrypt", *empty, *to, *given], read(files.empty, *given),
                 fault=fault,
             ),
         ]
