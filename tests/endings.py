@@ -13,7 +13,8 @@ from lib.paths import ROOT
 
 SKIP = "import pytest; pytest.skip('why')"
 ROOT_ONLY = "import os; os.geteuid = lambda: {user}; import pytest; import lib.needs; pytest.skip(lib.needs.TAKES_ROOT)"
-MOUNTS_ONLY = "import conftest, pytest, lib.needs; conftest.is_confined = lambda: {}; pytest.skip(lib.needs.TAKES_MOUNTS)"
+MOUNTS_ONLY = """import conftest, pytest, lib.needs
+    conftest.is_confined = lambda: {}; pytest.skip(lib.needs.TAKES_MOUNTS)"""
 NO_TOOL = "import subprocess; subprocess.run(['no-such-tool'])"
 NO_FILE = "open('no-such-file')"
 THREAD = "import threading; thread = threading.Thread(target=lambda: 1 / 0); thread.start(); thread.join()"

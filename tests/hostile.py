@@ -36,7 +36,9 @@ RESIDENT = {KIB: 3, MIB: 5, PLAINTEXT_LIMIT: 20}
 STEPS = 20
 
 
-def run_with(program: str, words: list[str], limit: int, amount: int, **streams: Any) -> subprocess.CompletedProcess[bytes]:
+def run_with(
+    program: str, words: list[str], limit: int, amount: int, **streams: Any
+) -> subprocess.CompletedProcess[bytes]:
     """Runs with a resource limit. SIGXFSZ stays ignored, as in Python, so that a write past the limit of file size
     fails instead of ending the program."""
 
@@ -59,7 +61,8 @@ def least_memory(program: str) -> int:
     low, high = 1, 1 << 16
     while low < high:
         middle = (low + high) // 2
-        low, high = (low, middle) if in_memory(program, version, middle * resource.getpagesize()).returncode == 0 else (middle + 1, high)
+        fits = in_memory(program, version, middle * resource.getpagesize()).returncode == 0
+        low, high = (low, middle) if fits else (middle + 1, high)
     return low * resource.getpagesize()
 
 

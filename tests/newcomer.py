@@ -139,8 +139,8 @@ def test_all_are_typed() -> None:
     """No target of the Makefile is left out, and no script is run by nothing."""
     [phony] = PHONY.findall((ROOT / "Makefile").read_text())
     typed_words = " ".join([*commands(README.read_text()), *SMALL, "make uninstall make clean"])
-    goals = {goal for goal in phony.split() if goal not in ("\\", "FORCE") and not re.search(rf"\b{goal}\b", typed_words)}
-    assert goals == RUN_BY_OTHERS.keys()
+    goals = {*phony.split()} - {"\\", "FORCE"}
+    assert {goal for goal in goals if not re.search(rf"\b{goal}\b", typed_words)} == RUN_BY_OTHERS.keys()
     tests = (str(path.relative_to(ROOT)) for path in ROOT.glob("tests/*.py"))
     callers = {path: (ROOT / path).read_text() for path in ("Makefile", ".ci/run", *scripts(), *tests)}
     for name in scripts():

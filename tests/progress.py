@@ -106,7 +106,9 @@ def test_mutants(tmp_path: pathlib.Path, said: list[str], status: int, end: tupl
 INSTALLED = 'shift 2; for each; do echo "$each installed"; done'
 
 
-def run_ci(folder: pathlib.Path, check: str, status: int, installs: bool, installed: bool) -> subprocess.CompletedProcess[str]:
+def run_ci(
+    folder: pathlib.Path, check: str, status: int, installs: bool, installed: bool
+) -> subprocess.CompletedProcess[str]:
     """.ci/run where these stand for `make`, `apt-get` and `dpkg-query`."""
     tools = folder / "stand-ins"
     for path in (".ci/run", "tools/missing_packages"):

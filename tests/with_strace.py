@@ -46,8 +46,10 @@ def check_loading(watched: Watched, allowed: set[str]) -> None:
 def check_opens(run: Run, watched: Watched) -> None:
     files, created = watched.files(), [run.created] if run.created else []
     assert [opened.path for opened in files] == [*run.read, *created], "what is opened"
-    how: Callable[[str], tuple[set[str], str]] = lambda path: (CREATING, OWNER_ALONE) if path == run.created else (READING, "")
-    others = [opened for opened in watched.opened if (opened.flags - HARMLESS, opened.mode) != how(opened.path)]
+    others = []
+    for opened in watched.opened:
+        how = (CREATING, OWNER_ALONE) if opened.path == run.created else (READING, "")
+        others += [opened] if (opened.flags - HARMLESS, opened.mode) != how else []
     assert others == [], "what is opened otherwise"
     taken = [opened.fd for opened in watched.stand_ins()]
     assert taken == list(run.closed), "closed streams are replaced"

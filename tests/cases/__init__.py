@@ -111,6 +111,7 @@ class Cases:
     def run_streams(self, words: Sequence[str], status: int, err: bytes | None = None, **streams: Any) -> None:
         """Runs with these streams. Standard output is discarded by default; standard error is checked only if `err`
         is given."""
-        given: dict[str, Any] = {"stdout": subprocess.DEVNULL, "stderr": subprocess.DEVNULL if err is None else subprocess.PIPE}
+        to_err = subprocess.DEVNULL if err is None else subprocess.PIPE
+        given: dict[str, Any] = {"stdout": subprocess.DEVNULL, "stderr": to_err}
         done = subprocess.run([self.program, *words], timeout=SECONDS, **given | streams)
         assert (done.returncode, done.stderr if err is not None else None) == (status, err)

@@ -29,5 +29,6 @@ def ansible_vault() -> str | None:
     if named and not is_ansible(named):
         raise RuntimeError(f"{named} is not of Ansible's core")
     folders = os.environ.get("PATH", "").split(os.pathsep)
-    paths: list[str | None] = [named] if named else [shutil.which(name, path=folder) for folder in folders for name in NAMES]
+    found = [shutil.which(name, path=folder) for folder in folders for name in NAMES]
+    paths = [named] if named else found
     return next((path for path in paths if path and is_ansible(path)), None)
