@@ -24,6 +24,17 @@ pub encode_lower-append : (xs ys : List ℕ)
     → encode_lower (xs ++ ys) ≡ encode_lower xs ++ encode_lower ys
 encode_lower-append xs ys = encode_with-append lower_digits xs ys
 
+pub encode_lower-halves : (xs first second : List ℕ) → first ++ second ≡ xs
+    → encode_lower xs ≡ encode_lower first ++ encode_lower second
+encode_lower-halves xs first second whole = rw (← whole) (encode_lower-append first second)
+
+pub four_appends : (old a b c d first second third fourth : List ℕ)
+    → first ≡ old ++ a → second ≡ first ++ b → third ≡ second ++ c → fourth ≡ third ++ d
+    → fourth ≡ old ++ (a ++ (b ++ c) ++ d)
+four_appends old a b c d first second third fourth e1 e2 e3 e4 =
+    rw (e4, e3, e2, e1, append_assoc (old ++ a) b c, append_assoc old a (b ++ c)) (
+    append_assoc old (a ++ (b ++ c)) d)
+
 pub encode_lower-nil : encode_lower [] ≡ []
 unfolding encode_with
 encode_lower-nil = refl

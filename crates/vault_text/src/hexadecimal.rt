@@ -31,6 +31,8 @@ fn digit_value(digit: u8) -> Option<u8>
 
 /// Decodes pairs of digits, each to a byte, and returns whether all were digits. If one was not,
 /// the bytes mean nothing. A bad digit ends no loop early: that branch would be mispredicted.
+// Inlined, as what it calls and is called by, since most calls have a length that is known there.
+#[inline(always)]
 fn decode_pairs(pairs: &[u8], bytes: &mut [u8]) -> bool
     requires { length pairs.now ≡ 2 * length bytes.old }
     ensures { unhex pairs.now ≡ (if result then Some bytes.new else None) }
@@ -47,6 +49,8 @@ fn decode_pairs(pairs: &[u8], bytes: &mut [u8]) -> bool
 
 /// Decodes a block of digits, which always has the same length, so that the compiler can use vector
 /// instructions.
+// Out of line there is one copy of it, and profiles show what digits cost.
+#[inline(never)]
 fn decode_block(digits: &[u8], bytes: &mut [u8]) -> bool
     requires digits { length digits.now ≡ BLOCK_DIGITS }
     requires bytes { length bytes.old ≡ BLOCK_BYTES }
@@ -85,6 +89,7 @@ fn join_halves(values: &[u8; BLOCK_DIGITS], bytes: &mut [u8])
 }
 
 /// Decodes pairs of digits, of which there are too few for a block.
+#[inline(always)]
 fn decode_one_by_one(pairs: &[u8], bytes: &mut [u8]) -> bool
     requires { length pairs.now ≡ 2 * length bytes.old }
     ensures { unhex pairs.now ≡ (if result then Some bytes.new else None) }
@@ -128,6 +133,7 @@ impl HexDecoder {
 
     /// Decodes the bytes that these digits complete, to the start of `bytes`, and returns how many.
     /// After a bad digit the bytes mean nothing.
+    #[inline(always)]
     pub(crate) fn decode(&mut self, digits: &[u8], bytes: &mut [u8]) -> usize
         requires { byte_count self.old digits.now ≤ length bytes.old }
         ensures count { result ≡ byte_count self.old digits.now }
@@ -156,6 +162,7 @@ impl HexDecoder {
     }
 
     /// Decodes digits while none waits for its second.
+    #[inline(always)]
     fn decode_aligned(&mut self, digits: &[u8], bytes: &mut [u8]) -> usize
         requires aligned { self.old.high ≡ None }
         requires room { length digits.now / 2 ≤ length bytes.old }

@@ -46,6 +46,8 @@ pub fn write_envelope<K: Sink>(
 
 /// Writes what begins a text, and the lines of an envelope after an indentation. The header line
 /// goes out with the first lines of the body, so that a reader that leaves after it breaks nothing.
+// Inlined, so that the indentation is known.
+#[inline(always)]
 fn put_lines<K: Sink>(
     sink: &mut K,
     start: &[u8],

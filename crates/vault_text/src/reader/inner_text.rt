@@ -90,10 +90,16 @@ impl<'a> InnerReader<'a> {
     }
 
     /// Takes the text that comes next.
+    // Inlined, and with no loop for ciphertext, it knows the length of the text that a line spells.
+    #[inline(always)]
     pub(super) fn extend(&mut self, text: &[u8])
         requires { length text.now ≤ CHUNK_LIMIT }
         ensures { (limit : ℕ) → TakesPiece (InnerHas limit) self.old text.now self.new }
     {
+        if let Part::Ciphertext = self.part {
+            self.extend_digits(text);
+            return;
+        }
         let mut rest = text;
         while !rest.is_empty() {
             rest = self.extend_part(rest);
@@ -118,6 +124,7 @@ impl<'a> InnerReader<'a> {
     }
 
     /// Gives digits to the part that comes next.
+    #[inline(always)]
     fn extend_digits(&mut self, digits: &[u8])
         requires short { length digits.now ≤ CHUNK_LIMIT }
         requires digits { MayHave self.old.part digits.now }

@@ -111,6 +111,7 @@ impl<'a> CiphertextPart<'a> {
     }
 
     /// Takes the digits that come next.
+    #[inline(always)]
     pub(super) fn extend(&mut self, digits: &[u8])
         requires { length digits.now ≤ CHUNK_LIMIT }
         ensures { (limit : ℕ) → TakesPiece (PartHas limit) self.old digits.now self.new }

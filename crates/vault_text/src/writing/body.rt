@@ -49,6 +49,8 @@ fn salt_and_tag(salt: &Salt, tag: &[u8; TAG_LENGTH]) -> First
 
 /// Writes what `text` holds, and lines that spell the digits of the ciphertext. Batches of lines
 /// take the same memory, one after another.
+// Inlined, as what it calls, so that the length of a line of a whole batch is known.
+#[inline(always)]
 pub(super) fn put_ciphertext<K: Sink>(
     sink: &mut K,
     text: &mut Text,

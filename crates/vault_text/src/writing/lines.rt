@@ -109,14 +109,18 @@ fn append_ciphertext_line(text: &mut Text, indentation: &[u8], ciphertext: &[u8]
         ++ (indentation.now ++ encode_lower (encode_lower ciphertext.now) ++ 10 ∷ []) }
     ensures length { array_vec_len text.new ≤ array_vec_len text.old + LINE_LIMIT }
 {
-    append_line(
-        text,
-        indentation,
-        digits_of(ciphertext, &mut [0; LINE_BYTES]),
-    );
+    let mut memory = [0; LINE_BYTES];
+    let digits = digits_of(ciphertext, &mut memory);
+    // Loops over half of a line are unrolled as a whole; over a whole line they are not.
+    let (first, second) = digits.split_at(digits.len() / 2);
+    append(text, indentation);
+    append(text, digits_of(first, &mut [0; LINE_BYTES]));
+    append(text, digits_of(second, &mut [0; LINE_BYTES]));
+    append(text, b"\n");
 }
 
 /// Appends the lines of at most a batch of ciphertext.
+#[inline(always)]
 pub(super) fn append_ciphertext(text: &mut Text, indentation: &[u8], ciphertext: &[u8])
     requires opening { array_vec_len text.old ≤ OPENING_LIMIT }
     requires narrow { length indentation.now ≤ INDENTATION_LIMIT }
