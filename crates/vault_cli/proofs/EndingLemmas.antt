@@ -1,8 +1,14 @@
 -- How a run ends over one output, carried over to another.
-use Rattle.std.proofs.Common.{◌≡◌, ℕ, inl, inr, List, [], Option, Some, None, take, ap, ◌∙◌}
+use Rattle.std.specs.Borrow.{MutBor}
+use Rattle.std.proofs.Common.{◌≡◌, ℕ, inl, inr, List, [], Option, Some, None, take, ap, ◌∙◌, refl}
 use Rattle.vault_text.specs.declared.sink.Stage.TheVariants.{Unbegun}
 use Rattle.vault_files.specs.declared.access.Access.{Access}
-use Rattle.vault_cli.specs.Call.{SinkCall, SourceCall, StoreCall, sink}
+use Rattle.vault_files.specs.Output.{FileTakes, HostState, by_value, new_host, stage_of}
+use Rattle.vault_files.specs.Output.OutputState.{Chosen}
+use Rattle.vault_files.specs.System.{SystemCall}
+use Rattle.vault_files.specs.declared.system.System.{Ghosts as SystemTerms}
+use Rattle.vault_cli.specs.Call.{OutputEnd, SinkCall, SourceCall, StoreCall, disk, sink}
+use Rattle.vault_cli.specs.RunsToPath.{lent_sink}
 use Rattle.vault_cli.specs.runs.Ending.{Ends, Finishes, Output, Receives, to_path}
 use Rattle.vault_cli.specs.runs.Ending.{SourceFails, to_sink}
 use Rattle.vault_cli.specs.runs.Answer.{Answer}
@@ -80,20 +86,70 @@ module _ {F R K E S : Type 0} (access : Access) (files : StoreCall F R) (out : S
         unfailed = λ h. h;
       }) err result src requested answers ends)
 
-  -- one whose output is the file at a path that was chosen
-  pub ends-file : (path : Option (List ℕ)) (chosen_path : List ℕ) (chosen : F)
-      → Some chosen_path ≡ path
-      → files.output_set files.old chosen_path access chosen → files.stage chosen ≡ Unbegun
-      → files.failures chosen ≡ files.failures files.old
-      → out.new ≡ out.old
-      → Ends (to_sink (sink files.output chosen files.new)) err result src requested answers
-      → Ends (to_path path access files out) err result src requested answers
-  ends-file path chosen_path chosen is at fresh stay alone ends =
-      rw (← is) (reported-ends (to_sink (sink files.output chosen files.new))
-      (to_path (Some chosen_path) access files out) (record {
-        untouched = λ same. (alone, ap files.stage same ∙ fresh, inr (rw same at));
-        wrote = λ bytes took. (alone, (chosen, at, took));
+-- ---- a run whose output is a file that borrows the system
+
+-- how far it came
+abbrev pub lent_end : {D : Type 0} → HostState (MutBor D) → OutputEnd
+lent_end lent = record { output = lent.output; failures = lent.failures }
+
+-- it borrows that system still
+module _ {D : Type 0} (executes : D → List SystemCall → D → Type 0)
+    (lent lent_new : HostState (MutBor D)) where
+  abbrev IsSame : Type 0
+  IsSame = lent_new.system.ghost_name ≡ lent.system.ghost_name
+
+  untouched-same : lent_new ≡ lent → IsSame
+  untouched-same same = ap (λ (s : HostState (MutBor D)). s.system.ghost_name) same
+
+  received-same : (output : Option (List ℕ))
+      → Receives (to_sink (lent_sink executes lent lent_new)) output → IsSame
+  received-same None same = untouched-same same
+  received-same (Some bytes) (took, finished) = took.same_reference
+
+  finishes-same : {E : Type 0} (err : SinkCall E) (result : Status) (answer : Answer)
+      → Finishes (to_sink (lent_sink executes lent lent_new)) err result answer → IsSame
+  finishes-same err result answer (inl done) = received-same answer.output done.output
+  finishes-same err result answer (inr fails) =
+      let (bytes, is, (n, took)) = fails.output in took.same_reference
+
+  pub ends-same : {E S : Type 0} (err : SinkCall E) (result : Status) (src : SourceCall S)
+      (requested : Option ℕ) (answers : List ℕ → Answer)
+      → Ends (to_sink (lent_sink executes lent lent_new)) err result src requested answers
+      → IsSame
+  ends-same err result src None answers (unread, done) =
+      finishes-same err result (answers []) done
+  ends-same err result src (Some limit) answers (input, (given, fits, inl (failed, short))) =
+      untouched-same failed.output
+  ends-same err result src (Some limit) answers (input, (given, fits, inr (read, done))) =
+      finishes-same err result (answers input) done
+
+module _ {D R W K E S : Type 0} (system : SystemTerms D R W) (old : D) (path : List ℕ)
+    (access : Access) (lent lent_new : HostState (MutBor D)) (out : SinkCall K)
+    (err : SinkCall E) (result : Status) (src : SourceCall S)
+    (at : by_value lent ≡ record (new_host old) { output = Chosen path access })
+    (alone : out.new ≡ out.old) where
+  abbrev LentTo : Output
+  LentTo = to_path (Some path) access (disk system old lent_new.system.now (lent_end lent_new)) out
+
+  -- what was written to it is in the file at its path
+  pub ends-lent : (request_path : Option (List ℕ)) → Some path ≡ request_path
+      → (requested : Option ℕ) (answers : List ℕ → Answer)
+      → Ends (to_sink (lent_sink system.executes lent lent_new)) err result src requested answers
+      → Ends (to_path request_path access
+      (disk system old lent_new.system.now (lent_end lent_new)) out) err result src requested
+      answers
+  ends-lent request_path is requested answers ends =
+      let none : lent.failures ≡ 0 = ap (λ (s : HostState D). s.failures) at in
+      rw (← is) (reported-ends (to_sink (lent_sink system.executes lent lent_new)) LentTo (record {
+        untouched = λ same.
+            let still : by_value lent_new ≡ record (new_host old) { output = Chosen path access } =
+            ap by_value same ∙ at in
+            (alone, ap (λ (s : HostState D). stage_of s.output) still, inr still);
+        wrote = λ bytes took. (
+          alone,
+          (record (new_host old) { output = Chosen path access }, refl, rw at at took.taken),
+        );
         finished = λ h. h;
-        failed = λ h. rw stay at h;
-        unfailed = λ h. h ∙ stay;
+        failed = λ h. rw none at h;
+        unfailed = λ h. h ∙ none;
       }) err result src requested answers ends)

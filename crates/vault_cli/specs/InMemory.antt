@@ -1,6 +1,7 @@
 -- How the program ends over files, an input and sinks in memory: what each holds afterwards.
 use Rattle.std.specs.Prelude.{◌≡◌, ◌⊎◌, ℕ, ◌+◌, if◌then◌else◌, List, [], ◌∷◌, ◌++◌, take, drop}
-use Rattle.std.specs.Prelude.{Option, Some, None, IfSome}
+use Rattle.std.specs.Prelude.{Bool, true, false, Option, Some, None, IfSome}
+use Rattle.std.specs.Str.{bytes_eq}
 use Rattle.clap.specs.Words.{Text}
 use Rattle.vault_text.specs.Failures.{HasRisen}
 use Rattle.vault_text.specs.Sink.{MemSinkState}
@@ -8,7 +9,7 @@ use Rattle.vault_text.specs.Source as source
 use Rattle.vault_text.specs.declared.sink.Stage.TheVariants.{Finished}
 use Rattle.vault_files.specs.File.{FileState}
 use Rattle.vault_files.specs.File.FileState.{Whole}
-use Rattle.vault_files.specs.Memory.{StoreState, file_at, is_output_at, stands_at}
+use Rattle.vault_files.specs.Memory.{Created, StoreState, file_at, stands_at}
 use Rattle.vault_fault.specs.declared.fault.Fault.TheVariants.{Memory, Write}
 use Rattle.vault_request.specs.Settled.{requested_by}
 use Rattle.vault_cli.specs.Program.{Files, files_in}
@@ -57,6 +58,11 @@ abbrev pub Taken : Option ℕ → Change source.MemSourceState → Type 0
 Taken None src = src.new ≡ src.old
 Taken (Some limit) src = src.new.left ≡ drop (limit + 1) src.old.left
 
+-- whether the path is that of the output
+abbrev pub is_output_at : Option (List ℕ) → List ℕ → Bool
+is_output_at None path = false
+is_output_at (Some output_file) path = bytes_eq output_file path
+
 -- what is at a path, where the output goes to a path or to standard output, and there is one or
 -- none
 abbrev pub stands_after : (List ℕ → FileState) → Option (List ℕ) → Option (List ℕ) → List ℕ
@@ -64,6 +70,11 @@ abbrev pub stands_after : (List ℕ → FileState) → Option (List ℕ) → Opt
 stands_after before output_file None path = before path
 stands_after before output_file (Some bytes) path =
     if is_output_at output_file path then Whole bytes else before path
+
+-- a file was created, and synced since it was written
+abbrev pub IsSynced : Option Created → Type 0
+IsSynced None = ⊥
+IsSynced (Some file) = file.synced ≡ true
 
 module _ (result : Status) (files : Change StoreState) (out err : Change MemSinkState) where
   -- this is at each path
@@ -74,10 +85,10 @@ module _ (result : Status) (files : Change StoreState) (out err : Change MemSink
   abbrev pub IsKept : Type 0
   IsKept = Stands (file_at files.old.entries)
 
-  -- the file at the path of an output was finished, where there is one of both
+  -- the file at the path of an output was synced, where there is one of both
   abbrev pub IsFinished : Option (List ℕ) → Option (List ℕ) → Type 0
   IsFinished output_file output =
-      IfSome output_file (λ _. IfSome output (λ _. files.new.output.stage ≡ Finished))
+      IfSome output_file (λ _. IfSome output (λ _. IsSynced files.new.created))
 
   -- it ended with the answer, whose output goes to a path or to standard output
   pub record EndsAs (output_file : Option (List ℕ)) (answer : Answer) : Type 0 where
@@ -98,7 +109,7 @@ module _ (result : Status) (files : Change StoreState) (out err : Change MemSink
   abbrev pub IsCut : Option (List ℕ) → List ℕ → Type 0
   IsCut None bytes = HoldsPrefix out bytes × IsKept
   IsCut (Some output_file) bytes =
-      HasRisen files.old.output.failures files.new.output.failures × (out.new ≡ out.old)
+      (out.new ≡ out.old)
       × (IsKept
       ⊎ ((n : ℕ)
       × Stands (stands_after (file_at files.old.entries) (Some output_file) (Some (take n bytes)))))

@@ -1,5 +1,5 @@
 //! The program over files in memory.
-ghost use Rattle.std.specs.Prelude.{◌≡◌, ◌≢◌, [], false, map};
+ghost use Rattle.std.specs.Prelude.{◌≡◌, ◌≢◌, [], None, false, map};
 ghost use Rattle.std.specs.String.{string_bytes};
 ghost use Rattle.clap.specs.Words.{fault_of};
 ghost use Rattle.vault_files.specs.PathLog.{logged};
@@ -29,8 +29,7 @@ pub fn drive_in_memory(
     out: &mut MemSink,
     err: &mut MemSink,
 ) -> Status
-    requires files_unbegun { files.old.output.stage ≡ Stage.Unbegun }
-    requires files_empty { files.old.output.held ≡ [] }
+    requires none_created { files.old.created ≡ None }
     requires src_not_ended { src.old.ended ≡ false }
     requires out_unbegun { out.old.stage ≡ Stage.Unbegun }
     requires err_unbegun { err.old.stage ≡ Stage.Unbegun }

@@ -2,9 +2,9 @@ use Rattle.std.proofs.Common.{[], ◌∷◌, ◌++◌}
 use Rattle.std.proofs.lemmas.List.{append-nil}
 use Rattle.std.proofs.lemmas.Result.{MatchResult-from_err}
 use Rattle.vault_files.specs.System.SystemCall.{Create, Truncate, Failed}
-use Rattle.vault_files.specs.Host.{restricting}
-use Rattle.vault_files.proofs.HostLemmas.{fails-restricting, fails-truncating}
-use Rattle.vault_files.proofs.host.open_output.Goals as goal
+use Rattle.vault_files.specs.Output.{restricting}
+use Rattle.vault_files.proofs.OutputLemmas.{fails-restricting, fails-truncating}
+use Rattle.vault_files.proofs.output.open_output.Goals as goal
 
 pub returns-in_err-restrict : goal.returns-in_err-restrict
 returns-in_err-restrict g c =

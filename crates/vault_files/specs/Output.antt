@@ -1,15 +1,16 @@
--- A program's files over any system: one output, and the system calls that it takes.
+-- An output of a program over any system, and the system calls that it takes.
 use Rattle.std.specs.Prelude.{◌≡◌, ℕ, ◌+◌, List, [], ◌∷◌, ◌++◌, take}
 use Rattle.std.specs.String.{string_bytes}
 use Rattle.vault_text.specs.declared.sink.Stage.{Stage}
 use Rattle.vault_text.specs.declared.sink.Stage.TheVariants as stage
-use Rattle.vault_files.specs.System.{OpenCalls, SystemCall}
+use Rattle.std.specs.Borrow.{MutBor}
+use Rattle.vault_files.specs.System.{Opens, SystemCall}
 use Rattle.vault_files.specs.System.SystemCall.{Create, ChmodOwnerOnly, Truncate, Write, Sync}
 use Rattle.vault_files.specs.System.SystemCall.{Failed}
 use Rattle.vault_files.specs.declared.access.Access.{Access}
 use Rattle.vault_files.specs.declared.access.Access.TheVariants.{Kept, OwnerOnly}
-use Rattle.vault_files.specs.declared.host.Output as rust
-use Rattle.vault_files.specs.declared.host.Output.TheVariants as variant
+use Rattle.vault_files.specs.declared.output.State as rust
+use Rattle.vault_files.specs.declared.output.State.TheVariants as variant
 
 -- how far the output has come
 pub data OutputState : Type 0 where
@@ -27,11 +28,10 @@ stage_of Begun = stage.Begun
 stage_of Finished = stage.Finished
 
 -- what a contract sees of the output that the code holds
-abbrev pub output_of : {Writer : Type 0} → rust.Output Writer → OutputState
-output_of variant.None = Unchosen
-output_of (variant.Chosen path access) = Chosen (string_bytes path) access
-output_of (variant.Open file) = Begun
-output_of variant.Finished = Finished
+abbrev pub output_of : {Writer : Type 0} → List ℕ → Access → rust.State Writer → OutputState
+output_of path access variant.Chosen = Chosen path access
+output_of path access (variant.Open file) = Begun
+output_of path access variant.Finished = Finished
 
 -- the system, the output, and how often it failed
 pub record HostState (System : Type 0) : Type 0 where
@@ -75,6 +75,10 @@ pub data OutputCalls : OutputState → List SystemCall → List ℕ → ℕ → 
       → OutputStep s calls xs m t → OutputCalls t more ys n u
       → OutputCalls s (calls ++ more) (xs ++ ys) (m + n) u
 
+-- the output that borrows a system, as if it had it
+abbrev pub by_value : {System : Type 0} → HostState (MutBor System) → HostState System
+by_value s = record { system = s.system.now; output = s.output; failures = s.failures }
+
 module _ {System : Type 0} (executes : System → List SystemCall → System → Type 0) where
   -- between two states the output took these bytes: the system was asked for nothing else, and
   -- each call that failed counts
@@ -89,7 +93,11 @@ module _ {System : Type 0} (executes : System → List SystemCall → System →
   -- between two states the system was asked to open these paths, in this order, and all else stayed
   pub record HostOpens (old : HostState System) (paths : List (List ℕ)) (new : HostState System)
       : Type 0 where
-    pub calls : List SystemCall
-    pub executed : executes old.system calls new.system
-    pub are_opens : OpenCalls paths calls
+    pub opened : Opens executes old.system paths new.system
     pub rest : new ≡ record old { system = new.system }
+
+  -- between two states an output that borrows the system took these bytes
+  pub record FileTakes (old : HostState (MutBor System)) (bytes : List ℕ)
+      (new : HostState (MutBor System)) : Type 0 where
+    pub same_reference : new.system.ghost_name ≡ old.system.ghost_name
+    pub taken : HostTakes (by_value old) bytes (by_value new)

@@ -2,20 +2,22 @@
 use Rattle.std.proofs.Common.{◌≡◌, ◌↔◌, ℕ, ◌+◌, List, [], ◌∷◌, ◌++◌, refl, arith}
 use Rattle.std.proofs.Common.{inl, inr, false, if◌then◌else◌, IsTrue, Result}
 use Rattle.std.proofs.Common.{Ok, Err, take, String, Global, add-zero}
+use Rattle.std.specs.Borrow.{MutBor}
 use Rattle.std.specs.Result.{is_ok}
 use Rattle.std.proofs.lemmas.Bool.{cases_lt, false≢true}
 use Rattle.std.proofs.lemmas.List.{append-nil}
 use Rattle.vault_text.specs.Failures.{HasRisen, IsSaturated, u64_max}
-use Rattle.vault_text.specs.declared.sink.Stage.TheVariants.{Unbegun}
 use Rattle.vault_files.specs.System.{OpenCalls, SystemCall, if_failed}
 use Rattle.vault_files.specs.System.OpenCalls.{no_opens, opens, fails_to_open}
 use Rattle.vault_files.specs.System.SystemCall.{Open, Create, Truncate, Failed}
-use Rattle.vault_files.specs.Host.{HostState, HostTakes, OutputCalls, OutputStep, beginning}
-use Rattle.vault_files.specs.Host.{output_of, restricting, stage_of}
-use Rattle.vault_files.specs.Host.OutputCalls.{no_steps, steps}
-use Rattle.vault_files.specs.Host.OutputStep.{is_unchosen}
-use Rattle.vault_files.specs.declared.host.Output as rust
-use Rattle.vault_files.specs.declared.host.Output.TheVariants as variant
+use Rattle.vault_files.specs.Output.{FileTakes, HostState, HostTakes, OutputCalls, OutputStep}
+use Rattle.vault_files.specs.Output.{beginning, by_value, output_of, restricting}
+use Rattle.vault_files.specs.Output.{stage_of}
+use Rattle.vault_files.specs.Output.OutputState.{Chosen}
+use Rattle.vault_files.specs.declared.output.State as rust
+use Rattle.vault_files.specs.declared.output.State.TheVariants as variant
+use Rattle.vault_text.specs.declared.sink.Stage.TheVariants.{Unbegun}
+use Rattle.vault_files.specs.Output.OutputCalls.{no_steps, steps}
 use Rattle.vault_files.specs.declared.access.Access.{Access}
 use Rattle.vault_files.specs.declared.access.Access.TheVariants.{Kept, OwnerOnly}
 
@@ -53,18 +55,8 @@ pub fails-truncating : (path : List ℕ) (access : Access)
 fails-truncating path Kept = (2, refl)
 fails-truncating path OwnerOnly = (3, refl)
 
--- an output that is to be begun, but was not chosen, fails
-pub fails_unchosen : {Writer : Type 0} (output : rust.Output Writer)
-    → stage_of (output_of output) ≡ Unbegun
-    → ((path : String Global) (access : Access) → output ≡ variant.Chosen path access → ⊥)
-    → OutputStep (output_of output) [] [] 1 (output_of output)
-fails_unchosen variant.None unbegun other = is_unchosen
-fails_unchosen (variant.Chosen path access) unbegun other = absurd (other path access refl)
-fails_unchosen (variant.Open file) unbegun other = absurd cc
-fails_unchosen variant.Finished unbegun other = absurd cc
-
 -- one use of an output
-pub takes_by : {System : Type 0} (executes : System → List SystemCall → System → Type 0)
+takes_by : {System : Type 0} (executes : System → List SystemCall → System → Type 0)
     (old new : HostState System) {calls : List SystemCall} {bytes : List ℕ} {n : ℕ}
     → OutputStep old.output calls bytes n new.output → executes old.system calls new.system
     → new.failures ≡ old.failures + n → HostTakes executes old bytes new
@@ -80,3 +72,22 @@ takes_by executes old new {calls} {bytes} {n} step executed counted =
       are_of_output = rw (append-nil calls, append-nil bytes, add-zero n) at made;
       failures = counted;
     }
+
+-- the same of one that borrows its system
+pub file_takes_by : {System : Type 0} (executes : System → List SystemCall → System → Type 0)
+    (old new : HostState (MutBor System)) {calls : List SystemCall} {bytes : List ℕ} {n : ℕ}
+    → OutputStep old.output calls bytes n new.output
+    → executes old.system.now calls new.system.now → new.failures ≡ old.failures + n
+    → new.system.ghost_name ≡ old.system.ghost_name → FileTakes executes old bytes new
+file_takes_by executes old new step executed counted same = record {
+  same_reference = same;
+  taken = takes_by executes (by_value old) (by_value new) step executed counted;
+}
+
+-- an output that has not begun
+pub unbegun-chosen : {Writer : Type 0} (path : List ℕ) (access : Access) (state : rust.State Writer)
+    → stage_of (output_of path access state) ≡ Unbegun
+    → output_of path access state ≡ Chosen path access
+unbegun-chosen path access variant.Chosen unbegun = refl
+unbegun-chosen path access (variant.Open file) unbegun = absurd cc
+unbegun-chosen path access variant.Finished unbegun = absurd cc

@@ -1,19 +1,11 @@
 -- What a system was asked for in two calls, one after the other.
 use Rattle.std.specs.Prelude.{ℕ, ◌+◌, List, [], ◌++◌, refl}
-use Rattle.std.proofs.Common.{arith, zero-add, add_assoc, append_assoc}
-use Rattle.vault_files.specs.System.{OpenCalls, SystemCall}
-use Rattle.vault_files.specs.System.OpenCalls.{no_opens, opens, fails_to_open}
-use Rattle.vault_files.specs.Host.{HostOpens, HostState, HostTakes, OutputCalls, OutputState}
-use Rattle.vault_files.specs.Host.OutputCalls.{no_steps, steps}
-
--- opens, and opens after them
-OpenCalls-more : (ps qs : List (List ℕ)) (xs ys : List SystemCall)
-    → OpenCalls ps xs → OpenCalls qs ys → OpenCalls (ps ++ qs) (xs ++ ys)
-OpenCalls-more _ qs _ ys no_opens q = q
-OpenCalls-more _ qs _ ys (opens path paths calls p) q =
-    opens path (paths ++ qs) (calls ++ ys) (OpenCalls-more paths qs calls ys p q)
-OpenCalls-more _ qs _ ys (fails_to_open path paths calls p) q =
-    fails_to_open path (paths ++ qs) (calls ++ ys) (OpenCalls-more paths qs calls ys p q)
+use Rattle.std.specs.Borrow.{MutBor}
+use Rattle.std.proofs.Common.{◌∙◌, arith, zero-add, add_assoc, append_assoc}
+use Rattle.vault_files.specs.System.{SystemCall}
+use Rattle.vault_files.specs.Output.{FileTakes, HostState, HostTakes, OutputCalls}
+use Rattle.vault_files.specs.Output.{OutputState, by_value}
+use Rattle.vault_files.specs.Output.OutputCalls.{no_steps, steps}
 
 -- an output's calls, and its calls after them
 OutputCalls-more : (s t u : OutputState) (calls more : List SystemCall) (xs ys : List ℕ) (m n : ℕ)
@@ -36,9 +28,8 @@ module _ {System : Type 0} (executes : System → List SystemCall → System →
       failures = omega arith;
     }
 
-    pub HostOpens-none : (s : HostState System) → HostOpens executes s [] s
-    HostOpens-none s =
-        record { calls = []; executed = executes_none s.system; are_opens = no_opens; rest = refl }
+    pub FileTakes-none : (s : HostState (MutBor System)) → FileTakes executes s [] s
+    FileTakes-none s = record { same_reference = refl; taken = HostTakes-none (by_value s) }
 
   module _ (executes_more : (s t u : System) (xs ys : List SystemCall)
       → executes s xs t → executes t ys u → executes s (xs ++ ys) u) where
@@ -53,11 +44,9 @@ module _ {System : Type 0} (executes : System → List SystemCall → System →
       failures = omega arith;
     }
 
-    pub HostOpens-more : (s t u : HostState System) (xs ys : List (List ℕ))
-        → HostOpens executes s xs t → HostOpens executes t ys u → HostOpens executes s (xs ++ ys) u
-    HostOpens-more s t u xs ys p q = record {
-      calls = p.calls ++ q.calls;
-      executed = executes_more s.system t.system u.system p.calls q.calls p.executed q.executed;
-      are_opens = OpenCalls-more xs ys p.calls q.calls p.are_opens q.are_opens;
-      rest = rw p.rest at q.rest;
+    pub FileTakes-more : (s t u : HostState (MutBor System)) (xs ys : List ℕ)
+        → FileTakes executes s xs t → FileTakes executes t ys u → FileTakes executes s (xs ++ ys) u
+    FileTakes-more s t u xs ys p q = record {
+      same_reference = q.same_reference ∙ p.same_reference;
+      taken = HostTakes-more (by_value s) (by_value t) (by_value u) xs ys p.taken q.taken;
     }
