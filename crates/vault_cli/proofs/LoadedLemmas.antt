@@ -7,8 +7,6 @@ use Rattle.vault_files.specs.File.FileState.{Missing}
 use Rattle.vault_fault.specs.declared.fault.Fault.{Fault}
 use Rattle.vault_fault.specs.declared.fault.Fault.TheVariants.{CannotOpen}
 use Rattle.vault_fault.specs.declared.fault.Role.TheVariants.{Input, Salt}
-use Rattle.vault_files.specs.Output.{HostOpens, new_host}
-use Rattle.vault_files.specs.System.{Opens, SystemCall}
 use Rattle.vault_request.specs.Request.{Request}
 use Rattle.vault_cli.specs.runs.FileContents.{AtPath, secret_paths}
 use Rattle.vault_cli.specs.Loaded.{ContentsFound, PrefixFound, RefusedBy, SaltFound, SecretsRefuse}
@@ -92,17 +90,3 @@ module _ (finds : List ℕ → FileState → Type 0)
           rw (same, salted, is),
           rw (opened_paths-found finds request found contents seen same, salted) went,
         )
-
--- ---- opens of a system, of which no output was made
-
-module _ {D : Type 0} (executes : D → List SystemCall → D → Type 0) where
-  pub disk-opens : (old new : D) (paths : List (List ℕ)) → Opens executes old paths new
-      → HostOpens executes (new_host old) paths (new_host new)
-  disk-opens old new paths opened = record { opened = opened; rest = refl }
-
-  pub disk-refused : (finds : List ℕ → FileState → Type 0) (old new : D) (request : Request)
-      (fault : Fault) → RefusedBy finds (λ paths. Opens executes old paths new) request fault
-      → RefusedBy finds (λ paths. HostOpens executes (new_host old) paths (new_host new)) request
-      fault
-  disk-refused finds old new request fault (found, seen, is, went) =
-      (found, seen, is, disk-opens old new _ went)

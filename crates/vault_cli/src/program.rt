@@ -1,24 +1,22 @@
 //! What the program does with its arguments, its files and its standard streams.
-ghost use Rattle.std.specs.Prelude.{◌≡◌, ◌≢◌, ◌≤◌, [], Ok, Some, is_some, length, map, true};
+ghost use Rattle.std.specs.Prelude.{◌≡◌, ◌≤◌, [], Ok, Some, is_some, length, map, true};
 ghost use Rattle.std.specs.Prelude.{vec_capacity, vec_len};
-ghost use Rattle.std.specs.Option.{option_map};
 ghost use Rattle.std.specs.String.{string_bytes};
 ghost use Rattle.clap.specs.Words.{fault_of, subcommand_rows_of};
 ghost use Rattle.vault_text.specs.declared.limits.TheConstants.{CIPHERTEXT_LIMIT, PLAINTEXT_LIMIT};
 ghost use Rattle.vault_text.specs.Limits.{IsWorkLength, limit_of};
 ghost use Rattle.vault_files.specs.Output.{stage_of};
-ghost use Rattle.vault_cli.specs.runs.Run.{RunsRequest};
-ghost use Rattle.vault_cli.specs.RunsToPath.{RunsToPath};
-ghost use Rattle.vault_cli.specs.Call.{OutputEnd, disk, sink, source};
 ghost use Rattle.vault_request.specs.CommandLine.{vault_app};
-ghost use Rattle.vault_cli.specs.Drive.{Drives};
-ghost use Rattle.vault_cli.specs.runs.Ending.{Ends, to_path};
-ghost use Rattle.vault_cli.specs.Explained.{ExplainsOneOf};
-ghost use Rattle.vault_cli.specs.runs.Answer.{input_needed, run_answer};
-ghost use Rattle.vault_cli.specs.Access.{output_access};
-ghost use Rattle.vault_cli.specs.Program.{answer_to, program};
 ghost use Rattle.vault_request.specs.Request.{files_of};
 ghost use Rattle.vault_request.specs.Settled.{requested, requested_by};
+ghost use Rattle.vault_cli.specs.Access.{output_access};
+ghost use Rattle.vault_cli.specs.Call.{sink, source, system};
+ghost use Rattle.vault_cli.specs.Drive.{Ends, to_path};
+ghost use Rattle.vault_cli.specs.Program.{answer_to, program};
+ghost use Rattle.vault_cli.specs.RunsToPath.{RunsToPath};
+ghost use Rattle.vault_cli.specs.runs.Answer.{input_needed, run_answer};
+ghost use Rattle.vault_cli.specs.runs.Run as run;
+ghost use Rattle.vault_cli.specs.runs.Run.{RunsRequest};
 
 use crate::access::output_access;
 use crate::explaining::explain;
@@ -46,24 +44,10 @@ pub fn drive_over<D: System, S: Source, K: Sink, E: Sink>(
 ) -> Status
     requires out_unbegun { K.stage out.old ≡ Stage.Unbegun }
     requires err_unbegun { E.stage err.old ≡ Stage.Unbegun }
-
-    // Arguments that parse are answered as the program says.
-    ensures answered { let texts = map string_bytes words.now in
-        fault_of vault_app texts ≡ []
-        → (end : OutputEnd) × Drives (disk D.System files.old files.new end)
-        (source S.Source src.old src.new) (sink K.Sink out.old out.new)
-        (sink E.Sink err.old err.new) result (requested_by texts) (program texts) }
-
-    // Out of memory comes before any file is opened, and before the input is read.
-    ensures memory { result ≡ Status.OutOfMemory
-        → (files.new ≡ files.old) × (src.new ≡ src.old) }
-
-    // Arguments that do not parse are explained, and neither a file nor the input is touched.
-    ensures explained { let kinds = fault_of vault_app (map string_bytes words.now) in
-        kinds ≢ [] → ExplainsOneOf (sink K.Sink out.old out.new) (sink E.Sink err.old err.new)
-        result kinds }
-    ensures untouched { fault_of vault_app (map string_bytes words.now) ≢ []
-        → (files.new ≡ files.old) × (src.new ≡ src.old) }
+    ensures { let texts = map string_bytes words.now in
+        Ends (system D.System files.old files.new) (source S.Source src.old src.new)
+        (sink K.Sink out.old out.new) (sink E.Sink err.old err.new) result
+        (fault_of vault_app texts) (requested_by texts) (program texts) }
 {
     match parse(alloc, words) {
         Ok(matches) => drive_matches(files, alloc, &matches, src, out, err),
@@ -83,12 +67,10 @@ fn drive_matches<D: System, S: Source, K: Sink, E: Sink>(
     requires requested { is_some (requested (subcommand_rows_of matches.now)) ≡ true }
     requires out_unbegun { K.stage out.old ≡ Stage.Unbegun }
     requires err_unbegun { E.stage err.old ≡ Stage.Unbegun }
-    ensures drives { let requested = requested (subcommand_rows_of matches.now) in
-        (end : OutputEnd) × Drives (disk D.System files.old files.new end)
-        (source S.Source src.old src.new) (sink K.Sink out.old out.new)
-        (sink E.Sink err.old err.new) result requested (answer_to requested) }
-    ensures memory { result ≡ Status.OutOfMemory
-        → (files.new ≡ files.old) × (src.new ≡ src.old) }
+    ensures { let requested = requested (subcommand_rows_of matches.now) in
+        Ends (system D.System files.old files.new) (source S.Source src.old src.new)
+        (sink K.Sink out.old out.new) (sink E.Sink err.old err.new) result [] requested
+        (answer_to requested) }
 {
     match settle(alloc, matches) {
         Ok(request) => drive_request(files, alloc, &request, src, out, err),
@@ -108,12 +90,10 @@ fn drive_request<D: System, S: Source, K: Sink, E: Sink>(
 ) -> Status
     requires out_unbegun { K.stage out.old ≡ Stage.Unbegun }
     requires err_unbegun { E.stage err.old ≡ Stage.Unbegun }
-    ensures drives { let requested = Some (Ok request.now) in
-        (end : OutputEnd) × Drives (disk D.System files.old files.new end)
-        (source S.Source src.old src.new) (sink K.Sink out.old out.new)
-        (sink E.Sink err.old err.new) result requested (answer_to requested) }
-    ensures memory { result ≡ Status.OutOfMemory
-        → (files.new ≡ files.old) × (src.new ≡ src.old) }
+    ensures { let requested = Some (Ok request.now) in
+        Ends (system D.System files.old files.new) (source S.Source src.old src.new)
+        (sink K.Sink out.old out.new) (sink E.Sink err.old err.new) result [] requested
+        (answer_to requested) }
 {
     let mut memory = match reserve(alloc, request) {
         Ok(memory) => memory,
@@ -137,39 +117,25 @@ fn run_to_output<D: System, S: Source, K: Sink, E: Sink>(
 ) -> Status
     requires text { CIPHERTEXT_LIMIT ≤ vec_capacity memory.text }
     requires count { vec_len memory.secret_files ≡ length (files_of request.now) }
-    requires output { option_map string_bytes memory.output ≡ request.now.output }
     requires out_unbegun { K.stage out.old ≡ Stage.Unbegun }
     requires err_unbegun { E.stage err.old ≡ Stage.Unbegun }
-    ensures ends { let request = request.now in
+    ensures { let request = request.now in
         let contents = map (λ file. file.items) memory.secret_files.items in
         let salt = memory.salt.items in
-        (end : OutputEnd) × Ends (to_path request.output (output_access request.command)
-        (disk D.System files.old files.new end) (sink K.Sink out.old out.new))
-        (sink E.Sink err.old err.new) result (source S.Source src.old src.new)
+        run.Ends (source S.Source src.old src.new)
+        (to_path (system D.System files.old files.new) (sink K.Sink out.old out.new)
+        request.output (output_access request.command)) (sink E.Sink err.old err.new) result
         (input_needed PLAINTEXT_LIMIT request contents salt) (run_answer request contents salt) }
-    ensures memory_suffices { result ≢ Status.OutOfMemory }
 {
     let RunMemory {
         mut text,
         secret_files,
         salt,
-        output,
     } = memory;
     let text = TextMemory::reserved(&mut text, CIPHERTEXT_LIMIT);
     let (secret_files, salt) = (secret_files.as_slice(), salt.as_slice());
-    match output {
-        Some(path) => {
-            run_to_path(
-                files,
-                path.as_str(),
-                request,
-                secret_files,
-                salt,
-                text,
-                src,
-                err,
-            )
-        }
+    match request.output() {
+        Some(path) => run_to_path(files, path, request, secret_files, salt, text, src, err),
         None => run_in(request, secret_files, salt, text, src, out, err),
     }
 }

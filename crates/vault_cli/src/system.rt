@@ -22,7 +22,7 @@ pub fn drive<'a, F: Files, R: Read + Drop, O: Write + Drop, E: Write + Drop>(
     stdout: O,
     stderr: E,
 ) -> Status
-    ensures driven { let terms = device_terms ⟦<&'a F as System>⟧
+    ensures { let terms = device_terms ⟦<&'a F as System>⟧
         ⟦<ReadSource<R> as Source>⟧ ⟦<WriteSink<O> as Sink>⟧ ⟦<WriteSink<E> as Sink>⟧ in
         let devices = new_devices rt.entry (R.remaining stdin) (O.contents stdout)
         (E.contents stderr) in

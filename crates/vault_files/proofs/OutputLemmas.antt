@@ -2,24 +2,21 @@
 use Rattle.std.proofs.Common.{◌≡◌, ◌↔◌, ℕ, ◌+◌, List, [], ◌∷◌, ◌++◌, refl, arith}
 use Rattle.std.proofs.Common.{inl, inr, false, if◌then◌else◌, IsTrue, Result}
 use Rattle.std.proofs.Common.{Ok, Err, take, String, Global, add-zero}
-use Rattle.std.specs.Borrow.{MutBor}
 use Rattle.std.specs.Result.{is_ok}
 use Rattle.std.proofs.lemmas.Bool.{cases_lt, false≢true}
 use Rattle.std.proofs.lemmas.List.{append-nil}
 use Rattle.vault_text.specs.Failures.{HasRisen, IsSaturated, u64_max}
 use Rattle.vault_files.specs.System.{OpenCalls, SystemCall, if_failed}
 use Rattle.vault_files.specs.System.OpenCalls.{no_opens, opens, fails_to_open}
-use Rattle.vault_files.specs.System.SystemCall.{Open, Create, Truncate, Failed}
-use Rattle.vault_files.specs.Output.{FileTakes, HostState, HostTakes, OutputCalls, OutputStep}
-use Rattle.vault_files.specs.Output.{beginning, by_value, output_of, restricting}
-use Rattle.vault_files.specs.Output.{stage_of}
+use Rattle.vault_files.specs.System.SystemCall.{Open, Failed}
+use Rattle.vault_files.specs.Output.{FileOutputState, FileTakes, OutputCalls, OutputStep}
+use Rattle.vault_files.specs.Output.{output_of, stage_of}
 use Rattle.vault_files.specs.Output.OutputState.{Chosen}
 use Rattle.vault_files.specs.declared.output.State as rust
 use Rattle.vault_files.specs.declared.output.State.TheVariants as variant
 use Rattle.vault_text.specs.declared.sink.Stage.TheVariants.{Unbegun}
 use Rattle.vault_files.specs.Output.OutputCalls.{no_steps, steps}
 use Rattle.vault_files.specs.declared.access.Access.{Access}
-use Rattle.vault_files.specs.declared.access.Access.TheVariants.{Kept, OwnerOnly}
 
 -- a count that has not stopped rises by one
 pub rises : (before after : ℕ) → (IsTrue false ↔ IsSaturated before) → HasRisen before after
@@ -42,25 +39,13 @@ pub if_failed-is : {T E : Type 0} (r : Result T E)
 if_failed-is (Ok value) = refl
 if_failed-is (Err error) = refl
 
--- a failure to restrict an output, or to truncate it, is one of its beginning
-pub fails-restricting : (path : List ℕ) (access : Access)
-    → (n : ℕ) × (take n (beginning path access) ++ Failed ∷ []
-    ≡ Create path ∷ restricting access ++ Failed ∷ [])
-fails-restricting path Kept = (1, refl)
-fails-restricting path OwnerOnly = (2, refl)
-
-pub fails-truncating : (path : List ℕ) (access : Access)
-    → (n : ℕ) × (take n (beginning path access) ++ Failed ∷ []
-    ≡ Create path ∷ restricting access ++ Truncate ∷ Failed ∷ [])
-fails-truncating path Kept = (2, refl)
-fails-truncating path OwnerOnly = (3, refl)
-
 -- one use of an output
-takes_by : {System : Type 0} (executes : System → List SystemCall → System → Type 0)
-    (old new : HostState System) {calls : List SystemCall} {bytes : List ℕ} {n : ℕ}
-    → OutputStep old.output calls bytes n new.output → executes old.system calls new.system
-    → new.failures ≡ old.failures + n → HostTakes executes old bytes new
-takes_by executes old new {calls} {bytes} {n} step executed counted =
+pub takes_by : {System : Type 0} (executes : System → List SystemCall → System → Type 0)
+    (old new : FileOutputState System) {calls : List SystemCall} {bytes : List ℕ} {n : ℕ}
+    → OutputStep old.output calls bytes n new.output
+    → executes old.system.now calls new.system.now → new.failures ≡ old.failures + n
+    → new.system.ghost_name ≡ old.system.ghost_name → FileTakes executes old bytes new
+takes_by executes old new {calls} {bytes} {n} step executed counted same =
     let s = old.output in
     let t = new.output in
     let made : OutputCalls s (calls ++ []) (bytes ++ []) (n + 0) t =
@@ -71,18 +56,8 @@ takes_by executes old new {calls} {bytes} {n} step executed counted =
       executed = executed;
       are_of_output = rw (append-nil calls, append-nil bytes, add-zero n) at made;
       failures = counted;
+      same_reference = same;
     }
-
--- the same of one that borrows its system
-pub file_takes_by : {System : Type 0} (executes : System → List SystemCall → System → Type 0)
-    (old new : HostState (MutBor System)) {calls : List SystemCall} {bytes : List ℕ} {n : ℕ}
-    → OutputStep old.output calls bytes n new.output
-    → executes old.system.now calls new.system.now → new.failures ≡ old.failures + n
-    → new.system.ghost_name ≡ old.system.ghost_name → FileTakes executes old bytes new
-file_takes_by executes old new step executed counted same = record {
-  same_reference = same;
-  taken = takes_by executes (by_value old) (by_value new) step executed counted;
-}
 
 -- an output that has not begun
 pub unbegun-chosen : {Writer : Type 0} (path : List ℕ) (access : Access) (state : rust.State Writer)

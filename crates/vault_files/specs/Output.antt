@@ -1,10 +1,10 @@
 -- An output of a program over any system, and the system calls that it takes.
-use Rattle.std.specs.Prelude.{◌≡◌, ℕ, ◌+◌, List, [], ◌∷◌, ◌++◌, take}
+use Rattle.std.specs.Prelude.{◌≡◌, ℕ, ◌+◌, List, [], ◌∷◌, ◌++◌}
 use Rattle.std.specs.String.{string_bytes}
 use Rattle.vault_text.specs.declared.sink.Stage.{Stage}
 use Rattle.vault_text.specs.declared.sink.Stage.TheVariants as stage
 use Rattle.std.specs.Borrow.{MutBor}
-use Rattle.vault_files.specs.System.{Opens, SystemCall}
+use Rattle.vault_files.specs.System.{SystemCall}
 use Rattle.vault_files.specs.System.SystemCall.{Create, ChmodOwnerOnly, Truncate, Write, Sync}
 use Rattle.vault_files.specs.System.SystemCall.{Failed}
 use Rattle.vault_files.specs.declared.access.Access.{Access}
@@ -14,7 +14,6 @@ use Rattle.vault_files.specs.declared.output.State.TheVariants as variant
 
 -- how far the output has come
 pub data OutputState : Type 0 where
-  Unchosen : OutputState
   -- its path and its permissions
   Chosen : List ℕ → Access → OutputState
   Begun : OutputState
@@ -22,7 +21,6 @@ pub data OutputState : Type 0 where
 
 -- its stage as a sink
 abbrev pub stage_of : OutputState → Stage
-stage_of Unchosen = stage.Unbegun
 stage_of (Chosen path access) = stage.Unbegun
 stage_of Begun = stage.Begun
 stage_of Finished = stage.Finished
@@ -33,15 +31,11 @@ output_of path access variant.Chosen = Chosen path access
 output_of path access (variant.Open file) = Begun
 output_of path access variant.Finished = Finished
 
--- the system, the output, and how often it failed
-pub record HostState (System : Type 0) : Type 0 where
-  pub system : System
+-- the system that it borrows, the output, and how often it failed
+pub record FileOutputState (System : Type 0) : Type 0 where
+  pub system : MutBor System
   pub output : OutputState
   pub failures : ℕ
-
--- files whose output was not chosen yet
-abbrev pub new_host : {System : Type 0} → System → HostState System
-new_host system = record { system = system; output = Unchosen; failures = 0 }
 
 -- what restricts an output that is open
 abbrev pub restricting : Access → List SystemCall
@@ -52,6 +46,13 @@ restricting OwnerOnly = ChmodOwnerOnly ∷ []
 abbrev pub beginning : List ℕ → Access → List SystemCall
 beginning path access = Create path ∷ restricting access ++ Truncate ∷ []
 
+-- the calls that begin an output, up to one that fails
+pub data FailsToBegin (path : List ℕ) (access : Access) : List SystemCall → Type 0 where
+  to_create : FailsToBegin path access (Create path ∷ Failed ∷ [])
+  to_restrict : FailsToBegin path access (Create path ∷ restricting access ++ Failed ∷ [])
+  to_truncate :
+      FailsToBegin path access (Create path ∷ restricting access ++ Truncate ∷ Failed ∷ [])
+
 -- one use of an output, which brings it from one state to another: the calls of the system that it
 -- makes, the bytes that it takes, and 1 if it fails
 pub data OutputStep : OutputState → List SystemCall → List ℕ → ℕ → OutputState → Type 0 where
@@ -59,11 +60,9 @@ pub data OutputStep : OutputState → List SystemCall → List ℕ → ℕ → O
       → OutputStep (Chosen path access) (beginning path access) [] 0 Begun
   writes : (some : List ℕ) → OutputStep Begun (Write some ∷ []) some 0 Begun
   finishes : OutputStep Begun (Sync ∷ []) [] 0 Finished
-  is_unchosen : OutputStep Unchosen [] [] 1 Unchosen
-  -- at the last of the first n calls that begin an output
-  fails_to_begin : (path : List ℕ) (access : Access) (n : ℕ)
-      → OutputStep (Chosen path access) (take n (beginning path access) ++ Failed ∷ []) [] 1
-      (Chosen path access)
+  fails_to_begin : (path : List ℕ) (access : Access) (calls : List SystemCall)
+      → FailsToBegin path access calls
+      → OutputStep (Chosen path access) calls [] 1 (Chosen path access)
   fails_to_write : OutputStep Begun (Write [] ∷ Failed ∷ []) [] 1 Begun
   writes_nothing : OutputStep Begun (Write [] ∷ []) [] 1 Begun
   fails_to_finish : OutputStep Begun (Sync ∷ Failed ∷ []) [] 1 Begun
@@ -75,29 +74,13 @@ pub data OutputCalls : OutputState → List SystemCall → List ℕ → ℕ → 
       → OutputStep s calls xs m t → OutputCalls t more ys n u
       → OutputCalls s (calls ++ more) (xs ++ ys) (m + n) u
 
--- the output that borrows a system, as if it had it
-abbrev pub by_value : {System : Type 0} → HostState (MutBor System) → HostState System
-by_value s = record { system = s.system.now; output = s.output; failures = s.failures }
-
-module _ {System : Type 0} (executes : System → List SystemCall → System → Type 0) where
-  -- between two states the output took these bytes: the system was asked for nothing else, and
-  -- each call that failed counts
-  pub record HostTakes (old : HostState System) (bytes : List ℕ) (new : HostState System)
-      : Type 0 where
-    pub calls : List SystemCall
-    pub failed : ℕ
-    pub executed : executes old.system calls new.system
-    pub are_of_output : OutputCalls old.output calls bytes failed new.output
-    pub failures : new.failures ≡ old.failures + failed
-
-  -- between two states the system was asked to open these paths, in this order, and all else stayed
-  pub record HostOpens (old : HostState System) (paths : List (List ℕ)) (new : HostState System)
-      : Type 0 where
-    pub opened : Opens executes old.system paths new.system
-    pub rest : new ≡ record old { system = new.system }
-
-  -- between two states an output that borrows the system took these bytes
-  pub record FileTakes (old : HostState (MutBor System)) (bytes : List ℕ)
-      (new : HostState (MutBor System)) : Type 0 where
-    pub same_reference : new.system.ghost_name ≡ old.system.ghost_name
-    pub taken : HostTakes (by_value old) bytes (by_value new)
+-- between two states an output took these bytes: its system was asked for nothing else, and each
+-- call that failed counts
+pub record FileTakes {System : Type 0} (executes : System → List SystemCall → System → Type 0)
+    (old : FileOutputState System) (bytes : List ℕ) (new : FileOutputState System) : Type 0 where
+  pub calls : List SystemCall
+  pub failed : ℕ
+  pub executed : executes old.system.now calls new.system.now
+  pub are_of_output : OutputCalls old.output calls bytes failed new.output
+  pub failures : new.failures ≡ old.failures + failed
+  pub same_reference : new.system.ghost_name ≡ old.system.ghost_name

@@ -1,10 +1,8 @@
 -- What a system was asked for in two calls, one after the other.
 use Rattle.std.specs.Prelude.{ℕ, ◌+◌, List, [], ◌++◌, refl}
-use Rattle.std.specs.Borrow.{MutBor}
 use Rattle.std.proofs.Common.{◌∙◌, arith, zero-add, add_assoc, append_assoc}
 use Rattle.vault_files.specs.System.{SystemCall}
-use Rattle.vault_files.specs.Output.{FileTakes, HostState, HostTakes, OutputCalls}
-use Rattle.vault_files.specs.Output.{OutputState, by_value}
+use Rattle.vault_files.specs.Output.{FileOutputState, FileTakes, OutputCalls, OutputState}
 use Rattle.vault_files.specs.Output.OutputCalls.{no_steps, steps}
 
 -- an output's calls, and its calls after them
@@ -18,35 +16,28 @@ OutputCalls-more s t u _ more _ ys _ n (steps _ v _ first calls bytes xs k m ste
     (OutputCalls-more v t u calls more xs ys m n p q))
 
 module _ {System : Type 0} (executes : System → List SystemCall → System → Type 0) where
-  module _ (executes_none : (s : System) → executes s [] s) where
-    pub HostTakes-none : (s : HostState System) → HostTakes executes s [] s
-    HostTakes-none s = record {
-      calls = [];
-      failed = 0;
-      executed = executes_none s.system;
-      are_of_output = no_steps s.output;
-      failures = omega arith;
-    }
+  pub FileTakes-none : ((s : System) → executes s [] s) → (s : FileOutputState System)
+      → FileTakes executes s [] s
+  FileTakes-none executes_none s = record {
+    calls = [];
+    failed = 0;
+    executed = executes_none s.system.now;
+    are_of_output = no_steps s.output;
+    failures = omega arith;
+    same_reference = refl;
+  }
 
-    pub FileTakes-none : (s : HostState (MutBor System)) → FileTakes executes s [] s
-    FileTakes-none s = record { same_reference = refl; taken = HostTakes-none (by_value s) }
-
-  module _ (executes_more : (s t u : System) (xs ys : List SystemCall)
-      → executes s xs t → executes t ys u → executes s (xs ++ ys) u) where
-    pub HostTakes-more : (s t u : HostState System) (xs ys : List ℕ)
-        → HostTakes executes s xs t → HostTakes executes t ys u → HostTakes executes s (xs ++ ys) u
-    HostTakes-more s t u xs ys p q = record {
-      calls = p.calls ++ q.calls;
-      failed = p.failed + q.failed;
-      executed = executes_more s.system t.system u.system p.calls q.calls p.executed q.executed;
-      are_of_output = OutputCalls-more s.output t.output u.output p.calls q.calls xs ys p.failed
-          q.failed p.are_of_output q.are_of_output;
-      failures = omega arith;
-    }
-
-    pub FileTakes-more : (s t u : HostState (MutBor System)) (xs ys : List ℕ)
-        → FileTakes executes s xs t → FileTakes executes t ys u → FileTakes executes s (xs ++ ys) u
-    FileTakes-more s t u xs ys p q = record {
-      same_reference = q.same_reference ∙ p.same_reference;
-      taken = HostTakes-more (by_value s) (by_value t) (by_value u) xs ys p.taken q.taken;
-    }
+  pub FileTakes-more : ((s t u : System) (xs ys : List SystemCall)
+      → executes s xs t → executes t ys u → executes s (xs ++ ys) u)
+      → (s t u : FileOutputState System) (xs ys : List ℕ)
+      → FileTakes executes s xs t → FileTakes executes t ys u → FileTakes executes s (xs ++ ys) u
+  FileTakes-more executes_more s t u xs ys p q = record {
+    calls = p.calls ++ q.calls;
+    failed = p.failed + q.failed;
+    executed = executes_more s.system.now t.system.now u.system.now p.calls q.calls p.executed
+        q.executed;
+    are_of_output = OutputCalls-more s.output t.output u.output p.calls q.calls xs ys p.failed
+        q.failed p.are_of_output q.are_of_output;
+    failures = omega arith;
+    same_reference = q.same_reference ∙ p.same_reference;
+  }

@@ -1,8 +1,7 @@
 //! The output of a program, in a file of a system.
-ghost use Rattle.std.specs.Prelude.{◌≡◌, ℕ, ◌++◌, [], ◌∷◌, MatchResult, take};
-ghost use Rattle.vault_files.specs.System.{if_failed};
-ghost use Rattle.vault_files.specs.System.SystemCall.{Failed};
-ghost use Rattle.vault_files.specs.Output.{beginning, restricting};
+ghost use Rattle.std.specs.Prelude.{◌≡◌, ◌++◌, List, MatchResult};
+ghost use Rattle.vault_files.specs.System.{SystemCall, if_failed};
+ghost use Rattle.vault_files.specs.Output.{FailsToBegin, beginning, restricting};
 ghost use Rattle.vault_files.specs.Output.OutputState.{Chosen};
 
 use crate::access::Access;
@@ -32,10 +31,9 @@ pub struct FileOutput<'a, D: System> {
 }
 
 impl<'a, D: System> Model for FileOutput<'a, D> {
-    ghost use Rattle.std.specs.Borrow.{MutBor};
-    ghost use Rattle.vault_files.specs.Output.{HostState, output_of};
+    ghost use Rattle.vault_files.specs.Output.{FileOutputState, output_of};
 
-    ghost Value = { HostState (MutBor D) };
+    ghost Value = { FileOutputState D };
 
     ghost view = { λ s. record {
       system = s.system;
@@ -86,8 +84,8 @@ fn restrict<D: System>(system: &mut D, file: &D::Writer, access: Access) -> io::
 fn open_output<D: System>(system: &mut D, path: &str, access: Access) -> io::Result<D::Writer>
     ensures { MatchResult result
         (λ file. D.executes system.old (beginning path.now access) system.new)
-        (λ error. (n : ℕ) × D.executes system.old
-        (take n (beginning path.now access) ++ Failed ∷ []) system.new) }
+        (λ error. (calls : List SystemCall) × FailsToBegin path.now access calls
+        × D.executes system.old calls system.new) }
 {
     let file = system.create(path)?;
     restrict(system, &file, access)?;
@@ -110,7 +108,7 @@ impl<'a, D: System> Sink for FileOutput<'a, D> {
 
     ghost takes_more = { FileTakes-more D.executes D.executes_more };
 
-    ghost failures_monotone = { λ s t xs g. Prim.omega (arith, g.taken.failures) };
+    ghost failures_monotone = { λ s t xs g. Prim.omega (arith, g.failures) };
 
     fn begin(&mut self) -> Result<(), SinkFailed> {
         if self.failures.is_saturated() {

@@ -39,4 +39,4 @@ returns g c =
           (w.perform-ready-in-None.ensures.performs, w.perform-ready-in-None.ensures.full)
     ] in
     runs-performed src _ _ _ _ _ _ _ task c.in-Ok.ensures.planned c.match-string.ready performs
-    c.deliver.ensures.finishes c.deliver.ensures.full
+    c.deliver.ensures.delivers c.deliver.ensures.full

@@ -2,7 +2,7 @@ use Rattle.std.proofs.Common.{◌∙◌, ap, arith, refl}
 use Rattle.vault_files.specs.Output.{stage_of}
 use Rattle.vault_files.specs.Output.OutputStep.{begins, fails_to_begin}
 use Rattle.vault_files.specs.OutputProofs.{FileTakes-none}
-use Rattle.vault_files.proofs.OutputLemmas.{file_takes_by, rises, unbegun-chosen}
+use Rattle.vault_files.proofs.OutputLemmas.{takes_by, rises, unbegun-chosen}
 use Rattle.vault_files.proofs.output.FileOutputSink.begin.Goals as goal
 
 pub returns-then-is_saturated-clause-takes : goal.returns-then-is_saturated-clause-takes
@@ -14,9 +14,9 @@ returns-in_default-clause-takes g c =
     let unbegun = ap (λ s. stage_of s.output) c.self.view_is ∙ c.requires in
     let chosen = unbegun-chosen c.self.inside.path.now c.self.inside.access c.self.inside.state
     unbegun in
-    let (n, executed) = c.in_default.ensures in
+    let (calls, fails, executed) = c.in_default.ensures in
     rw (← c.self.view_is, chosen)
-    (file_takes_by g.D.System.executes _ _ (fails_to_begin _ _ n) executed
+    (takes_by g.D.System.executes _ _ (fails_to_begin _ _ calls fails) executed
     (rises _ _ c.if-is_saturated.ensures.saturated c.raise.ensures.risen) refl)
 
 pub returns-clause-takes : goal.returns-clause-takes
@@ -25,4 +25,4 @@ returns-clause-takes g c =
     let chosen = unbegun-chosen c.self.inside.path.now c.self.inside.access c.self.inside.state
     unbegun in
     rw (← c.self.view_is, chosen)
-    (file_takes_by g.D.System.executes _ _ (begins _ _) c.in-Ok.ensures (omega arith) refl)
+    (takes_by g.D.System.executes _ _ (begins _ _) c.in-Ok.ensures (omega arith) refl)
