@@ -199,7 +199,7 @@ CHECKS = [
 BROKEN = [
     (PAGE, unwritten, r"`load` at `(\w+)/src", r"`load` at `\1/sources"),
     (PAGE, unwritten, r"^fn open_directory", "fn open_folder"),
-    (PAGE, unproved, r"`drive_over`: `answered`", "`drive_over`: `replied`"),
+    (PAGE, unproved, r"`Sink::begin`: `takes`", "`Sink::begin`: `took`"),
     (PAGE, unproved, r"`refused_leaves_outputs`", "`refused_leaves_nothing`"),
     (PAGE, unproved, r"`tests/faults.py`", "`tests/no_faults.py`"),
     (PAGE, undefined, r"`opened_paths` \(", "`opened_from` ("),
