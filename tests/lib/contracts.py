@@ -17,7 +17,7 @@ THEOREM = ["fn drive_over", "fn reject_words"]
 OTHERS = [
     *("fn drive", "fn drive_in_memory", "fn run", "fn run_to_output", "fn load"),
     *("fn prepare_encrypt_in", "fn prepare_decrypt_in", "fn prepare_rekey_in"),
-    *("trait System", "struct HostFiles", "struct ReadSource", "struct WriteSink", "struct TextMemory", "enum Access"),
+    *("trait System", "struct FileOutput", "struct ReadSource", "struct WriteSink", "struct TextMemory", "enum Access"),
 ]
 # Some names of a module, or the module under another name.
 IMPORT = re.compile(r"\buse Rattle\.(\w+)\.specs\.([\w.]+?)(?:\.\{([^}]*)\}| as (\w+))")

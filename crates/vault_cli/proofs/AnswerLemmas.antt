@@ -7,7 +7,7 @@ use Rattle.vault_core.specs.Ready.{Ready}
 use Rattle.vault_request.specs.Laws.{IsRequest}
 use Rattle.vault_request.specs.Request.{Request}
 use Rattle.vault_request.specs.declared.command_name.CommandName.TheVariants.{EncryptString}
-use Rattle.vault_cli.specs.runs.Answer.{answered, run_answer_within, performed, ready_by}
+use Rattle.vault_cli.specs.runs.Answer.{output_of, run_answer_within, performed, ready_by}
 use Rattle.vault_cli.specs.runs.Answer.{input_needed_by}
 use Rattle.vault_cli.specs.runs.Task.{Task, planned}
 
@@ -23,26 +23,26 @@ pub ready-text : (limit : ℕ) (task : Task) (string : Option (List ℕ)) (input
 ready-text limit task None input = refl
 ready-text limit task (Some string) input = refl
 
--- an answer with an output comes of something ready
-answered-some : (r : Result Ready Fault) (output : List ℕ) → (answered r).output ≡ Some output
+-- an output comes of something ready
+output_of-ok : (r : Result Ready Fault) (output : List ℕ) → output_of r ≡ Ok output
     → (ready : Ready) × (r ≡ Ok ready) × (ready.output ≡ output)
-answered-some (Ok ready) output e = (ready, refl, (cc))
-answered-some (Err fault) output e = absurd cc
+output_of-ok (Ok ready) output e = (ready, refl, (cc))
+output_of-ok (Err fault) output e = absurd cc
 
 -- a request of another command than `encrypt_string`, which has no STRING
 module _ (limit : ℕ) (request : Request) (contents : List (List ℕ)) (salt input : List ℕ)
     (known : IsRequest request) (other : request.command ≢ EncryptString)
     (task : Task) (found : planned request contents salt ≡ Ok task) where
   pub run_answer-performed : run_answer_within limit request contents salt input
-      ≡ answered (performed limit task input)
+      ≡ output_of (performed limit task input)
   unfolding run_answer_within
   run_answer-performed = rw (found, known.string other)
 
   pub run_answer-output : (output : List ℕ)
-      → (run_answer_within limit request contents salt input).output ≡ Some output
+      → run_answer_within limit request contents salt input ≡ Ok output
       → (ready : Ready) × (performed limit task input ≡ Ok ready) × (ready.output ≡ output)
   run_answer-output output written =
-      answered-some (performed limit task input) output (rw run_answer-performed at written)
+      output_of-ok (performed limit task input) output (rw run_answer-performed at written)
 
 -- where a source is asked there is no STRING
 pub requested-no_string : (plans : Result Task Fault) (string : Option (List ℕ)) (limit : ℕ)

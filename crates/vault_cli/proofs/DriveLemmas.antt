@@ -6,31 +6,36 @@ use Rattle.std.specs.Prelude.{IfSome, is_some}
 use Rattle.std.specs.Result.{result_map_both}
 use Rattle.vault_text.specs.Failures.{HasRisen}
 use Rattle.vault_text.specs.declared.limits.TheConstants.{PLAINTEXT_LIMIT}
-use Rattle.vault_text.specs.declared.sink.Stage.TheVariants.{Unbegun}
 use Rattle.vault_files.specs.File.{Answers, FileState}
+use Rattle.vault_files.specs.System.{Opens}
 use Rattle.vault_files.specs.declared.fault.FileFault.{FileFault}
 use Rattle.vault_files.specs.declared.fault.FileFault.TheVariants.{CannotOpen, CannotRead}
 use Rattle.vault_fault.specs.declared.fault.Fault.{Fault}
-use Rattle.vault_fault.specs.declared.fault.Fault.TheVariants.{Memory}
+use Rattle.vault_fault.specs.declared.fault.Fault.TheVariants.{Memory, Read}
 use Rattle.vault_fault.specs.declared.fault.Role.TheVariants.{Input}
-use Rattle.vault_cli.specs.Call.{SinkCall, SourceCall, StoreCall, files_from}
-use Rattle.vault_cli.specs.Drive.{Drives}
-use Rattle.vault_cli.specs.runs.Ending.{Ends, EndsUnread, Finishes, Output, to_path}
-use Rattle.vault_cli.specs.runs.FileContents.{AtPath, request_paths, fault_in, prefix_in}
-use Rattle.vault_cli.specs.runs.FileContents.{secret_paths}
-use Rattle.vault_cli.specs.Loaded.{ContentsFound, RefusedBy, SaltFound}
-use Rattle.vault_cli.specs.runs.Reports.{Says, line_of}
-use Rattle.vault_cli.specs.runs.Answer.{Answer, answered, input_needed_by, input_needed}
-use Rattle.vault_cli.specs.runs.Answer.{input_limit, performed, ready_by, reported, run_answer}
-use Rattle.vault_cli.specs.runs.Answer.{run_answer_within}
-use Rattle.vault_cli.specs.Access.{access_of, output_access}
-use Rattle.vault_cli.specs.Program.{Files, answer_to, input_in, can_open_input, output_path}
-use Rattle.vault_cli.specs.Program.{unless_file}
 use Rattle.vault_request.specs.Request.{Request}
 use Rattle.vault_request.specs.Settled.{Settles}
+use Rattle.vault_cli.specs.Access.{access_of, output_access}
+use Rattle.vault_cli.specs.Call.{FilesCall, SinkCall, SourceCall, files_from}
+use Rattle.vault_cli.specs.Drive.{Ends, to_path}
+use Rattle.vault_cli.specs.Drive.Ends.{Ran, Stopped}
+use Rattle.vault_cli.specs.Explained.Explains.{MemoryLacked}
+use Rattle.vault_cli.specs.Loaded.{ContentsFound, RefusedBy, SaltFound}
+use Rattle.vault_cli.specs.Program.{Files, answer_to, can_open_input, input_in, output_path}
+use Rattle.vault_cli.specs.Program.{unless_file}
+use Rattle.vault_cli.specs.runs.Answer.{input_limit, input_needed, input_needed_by, output_of}
+use Rattle.vault_cli.specs.runs.Answer.{performed, ready_by, run_answer, run_answer_within}
+use Rattle.vault_cli.specs.runs.FileContents.{AtPath, fault_in, prefix_in, request_paths}
+use Rattle.vault_cli.specs.runs.FileContents.{secret_paths}
+use Rattle.vault_cli.specs.runs.Reports.{Reports, line_of}
+use Rattle.vault_cli.specs.runs.Run as run
+use Rattle.vault_cli.specs.runs.Run.{Output}
+use Rattle.vault_cli.specs.runs.Run.Ends.{Succeeded, HasRefused, OutputFailed, InputFailed}
 use Rattle.vault_cli.specs.runs.Status.{status_of}
 use Rattle.vault_cli.specs.runs.Task.{Task, planned}
 use Rattle.vault_cli.specs.declared.runs.status.Status.{Status}
+use Rattle.vault_cli.specs.declared.runs.status.Status.TheVariants.{DeviceFailed, OutOfMemory}
+use Rattle.vault_cli.specs.declared.runs.status.Status.TheVariants.{ParseFault, Refused, Success}
 use Rattle.vault_cli.proofs.EndingLemmas.{path-alone}
 use Rattle.vault_cli.proofs.OpenedPathsLemmas.{opened_paths-found}
 use Rattle.vault_cli.proofs.ProgramLemmas.{opening, task-found}
@@ -82,38 +87,51 @@ unopened : {R : Type 0} (finds : List ℕ → FileState → Type 0) (opened : Li
 unopened finds opened None at = tt
 unopened finds opened (Some path) at = absurd at
 
-module _ {F R S K E : Type 0} (files : StoreCall F R) (src : SourceCall S) (out : SinkCall K)
+-- a fault that is reported so
+pub memory-alone : (fault : Fault) → status_of fault ≡ OutOfMemory → fault ≡ Memory
+memory-alone Memory is = refl
+memory-alone fault is = absurd cc
+
+memory-or-not : (status : Status) → (status ≡ OutOfMemory) ⊎ (status ≢ OutOfMemory)
+memory-or-not OutOfMemory = inl refl
+memory-or-not Success = inr (λ is. cc)
+memory-or-not Refused = inr (λ is. cc)
+memory-or-not ParseFault = inr (λ is. cc)
+memory-or-not DeviceFailed = inr (λ is. cc)
+
+module _ {D R W S K E : Type 0} (files : FilesCall D R W) (src : SourceCall S) (out : SinkCall K)
     (err : SinkCall E) (result : Status) where
   abbrev RequestDrives : Option (Result Request Fault) → Type 0
-  RequestDrives requested = Drives files src out err result requested (answer_to requested)
+  RequestDrives requested = Ends files src out err result [] requested (answer_to requested)
 
-  -- ---- what a request sent
+  -- ---- a run of a request
 
   module _ (request : Request) (contents : List (List ℕ)) (salt : List ℕ)
       (read : ContentsFound (files.finds files.old) (secret_paths request) (Ok contents))
       (salted : SaltFound (files.finds files.old) request.salt_path (Ok salt))
-      (opened : F) (went : files.opens files.old (request_paths request) opened) where
+      (opened : D) (went : Opens files.executes files.old (request_paths request) opened) where
     abbrev SentTo : Output
-    SentTo = to_path request.output (output_access request.command) (files_from opened files) out
+    SentTo =
+        to_path (files_from opened files) out request.output (output_access request.command)
 
     abbrev SentFrom : {T : Type 0} → SourceCall T → Type 0
     SentFrom from =
-        Ends SentTo err result from (input_needed PLAINTEXT_LIMIT request contents salt)
+        run.Ends from SentTo err result (input_needed PLAINTEXT_LIMIT request contents salt)
         (run_answer request contents salt)
 
-    -- over this input file and this task
-    abbrev EndsWith : Option FileState → Result Task Fault → Type 0
-    EndsWith input task = Ends SentTo err result src
+    -- over this STRING, this input file and this task
+    abbrev EndsWith : Option (List ℕ) → Option FileState → Result Task Fault → Type 0
+    EndsWith string input task = run.Ends src SentTo err result
         (unless_file input
-        (input_needed_by task request.string (input_limit PLAINTEXT_LIMIT request.command)))
-        (λ stdin. answered
-        (ready_by PLAINTEXT_LIMIT task request.string
+        (input_needed_by task string (input_limit PLAINTEXT_LIMIT request.command)))
+        (λ stdin. output_of (ready_by PLAINTEXT_LIMIT task string
         (input_in (input_limit PLAINTEXT_LIMIT request.command + 1) input stdin)))
 
     -- with an input file that may be found there and can be opened, or none
     drives-with : (input : Option FileState) → AtPath (files.finds files.old) request.input input
         → can_open_input input ≡ Ok tt
-        → EndsWith input (planned request contents salt) → RequestDrives (Some (Ok request))
+        → EndsWith request.string input (planned request contents salt)
+        → RequestDrives (Some (Ok request))
     drives-with input input_found opens ends =
         let (secrets, secrets_found, gave) = read in
         let (salt_file, salt_found, has_salt) = salted in
@@ -121,12 +139,10 @@ module _ {F R S K E : Type 0} (files : StoreCall F R) (src : SourceCall S) (out 
         let all =
         opened_paths-found (files.finds files.old) request found contents secrets_found gave in
         let same = task-found request found contents salt gave has_salt opens in
-        let ends_so = subst (λ (task : Result Task Fault). EndsWith input task) (sym same) ends in
-        inr (
-          found,
-          (secrets_found, salt_found, input_found),
-          (opened, (rw (all, has_salt) went, ends_so)),
-        )
+        let ends_so = subst
+        (λ (task : Result Task Fault). EndsWith request.string input task) (sym same) ends in
+        Ran refl found (secrets_found, salt_found, input_found) opened (rw (all, has_salt) went)
+        ends_so
 
     -- of standard input
     pub drives-stdin : (reads : List ℕ → R → Type 0) → AtPath reads request.input None
@@ -141,103 +157,170 @@ module _ {F R S K E : Type 0} (files : StoreCall F R) (src : SourceCall S) (out 
         (none : reader.gives reader.old [] reader.old)
         (prefix_law : PrefixLaw (files.finds files.old) reads reader)
         (break_law : BreakLaw (files.finds files.old) reads reader) where
+      -- it was read so far, or it failed
+      kept-ends : (needed : Option ℕ) (answers : List ℕ → Result (List ℕ) Fault)
+          → run.Ends reader SentTo err result needed answers
+          → run.InputFails reader SentTo err result needed answers
+          ⊎ ((input : List ℕ) × run.Reads reader needed input
+          × run.Ends src SentTo err result None (λ stdin. answers input))
+      kept-ends needed answers (Succeeded s) = inr (s.input, s.reads, Succeeded (record {
+        input = [];
+        reads = (kept, refl);
+        bytes = s.bytes;
+        answer = s.answer;
+        status = s.status;
+        output = s.output;
+        message = s.message;
+      }))
+      kept-ends needed answers (HasRefused r) = inr (r.input, r.reads, HasRefused (record {
+        input = [];
+        reads = (kept, refl);
+        fault = r.fault;
+        answer = r.answer;
+        status = r.status;
+        memory_suffices = r.memory_suffices;
+        output = r.output;
+        message = r.message;
+      }))
+      kept-ends needed answers (OutputFailed f) = inr (f.input, f.reads, OutputFailed (record {
+        input = [];
+        reads = (kept, refl);
+        bytes = f.bytes;
+        answer = f.answer;
+        status = f.status;
+        count = f.count;
+        output = f.output;
+        message = f.message;
+      }))
+      kept-ends needed answers (InputFailed f) = inl f
+
       -- where it was not asked for, it was opened
-      unread-ends : (answer : Answer) → Finishes SentTo err result answer
-          → FoundWith (files.finds files.old) request.input (λ _. Finishes SentTo err result answer)
-      unread-ends answer done =
+      unread-ends : (answer : Result (List ℕ) Fault)
+          → run.Ends reader SentTo err result None (λ input. answer)
+          → FoundWith (files.finds files.old) request.input
+          (λ _. run.Ends src SentTo err result None (λ stdin. answer))
+      unread-ends answer ends =
           let (file, seen, opens, same) = input-found (files.finds files.old) reads reader 0 (Ok [])
           (λ missing. cc)
           (λ path at. prefix_law path reader.old reader.old [] 0 at none (omega arith) (inr refl)
           refl) request.input at in
-          (file, seen, opens, done)
+          elim (kept-ends None (λ input. answer) ends) [
+            | inl f ↦ let never = f.is_needed in absurd cc
+            | inr (input, unread, done) ↦ (file, seen, opens, done)
+          ]
 
       -- the answer to what the file gives
       file-ends : (plans : Result Task Fault) (string : Option (List ℕ))
-          → Ends SentTo err result reader
+          → run.Ends reader SentTo err result
           (input_needed_by plans string (input_limit PLAINTEXT_LIMIT request.command))
-          (λ input. answered (ready_by PLAINTEXT_LIMIT plans string (Ok input)))
-          → FoundWith (files.finds files.old) request.input (λ file. Finishes SentTo err result
-          (answered
-          (ready_by PLAINTEXT_LIMIT plans string
-          (input_in (input_limit PLAINTEXT_LIMIT request.command + 1) (Some file) []))))
-      file-ends (Err fault) string (unread, done) = unread-ends (reported fault) done
-      file-ends (Ok task) (Some string) (unread, done) =
-          unread-ends (answered (performed PLAINTEXT_LIMIT task string)) done
-      file-ends (Ok task) None (input, (given, fits, inl (u, short))) =
-          let (file, seen, opens, same) = input-found (files.finds files.old) reads reader
-          (input_limit PLAINTEXT_LIMIT request.command + 1) (Err CannotRead) (λ missing. cc)
-          (λ path at. break_law path reader.old reader.new input _ at given (omega (arith, short))
-          u.failed) request.input at in (
-            file,
-            seen,
-            opens,
-            rw same (inl (record
-                { status = u.status; unfailed = u.unfailed; output = u.output; line = u.line })),
-          )
-      file-ends (Ok task) None (input, (given, fits, inr ((stay, whole), done))) =
-          let (file, seen, opens, same) = input-found (files.finds files.old) reads reader
-          (input_limit PLAINTEXT_LIMIT request.command + 1) (Ok input) (λ missing. cc)
-          (λ path at. prefix_law path reader.old reader.new input _ at given fits whole stay)
-          request.input at in
-          (file, seen, opens, rw same done)
+          (λ input. output_of (ready_by PLAINTEXT_LIMIT plans string (Ok input)))
+          → FoundWith (files.finds files.old) request.input
+          (λ file. EndsWith string (Some file) plans)
+      file-ends (Err fault) string ends = unread-ends (Err fault) ends
+      file-ends (Ok task) (Some string) ends =
+          unread-ends (output_of (performed PLAINTEXT_LIMIT task string)) ends
+      file-ends (Ok task) None ends =
+          let limit = input_limit PLAINTEXT_LIMIT request.command in
+          elim (kept-ends (Some limit) (λ input. output_of (performed PLAINTEXT_LIMIT task input))
+          ends) [
+            | inl f ↦
+                let is : limit ≡ f.limit = (cc f.is_needed) in
+                let (file, seen, opens, same) = input-found (files.finds files.old) reads reader
+                (limit + 1) (Err CannotRead) (λ missing. cc)
+                (λ path at. break_law path reader.old reader.new f.input (limit + 1) at f.gives
+                (omega (arith, f.short, is)) f.failed) request.input at in (
+                  file,
+                  seen,
+                  opens,
+                  rw same (HasRefused (record {
+                    input = [];
+                    reads = (kept, refl);
+                    fault = Read Input;
+                    answer = refl;
+                    status = f.status;
+                    memory_suffices = λ memory. let status = f.status in absurd cc;
+                    output = f.output;
+                    message = f.message;
+                  })),
+                )
+            | inr (input, read, done) ↦
+                let (file, seen, opens, same) = input-found (files.finds files.old) reads reader
+                (limit + 1) (Ok input) (λ missing. cc)
+                (λ path at. prefix_law path reader.old reader.new input (limit + 1) at read.gives
+                read.bounded read.whole read.unfailed) request.input at in
+                (file, seen, opens, rw same done)
+          ]
 
       pub drives-file : SentFrom reader → RequestDrives (Some (Ok request))
       unfolding run_answer_within
       drives-file sent =
           let (file, seen, opens, ends) = file-ends (planned request contents salt) request.string
           sent in
-          drives-with (Some file) seen opens (kept, ends)
+          drives-with (Some file) seen opens ends
 
-  -- ---- what was answered before the output was chosen
+  -- ---- a fault before the output was made
 
-  module _ (opened : F) (fresh : files.stage opened ≡ Unbegun) (same_files : files.new ≡ opened)
-      (same_out : out.new ≡ out.old) (kept : src.new ≡ src.old) where
-    reported-alone : (requested : Option (Result Request Fault)) (fault : Fault)
-        → result ≡ status_of fault → Says err (line_of fault)
-        → EndsUnread (to_path (output_path requested) (access_of requested)
-        (files_from opened files) out)
-        err result src (reported fault)
-    reported-alone requested fault status line =
-        let alone = path-alone (files_from opened files) out (access_of requested) fresh same_files
-        same_out (output_path requested) in
-        (kept, inl (record { status = status; unfailed = alone.1; output = alone.0; line = line }))
+  module _ (same_out : out.new ≡ out.old) (kept : src.new ≡ src.old) (fault : Fault)
+      (status : result ≡ status_of fault) (line : Reports err (line_of fault)) where
+    reported-alone : (requested : Option (Result Request Fault)) (opened : D)
+        → files.new ≡ opened → result ≢ OutOfMemory
+        → (needed : Option ℕ) (answers : List ℕ → Result (List ℕ) Fault) → needed ≡ None
+        → answers [] ≡ Err fault
+        → run.Ends src (to_path (files_from opened files) out (output_path requested)
+        (access_of requested)) err result needed answers
+    reported-alone requested opened same_files suffices needed answers none is =
+        HasRefused (record {
+          input = [];
+          reads = rw none (kept, refl);
+          fault = fault;
+          answer = is;
+          status = status;
+          memory_suffices = suffices;
+          output = path-alone (files_from opened files) out (access_of requested)
+              (output_path requested) same_files same_out;
+          message = line;
+        })
 
     -- the files refuse it
-    pub drives-refused : (request : Request) (fault : Fault)
-        → RefusedBy (files.finds files.old) (λ paths. files.opens files.old paths opened) request
-        fault
-        → result ≡ status_of fault → Says err (line_of fault) → RequestDrives (Some (Ok request))
-    drives-refused request fault (found, seen, refused_so, went) status line =
-        let alone = reported-alone (Some (Ok request)) fault status line in
-        inr (found, seen, (opened, (went, simp (refused_so, unless_file-none) alone)))
+    pub drives-refused : (request : Request) → fault ≢ Memory
+        → RefusedBy (files.finds files.old)
+        (λ paths. Opens files.executes files.old paths files.new) request fault
+        → RequestDrives (Some (Ok request))
+    drives-refused request suffices (found, seen, refused_so, went) =
+        Ran refl found seen files.new went
+        (reported-alone (Some (Ok request)) files.new refl
+        (λ memory. suffices (memory-alone fault (sym status ∙ memory))) _ _
+        (rw refused_so (unless_file-none found.input)) (rw refused_so refl))
 
-  -- ---- and before any file was opened
+    -- there was no memory
+    pub drives-without : files.new ≡ files.old → fault ≡ Memory
+        → (requested : Option (Result Request Fault)) → RequestDrives requested
+    drives-without same_files memory requested = Stopped same_files kept (MemoryLacked (record {
+      status = status ∙ ap status_of memory;
+      output = same_out;
+      message = rw memory at line;
+    }))
 
-  module _ (same_files : files.new ≡ files.old) (same_out : out.new ≡ out.old)
-      (kept : src.new ≡ src.old) where
     -- the options are refused, or there was no memory for the request
-    pub drives-unsettled : files.stage files.old ≡ Unbegun → files.opens files.old [] files.old
-        → (requested : Option (Result Request Fault)) (fault : Fault) → is_some requested ≡ true
+    pub drives-unsettled : files.new ≡ files.old → Opens files.executes files.old [] files.old
+        → (requested : Option (Result Request Fault)) → is_some requested ≡ true
         → IfSome requested (λ settled. Settles settled (Err fault))
-        → result ≡ status_of fault → Says err (line_of fault) → RequestDrives requested
-    drives-unsettled fresh unopened None fault is settles status line = absurd cc
-    drives-unsettled fresh unopened (Some (Ok request)) fault is (inl e) status line = absurd cc
-    drives-unsettled fresh unopened (Some (Ok request)) fault is (inr e) status line =
-        let memory : fault ≡ Memory = cc in inl (
-          same_files,
-          kept,
-          record {
-            status = status ∙ ap status_of memory;
-            unfailed = ap out.failures same_out;
-            output = same_out;
-            line = rw memory at line;
-          },
-        )
-    drives-unsettled fresh unopened (Some (Err other)) fault is settles status line =
-        let same : fault ≡ other = cc in
-        let alone = reported-alone files.old fresh same_files same_out kept (Some (Err other)) other
-        (status ∙ ap status_of same) (rw same at line) in
-        inr (record { secrets = []; salt = None; input = None }, tt, (files.old, (unopened, alone)))
+        → RequestDrives requested
+    drives-unsettled same_files none None is settles = absurd cc
+    drives-unsettled same_files none (Some (Ok request)) is (inl e) = absurd cc
+    drives-unsettled same_files none (Some (Ok request)) is (inr e) =
+        let memory : fault ≡ Memory = cc in drives-without same_files memory (Some (Ok request))
+    drives-unsettled same_files none (Some (Err other)) is settles =
+        elim (memory-or-not result) [
+          | inl memory ↦
+              drives-without same_files (memory-alone fault (sym status ∙ memory))
+              (Some (Err other))
+          | inr suffices ↦
+              let same : other ≡ fault = cc in
+              Ran refl (record { secrets = []; salt = None; input = None }) tt files.old none
+              (reported-alone (Some (Err other)) files.old same_files suffices _ _ refl
+              (ap Err same))
+        ]
 
   -- ---- a request that was settled
 

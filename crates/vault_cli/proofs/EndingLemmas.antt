@@ -1,99 +1,139 @@
 -- How a run ends over one output, carried over to another.
-use Rattle.std.proofs.Common.{◌≡◌, ℕ, inl, inr, List, [], Option, Some, None, take, ap, ◌∙◌}
-use Rattle.vault_text.specs.declared.sink.Stage.TheVariants.{Unbegun}
+use Rattle.std.proofs.Common.{◌≡◌, ℕ, List, Option, Some, None, Result, take, ap, ◌∙◌, refl, sym, arith}
+use Rattle.std.proofs.Common.{◌<◌, ◌≤◌}
+use Rattle.vault_text.specs.declared.sink.Stage.TheVariants as stage
+use Rattle.vault_files.specs.Output.{FileOutputState, FileTakes, OutputCalls, OutputState, stage_of}
+use Rattle.vault_files.specs.Output.OutputState.{Begun, Chosen, Finished}
+use Rattle.vault_files.specs.System.{SystemCall}
 use Rattle.vault_files.specs.declared.access.Access.{Access}
-use Rattle.vault_cli.specs.Call.{SinkCall, SourceCall, StoreCall, sink}
-use Rattle.vault_cli.specs.runs.Ending.{Ends, Finishes, Output, Receives, to_path}
-use Rattle.vault_cli.specs.runs.Ending.{SourceFails, to_sink}
-use Rattle.vault_cli.specs.runs.Answer.{Answer}
+use Rattle.vault_files.specs.declared.system.System.{Ghosts as SystemTerms}
+use Rattle.vault_fault.specs.declared.fault.Fault.{Fault}
+use Rattle.vault_cli.specs.Call.{FilesCall, SinkCall, SourceCall, system}
+use Rattle.vault_cli.specs.Drive.{to_path}
+use Rattle.vault_cli.specs.RunsToPath.{file_sink}
+use Rattle.vault_cli.specs.runs.Run.{Ends, Output, to_sink}
+use Rattle.vault_cli.specs.runs.Run.Ends.{Succeeded, HasRefused, OutputFailed, InputFailed}
 use Rattle.vault_cli.specs.declared.runs.status.Status.{Status}
 
 -- what became of the one output became of the other, too
 pub record CarriesOver (there here : Output) : Type 0 where
   pub untouched : there.untouched → here.untouched
-  pub wrote : (bytes : List ℕ) → there.wrote bytes → here.wrote bytes
-  pub finished : there.finished → here.finished
-  pub failed : there.failed → here.failed
-  pub unfailed : there.unfailed → here.unfailed
+  pub received : (bytes : List ℕ) → there.received bytes → here.received bytes
+  pub cut : (bytes : List ℕ) → there.cut bytes → here.cut bytes
 
-module _ {E : Type 0} (there here : Output) (carries_over : CarriesOver there here)
-    (err : SinkCall E) (result : Status) where
-  reported-output : (output : Option (List ℕ)) → Receives there output → Receives here output
-  reported-output None h = carries_over.untouched h
-  reported-output (Some bytes) h = (carries_over.wrote bytes h.0, carries_over.finished h.1)
-
-  reported-finishes : (answer : Answer) → Finishes there err result answer
-      → Finishes here err result answer
-  reported-finishes answer (inl a) = inl (record {
-    status = a.status;
-    unfailed = carries_over.unfailed a.unfailed;
-    output = reported-output answer.output a.output;
-    line = a.line;
+module _ {S E : Type 0} (src : SourceCall S) (err : SinkCall E) (result : Status)
+    (needed : Option ℕ) (answers : List ℕ → Result (List ℕ) Fault) where
+  ends-carried : (there here : Output) → CarriesOver there here
+      → Ends src there err result needed answers → Ends src here err result needed answers
+  ends-carried there here carries (Succeeded s) = Succeeded (record {
+    input = s.input;
+    reads = s.reads;
+    bytes = s.bytes;
+    answer = s.answer;
+    status = s.status;
+    output = carries.received s.bytes s.output;
+    message = s.message;
   })
-  reported-finishes answer (inr w) = inr (record {
-    status = w.status;
-    failed = carries_over.failed w.failed;
-    output = let (bytes, is, (n, took)) = w.output in
-        (bytes, is, (n, carries_over.wrote (take n bytes) took));
-    line = w.line;
+  ends-carried there here carries (HasRefused r) = HasRefused (record {
+    input = r.input;
+    reads = r.reads;
+    fault = r.fault;
+    answer = r.answer;
+    status = r.status;
+    memory_suffices = r.memory_suffices;
+    output = carries.untouched r.output;
+    message = r.message;
+  })
+  ends-carried there here carries (OutputFailed f) = OutputFailed (record {
+    input = f.input;
+    reads = f.reads;
+    bytes = f.bytes;
+    answer = f.answer;
+    status = f.status;
+    count = f.count;
+    output = carries.cut (take f.count f.bytes) f.output;
+    message = f.message;
+  })
+  ends-carried there here carries (InputFailed f) = InputFailed (record {
+    input = f.input;
+    limit = f.limit;
+    is_needed = f.is_needed;
+    gives = f.gives;
+    short = f.short;
+    failed = f.failed;
+    status = f.status;
+    output = carries.untouched f.output;
+    message = f.message;
   })
 
-  reported-ends : {S : Type 0} (src : SourceCall S) (requested : Option ℕ)
-      (answers : List ℕ → Answer)
-      → Ends there err result src requested answers → Ends here err result src requested answers
-  reported-ends src None answers (unread, done) = (unread, reported-finishes (answers []) done)
-  reported-ends src (Some limit) answers (input, (given, fits, inl (u, short))) =
-      let fails : SourceFails here err result src = record {
-        status = u.status;
-        failed = u.failed;
-        unfailed = carries_over.unfailed u.unfailed;
-        output = carries_over.untouched u.output;
-        line = u.line;
-      } in
-      (input, (given, fits, inl (fails, short)))
-  reported-ends src (Some limit) answers (input, (given, fits, inr (all, done))) =
-      (input, (given, fits, inr (all, reported-finishes (answers input) done)))
-
--- nothing was written
-module _ {F R K : Type 0} (files : StoreCall F R) (out : SinkCall K)
-    (access : Access) (fresh : files.stage files.old ≡ Unbegun) (same_files : files.new ≡ files.old)
-    (same_out : out.new ≡ out.old) where
-  pub path-alone : (path : Option (List ℕ))
-      → (to_path path access files out).untouched × (to_path path access files out).unfailed
-  path-alone None = ((same_out, same_files), ap out.failures same_out)
-  path-alone (Some path) =
-      ((same_out, ap files.stage same_files ∙ fresh, inl same_files), ap files.failures same_files)
-
-module _ {F R K E S : Type 0} (access : Access) (files : StoreCall F R) (out : SinkCall K)
-    (err : SinkCall E) (result : Status) (src : SourceCall S)
-    (requested : Option ℕ) (answers : List ℕ → Answer) where
   -- a run whose output is standard output
-  pub ends-out : (path : Option (List ℕ)) → None ≡ path → files.new ≡ files.old
-      → Ends (to_sink out) err result src requested answers
-      → Ends (to_path path access files out) err result src requested answers
-  ends-out path is kept ends =
-      rw (← is) (reported-ends (to_sink out) (to_path None access files out) (record {
+  pub ends-out : {D R W K : Type 0} (files : FilesCall D R W) (out : SinkCall K) (access : Access)
+      (path : Option (List ℕ)) → path ≡ None → files.new ≡ files.old
+      → Ends src (to_sink out) err result needed answers
+      → Ends src (to_path files out path access) err result needed answers
+  ends-out files out access path is kept ends =
+      rw is (ends-carried (to_sink out) (to_path files out None access) (record {
         untouched = λ same. (same, kept);
-        wrote = λ bytes took. (took, kept);
-        finished = λ h. h;
-        failed = λ h. h;
-        unfailed = λ h. h;
-      }) err result src requested answers ends)
+        received = λ bytes received. (received, kept);
+        cut = λ bytes cut. (cut, kept);
+      }) ends)
 
-  -- one whose output is the file at a path that was chosen
-  pub ends-file : (path : Option (List ℕ)) (chosen_path : List ℕ) (chosen : F)
-      → Some chosen_path ≡ path
-      → files.output_set files.old chosen_path access chosen → files.stage chosen ≡ Unbegun
-      → files.failures chosen ≡ files.failures files.old
-      → out.new ≡ out.old
-      → Ends (to_sink (sink files.output chosen files.new)) err result src requested answers
-      → Ends (to_path path access files out) err result src requested answers
-  ends-file path chosen_path chosen is at fresh stay alone ends =
-      rw (← is) (reported-ends (to_sink (sink files.output chosen files.new))
-      (to_path (Some chosen_path) access files out) (record {
-        untouched = λ same. (alone, ap files.stage same ∙ fresh, inr (rw same at));
-        wrote = λ bytes took. (alone, (chosen, at, took));
-        finished = λ h. h;
-        failed = λ h. rw stay at h;
-        unfailed = λ h. h ∙ stay;
-      }) err result src requested answers ends)
+-- the other output is left alone where nothing was written
+pub path-alone : {D R W K : Type 0} (files : FilesCall D R W) (out : SinkCall K) (access : Access)
+    (path : Option (List ℕ)) → files.new ≡ files.old → out.new ≡ out.old
+    → (to_path files out path access).untouched
+path-alone files out access None same_files same_out = (same_out, same_files)
+path-alone files out access (Some path) same_files same_out = (same_out, same_files)
+
+-- ---- a run whose output is a file of a system
+
+stage-finished : (s : OutputState) → stage_of s ≡ stage.Finished → s ≡ Finished
+stage-finished (Chosen path access) is = absurd cc
+stage-finished Begun is = absurd cc
+stage-finished Finished is = refl
+
+module _ {D R W S E : Type 0} (terms : SystemTerms D R W) (file left : FileOutputState D)
+    (src : SourceCall S) (err : SinkCall E) (result : Status) (needed : Option ℕ)
+    (answers : List ℕ → Result (List ℕ) Fault) where
+  abbrev pub EndsInFile : Type 0
+  EndsInFile = Ends src (to_sink (file_sink terms.executes file left)) err result needed answers
+
+  -- it borrows that system still
+  pub ends-same : EndsInFile → left.system.ghost_name ≡ file.system.ghost_name
+  ends-same (Succeeded s) = let (took, finished, unfailed) = s.output in took.same_reference
+  ends-same (HasRefused r) = ap (λ (s : FileOutputState D). s.system.ghost_name) r.output
+  ends-same (OutputFailed f) = let (took, failed) = f.output in took.same_reference
+  ends-same (InputFailed f) = ap (λ (s : FileOutputState D). s.system.ghost_name) f.output
+
+  -- what was written to it is in the file at its path
+  pub ends-file : {K : Type 0} (out : SinkCall K) → out.new ≡ out.old
+      → (path : List ℕ) (access : Access) (old new : D) → file.system.now ≡ old
+      → file.output ≡ Chosen path access → file.failures ≡ 0 → left.system.now ≡ new
+      → (output_file : Option (List ℕ)) → output_file ≡ Some path → EndsInFile
+      → Ends src (to_path (system terms old new) out output_file access) err result needed answers
+  ends-file out alone path access old new is_old chosen fresh is_new output_file is ends =
+      rw is (ends-carried src err result needed answers
+      (to_sink (file_sink terms.executes file left))
+      (to_path (system terms old new) out (Some path) access) (record {
+        untouched = λ same.
+            (alone, sym is_new ∙ ap (λ (s : FileOutputState D). s.system.now) same ∙ is_old);
+        received = λ bytes (took, finished, unfailed).
+            let none : took.failed ≡ 0 = omega (arith, took.failures, unfailed) in
+            let end : left.output ≡ Finished = stage-finished left.output finished in (
+              alone,
+              (
+                took.calls,
+                rw (is_old, is_new) at took.executed,
+                rw (chosen, none, end) at took.are_of_output,
+              ),
+            );
+        cut = λ bytes (took, risen).
+            let some : 0 < took.failed = omega (arith, took.failures, fresh, risen) in (
+              alone,
+              (
+                took.calls,
+                rw (is_old, is_new) at took.executed,
+                (took.failed, some, (left.output, rw chosen at took.are_of_output)),
+              ),
+            );
+      }) ends)

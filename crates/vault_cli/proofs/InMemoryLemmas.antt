@@ -1,49 +1,58 @@
--- How the program ends over files, an input and sinks in memory, from how it drives any.
-use Rattle.std.proofs.Common.{◌≡◌, ◌⊎◌, ◌≤◌, ℕ, ◌+◌, ◌-◌, ◌^◌, inl, inr, List, [], ◌∷◌, ◌++◌}
+-- How the program ends over files, an input and sinks in memory, from how it ends over any.
+use Rattle.std.proofs.Common.{◌≡◌, ◌⊎◌, ◌≤◌, ◌<◌, ℕ, ◌+◌, ◌-◌, ◌^◌, inl, inr, List, [], ◌∷◌, ◌++◌}
 use Rattle.std.proofs.Common.{length, take, drop, Bool, true, false, Option, Some, None, IsTrue}
-use Rattle.std.proofs.Common.{◌≢◌, Result, refl, sym, arith}
-use Rattle.std.specs.Prelude.{min}
+use Rattle.std.proofs.Common.{◌≢◌, Result, Ok, Err, refl, sym, arith, ap, ◌∙◌, append_assoc}
+use Rattle.std.specs.Prelude.{IfSome, min}
+use Rattle.std.proofs.lemmas.Bool.{false≢true}
 use Rattle.std.proofs.lemmas.Bool.Decides.{eqb_tells}
 use Rattle.std.proofs.lemmas.List.{append-nil, drop_all}
 use Rattle.std.proofs.Math.Seq.{drop-append_seam}
-use Rattle.vault_text.specs.Sink.{MemSinkState, MemoryTakes, has_begun}
+use Rattle.clap.specs.Words.{Kinds}
+use Rattle.vault_text.specs.Sink.{MemSinkState, MemoryTakes}
 use Rattle.vault_text.specs.Source.{MemSourceState, MemoryGives}
-use Rattle.vault_text.specs.declared.sink.Stage.TheVariants.{Unbegun}
-use Rattle.vault_files.specs.Memory.{IsReaderOf, ReaderState, StoreOpens, StoreState}
-use Rattle.vault_files.specs.Memory.{StoreTakes, file_at, stands_at}
+use Rattle.vault_files.specs.Memory.{Entry, IsReaderOf, ReaderState, StoreExecutes, StoreState}
+use Rattle.vault_files.specs.Memory.{file_at, stands_at}
+use Rattle.vault_files.specs.MemoryProofs.{opens-logged}
 use Rattle.vault_files.specs.PathLog.{LogState, logged}
+use Rattle.vault_files.specs.System.{SystemCall}
+use Rattle.vault_files.specs.Output.{FailsToBegin, OutputCalls, OutputState, beginning}
+use Rattle.vault_files.specs.Output.FailsToBegin.{to_create, to_restrict, to_truncate}
+use Rattle.vault_files.specs.Output.OutputCalls.{no_steps, steps}
+use Rattle.vault_files.specs.Output.OutputState.{Chosen, Begun, Finished}
+use Rattle.vault_files.specs.Output.OutputStep.{begins, writes, finishes}
+use Rattle.vault_files.specs.Output.OutputStep.{fails_to_begin, fails_to_write, writes_nothing}
+use Rattle.vault_files.specs.Output.OutputStep.{fails_to_finish}
 use Rattle.vault_files.specs.declared.access.Access.{Access}
+use Rattle.vault_files.specs.declared.access.Access.TheVariants.{Kept, OwnerOnly}
+use Rattle.vault_files.specs.declared.memory.store.TheConstants.{PATH_LIMIT}
+use Rattle.vault_files.specs.declared.system.System.{Ghosts as SystemTerms}
 use Rattle.vault_fault.specs.declared.fault.Fault.{Fault}
-use Rattle.vault_fault.specs.declared.fault.Fault.TheVariants.{Memory, Write}
 use Rattle.vault_request.specs.Request.{Request}
-use Rattle.vault_cli.specs.Call.{SinkCall, SourceCall, StoreCall, sink, source, store}
-use Rattle.vault_cli.specs.Drive.{Drives}
-use Rattle.vault_cli.specs.OpenedPaths.{opened_paths}
 use Rattle.vault_cli.specs.Access.{access_of}
-use Rattle.vault_cli.specs.Program.{Files, answer_to, files_in, output_path}
-use Rattle.vault_cli.specs.Program.{stdin_needed}
-use Rattle.vault_cli.specs.InMemory.{Change, EndsInMemory, HoldsPrefix, Holds, IsCut}
-use Rattle.vault_cli.specs.InMemory.{IsFinished, IsKept, Received, Reported, Stands, Taken}
-use Rattle.vault_cli.specs.InMemory.{change, stands_after}
-use Rattle.vault_cli.specs.runs.Ending.{Ends, Finishes, Output, Receives, to_path}
-use Rattle.vault_cli.specs.runs.Reports.{Reports, Says, line_of}
-use Rattle.vault_cli.specs.runs.Answer.{Answer}
+use Rattle.vault_cli.specs.Call.{SinkCall, SourceCall, files_from, sink, source, system}
+use Rattle.vault_cli.specs.Drive.{Ends, to_path}
+use Rattle.vault_cli.specs.Drive.Ends.{Ran, Stopped}
+use Rattle.vault_cli.specs.Explained.Explains.{MemoryLacked, HelpShown, HelpFailed, Rejected}
+use Rattle.vault_cli.specs.OpenedPaths.{opened_paths}
+use Rattle.vault_cli.specs.Program.{Files, answer_to, files_in, output_path, stdin_needed}
+use Rattle.vault_cli.specs.InMemory as in_memory
+use Rattle.vault_cli.specs.InMemory.{Change, EndsInMemory, Holds, HoldsPrefix, IsCut, IsKept}
+use Rattle.vault_cli.specs.InMemory.{IsSynced, Received, Stands, Taken, change, stands_after}
+use Rattle.vault_cli.specs.runs.Reports.{Reports}
+use Rattle.vault_cli.specs.runs.Run as run
+use Rattle.vault_cli.specs.runs.Run.{Output, Reads}
+use Rattle.vault_cli.specs.runs.Run.Ends.{Succeeded, HasRefused, OutputFailed, InputFailed}
 use Rattle.vault_cli.specs.declared.runs.status.Status.{Status}
 use Rattle.vault_cli.specs.declared.runs.status.Status.TheVariants.{OutOfMemory}
-use Rattle.vault_cli.proofs.ProgramLemmas.{IsOfPrefix, answer-prefix, drives-in}
+use Rattle.vault_cli.proofs.ProgramLemmas.{IsOfPrefix, answer-prefix, at-paths}
 
 -- calls over a store, a source and a sink in memory
-abbrev pub memory_store : Change StoreState → StoreCall StoreState ReaderState
-memory_store files = store
-    (record {
-      takes = StoreTakes;
-      stage = λ s. s.output.stage;
-      failures = λ s. s.output.failures;
-      finds = λ s path file. file ≡ file_at s.entries path;
-      reader_at = λ s path reader. IsReaderOf (file_at s.entries path) reader;
-      opens = StoreOpens;
-      output_set = λ s path access t. t ≡ record s { output_file = Some path };
-    }) files.old files.new
+abbrev pub memory_terms : {W : Type 0} → SystemTerms StoreState ReaderState W
+memory_terms = record {
+  executes = StoreExecutes;
+  finds = λ s path file. file ≡ file_at s.entries path;
+  reader_at = λ s path reader. IsReaderOf (file_at s.entries path) reader;
+}
 
 abbrev pub memory_source : Change MemSourceState → SourceCall MemSourceState
 memory_source src =
@@ -63,20 +72,139 @@ reported err line r =
       | inr (_, stayed) ↦ let whole = r.whole stayed in inl (whole.0.0.appended, whole.1)
     ]
 
-said : (err : Change MemSinkState) (line : List ℕ) → Says (memory_sink err) line
-    → Reported err line
-said err [] says = says
-said err (byte ∷ line) says = reported err (byte ∷ line) says
+-- ---- the file that is created
 
--- an output that was begun stands at the path that was chosen
-written-stands : (files new_files : StoreState) (output_file bytes path : List ℕ)
-    → files.output.held ≡ []
-    → StoreTakes (record files { output_file = Some output_file }) bytes new_files
-    → has_begun new_files.output.stage ≡ true
-    → stands_at new_files path
-    ≡ stands_after (file_at files.entries) (Some output_file) (Some bytes) path
-written-stands files new_files output_file bytes path empty took begun =
-    rw (begun, took.output_file, took.output.appended, empty, took.entries)
+module _ (entries : List Entry) (log : Option LogState) (path : List ℕ) where
+  -- the files once this was written to it
+  abbrev written_at : List ℕ → Bool → StoreState
+  written_at held synced = record {
+    entries = entries;
+    created = Some (record { path = path; bytes = held; synced = synced });
+    log = log;
+  }
+
+  -- the files before it was written: it was not created, or is empty
+  abbrev early : Bool → StoreState
+  early false = record { entries = entries; created = None; log = log }
+  early true = written_at [] false
+
+  -- it holds these bytes, and was synced if its output is finished
+  record Left (t : OutputState) (bytes : List ℕ) (u : StoreState) : Type 0 where
+    pub synced : Bool
+    pub is : u ≡ written_at bytes synced
+    pub whole : t ≡ Finished → synced ≡ true
+
+  -- an output that has begun, and one that was finished, whose file was synced
+  abbrev IsWritten : OutputState → Bool → Type 0
+  IsWritten (Chosen at access) synced = ⊥
+  IsWritten Begun synced = Unit {0}
+  IsWritten Finished synced = synced ≡ true
+
+  synced-whole : (s : OutputState) (synced : Bool) → IsWritten s synced → s ≡ Finished
+      → synced ≡ true
+  synced-whole (Chosen at access) synced b is = absurd b
+  synced-whole Begun synced b is = absurd cc
+  synced-whole Finished synced b is = b
+
+  holds : (s t : OutputState) (calls : List SystemCall) (bytes held : List ℕ) (n : ℕ)
+      (synced : Bool) (u : StoreState) → OutputCalls s calls bytes n t → IsWritten s synced
+      → StoreExecutes (written_at held synced) calls u → Left t (held ++ bytes) u
+  holds s _ _ _ held _ synced u (no_steps _) b e =
+      record { synced = synced; is = rw (append-nil held) e; whole = synced-whole s synced b }
+  holds _ t _ _ held _ synced u (steps _ _ _ _ more _ ys _ n (writes some) p) b e =
+      rw (append_assoc held some ys) at
+      (holds Begun t more ys (held ++ some) n false u p tt e)
+  holds _ t _ _ held _ synced u (steps _ _ _ _ more _ ys _ n finishes p) b e =
+      holds Finished t more ys held n true u p refl e
+  holds _ t _ _ held _ synced u (steps _ _ _ _ more _ ys _ n fails_to_write p) b e =
+      rw (append-nil held) at (holds Begun t more ys (held ++ []) n false u p tt e)
+  holds _ t _ _ held _ synced u (steps _ _ _ _ more _ ys _ n writes_nothing p) b e =
+      rw (append-nil held) at (holds Begun t more ys (held ++ []) n false u p tt e)
+  holds _ t _ _ held _ synced u (steps _ _ _ _ more _ ys _ n fails_to_finish p) b e =
+      holds Begun t more ys held n true u p tt e
+  holds _ t _ _ held _ synced u (steps _ _ _ _ more _ ys _ n (begins at access) p) b e = absurd b
+  holds _ t _ _ held _ synced u (steps _ _ _ _ more _ ys _ n (fails_to_begin at access calls fails)
+      p) b e = absurd b
+
+  -- an output that has begun is empty
+  started : (access : Access) (b : Bool) (more : List SystemCall) (u : StoreState)
+      → StoreExecutes (early b) (beginning path access ++ more) u
+      → StoreExecutes (early true) more u
+  started Kept false more u (inl e) = e
+  started Kept true more u (inl e) = e
+  started Kept b more u (inr (fails, long, e)) = absurd fails
+  started OwnerOnly false more u (inl e) = e
+  started OwnerOnly true more u (inl e) = e
+  started OwnerOnly b more u (inr (fails, long, e)) = absurd fails
+
+  -- one that failed to begin is empty, too, or could not be created
+  failed : (access : Access) (calls : List SystemCall) → FailsToBegin path access calls
+      → (b : Bool) (more : List SystemCall) (u : StoreState)
+      → StoreExecutes (early b) (calls ++ more) u
+      → StoreExecutes (early true) more u
+      ⊎ ((PATH_LIMIT < length path) × StoreExecutes (early b) more u)
+  failed access _ to_create false more u (inl e) = inl e
+  failed access _ to_create true more u (inl e) = inl e
+  failed access _ to_create b more u (inr (fails, long, e)) = inr (long, e)
+  failed Kept _ to_restrict false more u (inl e) = inl e
+  failed Kept _ to_restrict true more u (inl e) = inl e
+  failed Kept _ to_restrict b more u (inr (fails, long, e)) = inr (long, e)
+  failed OwnerOnly _ to_restrict false more u (inl e) = inl e
+  failed OwnerOnly _ to_restrict true more u (inl e) = inl e
+  failed OwnerOnly _ to_restrict b more u (inr (fails, long, e)) = absurd fails
+  failed Kept _ to_truncate false more u (inl e) = inl e
+  failed Kept _ to_truncate true more u (inl e) = inl e
+  failed Kept _ to_truncate b more u (inr (fails, long, e)) = absurd fails
+  failed OwnerOnly _ to_truncate false more u (inl e) = inl e
+  failed OwnerOnly _ to_truncate true more u (inl e) = inl e
+  failed OwnerOnly _ to_truncate b more u (inr (fails, long, e)) = absurd fails
+
+  -- an output that was not begun has left the file so: if it was not created, nothing failed, or
+  -- its path is too long
+  record Unbegun (b : Bool) (n : ℕ) (t : OutputState) (u : StoreState) : Type 0 where
+    pub created : Bool
+    pub is : u ≡ early created
+    pub unfinished : t ≢ Finished
+    pub unless_long : created ≡ false → ((b ≡ false) × (n ≡ 0)) ⊎ (PATH_LIMIT < length path)
+
+  -- what an output leaves that was chosen
+  outcome : (access : Access) (t : OutputState) (calls : List SystemCall) (bytes : List ℕ) (n : ℕ)
+      (b : Bool) (u : StoreState) → OutputCalls (Chosen path access) calls bytes n t
+      → StoreExecutes (early b) calls u → Left t bytes u ⊎ Unbegun b n t u
+  outcome access _ _ _ _ b u (no_steps _) e = inr (record {
+    created = b;
+    is = e;
+    unfinished = λ never. cc;
+    unless_long = λ none. inl (none, refl);
+  })
+  outcome access t _ _ _ b u (steps _ _ _ _ more _ ys _ n (begins _ _) p) e =
+      inl (holds Begun t more ys [] n false u p tt (started access b more u e))
+  outcome access t _ _ _ b u (steps _ _ _ _ more _ ys _ n (fails_to_begin _ _ calls fails) p) e =
+      elim (failed access calls fails b more u e) [
+        | inl rest ↦
+            elim (outcome access t more ys n true u p rest) [
+              | inl left ↦ inl left
+              | inr early ↦ inr (record {
+                  created = early.created;
+                  is = early.is;
+                  unfinished = early.unfinished;
+                  unless_long = λ none. elim (early.unless_long none) [
+                    | inl (never, zero) ↦ absurd (false≢true (sym never))
+                    | inr long ↦ inr long
+                  ];
+                })
+            ]
+        | inr (long, rest) ↦
+            elim (outcome access t more ys n b u p rest) [
+              | inl left ↦ inl left
+              | inr early ↦ inr (record {
+                  created = early.created;
+                  is = early.is;
+                  unfinished = early.unfinished;
+                  unless_long = λ none. inr long;
+                })
+            ]
+      ]
 
 -- what is left after an input that reaches to the end of a text, or to one byte past a limit
 taken-left : (text input left : List ℕ) (limit : ℕ) (ended : Bool) → text ≡ input ++ left
@@ -87,141 +215,194 @@ taken-left text input left limit ended e fits last (inl end) =
 taken-left text input left limit ended e fits last (inr exact) =
     rw (e, ← exact) (sym (drop-append_seam input left))
 
-module _ (result : Status) (files : Change StoreState) (log : Option LogState)
-    (out err : Change MemSinkState) (unbegun : files.old.output.stage ≡ Unbegun)
-    (empty : files.old.output.held ≡ []) (access : Access) where
+-- where a call failed and the file was not created, its path is too long
+long-path : (at : List ℕ) (failed : ℕ) → 0 < failed
+    → ((false ≡ false) × (failed ≡ 0)) ⊎ (PATH_LIMIT < length at) → PATH_LIMIT < length at
+long-path at failed some (inl (is, zero)) = absurd (omega (arith, some, zero))
+long-path at failed some (inr long) = long
+
+module _ (W : Type 0) (result : Status) (files : Change StoreState) (log : Option LogState)
+    (out err : Change MemSinkState) (none : files.old.created ≡ None) (access : Access) where
   -- the files after the opens
   abbrev opened : StoreState
   opened = record files.old { log = log }
 
   abbrev OutputAt : Option (List ℕ) → Output
-  OutputAt path = to_path path access (memory_store (change opened files.new)) (memory_sink out)
+  OutputAt path =
+      to_path (system (memory_terms {W = W}) opened files.new) (memory_sink out) path access
 
-  -- what was written stands at its path, or is held, and the log stays
-  written : (path output : Option (List ℕ)) → Receives (OutputAt path) output
-      → Stands result files out err (stands_after (file_at files.old.entries) path output)
-      × Received path output out × IsFinished result files out err path output
+  kept : files.new ≡ opened → IsKept result files out err × (files.new.log ≡ log)
+  kept same = (λ p. rw (same, none), rw same)
+
+  -- nothing was written
+  untouched : (path : Option (List ℕ)) → (OutputAt path).untouched
+      → (out.new ≡ out.old) × IsKept result files out err × (files.new.log ≡ log)
+  untouched None (same_out, same) =
+      let (stands, stays) = kept same in (same_out, stands, stays)
+  untouched (Some at) (same_out, same) =
+      let (stands, stays) = kept same in (same_out, stands, stays)
+
+  -- what the file at a path is after these calls of its output
+  left-at : (at bytes : List ℕ) (calls : List SystemCall) (n : ℕ) (t : OutputState)
+      → StoreExecutes opened calls files.new → OutputCalls (Chosen at access) calls bytes n t
+      → Left files.old.entries log at t bytes files.new
+      ⊎ Unbegun files.old.entries log at false n t files.new
+  left-at at bytes calls n t executed is =
+      let fresh : opened ≡ early files.old.entries log at false = rw none refl in
+      outcome files.old.entries log at access t calls bytes n false files.new is
+      (rw fresh at executed)
+
+  -- the answer is there whole
+  received : (path : Option (List ℕ)) (bytes : List ℕ) → (OutputAt path).received bytes
+      → Stands result files out err (stands_after (file_at files.old.entries) path bytes)
+      × IfSome path (λ at. IsSynced files.new.created) × Received path bytes out
       × (files.new.log ≡ log)
-  written None None (same_out, same) = (λ p. rw (same, unbegun), same_out, tt, rw same)
-  written None (Some bytes) ((took, same), finished) =
-      (λ p. rw (same, unbegun), (took.0.appended, finished), tt, rw same)
-  written (Some output_file) None (same_out, fresh, inl same) =
-      (λ p. rw (same, unbegun), same_out, tt, rw same)
-  written (Some output_file) None (same_out, fresh, inr chosen) =
-      (λ p. rw (fresh, chosen), same_out, tt, rw chosen)
-  written (Some output_file) (Some bytes) ((same_out, (chosen, at, took)), finished) =
-      let into = rw at at took in (
-        λ p. written-stands opened files.new output_file bytes p empty into (rw finished),
-        same_out,
-        finished,
-        into.log,
-      )
+  received None bytes ((took, finished, unfailed), same) =
+      let (stands, stays) = kept same in
+      (stands, tt, (took.0.appended, finished), stays)
+  received (Some at) bytes (same_out, (calls, executed, is)) =
+      elim (left-at at bytes calls 0 Finished executed is) [
+        | inl left ↦
+            (λ p. rw left.is refl, rw left.is (left.whole refl), same_out, rw left.is refl)
+        | inr unbegun ↦ absurd (unbegun.unfinished refl)
+      ]
 
-  -- so is a prefix of it, where the output failed
-  cut-at : (output_file bytes : List ℕ) (n : ℕ) (begun : Bool)
-      → has_begun files.new.output.stage ≡ begun
-      → StoreTakes (record opened { output_file = Some output_file }) (take n bytes) files.new
-      → IsKept result files out err
-      ⊎ ((m : ℕ) × Stands result files out err
-      (stands_after (file_at files.old.entries) (Some output_file) (Some (take m bytes))))
-  cut-at output_file bytes n false unbegun took = inl (λ p. rw (unbegun, took.entries))
-  cut-at output_file bytes n true begun took =
-      inr (n, λ p. written-stands opened files.new output_file (take n bytes) p empty took begun)
+  -- or its first bytes
+  cut-early : (at bytes : List ℕ) (c : Bool) → files.new ≡ early files.old.entries log at c
+      → (c ≡ false → PATH_LIMIT < length at)
+      → in_memory.IsCutAt result files out err at bytes × (files.new.log ≡ log)
+  cut-early at bytes false is long = (inl (long refl, λ p. rw is refl), rw is refl)
+  cut-early at bytes true is long = (inr (0, λ p. rw is refl), rw is refl)
 
-  cut-to : (path : Option (List ℕ)) (bytes : List ℕ) (n : ℕ) → (OutputAt path).failed
-      → (OutputAt path).wrote (take n bytes)
+  cut : (path : Option (List ℕ)) (bytes : List ℕ) (n : ℕ) → (OutputAt path).cut (take n bytes)
       → IsCut result files out err path bytes × (files.new.log ≡ log)
-  cut-to None bytes n failed (took, same) =
-      (((failed, (n, took.0.appended)), λ p. rw (same, unbegun)), rw same)
-  cut-to (Some output_file) bytes n failed (same_out, (chosen, at, took)) =
-      let into = rw at at took in (
-        (failed, same_out, cut-at output_file bytes n (has_begun files.new.output.stage) refl into),
-        into.log,
-      )
+  cut None bytes n ((took, risen), same) =
+      let (stands, stays) = kept same in
+      (((risen, (n, took.0.appended)), stands), stays)
+  cut (Some at) bytes n (same_out, (calls, executed, (count, some, (state, is)))) =
+      elim (left-at at (take n bytes) calls count state executed is) [
+        | inl left ↦ ((same_out, inr (n, λ p. rw left.is refl)), rw left.is refl)
+        | inr unbegun ↦
+            let long = λ (none : unbegun.created ≡ false).
+            long-path at count some (unbegun.unless_long none) in
+            let (is_cut, stays) = cut-early at bytes unbegun.created unbegun.is long in
+            ((same_out, is_cut), stays)
+      ]
 
-  module _ (path : Option (List ℕ)) where
-    ends-done : (answer : Answer) → Finishes (OutputAt path) (memory_sink err) result answer
-        → EndsInMemory result files out err path answer × (files.new.log ≡ log)
-    ends-done answer (inl done) =
-        let (stands, received, finished, logged) = written path answer.output done.output in (
-          inl (record {
-            status = done.status;
+  module _ (path : Option (List ℕ)) (src : Change MemSourceState)
+      (not_ended : src.old.ended ≡ false) where
+    -- nothing is left where the end was reported
+    at-end : (input : List ℕ) → MemoryGives src.old input src.new → IsTrue src.new.ended
+        → src.new.left ≡ []
+    at-end input given = given.0.end_is_real (λ ended. absurd cc)
+
+    -- the answer to what was read is the answer to all that was there, and that was taken
+    read-all : (needed : Option ℕ) (answers : List ℕ → Result (List ℕ) Fault)
+        → IsOfPrefix needed answers → (input : List ℕ) → Reads (memory_source src) needed input
+        → (answers input ≡ answers src.old.left) × Taken needed src
+    read-all None answers same input (unread, is) = (rw is (same src.old.left), unread)
+    read-all (Some limit) answers same input read = (
+      same src.new.ended src.old.left input src.new.left read.gives.0.consumed
+          (at-end input read.gives) read.whole,
+      taken-left src.old.left input src.new.left limit src.new.ended read.gives.0.consumed
+          read.bounded (at-end input read.gives) read.whole,
+    )
+
+    -- a run ends so
+    pub ends-run : (needed : Option ℕ) (answers : List ℕ → Result (List ℕ) Fault)
+        → IsOfPrefix needed answers
+        → run.Ends (memory_source src) (OutputAt path) (memory_sink err) result needed answers
+        → EndsInMemory result files out err path (answers src.old.left) × Taken needed src
+        × (files.new.log ≡ log)
+    ends-run needed answers same (Succeeded s) =
+        let (all, taken) = read-all needed answers same s.input s.reads in
+        let (stands, synced, output, stays) = received path s.bytes s.output in (
+          in_memory.EndsInMemory.Succeeded (record {
+            bytes = s.bytes;
+            answer = sym all ∙ s.answer;
+            status = s.status;
             stands = stands;
-            finished = finished;
-            output = received;
-            line = said err answer.line done.line;
+            synced = synced;
+            output = output;
+            message = s.message;
           }),
-          logged,
+          taken,
+          stays,
         )
-    ends-done answer (inr fails) =
-        let (bytes, is, (n, took)) = fails.output in
-        let (cut, logged) = cut-to path bytes n fails.failed took in (
-          inr (inr (record {
-            status = fails.status;
-            cut = (bytes, is, cut);
-            line = said err (line_of Write) fails.line;
-          })),
-          logged,
+    ends-run needed answers same (HasRefused r) =
+        let (all, taken) = read-all needed answers same r.input r.reads in
+        let (output, stands, stays) = untouched path r.output in (
+          in_memory.EndsInMemory.HasRefused (record {
+            fault = r.fault;
+            answer = sym all ∙ r.answer;
+            status = r.status;
+            stands = stands;
+            output = output;
+            message = reported err _ r.message;
+          }),
+          taken,
+          stays,
         )
-
-    module _ (src : Change MemSourceState) (not_ended : src.old.ended ≡ false) where
-      -- nothing is left where the end was reported
-      at-end : (input : List ℕ) → MemoryGives src.old input src.new → IsTrue src.new.ended
-          → src.new.left ≡ []
-      at-end input given = given.0.end_is_real (λ ended. absurd cc)
-
-      -- the answer to what was given is the answer to all that was there, and it was taken
-      ends-given : (requested : Option ℕ) (answers : List ℕ → Answer) → IsOfPrefix requested answers
-          → Ends (OutputAt path) (memory_sink err) result (memory_source src) requested answers
-          → EndsInMemory result files out err path (answers src.old.left) × Taken requested src
-          × (files.new.log ≡ log)
-      ends-given None answers same (unread, done) =
-          let (ends, logged) = ends-done (answers []) done in
-          (rw (same src.old.left) at ends, unread, logged)
-      ends-given (Some limit) answers same (input, (given, fits, inl (failed, short))) =
-          absurd (omega (arith, failed.failed))
-      ends-given (Some limit) answers same (input, (given, fits, inr ((stay, whole), done))) =
-          let (ends, logged) = ends-done (answers input) done in (
-            rw (same src.new.ended src.old.left input src.new.left given.0.consumed
-                (at-end input given) whole) at ends,
-            taken-left src.old.left input src.new.left limit src.new.ended given.0.consumed fits
-                (at-end input given) whole,
-            logged,
-          )
+    ends-run needed answers same (OutputFailed f) =
+        let (all, taken) = read-all needed answers same f.input f.reads in
+        let (output, stays) = cut path f.bytes f.count f.output in (
+          in_memory.EndsInMemory.OutputFailed (record {
+            bytes = f.bytes;
+            answer = sym all ∙ f.answer;
+            status = f.status;
+            output = output;
+            message = reported err _ f.message;
+          }),
+          taken,
+          stays,
+        )
+    ends-run needed answers same (InputFailed f) = absurd (omega (arith, f.failed))
 
 -- ---- how the program ends over files in memory
 
-module _ (result : Status) (files : Change StoreState) (src : Change MemSourceState)
-    (out err : Change MemSinkState) (unbegun : files.old.output.stage ≡ Unbegun)
-    (empty : files.old.output.held ≡ []) (not_ended : src.old.ended ≡ false)
+module _ (W : Type 0) (result : Status) (files : Change StoreState)
+    (src : Change MemSourceState) (out err : Change MemSinkState)
+    (none : files.old.created ≡ None) (not_ended : src.old.ended ≡ false)
     (requested : Option (Result Request Fault)) where
   abbrev found : Files
   found = files_in (file_at files.old.entries) requested
 
   -- it ends as the answer to all of its input; where it did not run out of memory, what it needed
   -- of that was taken, and these paths were opened
-  pub drives-in_memory : Drives (memory_store files) (memory_source src) (memory_sink out)
-      (memory_sink err) result requested (answer_to requested)
+  pub ends-in_memory : (kinds : Kinds) → kinds ≡ []
+      → Ends (system (memory_terms {W = W}) files.old files.new)
+      (memory_source src) (memory_sink out) (memory_sink err) result kinds requested
+      (answer_to requested)
       → EndsInMemory result files out err (output_path requested)
       (answer_to requested found src.old.left)
       × (result ≢ OutOfMemory
       → Taken (stdin_needed requested found) src
       × (files.new.log ≡ logged files.old.log (opened_paths requested found)))
-  drives-in_memory (inl (same, unread, memory)) = (
-    inr (inl (record {
-      status = memory.status;
-      stands = λ p. rw (same, unbegun);
-      output = memory.output;
-      line = said err (line_of Memory) memory.line;
-    })),
-    λ fits. absurd (fits memory.status),
+  ends-in_memory kinds parses (Stopped same unread (MemoryLacked m)) = (
+    in_memory.EndsInMemory.MemoryLacked (record {
+      status = m.status;
+      stands = λ p. rw (same, none);
+      output = m.output;
+      message = reported err _ m.message;
+    }),
+    λ fits. absurd (fits m.status),
   )
-  drives-in_memory (inr (seen, all_found, (opened, driven))) =
-      let (went, ends) = drives-in (memory_store files) (memory_source src) (memory_sink out)
-      (memory_sink err) result (file_at files.old.entries) opened requested seen all_found driven in
-      -- after opens the files are those before, but for the log
-      let (so, taken, stays) = ends-given result files
-      (logged files.old.log (opened_paths requested found)) out err unbegun empty
-      (access_of requested) (output_path requested) src not_ended (stdin_needed requested found)
-      (answer_to requested found) (answer-prefix requested found) (rw went at ends) in
+  ends-in_memory kinds parses (Stopped same unread (HelpShown h)) =
+      absurd (rw parses at h.is_among)
+  ends-in_memory kinds parses (Stopped same unread (HelpFailed h)) =
+      absurd (rw parses at h.is_among)
+  ends-in_memory kinds parses (Stopped same unread (Rejected r)) =
+      absurd (rw parses at r.is_among)
+  ends-in_memory kinds parses (Ran _ seen all_found later went ends) =
+      let at = file_at files.old.entries in
+      let (so, taken, stays) = at-paths at requested seen all_found
+      (λ paths needed answers. IsOfPrefix needed answers
+      → EndsInMemory result files out err (output_path requested) (answers src.old.left)
+      × Taken needed src × (files.new.log ≡ logged files.old.log paths))
+      (λ same.
+      let logs = opens-logged files.old later (opened_paths requested seen) went.calls
+      went.are_opens went.executed in
+      ends-run W result files (logged files.old.log (opened_paths requested seen)) out err none
+      (access_of requested) (output_path requested) src not_ended _ _ same (rw logs at ends))
+      (answer-prefix requested found) in
       (so, λ fits. (taken, stays))

@@ -2,7 +2,6 @@ pub mod theorems
 pub mod DriveLemmas
 pub mod InMemoryLemmas
 pub mod EndingLemmas
-pub mod ExplainedLemmas
 pub mod FileContentsLemmas
 pub mod LoadedLemmas
 pub mod OpenedPathsLemmas

@@ -13,10 +13,9 @@ use Rattle.vault_cli.specs.runs.FileContents.{AtPath, contents_of, secret_paths}
 use Rattle.vault_cli.specs.Program.{Files, can_open_input, salt_in, task_over}
 use Rattle.vault_cli.specs.Program.{answer_to, files_in, stdin_needed}
 use Rattle.vault_cli.specs.runs.Task.{planned, Task}
-use Rattle.vault_cli.specs.Call.{SinkCall, SourceCall, StoreCall}
-use Rattle.vault_cli.specs.Drive.{AllFound, IsDriven}
-use Rattle.vault_cli.specs.declared.runs.status.Status.{Status}
-use Rattle.vault_cli.specs.runs.Answer.{Answer, answered, input_needed_by, input_limit, ready_by}
+use Rattle.vault_cli.specs.Drive.{AllFound}
+use Rattle.vault_cli.specs.OpenedPaths.{opened_paths}
+use Rattle.vault_cli.specs.runs.Answer.{input_limit, input_needed_by, output_of, ready_by}
 use Rattle.vault_cli.specs.runs.Answer.{task_limit}
 use Rattle.vault_cli.proofs.AnswerLemmas.{steps-ok}
 use Rattle.vault_cli.proofs.PlannedLemmas.{keeps-planned}
@@ -53,7 +52,7 @@ limit-over limit request files task e =
 
 -- where no input is asked for, the answer is the same for each; where some is, it depends on no
 -- byte after the first past the limit
-abbrev pub IsOfPrefix : Option ℕ → (List ℕ → Answer) → Type 0
+abbrev pub IsOfPrefix : Option ℕ → (List ℕ → Result (List ℕ) Fault) → Type 0
 IsOfPrefix None answers = (input : List ℕ) → answers [] ≡ answers input
 IsOfPrefix (Some limit) answers =
     (ended : Bool) (text prefix left : List ℕ) → text ≡ prefix ++ left → (IsTrue ended → left ≡ [])
@@ -62,11 +61,11 @@ IsOfPrefix (Some limit) answers =
 task-prefix : (limit amount : ℕ) (plans : Result Task Fault) (string : Option (List ℕ))
     → ((task : Task) → plans ≡ Ok task → task_limit limit task ≡ amount)
     → IsOfPrefix (input_needed_by plans string amount)
-    (λ input. answered (ready_by limit plans string (Ok input)))
+    (λ input. output_of (ready_by limit plans string (Ok input)))
 task-prefix limit amount (Err fault) string has = λ input. refl
 task-prefix limit amount (Ok task) (Some string) has = λ input. refl
 task-prefix limit amount (Ok task) None has = λ ended text prefix left parts last whole.
-    ap answered
+    ap output_of
     (performed-prefix limit task ended text prefix left parts last (rw (has task refl) whole))
 
 file-prefix : (request : Request) (secrets : List FileState) (salt input : Option FileState)
@@ -102,21 +101,20 @@ one-in at None (Some file) seen = absurd seen
 one-in at (Some path) None seen = absurd seen
 one-in at (Some path) (Some file) seen = ap Some seen
 
--- where one file stands at each path, the files that are found are those
-module _ {F R S K E : Type 0} (files : StoreCall F R) (src : SourceCall S) (out : SinkCall K)
-    (err : SinkCall E) (result : Status) (at : List ℕ → FileState) (opened : F) where
-  pub drives-in : (requested : Option (Result Request Fault)) (found : Files)
-      → AllFound (λ path file. file ≡ at path) requested found
-      → IsDriven files src out err result requested (answer_to requested) found opened
-      → IsDriven files src out err result requested (answer_to requested) (files_in at requested)
-      opened
-  drives-in None found seen ends = ends
-  drives-in (Some (Err fault)) found seen ends = ends
-  drives-in (Some (Ok request)) found seen ends =
-      let same : found ≡ files_in at (Some (Ok request)) =
-      rw (
-        ← all-in at (secret_paths request) found.secrets seen.0,
-        ← one-in at request.salt_path found.salt seen.1,
-        ← one-in at request.input found.input seen.2,
-      ) refl in
-      rw same at ends
+-- where one file is at each path, the files that are found may be taken for those
+pub at-paths : (at : List ℕ → FileState) (requested : Option (Result Request Fault))
+    (found : Files) → AllFound (λ path file. file ≡ at path) requested found
+    → (P : List (List ℕ) → Option ℕ → (List ℕ → Result (List ℕ) Fault) → Type 0)
+    → P (opened_paths requested found) (stdin_needed requested found) (answer_to requested found)
+    → P (opened_paths requested (files_in at requested))
+    (stdin_needed requested (files_in at requested)) (answer_to requested (files_in at requested))
+at-paths at None found seen P p = p
+at-paths at (Some (Err fault)) found seen P p = p
+at-paths at (Some (Ok request)) found seen P p =
+    let same : found ≡ files_in at (Some (Ok request)) =
+    rw (
+      ← all-in at (secret_paths request) found.secrets seen.0,
+      ← one-in at request.salt_path found.salt seen.1,
+      ← one-in at request.input found.input seen.2,
+    ) refl in
+    rw same at p

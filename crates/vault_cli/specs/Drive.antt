@@ -1,14 +1,20 @@
 -- How the program ends over its files and its standard streams.
-use Rattle.std.specs.Prelude.{◌≡◌, ◌⊎◌, ℕ, List, Option, Some, None, Result, Ok, Err}
+use Rattle.std.specs.Prelude.{◌≡◌, ℕ, ◌<◌, List, [], Option, Some, None, Result, Ok, Err}
+use Rattle.clap.specs.Words.{Kinds}
 use Rattle.vault_files.specs.File.{FileState, Found}
+use Rattle.vault_files.specs.Output.{OutputCalls, OutputState}
+use Rattle.vault_files.specs.Output.OutputState.{Chosen, Finished}
+use Rattle.vault_files.specs.System.{Opens, SystemCall}
+use Rattle.vault_files.specs.declared.access.Access.{Access}
 use Rattle.vault_fault.specs.declared.fault.Fault.{Fault}
-use Rattle.vault_cli.specs.Call.{SinkCall, SourceCall, StoreCall, files_from}
-use Rattle.vault_cli.specs.runs.Ending.{Ends, IsOutOfMemory, to_path, to_sink}
-use Rattle.vault_cli.specs.runs.FileContents.{AtPath, secret_paths}
-use Rattle.vault_cli.specs.runs.Answer.{Answer}
-use Rattle.vault_cli.specs.OpenedPaths.{opened_paths}
 use Rattle.vault_cli.specs.Access.{access_of}
+use Rattle.vault_cli.specs.Call.{FilesCall, SinkCall, SourceCall, files_from}
+use Rattle.vault_cli.specs.Explained.{Explains}
+use Rattle.vault_cli.specs.OpenedPaths.{opened_paths}
 use Rattle.vault_cli.specs.Program.{Files, output_path, stdin_needed}
+use Rattle.vault_cli.specs.runs.FileContents.{AtPath, secret_paths}
+use Rattle.vault_cli.specs.runs.Run as run
+use Rattle.vault_cli.specs.runs.Run.{Output, to_sink}
 use Rattle.vault_request.specs.Request.{Request}
 use Rattle.vault_cli.specs.declared.runs.status.Status.{Status}
 
@@ -20,25 +26,38 @@ AllFound finds (Some (Ok request)) files =
     Found finds (secret_paths request) files.secrets × AtPath finds request.salt_path files.salt
     × AtPath finds request.input files.input
 
-module _ {F R S K E : Type 0} (files : StoreCall F R) (src : SourceCall S) (out : SinkCall K)
-    (err : SinkCall E) (result : Status)
-    (requested : Option (Result Request Fault)) (answers : Files → List ℕ → Answer) where
-  -- there was no memory: no file was opened, and the input was left alone
-  abbrev pub RunsOutOfMemory : Type 0
-  RunsOutOfMemory =
-      (files.new ≡ files.old) × (src.new ≡ src.old) × IsOutOfMemory (to_sink out) err result
+module _ {D R W K : Type 0} (files : FilesCall D R W) (out : SinkCall K) where
+  -- what became of the file at a path, if one is named, or else of standard output; the other is
+  -- left alone
+  abbrev pub to_path : Option (List ℕ) → Access → Output
+  to_path None access = record {
+    untouched = (out.new ≡ out.old) × (files.new ≡ files.old);
+    received = λ bytes. (to_sink out).received bytes × (files.new ≡ files.old);
+    cut = λ bytes. (to_sink out).cut bytes × (files.new ≡ files.old);
+  }
+  to_path (Some path) access = record {
+    untouched = (out.new ≡ out.old) × (files.new ≡ files.old);
+    received = λ bytes. (out.new ≡ out.old)
+        × ((calls : List SystemCall) × files.executes files.old calls files.new
+        × OutputCalls (Chosen path access) calls bytes 0 Finished);
+    cut = λ bytes. (out.new ≡ out.old)
+        × ((calls : List SystemCall) × files.executes files.old calls files.new
+        × ((failed : ℕ) × (0 < failed)
+        × ((state : OutputState) × OutputCalls (Chosen path access) calls bytes failed state)));
+  }
 
-  -- the paths were opened that are opened of these files, and from there on it ended with the
-  -- answer to the request, or reported why not
-  abbrev pub IsDriven : Files → F → Type 0
-  IsDriven found opened =
-      files.opens files.old (opened_paths requested found) opened
-      × Ends (to_path (output_path requested) (access_of requested) (files_from opened files) out)
-      err result
-      src (stdin_needed requested found) (answers found)
-
-  -- it ran out of memory, or was driven so over files at the paths of the request
-  abbrev pub Drives : Type 0
-  Drives = RunsOutOfMemory
-      ⊎ ((found : Files) × AllFound (files.finds files.old) requested found
-      × ((opened : F) × IsDriven found opened))
+module _ {D R W S K E : Type 0} (files : FilesCall D R W) (src : SourceCall S) (out : SinkCall K)
+    (err : SinkCall E) (result : Status) (kinds : Kinds)
+    (requested : Option (Result Request Fault))
+    (answers : Files → List ℕ → Result (List ℕ) Fault) where
+  pub data Ends : Type 0 where
+    -- The arguments parse. The program opened the files at their paths, up to the first that it
+    -- cannot open or read, and then ran the request.
+    Ran : kinds ≡ []
+        → (found : Files) → AllFound (files.finds files.old) requested found
+        → (opened : D) → Opens files.executes files.old (opened_paths requested found) opened
+        → run.Ends src (to_path (files_from opened files) out (output_path requested)
+        (access_of requested)) err result (stdin_needed requested found) (answers found)
+        → Ends
+    -- It opened and read nothing: there was no memory, or the arguments do not parse.
+    Stopped : files.new ≡ files.old → src.new ≡ src.old → Explains out err result kinds → Ends

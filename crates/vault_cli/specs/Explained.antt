@@ -1,14 +1,16 @@
--- What the program says where its arguments do not parse.
-use Rattle.std.specs.Prelude.{◌≡◌, ◌≢◌, ◌⊎◌, ℕ, false, List, [], All, Some}
+-- How the program ends before it loads a file: one record for each way.
+use Rattle.std.specs.Prelude.{◌≡◌, ◌≢◌, ◌⊎◌, ℕ, false, List, All, take}
 use Rattle.clap.specs.Words.{IsAmong, Kinds}
 use Rattle.clap.specs.declared.error.kind.ErrorKind.{ErrorKind}
 use Rattle.clap.specs.declared.error.kind.ErrorKind.TheVariants.{DisplayHelp, DisplayVersion}
-use Rattle.clap.specs.declared.error.kind.ErrorKind.TheVariants.{OutOfMemory}
+use Rattle.clap.specs.declared.error.kind.ErrorKind.TheVariants as error
+use Rattle.vault_fault.specs.declared.fault.Fault.TheVariants.{Memory, Write}
 use Rattle.vault_request.specs.Refusal.{is_control}
 use Rattle.vault_cli.specs.Call.{SinkCall}
-use Rattle.vault_cli.specs.runs.Ending.{Finishes, IsOutOfMemory, to_sink}
-use Rattle.vault_cli.specs.runs.Reports.{Reports}
+use Rattle.vault_cli.specs.runs.Reports.{Reports, line_of}
+use Rattle.vault_cli.specs.runs.Run.{to_sink}
 use Rattle.vault_cli.specs.declared.runs.status.Status.{Status}
+use Rattle.vault_cli.specs.declared.runs.status.Status.TheVariants.{DeviceFailed, OutOfMemory}
 use Rattle.vault_cli.specs.declared.runs.status.Status.TheVariants.{ParseFault, Success}
 
 -- LF, or no control byte
@@ -21,30 +23,53 @@ IsHelp kind = (kind ≡ DisplayHelp) ⊎ (kind ≡ DisplayVersion)
 
 -- the arguments are wrong
 abbrev pub IsMistake : ErrorKind → Type 0
-IsMistake kind = (kind ≢ DisplayHelp) × (kind ≢ DisplayVersion) × (kind ≢ OutOfMemory)
+IsMistake kind =
+    (kind ≢ DisplayHelp) × (kind ≢ DisplayVersion) × (kind ≢ error.OutOfMemory)
 
-module _ {K E : Type 0} (out : SinkCall K) (err : SinkCall E) (result : Status) where
-  -- some text, perhaps an empty one, on standard output, or a prefix of it where that failed
-  abbrev pub Shows : Type 0
-  Shows = (text : List ℕ)
-      × Finishes (to_sink out) err result
-      (record { output = Some text; line = []; status = Success })
+-- These kinds of error are in the arguments: none, if they parse.
+module _ {K E : Type 0} (out : SinkCall K) (err : SinkCall E) (result : Status)
+    (kinds : Kinds) where
+  -- There was no memory.
+  pub record LacksMemory : Type 0 where
+    pub status : result ≡ OutOfMemory
+    pub output : out.new ≡ out.old
+    pub message : Reports err (line_of Memory)
 
-  -- some text, without a control byte but LF, on standard error alone
+  -- Help or the version was asked for, and is on standard output.
+  pub record ShowsHelp : Type 0 where
+    pub kind : ErrorKind
+    pub is_among : IsAmong kind kinds
+    pub is_help : IsHelp kind
+    pub text : List ℕ
+    pub status : result ≡ Success
+    pub output : (to_sink out).received text
+    pub message : err.new ≡ err.old
+
+  -- It was asked for, but standard output failed.
+  pub record HelpFails : Type 0 where
+    pub kind : ErrorKind
+    pub is_among : IsAmong kind kinds
+    pub is_help : IsHelp kind
+    pub text : List ℕ
+    pub count : ℕ
+    pub status : result ≡ DeviceFailed
+    pub output : (to_sink out).cut (take count text)
+    pub message : Reports err (line_of Write)
+
+  -- The arguments are wrong. A text says so on standard error, without a control byte but LF.
   pub record Rejects : Type 0 where
+    pub kind : ErrorKind
+    pub is_among : IsAmong kind kinds
+    pub is_mistake : IsMistake kind
+    pub text : List ℕ
+    pub is_shown : All IsShown text
     pub status : result ≡ ParseFault
     pub output : out.new ≡ out.old
-    pub text : (text : List ℕ) × All IsShown text × Reports err text
+    pub message : Reports err text
 
-  -- help and the version are shown, and a mistake is rejected
-  abbrev pub Explained : ErrorKind → Type 0
-  Explained kind = (IsHelp kind × Shows) ⊎ (IsMistake kind × Rejects)
-
-  -- or there was no memory to say so
-  abbrev pub Explains : ErrorKind → Type 0
-  Explains kind = IsOutOfMemory (to_sink out) err result ⊎ Explained kind
-
-  -- an error of one of these kinds is explained
-  abbrev pub ExplainsOneOf : Kinds → Type 0
-  ExplainsOneOf kinds = IsOutOfMemory (to_sink out) err result
-      ⊎ ((kind : ErrorKind) × IsAmong kind kinds × Explained kind)
+  -- one of the four
+  pub data Explains : Type 0 where
+    MemoryLacked : LacksMemory → Explains
+    HelpShown : ShowsHelp → Explains
+    HelpFailed : HelpFails → Explains
+    Rejected : Rejects → Explains

@@ -1,7 +1,7 @@
 -- Laws of the answers, which hold under every limit, of all requests, password files, salts and
 -- inputs.
 use Rattle.std.specs.Prelude.{◌≡◌, ◌⊎◌, ℕ, ◌≤◌, List, [], ◌∷◌, length, Some, IfSome}
-use Rattle.std.specs.Prelude.{Ok}
+use Rattle.std.specs.Prelude.{IfErr, Ok}
 use Rattle.vault_core.specs.Form.{Envelope}
 use Rattle.vault_core.specs.Laws.{IsBytes, IsTriedFirst}
 use Rattle.vault_core.specs.Secrets.{Secret, SecretList, secret_at}
@@ -13,14 +13,15 @@ use Rattle.vault_cli.specs.runs.Task as task
 use Rattle.vault_cli.specs.runs.Task.{planned}
 use Rattle.vault_request.specs.declared.command_name.CommandName.TheVariants.{Encrypt, Decrypt}
 use Rattle.vault_request.specs.declared.command_name.CommandName.TheVariants.{View, Rekey}
-use Rattle.vault_cli.specs.declared.runs.status.Status.TheVariants.{Refused, Success}
+use Rattle.vault_cli.specs.runs.Status.{status_of}
+use Rattle.vault_cli.specs.declared.runs.status.Status.TheVariants.{Refused}
 
--- an answer is a success, or a refusal: it reports no failed device and no lack of memory
+-- a fault that is the answer is a refusal: no failed device and no lack of memory
 abbrev pub AnswersAreDecided : Type 0
 AnswersAreDecided =
     (limit : ℕ) (request : Request) (contents : List (List ℕ)) (salt input : List ℕ)
-    → ((run_answer_within limit request contents salt input).status ≡ Success)
-    ⊎ ((run_answer_within limit request contents salt input).status ≡ Refused)
+    → IfErr (run_answer_within limit request contents salt input)
+    (λ fault. status_of fault ≡ Refused)
 
 -- a request of `decrypt` or `view` whose password files give these secrets
 pub record UnsealsWith (request : Request) (contents : List (List ℕ)) (salt : List ℕ)
@@ -39,11 +40,11 @@ EncryptThenDecrypt =
     → IsRequest encrypting → encrypting.command ≡ Encrypt
     → IfSome encrypting.salt_text IsBytes → IsBytes salt → IsBytes input
     → planned encrypting contents salt ≡ Ok (task.Encrypt list index Envelope used)
-    → (run_answer_within limit encrypting contents salt input).output ≡ Some envelope
+    → run_answer_within limit encrypting contents salt input ≡ Ok envelope
     → UnsealsWith decrypting other_contents other_salt secrets
     → IsTriedFirst secrets (secret_at index list)
     → run_answer_within limit decrypting other_contents other_salt envelope
-    ≡ record { output = Some input; line = []; status = Success }
+    ≡ Ok input
 
 -- what `rekey` wrote, `decrypt` and `view` decrypt with the new secret alone, under either rule, to
 -- what they gave before with the old secrets under the rule of `rekey`
@@ -56,7 +57,7 @@ RekeyKeepsThePlaintext =
     → IsRequest rekeying → rekeying.command ≡ Rekey
     → IfSome rekeying.salt_text IsBytes → IsBytes salt
     → planned rekeying contents salt ≡ Ok (task.Rekey secrets new used)
-    → (run_answer_within limit rekeying contents salt input).output ≡ Some envelope
+    → run_answer_within limit rekeying contents salt input ≡ Ok envelope
     → UnsealsWith before old_contents old_salt secrets
     → UnsealsWith after new_contents new_salt (record { secrets = new ∷ []; rule = rule })
     → run_answer_within limit after new_contents new_salt envelope

@@ -12,13 +12,11 @@ use Rattle.vault_fault.specs.declared.fault.Fault.{Fault}
 use Rattle.vault_fault.specs.declared.fault.Fault.TheVariants.{CannotOpen}
 use Rattle.vault_fault.specs.declared.fault.Role.TheVariants.{Input, Salt}
 use Rattle.vault_cli.specs.runs.FileContents.{contents_of, prefix_in, secret_paths}
-use Rattle.vault_cli.specs.runs.Answer.{Answer, answered, input_needed_by, input_limit, ready_by}
-use Rattle.vault_cli.specs.runs.Answer.{reported}
+use Rattle.vault_cli.specs.runs.Answer.{input_limit, input_needed_by, output_of, ready_by}
 use Rattle.vault_request.specs.Request.{Request}
 use Rattle.vault_request.specs.Settled.{requested_by}
 use Rattle.vault_cli.specs.runs.Task.{Task, planned}
 use Rattle.vault_cli.specs.declared.limits.TheConstants.{SEALING_SALT_LENGTH}
-use Rattle.vault_cli.specs.declared.runs.status.Status.TheVariants.{ParseFault}
 
 -- the files that a request names, as they are found: its password files, in order, its salt file
 -- and its input file
@@ -60,15 +58,15 @@ ready_of request files stdin =
     ready_by PLAINTEXT_LIMIT (task_over request files) request.string
     (input_in (input_limit PLAINTEXT_LIMIT request.command + 1) files.input stdin)
 
--- the answer to the request; arguments without a fault name a command, which is a law, so that
--- the first case never comes
-abbrev pub answer_to : Option (Result Request Fault) → Files → List ℕ → Answer
-answer_to None files stdin = record { output = None; line = []; status = ParseFault }
-answer_to (Some (Err fault)) files stdin = reported fault
-answer_to (Some (Ok request)) files stdin = answered (ready_of request files stdin)
+-- the answer to the request: the bytes to be written, or a fault. Arguments that parse name a
+-- command, which is a law, so that the first case never comes
+abbrev pub answer_to : Option (Result Request Fault) → Files → List ℕ → Result (List ℕ) Fault
+answer_to None files stdin = Ok []
+answer_to (Some (Err fault)) files stdin = Err fault
+answer_to (Some (Ok request)) files stdin = output_of (ready_of request files stdin)
 
 -- the answer to arguments
-abbrev pub program : List Text → Files → List ℕ → Answer
+abbrev pub program : List Text → Files → List ℕ → Result (List ℕ) Fault
 program words files stdin = answer_to (requested_by words) files stdin
 
 -- the path that its output goes to, where that is not standard output

@@ -1,23 +1,23 @@
 -- Laws of the program: from the arguments of one run to those of another, from file to file.
-use Rattle.std.specs.Prelude.{◌≡◌, ℕ, List, [], ◌∷◌, Option, Some, None, IfSome, Ok}
+use Rattle.std.specs.Prelude.{◌≡◌, ℕ, List, [], ◌∷◌, Option, Some, None, IfSome, Result, Ok}
 use Rattle.clap.specs.Words.{Text}
 use Rattle.vault_files.specs.File.{FileState}
 use Rattle.vault_files.specs.File.FileState.{Whole}
 use Rattle.vault_core.specs.Form.{Envelope}
 use Rattle.vault_core.specs.Laws.{IsBytes, IsTriedFirst}
 use Rattle.vault_core.specs.Secrets.{Secret, SecretList, secret_at}
+use Rattle.vault_fault.specs.declared.fault.Fault.{Fault}
 use Rattle.vault_fault.specs.declared.label_rule.LabelRule.{LabelRule}
 use Rattle.vault_cli.specs.InMemory.{stands_after}
 use Rattle.vault_cli.specs.runs.FileContents.{contents_of}
 use Rattle.vault_cli.specs.Laws.{UnsealsWith}
-use Rattle.vault_cli.specs.runs.Answer.{Answer, run_answer}
+use Rattle.vault_cli.specs.runs.Answer.{run_answer}
 use Rattle.vault_request.specs.Settled.{requested_by}
 use Rattle.vault_cli.specs.Program.{Files, files_in, output_path, program, salt_in}
 use Rattle.vault_request.specs.Request.{Request}
 use Rattle.vault_cli.specs.runs.Task as task
 use Rattle.vault_cli.specs.runs.Task.{planned}
 use Rattle.vault_request.specs.declared.command_name.CommandName.TheVariants.{Encrypt, Rekey}
-use Rattle.vault_cli.specs.declared.runs.status.Status.TheVariants.{Success}
 
 -- the input is a file that can be read to its end, or else standard input
 abbrev pub IsInput : Option FileState → List ℕ → List ℕ → Type 0
@@ -40,7 +40,7 @@ pub record Run : Type 0 where
   pub is_input : IsInput files.input stdin input
 
 -- what the program answers to it
-abbrev pub answer : Run → Answer
+abbrev pub answer : Run → Result (List ℕ) Fault
 answer run = program run.words run.files run.stdin
 
 -- that is the answer to its request
@@ -54,7 +54,7 @@ WrittenIsRead =
     (request : Request)
     → output_path (requested_by writing) ≡ Some path
     → requested_by reading ≡ Some (Ok request) → request.input ≡ Some path
-    → (files_in (stands_after before (output_path (requested_by writing)) (Some bytes))
+    → (files_in (stands_after before (output_path (requested_by writing)) bytes)
     (requested_by reading)).input ≡ Some (Whole bytes)
 
 -- what `encrypt` wrote with a secret, `decrypt` and `view` give back where the first secret that
@@ -68,10 +68,10 @@ ProgramEncryptsThenDecrypts =
     → IsBytes encrypting.salt → IsBytes encrypting.input
     → planned encrypting.request encrypting.contents encrypting.salt
     ≡ Ok (task.Encrypt list index Envelope used)
-    → (answer encrypting).output ≡ Some decrypting.input
+    → answer encrypting ≡ Ok decrypting.input
     → UnsealsWith decrypting.request decrypting.contents decrypting.salt secrets
     → IsTriedFirst secrets (secret_at index list)
-    → answer decrypting ≡ record { output = Some encrypting.input; line = []; status = Success }
+    → answer decrypting ≡ Ok encrypting.input
 
 -- what `rekey` wrote, `decrypt` and `view` decrypt with the new secret alone, under either rule, to
 -- what they gave before with the old secrets under the rule of `rekey`
@@ -82,7 +82,7 @@ ProgramKeepsThePlaintext =
     → rekeying.request.command ≡ Rekey
     → IfSome rekeying.request.salt_text IsBytes → IsBytes rekeying.salt
     → planned rekeying.request rekeying.contents rekeying.salt ≡ Ok (task.Rekey secrets new used)
-    → before.input ≡ rekeying.input → (answer rekeying).output ≡ Some after.input
+    → before.input ≡ rekeying.input → answer rekeying ≡ Ok after.input
     → UnsealsWith before.request before.contents before.salt secrets
     → UnsealsWith after.request after.contents after.salt
     (record { secrets = new ∷ []; rule = rule })

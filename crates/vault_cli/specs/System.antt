@@ -1,19 +1,18 @@
 -- How the program ends over devices that it keeps, of which no more is known afterwards.
-use Rattle.std.specs.Prelude.{◌≡◌, ◌≢◌, ℕ, false, List, [], Option}
+use Rattle.std.specs.Prelude.{ℕ, false, List, Option}
 use Rattle.clap.specs.Words.{Text, fault_of}
 use Rattle.vault_text.specs.Sink.{SinkState}
 use Rattle.vault_text.specs.Source.{SourceState}
 use Rattle.vault_text.specs.declared.sink.Sink.{Ghosts as SinkTerms}
 use Rattle.vault_text.specs.declared.sink.Stage.TheVariants.{Unbegun}
 use Rattle.vault_text.specs.declared.source.Source.{Ghosts as SourceTerms}
+use Rattle.vault_files.specs.declared.system.System.{Ghosts as SystemTerms}
 use Rattle.vault_request.specs.CommandLine.{vault_app}
-use Rattle.vault_cli.specs.Call.{StoreMembers, sink, source, store}
-use Rattle.vault_cli.specs.Drive.{Drives}
-use Rattle.vault_cli.specs.Explained.{ExplainsOneOf}
+use Rattle.vault_cli.specs.Call.{sink, source, system}
+use Rattle.vault_cli.specs.Drive.{Ends}
 use Rattle.vault_cli.specs.Program.{program}
 use Rattle.vault_request.specs.Settled.{requested_by}
 use Rattle.vault_cli.specs.declared.runs.status.Status.{Status}
-use Rattle.vault_cli.specs.declared.runs.status.Status.TheVariants.{OutOfMemory}
 
 -- the devices of a run, in one state: its files, its input, its output and its error output
 pub record Devices (F S K E : Type 0) : Type 0 where
@@ -33,35 +32,21 @@ new_devices files input output message = record {
 }
 
 -- what each device says of its states
-pub record DeviceTerms (F R S K E : Type 0) : Type 1 where
-  pub files : StoreMembers F R
+pub record DeviceTerms (F R W S K E : Type 0) : Type 1 where
+  pub files : SystemTerms F R W
   pub src : SourceTerms S
   pub out : SinkTerms K
   pub err : SinkTerms E
 
-abbrev pub device_terms : {F R S K E : Type 0} → StoreMembers F R → SourceTerms S → SinkTerms K
-    → SinkTerms E → DeviceTerms F R S K E
+abbrev pub device_terms : {F R W S K E : Type 0} → SystemTerms F R W → SourceTerms S → SinkTerms K
+    → SinkTerms E → DeviceTerms F R W S K E
 device_terms files src out err = record { files = files; src = src; out = out; err = err }
 
-module _ {F R S K E : Type 0} (terms : DeviceTerms F R S K E) (old new : Devices F S K E) where
-  -- no file was opened, and the input was left alone
-  abbrev pub IsUntouched : Type 0
-  IsUntouched = (new.files ≡ old.files) × (new.src ≡ old.src)
-
-  -- what `drive_over` ensures of its devices, clause by clause
-  pub record IsDriven (result : Status) (words : List Text) : Type 0 where
-    pub answered : fault_of vault_app words ≡ []
-        → Drives (store terms.files old.files new.files) (source terms.src old.src new.src)
-        (sink terms.out old.out new.out) (sink terms.err old.err new.err) result
-        (requested_by words) (program words)
-    pub memory : result ≡ OutOfMemory → IsUntouched
-    pub explained : fault_of vault_app words ≢ []
-        → ExplainsOneOf (sink terms.out old.out new.out) (sink terms.err old.err new.err) result
-        (fault_of vault_app words)
-    pub untouched : fault_of vault_app words ≢ [] → IsUntouched
-
 -- there is a later state of the devices in which it ended so
-abbrev pub MayBeDriven : {F R S K E : Type 0} → DeviceTerms F R S K E → Devices F S K E → Status
+abbrev pub MayBeDriven : {F R W S K E : Type 0} → DeviceTerms F R W S K E → Devices F S K E → Status
     → List Text → Type 0
-MayBeDriven {F} {R} {S} {K} {E} terms old result words =
-    (new : Devices F S K E) × IsDriven terms old new result words
+MayBeDriven {F} {R} {W} {S} {K} {E} terms old result words =
+    (new : Devices F S K E) × Ends (system terms.files old.files new.files)
+    (source terms.src old.src new.src) (sink terms.out old.out new.out)
+    (sink terms.err old.err new.err) result (fault_of vault_app words) (requested_by words)
+    (program words)

@@ -1,7 +1,6 @@
-pub mod Ending
 pub mod FileContents
 pub mod Answer
-pub mod Performed
+pub mod Delivered
 pub mod Reports
 pub mod Run
 pub mod Status

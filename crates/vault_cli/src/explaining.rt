@@ -50,8 +50,10 @@ pub(crate) fn explain<K: Sink, E: Sink>(
 ) -> Status
     requires out_unbegun { K.stage out.old ≡ Stage.Unbegun }
     requires err_unbegun { E.stage err.old ≡ Stage.Unbegun }
-    ensures explains { Explains (sink K.Sink out.old out.new) (sink E.Sink err.old err.new)
-        result (kind_of error.now) }
+    requires kinds { (kind_of error.now ≡ ErrorKind.OutOfMemory)
+        ⊎ IsAmong (kind_of error.now) (fault_of vault_app (map string_bytes words.now)) }
+    ensures { Explains (sink K.Sink out.old out.new) (sink E.Sink err.old err.new) result
+        (fault_of vault_app (map string_bytes words.now)) }
 {
     if matches!(error.kind(), ErrorKind::OutOfMemory) {
         return report(Fault::Memory, err);

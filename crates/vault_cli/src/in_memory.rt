@@ -1,39 +1,43 @@
 //! The program over files in memory.
-ghost use Rattle.std.specs.Prelude.{◌≡◌, ◌≢◌, [], false, map};
+ghost use Rattle.std.specs.Prelude.{◌≡◌, ◌≢◌, [], None, false, map};
 ghost use Rattle.std.specs.String.{string_bytes};
 ghost use Rattle.clap.specs.Words.{fault_of};
 ghost use Rattle.vault_files.specs.PathLog.{logged};
-ghost use Rattle.vault_cli.specs.Call.{sink};
 ghost use Rattle.vault_request.specs.CommandLine.{vault_app};
-ghost use Rattle.vault_cli.specs.InMemory.{EndsInMemory, Taken, change, found_by};
-ghost use Rattle.vault_cli.specs.Explained.{ExplainsOneOf};
-ghost use Rattle.vault_cli.specs.OpenedPaths.{opened_paths};
 ghost use Rattle.vault_request.specs.Settled.{requested_by};
+ghost use Rattle.vault_cli.specs.Call.{sink, source, system};
+ghost use Rattle.vault_cli.specs.Drive.{Ends};
+ghost use Rattle.vault_cli.specs.InMemory.{EndsInMemory, Taken, change, found_by};
+ghost use Rattle.vault_cli.specs.OpenedPaths.{opened_paths};
 ghost use Rattle.vault_cli.specs.Program.{output_path, program, stdin_needed};
 
 use crate::program::drive_over;
 use crate::runs::Status;
 use std::alloc::Global;
-use vault_files::MemFiles;
-use vault_text::{MemSink, MemSource, Sink, Stage};
+use vault_files::{MemFiles, System};
+use vault_text::{MemSink, MemSource, Sink, Source, Stage};
 
 /// All that the program does, as `drive_over`, over files, an input and sinks in memory. The files
 /// that it finds are those at the paths of its arguments, so that arguments, files and
 /// input determine its answer. `MemFiles::content` and `MemSink::bytes` return what is held
 /// afterwards, and `MemFiles::log`, if `keep_log` has begun one, which paths were opened.
-pub fn drive_in_memory(
-    files: &mut MemFiles<'_>,
+pub fn drive_in_memory<'f, 's>(
+    files: &mut MemFiles<'f>,
     alloc: Global,
     words: &[String],
-    src: &mut MemSource<'_>,
+    src: &mut MemSource<'s>,
     out: &mut MemSink,
     err: &mut MemSink,
 ) -> Status
-    requires files_unbegun { files.old.output.stage ≡ Stage.Unbegun }
-    requires files_empty { files.old.output.held ≡ [] }
+    requires none_created { files.old.created ≡ None }
     requires src_not_ended { src.old.ended ≡ false }
     requires out_unbegun { out.old.stage ≡ Stage.Unbegun }
     requires err_unbegun { err.old.stage ≡ Stage.Unbegun }
+    ensures ends { let texts = map string_bytes words.now in
+        Ends (system ⟦<MemFiles<'f> as System>⟧ files.old files.new)
+        (source ⟦<MemSource<'s> as Source>⟧ src.old src.new)
+        (sink ⟦<MemSink as Sink>⟧ out.old out.new) (sink ⟦<MemSink as Sink>⟧ err.old err.new)
+        result (fault_of vault_app texts) (requested_by texts) (program texts) }
 
     // Arguments that parse are answered as the program says, unless an allocation fails.
     ensures answered { let texts = map string_bytes words.now in
@@ -49,15 +53,6 @@ pub fn drive_in_memory(
         let paths = opened_paths (requested_by texts) (found_by files.old texts) in
         fault_of vault_app texts ≡ [] → result ≢ Status.OutOfMemory
         → files.new.log ≡ logged files.old.log paths }
-    ensures memory { result ≡ Status.OutOfMemory
-        → (files.new ≡ files.old) × (src.new ≡ src.old) }
-
-    // Arguments that do not parse are explained, and neither a file nor the input is touched.
-    ensures explained { let kinds = fault_of vault_app (map string_bytes words.now) in
-        kinds ≢ [] → ExplainsOneOf (sink ⟦<MemSink as Sink>⟧ out.old out.new)
-        (sink ⟦<MemSink as Sink>⟧ err.old err.new) result kinds }
-    ensures untouched { fault_of vault_app (map string_bytes words.now) ≢ []
-        → (files.new ≡ files.old) × (src.new ≡ src.old) }
 {
     drive_over(files, alloc, words, src, out, err)
 }

@@ -39,6 +39,6 @@ pub use program::drive_over;
 pub use runs::{Status, report, run};
 pub use system::drive;
 pub use vault_core::{Fault, LabelRule, Role, SECRET_COUNT_LIMIT};
-pub use vault_files::{Access, FileFault, FileSystem, HostFiles, MemFile, MemFiles};
+pub use vault_files::{Access, FileFault, FileOutput, MemFile, MemFiles, System};
 pub use vault_request::{CommandName, Request, SALT_TEXT_LIMIT, command, parse, settle};
 pub use vault_text::{MemSink, MemSource, ReadSource, Sink, Source, Stage, WriteSink};

@@ -2,6 +2,7 @@
 ghost use Rattle.std.specs.Prelude.{◌≡◌, ◌≢◌, ◌+◌, [], ◌∷◌, All, length, map, vec_len};
 ghost use Rattle.std.specs.Prelude.{option_to_list, Ok, Err, IfOk, IfErr, OnOk};
 ghost use Rattle.vault_files.specs.File.FileState.{Missing};
+ghost use Rattle.vault_files.specs.System.{Opens};
 ghost use Rattle.vault_fault.specs.declared.fault.Fault.TheVariants.{CannotOpen, Memory};
 ghost use Rattle.vault_fault.specs.declared.fault.Role.TheVariants.{Input};
 ghost use Rattle.vault_cli.specs.runs.FileContents.{AtPath, request_paths, fault_in, secret_paths};
@@ -12,35 +13,32 @@ ghost use Rattle.vault_cli.specs.declared.limits.TheConstants.{SEALING_SALT_LENG
 ghost use Rattle.vault_request.specs.Request.{files_of};
 
 use vault_core::{Fault, Role};
-use vault_files::{FileFault, FileSystem, read_prefix};
+use vault_files::{FileFault, System, open, read_prefix};
 use vault_request::Request;
-use vault_text::{Source, Stage};
 
 /// Reads the password files and the salt of a request into their buffers, and opens its input file,
 /// up to the first of them that refuses.
-pub(crate) fn load<F: FileSystem>(
-    files: &mut F,
+pub(crate) fn load<D: System>(
+    files: &mut D,
     request: &Request,
     secret_files: &mut [Vec<u8>],
     salt: &mut Vec<u8>,
-) -> Result<Option<F::Reader>, Fault>
-    requires unbegun { F.stage files.old ≡ Stage.Unbegun }
+) -> Result<Option<D::Reader>, Fault>
     requires count { length secret_files.old ≡ length (files_of request.now) }
     requires long { All (λ buf. vec_len buf ≡ PASSWORD_FILE_LIMIT + 1) secret_files.old }
     requires salt { vec_len salt.old ≡ SEALING_SALT_LENGTH }
     ensures count { length secret_files.new ≡ length secret_files.old }
     ensures secrets { OnOk result
-        (ContentsFound (F.finds files.old) (secret_paths request.now)
+        (ContentsFound (D.finds files.old) (secret_paths request.now)
         (Ok (map (λ file. file.items) secret_files.new))) }
     ensures salt { OnOk result
-        (SaltFound (F.finds files.old) request.now.salt_path (Ok salt.new.items)) }
-    ensures input { IfOk result (λ input. AtPath (F.reader_at files.old) request.now.input input) }
-    ensures opens { OnOk result (F.opens files.old (request_paths request.now) files.new) }
+        (SaltFound (D.finds files.old) request.now.salt_path (Ok salt.new.items)) }
+    ensures input { IfOk result (λ input. AtPath (D.reader_at files.old) request.now.input input) }
+    ensures opens { OnOk result (Opens D.executes files.old (request_paths request.now) files.new) }
     ensures refused { IfErr result (λ fault.
-        RefusedBy (F.finds files.old) (λ paths. F.opens files.old paths files.new)
+        RefusedBy (D.finds files.old) (λ paths. Opens D.executes files.old paths files.new)
         request.now fault) }
     ensures memory_suffices { IfErr result (λ fault. fault ≢ Memory) }
-    ensures unbegun { F.stage files.new ≡ Stage.Unbegun }
 {
     read_secret_files(files, request, secret_files)?;
     read_salt(files, request, salt)?;
@@ -58,18 +56,17 @@ fn fault_in(role: Role, fault: FileFault) -> Fault
 }
 
 /// Fills a buffer from the start of a file, and cuts it to what the file holds.
-fn fill_from<F: FileSystem>(
-    files: &mut F,
+fn fill_from<D: System>(
+    files: &mut D,
     role: Role,
     path: &str,
     buf: &mut Vec<u8>,
 ) -> Result<(), Fault>
-    requires { F.stage files.old ≡ Stage.Unbegun }
-    ensures opens { F.opens files.old (path.now ∷ []) files.new }
+    ensures opens { Opens D.executes files.old (path.now ∷ []) files.new }
     ensures read { OnOk result
-        (PrefixFound (F.finds files.old path.now) role (vec_len buf.old) (Ok buf.new.items)) }
+        (PrefixFound (D.finds files.old path.now) role (vec_len buf.old) (Ok buf.new.items)) }
     ensures refused { IfErr result (λ fault.
-        PrefixFound (F.finds files.old path.now) role (vec_len buf.old) (Err fault)) }
+        PrefixFound (D.finds files.old path.now) role (vec_len buf.old) (Err fault)) }
     ensures memory_suffices { IfErr result (λ fault. fault ≢ Memory) }
 {
     match read_prefix(files, path, buf.as_mut_slice()) {
@@ -82,24 +79,22 @@ fn fill_from<F: FileSystem>(
 }
 
 /// Reads the password files, in their order, each up to one byte more than is taken.
-fn read_secret_files<F: FileSystem>(
-    files: &mut F,
+fn read_secret_files<D: System>(
+    files: &mut D,
     request: &Request,
     bufs: &mut [Vec<u8>],
 ) -> Result<(), Fault>
-    requires unbegun { F.stage files.old ≡ Stage.Unbegun }
     requires count { length bufs.old ≡ length (files_of request.now) }
     requires long { All (λ buf. vec_len buf ≡ PASSWORD_FILE_LIMIT + 1) bufs.old }
     ensures count { length bufs.new ≡ length bufs.old }
     ensures read { OnOk result
-        (ContentsFound (F.finds files.old) (secret_paths request.now)
+        (ContentsFound (D.finds files.old) (secret_paths request.now)
         (Ok (map (λ file. file.items) bufs.new))) }
-    ensures opens { OnOk result (F.opens files.old (secret_paths request.now) files.new) }
+    ensures opens { OnOk result (Opens D.executes files.old (secret_paths request.now) files.new) }
     ensures refused { IfErr result (λ fault.
-        SecretsRefuse (F.finds files.old) (λ paths. F.opens files.old paths files.new)
+        SecretsRefuse (D.finds files.old) (λ paths. Opens D.executes files.old paths files.new)
         (secret_paths request.now) fault) }
     ensures memory_suffices { IfErr result (λ fault. fault ≢ Memory) }
-    ensures unbegun { F.stage files.new ≡ Stage.Unbegun }
 {
     for i in 0..request.files() {
         fill_from(files, Role::Secret, request.path(i), &mut bufs[i])?;
@@ -108,18 +103,13 @@ fn read_secret_files<F: FileSystem>(
 }
 
 /// Reads the salt of a request, the first 32 bytes of its salt file, or none if it names no file.
-fn read_salt<F: FileSystem>(
-    files: &mut F,
-    request: &Request,
-    buf: &mut Vec<u8>,
-) -> Result<(), Fault>
-    requires unbegun { F.stage files.old ≡ Stage.Unbegun }
+fn read_salt<D: System>(files: &mut D, request: &Request, buf: &mut Vec<u8>) -> Result<(), Fault>
     requires length { vec_len buf.old ≡ SEALING_SALT_LENGTH }
-    ensures opens { F.opens files.old (option_to_list request.now.salt_path) files.new }
+    ensures opens { Opens D.executes files.old (option_to_list request.now.salt_path) files.new }
     ensures read { OnOk result
-        (SaltFound (F.finds files.old) request.now.salt_path (Ok buf.new.items)) }
+        (SaltFound (D.finds files.old) request.now.salt_path (Ok buf.new.items)) }
     ensures refused { IfErr result (λ fault.
-        SaltFound (F.finds files.old) request.now.salt_path (Err fault)) }
+        SaltFound (D.finds files.old) request.now.salt_path (Err fault)) }
     ensures memory_suffices { IfErr result (λ fault. fault ≢ Memory) }
 {
     match request.salt_path() {
@@ -132,18 +122,17 @@ fn read_salt<F: FileSystem>(
 }
 
 /// The input file of a request, opened, if it names one.
-fn open_input<F: FileSystem>(files: &mut F, request: &Request) -> Result<Option<F::Reader>, Fault>
-    requires { F.stage files.old ≡ Stage.Unbegun }
-    ensures opens { F.opens files.old (option_to_list request.now.input) files.new }
-    ensures opened { IfOk result (λ input. AtPath (F.reader_at files.old) request.now.input input) }
+fn open_input<D: System>(files: &mut D, request: &Request) -> Result<Option<D::Reader>, Fault>
+    ensures opens { Opens D.executes files.old (option_to_list request.now.input) files.new }
+    ensures opened { IfOk result (λ input. AtPath (D.reader_at files.old) request.now.input input) }
     ensures fault { IfErr result (λ fault. fault ≡ CannotOpen Input) }
     ensures missing { IfErr result (λ _.
-        AtPath (F.finds files.old) request.now.input (Some Missing)) }
+        AtPath (D.finds files.old) request.now.input (Some Missing)) }
 {
     let Some(path) = request.input() else {
         return Ok(None);
     };
-    match files.open(path) {
+    match open(files, path) {
         Ok(reader) => Ok(Some(reader)),
         Err(fault) => Err(fault_in(Role::Input, fault)),
     }

@@ -1,20 +1,22 @@
 //! What the program does with its arguments, its files and its standard streams.
-ghost use Rattle.std.specs.Prelude.{◌≡◌, ◌≢◌, ◌≤◌, [], Ok, Some, is_some, length, map, true};
+ghost use Rattle.std.specs.Prelude.{◌≡◌, ◌≤◌, [], Ok, Some, is_some, length, map, true};
 ghost use Rattle.std.specs.Prelude.{vec_capacity, vec_len};
-ghost use Rattle.std.specs.Option.{option_map};
 ghost use Rattle.std.specs.String.{string_bytes};
 ghost use Rattle.clap.specs.Words.{fault_of, subcommand_rows_of};
 ghost use Rattle.vault_text.specs.declared.limits.TheConstants.{CIPHERTEXT_LIMIT, PLAINTEXT_LIMIT};
-ghost use Rattle.vault_cli.specs.Call.{sink, source, store};
+ghost use Rattle.vault_text.specs.Limits.{IsWorkLength, limit_of};
+ghost use Rattle.vault_files.specs.Output.{stage_of};
 ghost use Rattle.vault_request.specs.CommandLine.{vault_app};
-ghost use Rattle.vault_cli.specs.Drive.{Drives};
-ghost use Rattle.vault_cli.specs.runs.Ending.{Ends, to_path};
-ghost use Rattle.vault_cli.specs.Explained.{ExplainsOneOf};
-ghost use Rattle.vault_cli.specs.runs.Answer.{input_needed, run_answer};
-ghost use Rattle.vault_cli.specs.Access.{output_access};
-ghost use Rattle.vault_cli.specs.Program.{answer_to, program};
 ghost use Rattle.vault_request.specs.Request.{files_of};
 ghost use Rattle.vault_request.specs.Settled.{requested, requested_by};
+ghost use Rattle.vault_cli.specs.Access.{output_access};
+ghost use Rattle.vault_cli.specs.Call.{sink, source, system};
+ghost use Rattle.vault_cli.specs.Drive.{Ends, to_path};
+ghost use Rattle.vault_cli.specs.Program.{answer_to, program};
+ghost use Rattle.vault_cli.specs.RunsToPath.{RunsToPath};
+ghost use Rattle.vault_cli.specs.runs.Answer.{input_needed, run_answer};
+ghost use Rattle.vault_cli.specs.runs.Run as run;
+ghost use Rattle.vault_cli.specs.runs.Run.{RunsRequest};
 
 use crate::access::output_access;
 use crate::explaining::explain;
@@ -24,7 +26,7 @@ use crate::runs::{Status, report, run_in};
 use clap::ArgMatches;
 use std::alloc::Global;
 use vault_core::Fault;
-use vault_files::FileSystem;
+use vault_files::{FileOutput, System};
 use vault_request::{Request, parse, settle};
 use vault_text::{CIPHERTEXT_LIMIT, Sink, Source, Stage, TextMemory};
 
@@ -32,35 +34,20 @@ use vault_text::{CIPHERTEXT_LIMIT, Sink, Source, Stage, TextMemory};
 /// the request, reads its password files and its salt file, opens its input file, and runs it. The
 /// input is a file or `src`, the output a file or `out`. Help and the version go to `out`, and
 /// every message to `err`.
-pub fn drive_over<F: FileSystem, S: Source, K: Sink, E: Sink>(
-    files: &mut F,
+pub fn drive_over<D: System, S: Source, K: Sink, E: Sink>(
+    files: &mut D,
     alloc: Global,
     words: &[String],
     src: &mut S,
     out: &mut K,
     err: &mut E,
 ) -> Status
-    requires files_unbegun { F.stage files.old ≡ Stage.Unbegun }
     requires out_unbegun { K.stage out.old ≡ Stage.Unbegun }
     requires err_unbegun { E.stage err.old ≡ Stage.Unbegun }
-
-    // Arguments that parse are answered as the program says.
-    ensures answered { let texts = map string_bytes words.now in
-        fault_of vault_app texts ≡ []
-        → Drives (store F.FileSystem files.old files.new) (source S.Source src.old src.new)
+    ensures { let texts = map string_bytes words.now in
+        Ends (system D.System files.old files.new) (source S.Source src.old src.new)
         (sink K.Sink out.old out.new) (sink E.Sink err.old err.new) result
-        (requested_by texts) (program texts) }
-
-    // Out of memory comes before any file is opened, and before the input is read.
-    ensures memory { result ≡ Status.OutOfMemory
-        → (files.new ≡ files.old) × (src.new ≡ src.old) }
-
-    // Arguments that do not parse are explained, and neither a file nor the input is touched.
-    ensures explained { let kinds = fault_of vault_app (map string_bytes words.now) in
-        kinds ≢ [] → ExplainsOneOf (sink K.Sink out.old out.new) (sink E.Sink err.old err.new)
-        result kinds }
-    ensures untouched { fault_of vault_app (map string_bytes words.now) ≢ []
-        → (files.new ≡ files.old) × (src.new ≡ src.old) }
+        (fault_of vault_app texts) (requested_by texts) (program texts) }
 {
     match parse(alloc, words) {
         Ok(matches) => drive_matches(files, alloc, &matches, src, out, err),
@@ -69,8 +56,8 @@ pub fn drive_over<F: FileSystem, S: Source, K: Sink, E: Sink>(
 }
 
 /// Settles what the matches ask for, and runs it.
-fn drive_matches<F: FileSystem, S: Source, K: Sink, E: Sink>(
-    files: &mut F,
+fn drive_matches<D: System, S: Source, K: Sink, E: Sink>(
+    files: &mut D,
     alloc: Global,
     matches: &ArgMatches<'_>,
     src: &mut S,
@@ -78,15 +65,12 @@ fn drive_matches<F: FileSystem, S: Source, K: Sink, E: Sink>(
     err: &mut E,
 ) -> Status
     requires requested { is_some (requested (subcommand_rows_of matches.now)) ≡ true }
-    requires files_unbegun { F.stage files.old ≡ Stage.Unbegun }
     requires out_unbegun { K.stage out.old ≡ Stage.Unbegun }
     requires err_unbegun { E.stage err.old ≡ Stage.Unbegun }
-    ensures drives { let requested = requested (subcommand_rows_of matches.now) in
-        Drives (store F.FileSystem files.old files.new) (source S.Source src.old src.new)
-        (sink K.Sink out.old out.new) (sink E.Sink err.old err.new) result
-        requested (answer_to requested) }
-    ensures memory { result ≡ Status.OutOfMemory
-        → (files.new ≡ files.old) × (src.new ≡ src.old) }
+    ensures { let requested = requested (subcommand_rows_of matches.now) in
+        Ends (system D.System files.old files.new) (source S.Source src.old src.new)
+        (sink K.Sink out.old out.new) (sink E.Sink err.old err.new) result [] requested
+        (answer_to requested) }
 {
     match settle(alloc, matches) {
         Ok(request) => drive_request(files, alloc, &request, src, out, err),
@@ -96,23 +80,20 @@ fn drive_matches<F: FileSystem, S: Source, K: Sink, E: Sink>(
 
 /// Runs a request over its files, its input and its output, in memory that is reserved before any
 /// file is opened.
-fn drive_request<F: FileSystem, S: Source, K: Sink, E: Sink>(
-    files: &mut F,
+fn drive_request<D: System, S: Source, K: Sink, E: Sink>(
+    files: &mut D,
     alloc: Global,
     request: &Request,
     src: &mut S,
     out: &mut K,
     err: &mut E,
 ) -> Status
-    requires files_unbegun { F.stage files.old ≡ Stage.Unbegun }
     requires out_unbegun { K.stage out.old ≡ Stage.Unbegun }
     requires err_unbegun { E.stage err.old ≡ Stage.Unbegun }
-    ensures drives { let requested = Some (Ok request.now) in
-        Drives (store F.FileSystem files.old files.new) (source S.Source src.old src.new)
-        (sink K.Sink out.old out.new) (sink E.Sink err.old err.new) result
-        requested (answer_to requested) }
-    ensures memory { result ≡ Status.OutOfMemory
-        → (files.new ≡ files.old) × (src.new ≡ src.old) }
+    ensures { let requested = Some (Ok request.now) in
+        Ends (system D.System files.old files.new) (source S.Source src.old src.new)
+        (sink K.Sink out.old out.new) (sink E.Sink err.old err.new) result [] requested
+        (answer_to requested) }
 {
     let mut memory = match reserve(alloc, request) {
         Ok(memory) => memory,
@@ -126,8 +107,8 @@ fn drive_request<F: FileSystem, S: Source, K: Sink, E: Sink>(
 }
 
 /// Runs a request, whose output goes to its path, if it names one.
-fn run_to_output<F: FileSystem, S: Source, K: Sink, E: Sink>(
-    files: &mut F,
+fn run_to_output<D: System, S: Source, K: Sink, E: Sink>(
+    files: &mut D,
     request: &Request,
     memory: RunMemory,
     src: &mut S,
@@ -136,33 +117,75 @@ fn run_to_output<F: FileSystem, S: Source, K: Sink, E: Sink>(
 ) -> Status
     requires text { CIPHERTEXT_LIMIT ≤ vec_capacity memory.text }
     requires count { vec_len memory.secret_files ≡ length (files_of request.now) }
-    requires output { option_map string_bytes memory.output ≡ request.now.output }
-    requires files_unbegun { F.stage files.old ≡ Stage.Unbegun }
     requires out_unbegun { K.stage out.old ≡ Stage.Unbegun }
     requires err_unbegun { E.stage err.old ≡ Stage.Unbegun }
-    ensures ends { let request = request.now in
+    ensures { let request = request.now in
         let contents = map (λ file. file.items) memory.secret_files.items in
         let salt = memory.salt.items in
-        let files = store F.FileSystem files.old files.new in
-        let out = sink K.Sink out.old out.new in
-        Ends (to_path request.output (output_access request.command) files out)
-        (sink E.Sink err.old err.new) result (source S.Source src.old src.new)
+        run.Ends (source S.Source src.old src.new)
+        (to_path (system D.System files.old files.new) (sink K.Sink out.old out.new)
+        request.output (output_access request.command)) (sink E.Sink err.old err.new) result
         (input_needed PLAINTEXT_LIMIT request contents salt) (run_answer request contents salt) }
-    ensures memory_suffices { result ≢ Status.OutOfMemory }
 {
     let RunMemory {
         mut text,
         secret_files,
         salt,
-        output,
     } = memory;
     let text = TextMemory::reserved(&mut text, CIPHERTEXT_LIMIT);
     let (secret_files, salt) = (secret_files.as_slice(), salt.as_slice());
-    match output {
-        Some(path) => {
-            files.set_output(path, output_access(request.command()));
-            run_in(request, secret_files, salt, text, src, files, err)
-        }
+    match request.output() {
+        Some(path) => run_to_path(files, path, request, secret_files, salt, text, src, err),
         None => run_in(request, secret_files, salt, text, src, out, err),
     }
+}
+
+/// Runs a request, whose output goes to a path.
+fn run_to_path<'r, D: System, S: Source, E: Sink>(
+    files: &mut D,
+    path: &str,
+    request: &'r Request,
+    secret_files: &'r [Vec<u8>],
+    salt: &'r [u8],
+    memory: TextMemory<'r>,
+    src: &mut S,
+    err: &mut E,
+) -> Status
+    requires files { length secret_files.now ≡ length (files_of request.now) }
+    requires empty { memory.bytes ≡ [] }
+    requires room { IsWorkLength memory.limit }
+    requires err_unbegun { E.stage err.old ≡ Stage.Unbegun }
+    ensures runs { let contents = map (λ file. file.items) secret_files.now in
+        RunsToPath D.System files.old files.new path.now (output_access request.now.command)
+        (λ out. RunsRequest (limit_of memory.entry.limit) request.now contents salt.now
+        (source S.Source src.old src.new) out (sink E.Sink err.old err.new) result) }
+{
+    let mut out = FileOutput::new(files, path, output_access(request.command()));
+    let status = run_to_file(request, secret_files, salt, memory, src, &mut out, err);
+    let _files = out.into_system();
+    status
+}
+
+/// Runs a request, whose output goes to a file.
+fn run_to_file<'r, 'f, D: System, S: Source, E: Sink>(
+    request: &'r Request,
+    secret_files: &'r [Vec<u8>],
+    salt: &'r [u8],
+    memory: TextMemory<'r>,
+    src: &mut S,
+    out: &mut FileOutput<'f, D>,
+    err: &mut E,
+) -> Status
+    requires files { length secret_files.now ≡ length (files_of request.now) }
+    requires empty { memory.bytes ≡ [] }
+    requires room { IsWorkLength memory.limit }
+    requires out_unbegun { stage_of out.old.output ≡ Stage.Unbegun }
+    requires err_unbegun { E.stage err.old ≡ Stage.Unbegun }
+    ensures same_reference { out.new.system.ghost_name ≡ out.old.system.ghost_name }
+    ensures runs { let contents = map (λ file. file.items) secret_files.now in
+        RunsRequest (limit_of memory.entry.limit) request.now contents salt.now
+        (source S.Source src.old src.new) (sink ⟦<FileOutput<'f, D> as Sink>⟧ out.old out.new)
+        (sink E.Sink err.old err.new) result }
+{
+    run_in(request, secret_files, salt, memory, src, out, err)
 }

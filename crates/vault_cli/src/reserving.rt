@@ -1,8 +1,6 @@
 //! The memory of a run, which is reserved before any file is opened.
 ghost use Rattle.std.specs.Prelude.{◌≡◌, ◌+◌, ◌≤◌, All, IfOk, length};
 ghost use Rattle.std.specs.Prelude.{vec_capacity, vec_len};
-ghost use Rattle.std.specs.Option.{option_map};
-ghost use Rattle.std.specs.String.{string_bytes};
 ghost use Rattle.vault_core.specs.declared.limits.TheConstants.{PASSWORD_FILE_LIMIT};
 ghost use Rattle.vault_request.specs.Request.{files_of};
 ghost use Rattle.vault_text.specs.declared.limits.TheConstants.{CIPHERTEXT_LIMIT};
@@ -25,8 +23,6 @@ pub(crate) struct RunMemory {
     /// A buffer for each password file, one byte longer than is taken; then what the file holds.
     pub secret_files: Vec<Vec<u8>>,
     pub salt: Vec<u8>,
-    /// The path of the output.
-    pub output: Option<String>,
 }
 
 /// Reserves all memory that a request needs. The stack is touched, too: one that is too small ends
@@ -38,22 +34,15 @@ pub(crate) fn reserve(alloc: Global, request: &Request) -> Result<RunMemory, All
     ensures long { IfOk result (λ memory.
         All (λ buf. vec_len buf ≡ PASSWORD_FILE_LIMIT + 1) memory.secret_files.items) }
     ensures salt { IfOk result (λ memory. vec_len memory.salt ≡ SEALING_SALT_LENGTH) }
-    ensures output { IfOk result (λ memory.
-        option_map string_bytes memory.output ≡ request.now.output) }
 {
     let text = Vec::with_capacity(alloc, CIPHERTEXT_LIMIT)?;
     let mut salt = vec![in alloc; 0; SEALING_SALT_LENGTH]?;
     touch_stack(request.files(), salt.as_mut_slice());
     let secret_files = password_buffers(alloc, request.files())?;
-    let output = match request.output() {
-        Some(path) => Some(String::from_str(alloc, path)?),
-        None => None,
-    };
     Ok(RunMemory {
         text,
         secret_files,
         salt,
-        output,
     })
 }
 

@@ -4,8 +4,7 @@ ghost use Rattle.vault_text.specs.Failures.{IsSaturated};
 ghost use Rattle.vault_text.specs.Limits.{IsWorkLength, limit_of};
 ghost use Rattle.vault_request.specs.Request.{files_of};
 ghost use Rattle.vault_cli.specs.Call.{sink, source};
-ghost use Rattle.vault_cli.specs.runs.Answer.{answered};
-ghost use Rattle.vault_cli.specs.runs.Ending.{Finishes, to_sink};
+ghost use Rattle.vault_cli.specs.runs.Delivered.{Delivers};
 ghost use Rattle.vault_cli.specs.runs.Run.{RunsRequest};
 
 mod report_line;
@@ -83,8 +82,8 @@ pub(crate) fn run_in<'r, S: Source, K: Sink, E: Sink>(
 fn deliver<K: Sink, E: Sink>(ready: Result<Ready<'_>, Fault>, out: &mut K, err: &mut E) -> Status
     requires out_unbegun { K.stage out.old ≡ Stage.Unbegun }
     requires err_unbegun { E.stage err.old ≡ Stage.Unbegun }
-    ensures finishes { Finishes (to_sink (sink K.Sink out.old out.new))
-        (sink E.Sink err.old err.new) result (answered ready.entry) }
+    ensures delivers { Delivers (sink K.Sink out.old out.new) (sink E.Sink err.old err.new) result
+        ready.entry }
     ensures full { IsSaturated (K.failures out.old) → result ≢ Status.Success }
 {
     match ready {

@@ -1,7 +1,6 @@
 //! The program over the files of the system.
 ghost use Rattle.std.specs.Prelude.{map};
 ghost use Rattle.std.specs.String.{string_bytes};
-ghost use Rattle.vault_files.specs.Host.{new_host};
 ghost use Rattle.vault_cli.specs.System.{MayBeDriven, device_terms, new_devices};
 
 use crate::program::drive_over;
@@ -9,7 +8,7 @@ use crate::runs::Status;
 use std::alloc::Global;
 use std::fs::Files;
 use std::io::{Read, Write};
-use vault_files::{FileSystem, HostFiles};
+use vault_files::System;
 use vault_text::{ReadSource, Sink, Source, WriteSink};
 
 /// All that the program does, as `drive_over`, over the files of the system, any reader and two
@@ -23,13 +22,13 @@ pub fn drive<'a, F: Files, R: Read + Drop, O: Write + Drop, E: Write + Drop>(
     stdout: O,
     stderr: E,
 ) -> Status
-    ensures driven { let terms = device_terms ⟦<HostFiles<&'a F> as FileSystem>⟧
+    ensures { let terms = device_terms ⟦<&'a F as System>⟧
         ⟦<ReadSource<R> as Source>⟧ ⟦<WriteSink<O> as Sink>⟧ ⟦<WriteSink<E> as Sink>⟧ in
-        let devices = new_devices (new_host rt.entry) (R.remaining stdin) (O.contents stdout)
+        let devices = new_devices rt.entry (R.remaining stdin) (O.contents stdout)
         (E.contents stderr) in
         MayBeDriven terms devices result (map string_bytes words.now) }
 {
-    let mut files = HostFiles::new(rt);
+    let mut files = rt;
     let mut src = ReadSource::new(stdin);
     let mut out = WriteSink::new(stdout);
     let mut err = WriteSink::new(stderr);

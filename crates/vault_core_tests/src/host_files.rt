@@ -1,12 +1,12 @@
 //! Files of the system.
 use crate::prefixes::assert_reads;
 use std::test::Fail;
-use vault_files::{Access, FileFault, FileSystem, HostFiles};
+use vault_files::{Access, FileFault, FileOutput};
 use vault_text::{Sink, put_all};
 
 #[test]
 fn reads_files_of_the_system(rt: HostRuntime) {
-    let mut files = HostFiles::new(&rt);
+    let mut files = &rt;
     let mut buf = [1; 4];
     assert_reads(&rt, &mut files, "/dev/zero", &mut buf, Ok(&[0; 4]));
     assert_reads(&rt, &mut files, "/dev/null", &mut buf, Ok(b""));
@@ -15,22 +15,21 @@ fn reads_files_of_the_system(rt: HostRuntime) {
 }
 
 /// Whether the file at the path can be begun, and whether it then takes a text.
-fn begins_and_takes(rt: &HostRuntime, path: &str) -> Result<(bool, bool), Fail> {
-    let mut files = HostFiles::new(rt);
-    files.set_output(String::from_str(rt.alloc(), path)?, Access::Kept);
-    if files.begin().is_err() {
-        return Ok((false, false));
+fn begins_and_takes(rt: &HostRuntime, path: &str) -> (bool, bool) {
+    let mut files = rt;
+    let mut output = FileOutput::new(&mut files, path, Access::Kept);
+    if output.begin().is_err() {
+        return (false, false);
     }
-    Ok((true, put_all(&mut files, b"text").is_ok()))
+    (true, put_all(&mut output, b"text").is_ok())
 }
 
 #[test]
-fn reports_what_cannot_be_written(rt: HostRuntime) -> Result<(), Fail> {
+fn reports_what_cannot_be_written(rt: HostRuntime) {
     let answers = [
-        begins_and_takes(&rt, "/")?,
-        begins_and_takes(&rt, "/dev/full")?,
-        begins_and_takes(&rt, "/dev/null")?,
+        begins_and_takes(&rt, "/"),
+        begins_and_takes(&rt, "/dev/full"),
+        begins_and_takes(&rt, "/dev/null"),
     ];
     assert_eq!(rt; answers, [(false, false), (true, false), (true, true)]);
-    Ok(())
 }

@@ -1,11 +1,8 @@
 //! Files in memory.
-ghost use Rattle.std.specs.Prelude.{◌≡◌};
-ghost use Rattle.vault_text.specs.declared.sink.Stage.{Stage};
-
 use crate::prefixes::assert_reads;
 use std::process::Abort;
 use std::test::Fail;
-use vault_files::{Access, FileFault, FileSystem, MemFile, MemFiles};
+use vault_files::{Access, FileFault, FileOutput, MemFile, MemFiles, PATH_LIMIT};
 use vault_text::{Sink, SinkFailed, put_all};
 
 #[test]
@@ -34,16 +31,12 @@ fn assert_content(rt: &impl Abort, files: &MemFiles, path: &str, bytes: Option<&
     assert_eq!(rt; (path, files.content(path)), (path, bytes));
 }
 
-/// Writes the output, which is at the path and holds nothing once it is begun.
-fn write_new(rt: &impl Abort, files: &mut MemFiles<'_>, path: &str) -> Result<(), SinkFailed>
-    requires { files.old.output.stage ≡ Stage.Unbegun }
-{
-    files.begin()?;
-    assert_content(rt, files, path, Some(b""));
-    put_all(files, b"new")?;
-    files.finish()?;
-    assert_content(rt, files, path, Some(b"new"));
-    Ok(())
+/// Writes an output at the path.
+fn write_new(files: &mut MemFiles<'_>, path: &str) -> Result<(), SinkFailed> {
+    let mut output = FileOutput::new(files, path, Access::Kept);
+    output.begin()?;
+    put_all(&mut output, b"new")?;
+    output.finish()
 }
 
 #[test]
@@ -51,11 +44,28 @@ fn keeps_what_is_written(rt: HostRuntime) -> Result<(), Fail> {
     let alloc = rt.alloc();
     let entries = [MemFile::whole("one", b"abc"), MemFile::whole("two", b"de")];
     let mut files = MemFiles::new(alloc, &entries);
-    files.set_output(String::from_str(alloc, "one")?, Access::Kept);
     assert_content(&rt, &files, "one", Some(b"abc"));
-    write_new(&rt, &mut files, "one")?;
+    write_new(&mut files, "one")?;
+    assert_content(&rt, &files, "one", Some(b"new"));
     assert_content(&rt, &files, "two", Some(b"de"));
     assert_content(&rt, &files, "none", None);
+    Ok(())
+}
+
+/// A file can be created at the longest path, and at none that is longer.
+#[test]
+fn creates_at_paths_up_to_a_limit(rt: HostRuntime) -> Result<(), Fail> {
+    let alloc = rt.alloc();
+    let mut path = String::new(alloc);
+    for _ in 0..PATH_LIMIT {
+        path.push('x')?;
+    }
+    let mut files = MemFiles::new(alloc, &[]);
+    write_new(&mut files, path.as_str())?;
+    assert_content(&rt, &files, path.as_str(), Some(b"new"));
+    path.push('x')?;
+    assert!(rt; write_new(&mut files, path.as_str()).is_err());
+    assert_content(&rt, &files, path.as_str(), None);
     Ok(())
 }
 
@@ -82,8 +92,7 @@ fn logs_each_open(rt: HostRuntime) -> Result<(), Fail> {
     assert_reads(&rt, &mut files, "none", &mut buf, missing);
     assert_reads(&rt, &mut files, "one", &mut buf, Ok(b"abc"));
     assert_reads(&rt, &mut files, "one", &mut buf, Ok(b"abc"));
-    files.set_output(String::from_str(alloc, "out")?, Access::Kept);
-    write_new(&rt, &mut files, "out")?;
+    write_new(&mut files, "out")?;
     assert!(rt; has_opened(&files, &["none", "one", "one"]));
     Ok(())
 }

@@ -1,9 +1,9 @@
 //! The first bytes of files.
-ghost use Rattle.std.specs.Prelude.{◌≡◌, [], ◌∷◌};
-ghost use Rattle.vault_text.specs.declared.sink.Stage.{Stage};
+ghost use Rattle.std.specs.Prelude.{[], ◌∷◌};
+ghost use Rattle.vault_files.specs.System.{Opens};
 
 use std::process::Abort;
-use vault_files::{FileFault, FileSystem, read_prefix};
+use vault_files::{FileFault, System, read_prefix};
 
 /// What was found at the path is what was expected.
 fn assert_found(
@@ -16,15 +16,14 @@ fn assert_found(
 }
 
 /// Reading what the buffer takes of the file gives these bytes, or has this fault.
-pub fn assert_reads<F: FileSystem>(
+pub fn assert_reads<D: System>(
     rt: &impl Abort,
-    files: &mut F,
+    files: &mut D,
     path: &str,
     buffer: &mut [u8],
     expected: Result<&[u8], FileFault>,
 )
-    requires { F.stage files.old ≡ Stage.Unbegun }
-    ensures { F.opens files.old (path.now ∷ []) files.new }
+    ensures { Opens D.executes files.old (path.now ∷ []) files.new }
 {
     match read_prefix(files, path, buffer) {
         Ok(length) => assert_found(rt, path, Ok(&buffer[..length]), expected),

@@ -1,2 +1,2 @@
-pub mod HostLemmas
+pub mod OutputLemmas
 pub mod PathLogLemmas

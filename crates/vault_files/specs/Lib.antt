@@ -1,9 +1,9 @@
 pub mod File
+pub mod FileProofs
 pub mod PathLog
 pub mod Memory
-pub mod System
-pub mod Host
-pub mod HostProofs
-pub mod HostReaders
 pub mod MemoryProofs
-pub mod HostReaderProofs
+pub mod System
+pub mod SystemProofs
+pub mod Output
+pub mod OutputProofs

@@ -1,12 +1,16 @@
 -- Files in memory.
-use Rattle.std.specs.Prelude.{◌≡◌, ℕ, ◌-◌, ◌^◌, ◌<◌, ◌≤◌, Bool, ◌&&◌, if◌then◌else◌}
-use Rattle.std.specs.Prelude.{true, false, IsTrue, List, [], ◌∷◌, ◌++◌, Option, Some, None}
+use Rattle.std.specs.Prelude.{◌≡◌, ◌⊎◌, ℕ, ◌<◌, ◌≤◌, Bool, if◌then◌else◌}
+use Rattle.std.specs.Prelude.{true, false, IsTrue, List, [], ◌∷◌, ◌++◌, length}
+use Rattle.std.specs.Prelude.{Option, Some, None}
+use Rattle.std.specs.Option.{option_map}
 use Rattle.std.specs.Str.{bytes_eq}
-use Rattle.vault_text.specs.Sink.{MemSinkState, Takes, has_begun, state_of}
-use Rattle.vault_text.specs.declared.sink.Stage.TheVariants.{Unbegun}
+use Rattle.vault_files.specs.System.{SystemCall}
+use Rattle.vault_files.specs.System.SystemCall.{Open, Create, ChmodOwnerOnly, Truncate}
+use Rattle.vault_files.specs.System.SystemCall.{Write, Sync, Failed}
 use Rattle.vault_files.specs.File.{FileState}
 use Rattle.vault_files.specs.File.FileState.{Missing, Whole, Broken}
 use Rattle.vault_files.specs.PathLog.{LogState, logged}
+use Rattle.vault_files.specs.declared.memory.store.TheConstants.{PATH_LIMIT}
 
 -- a file in memory, under its path
 pub record Entry : Type 0 where
@@ -54,45 +58,70 @@ pub record Reads (old : ReaderState) (given : List ℕ) (new : ReaderState) : Ty
   pub break_is_real : old.failures < new.failures → IsAtBreak new
   pub failures_monotone : old.failures ≤ new.failures
 
--- files in memory, the path of the output if one was chosen, what the output has taken, and the log
--- of the paths that were opened, if one is kept and has room for all
+-- a file that was created, and whether it was synced since it was written
+pub record Created : Type 0 where
+  pub path : List ℕ
+  pub bytes : List ℕ
+  pub synced : Bool
+
+-- files in memory, the one that was created last, and the log of the paths that were opened, if one
+-- is kept and has room for all
 pub record StoreState : Type 0 where
   pub entries : List Entry
-  pub output_file : Option (List ℕ)
-  pub output : MemSinkState
+  pub created : Option Created
   pub log : Option LogState
 
--- between two states the output took these bytes, and all else stayed
-pub record StoreTakes (old : StoreState) (taken : List ℕ) (new : StoreState) : Type 0 where
-  pub output : Takes (state_of old.output) taken (state_of new.output)
-  pub entries : new.entries ≡ old.entries
-  pub output_file : new.output_file ≡ old.output_file
-  pub log : new.log ≡ old.log
-
--- between two states these paths were opened, in this order, and all else stayed
-abbrev pub StoreOpens : StoreState → List (List ℕ) → StoreState → Type 0
-StoreOpens old paths new = new ≡ record old { log = logged old.log paths }
-
--- files without a log, whose output was not chosen
+-- files without a log, of which none was created
 abbrev pub new_store : List Entry → StoreState
-new_store entries = record {
-  entries = entries;
-  output_file = None;
-  output = record { held = []; stage = Unbegun; failures = 0; step = 2 ^ 64 - 1 };
-  log = None;
-}
+new_store entries = record { entries = entries; created = None; log = None }
 
--- whether the path is the one that was chosen for the output
-abbrev pub is_output_at : Option (List ℕ) → List ℕ → Bool
-is_output_at None path = false
-is_output_at (Some output_file) path = bytes_eq output_file path
+-- the file that was created, after a call
+abbrev pub with_file : (Created → Created) → StoreState → StoreState
+with_file change s = record s { created = option_map change s.created }
 
--- what is at a path: the output, once it was begun there, else the file that was there before
+-- the store once a file was created, which is empty
+abbrev pub with_created : List ℕ → StoreState → StoreState
+with_created path s =
+    record s { created = Some (record { path = path; bytes = []; synced = false }) }
+
+-- once that was cut to no byte, took bytes, and was synced
+abbrev pub emptied : Created → Created
+emptied file = record file { bytes = []; synced = false }
+
+abbrev pub with_bytes : List ℕ → Created → Created
+with_bytes bytes file = record file { bytes = file.bytes ++ bytes; synced = false }
+
+abbrev pub with_sync : Created → Created
+with_sync file = record file { synced = true }
+
+-- the call before these failed
+abbrev pub HasFailed : List SystemCall → Type 0
+HasFailed (Failed ∷ calls) = Unit {0}
+HasFailed _ = ⊥
+
+-- between two states the files were asked for these calls, in this order. A file whose path is too
+-- long was not created
+abbrev pub StoreExecutes : StoreState → List SystemCall → StoreState → Type 0
+StoreExecutes s [] t = t ≡ s
+StoreExecutes s (Open path ∷ calls) t =
+    StoreExecutes (record s { log = logged s.log (path ∷ []) }) calls t
+StoreExecutes s (Create path ∷ calls) t =
+    StoreExecutes (with_created path s) calls t
+    ⊎ (HasFailed calls × (PATH_LIMIT < length path) × StoreExecutes s calls t)
+StoreExecutes s (ChmodOwnerOnly ∷ calls) t = StoreExecutes s calls t
+StoreExecutes s (Truncate ∷ calls) t = StoreExecutes (with_file emptied s) calls t
+StoreExecutes s (Write bytes ∷ calls) t =
+    StoreExecutes (with_file (with_bytes bytes) s) calls t
+StoreExecutes s (Sync ∷ calls) t = StoreExecutes (with_file with_sync s) calls t
+StoreExecutes s (Failed ∷ calls) t = StoreExecutes s calls t
+
+-- what is at a path: the file that was created there, else the one that was there before
+abbrev pub stands_over : Option Created → FileState → List ℕ → FileState
+stands_over None before path = before
+stands_over (Some file) before path = if bytes_eq file.path path then Whole file.bytes else before
+
 abbrev pub stands_at : StoreState → List ℕ → FileState
-stands_at store path =
-    if has_begun store.output.stage && is_output_at store.output_file path then Whole
-    store.output.held
-    else file_at store.entries path
+stands_at store path = stands_over store.created (file_at store.entries path) path
 
 -- the bytes of a file, up to where it breaks
 abbrev pub bytes_of : FileState → Option (List ℕ)

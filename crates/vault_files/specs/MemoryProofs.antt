@@ -1,19 +1,21 @@
--- Files in memory: what their readers give, what the output takes, and what was opened.
+-- Files in memory: what their readers give, and what they are asked for.
 use Rattle.std.specs.Prelude.{◌≡◌, ℕ, ◌<◌, ◌≤◌, nat_lt, ◌⊎◌, List, [], ◌∷◌, ◌++◌, length, take}
 use Rattle.std.specs.Prelude.{Bool, true, false, IsTrue, refl, Option, Ok, Err}
-use Rattle.std.specs.Option.{option_and_then}
 use Rattle.std.proofs.Common.{inl, inr, arith, sym, ap, ◌∙◌, append_assoc, length-append}
 use Rattle.std.proofs.Common.{rules, tests}
 use Rattle.std.proofs.lemmas.List.{append-nil, nil_from_length, take_all, take-append-le}
 use Rattle.std.proofs.lemmas.Bool.{cases_lt, false≢true}
 use Rattle.vault_text.specs.Failures.{HasRisen}
-use Rattle.vault_text.specs.Sink.{state_of}
-use Rattle.vault_text.specs.SinkProofs.{Takes-none, Takes-more}
+use Rattle.vault_files.specs.System.{OpenCalls, SystemCall}
+use Rattle.vault_files.specs.System.OpenCalls.{no_opens, opens, fails_to_open}
+use Rattle.vault_files.specs.System.SystemCall.{Open, Create, ChmodOwnerOnly, Truncate}
+use Rattle.vault_files.specs.System.SystemCall.{Write, Sync, Failed}
 use Rattle.vault_files.specs.File.{FileState, prefix}
 use Rattle.vault_files.specs.File.FileState.{Missing, Whole, Broken}
 use Rattle.vault_files.specs.Memory.{IsAtBreak, IsAtEnd, IsReaderOf, ReaderState, Reads}
-use Rattle.vault_files.specs.Memory.{StoreOpens, StoreState, StoreTakes, new_reader}
-use Rattle.vault_files.specs.PathLog.{LogState, logged, with_path}
+use Rattle.vault_files.specs.Memory.{HasFailed, StoreExecutes, StoreState, emptied, new_reader}
+use Rattle.vault_files.specs.Memory.{with_bytes, with_created, with_file, with_sync}
+use Rattle.vault_files.specs.PathLog.{logged}
 use Rattle.vault_files.specs.declared.fault.FileFault.TheVariants.{CannotRead}
 
 -- a reader that was not called gave nothing
@@ -50,25 +52,6 @@ Reads-more s t u xs ys p q = record {
         | inr stayed ↦ break-stays t u ys q (p.break_is_real (omega (arith, risen, stayed)))
       ];
   failures_monotone = let a = p.failures_monotone in let b = q.failures_monotone in omega arith;
-}
-
-pub StoreTakes-none : (s : StoreState) → StoreTakes s [] s
-StoreTakes-none s =
-    record {
-      output = Takes-none (state_of s.output);
-      entries = refl;
-      output_file = refl;
-      log = refl;
-    }
-
-pub StoreTakes-more : (s t u : StoreState) (xs ys : List ℕ)
-    → StoreTakes s xs t → StoreTakes t ys u → StoreTakes s (xs ++ ys) u
-StoreTakes-more s t u xs ys p q = record {
-  output = Takes-more (state_of s.output) (state_of t.output) (state_of u.output) xs ys
-      p.output q.output;
-  entries = q.entries ∙ p.entries;
-  output_file = q.output_file ∙ p.output_file;
-  log = q.log ∙ p.log;
 }
 
 -- the first bytes of a file that begins with those that were given
@@ -124,16 +107,49 @@ break-given (Broken bytes) r t xs n e g short risen =
     let test : nat_lt (length bytes) n ≡ true = search (rules, tests, count) in
     rw test refl
 
--- a log after paths, and after those that follow them
-logged-append : (log : Option LogState) (xs ys : List (List ℕ))
-    → logged log (xs ++ ys) ≡ logged (logged log xs) ys
-logged-append log [] ys = refl
-logged-append log (path ∷ xs) ys =
-    logged-append (option_and_then (λ some. with_path some path) log) xs ys
+-- a call that failed first still did with others after it
+HasFailed-more : (xs ys : List SystemCall) → HasFailed xs → HasFailed (xs ++ ys)
+HasFailed-more [] ys h = absurd h
+HasFailed-more (Failed ∷ xs) ys h = tt
+HasFailed-more (Open path ∷ xs) ys h = absurd h
+HasFailed-more (Create path ∷ xs) ys h = absurd h
+HasFailed-more (ChmodOwnerOnly ∷ xs) ys h = absurd h
+HasFailed-more (Truncate ∷ xs) ys h = absurd h
+HasFailed-more (Write bytes ∷ xs) ys h = absurd h
+HasFailed-more (Sync ∷ xs) ys h = absurd h
 
-pub StoreOpens-none : (s : StoreState) → StoreOpens s [] s
-StoreOpens-none s = refl
+executes-append : (xs ys : List SystemCall) (t u s : StoreState)
+    → StoreExecutes s xs t → StoreExecutes t ys u → StoreExecutes s (xs ++ ys) u
+executes-append [] ys t u s p q = rw p at q
+executes-append (Open path ∷ xs) ys t u s p q =
+    executes-append xs ys t u (record s { log = logged s.log (path ∷ []) }) p q
+executes-append (Create path ∷ xs) ys t u s (inl p) q =
+    inl (executes-append xs ys t u (with_created path s) p q)
+executes-append (Create path ∷ xs) ys t u s (inr (fails, long, p)) q =
+    inr (HasFailed-more xs ys fails, long, executes-append xs ys t u s p q)
+executes-append (ChmodOwnerOnly ∷ xs) ys t u s p q = executes-append xs ys t u s p q
+executes-append (Truncate ∷ xs) ys t u s p q = executes-append xs ys t u (with_file emptied s) p q
+executes-append (Write bytes ∷ xs) ys t u s p q =
+    executes-append xs ys t u (with_file (with_bytes bytes) s) p q
+executes-append (Sync ∷ xs) ys t u s p q = executes-append xs ys t u (with_file with_sync s) p q
+executes-append (Failed ∷ xs) ys t u s p q = executes-append xs ys t u s p q
 
-pub StoreOpens-more : (s t u : StoreState) (xs ys : List (List ℕ))
-    → StoreOpens s xs t → StoreOpens t ys u → StoreOpens s (xs ++ ys) u
-StoreOpens-more s t u xs ys p q = rw (logged-append s.log xs ys) (rw p at q)
+pub StoreExecutes-more : (s t u : StoreState) (xs ys : List SystemCall)
+    → StoreExecutes s xs t → StoreExecutes t ys u → StoreExecutes s (xs ++ ys) u
+StoreExecutes-more s t u xs ys p q = executes-append xs ys t u s p q
+
+-- opens change the log alone
+pub opens-logged : (s t : StoreState) (paths : List (List ℕ)) (calls : List SystemCall)
+    → OpenCalls paths calls → StoreExecutes s calls t
+    → t ≡ record s { log = logged s.log paths }
+opens-logged s t _ _ no_opens p = p
+opens-logged s t _ _ (opens path paths calls rest) p =
+    opens-logged (record s { log = logged s.log (path ∷ []) }) t paths calls rest p
+opens-logged s t _ _ (fails_to_open path paths calls rest) p =
+    opens-logged (record s { log = logged s.log (path ∷ []) }) t paths calls rest p
+
+-- so they leave the files
+pub opens-entries : (s t : StoreState) (paths : List (List ℕ)) (calls : List SystemCall)
+    → OpenCalls paths calls → StoreExecutes s calls t → t.entries ≡ s.entries
+opens-entries s t paths calls opened p =
+    ap (λ (u : StoreState). u.entries) (opens-logged s t paths calls opened p)

@@ -29,3 +29,10 @@ pub data OpenCalls : List (List ℕ) → List SystemCall → Type 0 where
       → OpenCalls paths calls → OpenCalls (path ∷ paths) (Open path ∷ calls)
   fails_to_open : (path : List ℕ) (paths : List (List ℕ)) (calls : List SystemCall)
       → OpenCalls paths calls → OpenCalls (path ∷ paths) (Open path ∷ Failed ∷ calls)
+
+-- between two states a system was asked to open these paths, in this order, and for nothing else
+pub record Opens {System : Type 0} (executes : System → List SystemCall → System → Type 0)
+    (old : System) (paths : List (List ℕ)) (new : System) : Type 0 where
+  pub calls : List SystemCall
+  pub executed : executes old calls new
+  pub are_opens : OpenCalls paths calls

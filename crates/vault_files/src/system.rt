@@ -1,34 +1,42 @@
 //! The calls of the system that files make.
-ghost use Rattle.std.specs.Prelude.{ℕ, ◌≤◌, List, [], ◌∷◌, ◌++◌, length};
-ghost use Rattle.std.specs.Prelude.{Option, Some, None, IfOk, IfErr};
+ghost use Rattle.std.specs.Prelude.{◌≡◌, ℕ, ◌<◌, ◌≤◌, ◌⊎◌, List, [], ◌∷◌, ◌++◌, length, take};
+ghost use Rattle.std.specs.Prelude.{IsTrue, Ok, Err, IfOk, IfErr};
+ghost use Rattle.vault_text.specs.Failures.{HasRisen};
 ghost use Rattle.vault_text.specs.Sink.{taken};
-ghost use Rattle.vault_files.specs.System.{OpenCalls, SystemCall, if_failed};
+ghost use Rattle.vault_files.specs.File.{Answers, FileState};
+ghost use Rattle.vault_files.specs.File.FileState.{Missing};
+ghost use Rattle.vault_files.specs.System.{OpenCalls, Opens, SystemCall, if_failed};
 ghost use Rattle.vault_files.specs.System.SystemCall.{Open, Create, ChmodOwnerOnly, Truncate};
 ghost use Rattle.vault_files.specs.System.SystemCall.{Write, Sync};
+ghost use Rattle.vault_files.specs.declared.fault.FileFault.TheVariants.{CannotOpen, CannotRead};
 
 mod runtime;
 
+use crate::fault::FileFault;
 use std::io;
-use std::io::Read;
+use vault_text::{Source, SourceFailed, fill_up};
 
 /// All that files ask of the system. Each method makes one system call, but `chmod_owner_only` and
 /// `truncate` first ask whether the file is a regular one.
 pub trait System {
-    type Reader: Read + Drop;
+    type Reader: Source + Drop;
 
     type Writer: Drop;
 
     // Between two states it was asked for these calls, in this order.
     ghost executes: { Self → List SystemCall → Self → Type 0 };
 
-    // Opening the path gives this reader, or none.
-    ghost reader_at: { Self → List ℕ → Option Self.Reader → Type 0 };
+    // What may be found at a path.
+    ghost finds: { Self → List ℕ → FileState → Type 0 };
+
+    // Opening the path gives this reader.
+    ghost reader_at: { Self → List ℕ → Self.Reader → Type 0 };
 
     /// Opens a file for reading.
     fn open(&mut self, path: &str) -> io::Result<Self::Reader>
         ensures executes { executes self.old (Open path.now ∷ if_failed result) self.new }
-        ensures found { IfOk result (λ reader. reader_at self.old path.now (Some reader)) }
-        ensures missing { IfErr result (λ _. reader_at self.old path.now None) };
+        ensures reader { IfOk result (λ reader. reader_at self.old path.now reader) }
+        ensures missing { IfErr result (λ _. finds self.old path.now Missing) };
 
     /// Opens a file for writing, as it is; if there is none, it is created for its owner only, less
     /// the umask.
@@ -58,13 +66,59 @@ pub trait System {
     ghost executes_more: { (s t u : Self) (xs ys : List SystemCall)
         → executes s xs t → executes t ys u → executes s (xs ++ ys) u };
 
-    // Opening each path gives a reader or none.
-    ghost reader_some: { (s : Self) (path : List ℕ)
-        → (found : Option Self.Reader) × reader_at s path found };
+    // Something may be found at each path.
+    ghost finds_some: { (s : Self) (path : List ℕ) → (file : FileState) × finds s path file };
 
-    // What it gives after opens it could give before them.
-    ghost opens_give: { (s t : Self) (paths : List (List ℕ)) (calls : List SystemCall)
-        (path : List ℕ) (found : Option Self.Reader)
-        → OpenCalls paths calls → executes s calls t → reader_at t path found
-        → reader_at s path found };
+    // What may be found after opens could be found before them.
+    ghost opens_finds: { (s t : Self) (paths : List (List ℕ)) (calls : List SystemCall)
+        (path : List ℕ) (file : FileState)
+        → OpenCalls paths calls → executes s calls t → finds t path file → finds s path file };
+
+    // A reader that opening gives after them it could give before.
+    ghost opens_reader: { (s t : Self) (paths : List (List ℕ)) (calls : List SystemCall)
+        (path : List ℕ) (r : Self.Reader)
+        → OpenCalls paths calls → executes s calls t → reader_at t path r → reader_at s path r };
+
+    // What a reader gave to its end, or up to a limit, without a failure, is a prefix of a file
+    // that may be found.
+    ghost prefix_found: { (s : Self) (path : List ℕ) (r t : Self.Reader) (xs : List ℕ) (n : ℕ)
+        → reader_at s path r → Self.Reader.gives r xs t → length xs ≤ n
+        → IsTrue (Self.Reader.ended t) ⊎ (length xs ≡ n)
+        → Self.Reader.failures t ≡ Self.Reader.failures r → Answers (finds s path) n (Ok xs) };
+
+    // If it failed before that, such a file breaks there.
+    ghost break_found: { (s : Self) (path : List ℕ) (r t : Self.Reader) (xs : List ℕ) (n : ℕ)
+        → reader_at s path r → Self.Reader.gives r xs t → length xs < n
+        → HasRisen (Self.Reader.failures r) (Self.Reader.failures t)
+        → Answers (finds s path) n (Err CannotRead) };
+}
+
+/// Opens a file for reading. If that fails, for whatever reason, it returns `CannotOpen`.
+pub fn open<D: System>(files: &mut D, path: &str) -> Result<D::Reader, FileFault>
+    ensures opens { Opens D.executes files.old (path.now ∷ []) files.new }
+    ensures reader { IfOk result (λ reader. D.reader_at files.old path.now reader) }
+    ensures fault { IfErr result (λ fault. fault ≡ CannotOpen) }
+    ensures missing { IfErr result (λ _. D.finds files.old path.now Missing) }
+{
+    match files.open(path) {
+        Ok(reader) => Ok(reader),
+        Err(_) => Err(FileFault::CannotOpen),
+    }
+}
+
+/// Reads a prefix of a file into the start of `buf` and returns its length: less than that of `buf`
+/// only if the file has no more bytes. After an error the contents of `buf` are unspecified.
+pub fn read_prefix<D: System>(files: &mut D, path: &str, buf: &mut [u8]) -> Result<usize, FileFault>
+    ensures opens { Opens D.executes files.old (path.now ∷ []) files.new }
+    ensures bound { IfOk result (λ n. n ≤ length buf.new) }
+    ensures prefix { IfOk result (λ n.
+        Answers (D.finds files.old path.now) (length buf.new) (Ok (take n buf.new))) }
+    ensures refused { IfErr result (λ fault.
+        Answers (D.finds files.old path.now) (length buf.new) (Err fault)) }
+{
+    let mut reader = open(files, path)?;
+    match fill_up(&mut reader, buf) {
+        Ok(n) => Ok(n),
+        Err(SourceFailed) => Err(FileFault::CannotRead),
+    }
 }

@@ -1,5 +1,2 @@
-pub mod System
-pub mod SystemProofs
-pub mod OnDisk
 pub mod OnePassword
 pub mod OnePasswordProofs

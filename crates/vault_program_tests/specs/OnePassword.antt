@@ -1,25 +1,14 @@
--- Files that all hold one password, and one output in memory.
-use Rattle.std.specs.Prelude.{◌≡◌, ℕ, List, [], false}
-use Rattle.vault_text.specs.Sink.{MemSinkState, MemoryTakes}
+-- A password under every path.
+use Rattle.std.specs.Prelude.{ℕ, List, [], false}
 use Rattle.vault_text.specs.Source.{MemSourceState}
-use Rattle.vault_text.specs.declared.sink.Stage.TheVariants.{Unbegun}
 
--- what every path holds, and what the output has taken
 pub record OnePassword : Type 0 where
   pub password : List ℕ
-  pub output : MemSinkState
+  pub output : List ℕ
 
--- the same before anything was written
+-- nothing was written yet
 abbrev pub no_output : List ℕ → OnePassword
-no_output password = record {
-  password = password;
-  output = record { held = []; stage = Unbegun; failures = 0; step = 4096 };
-}
-
--- between two states the output took these bytes, and the password stayed
-pub record Takes (old : OnePassword) (taken : List ℕ) (new : OnePassword) : Type 0 where
-  pub output : MemoryTakes old.output taken new.output
-  pub password : new.password ≡ old.password
+no_output password = record { password = password; output = [] }
 
 -- a reader that was not read yet
 abbrev pub new_reader : List ℕ → MemSourceState

@@ -7,24 +7,12 @@ use Rattle.std.proofs.lemmas.Bool.{false≢true}
 use Rattle.vault_files.specs.File.{Answers}
 use Rattle.vault_files.specs.File.FileState.{Whole}
 use Rattle.vault_text.specs.Failures.{HasRisen}
-use Rattle.vault_text.specs.SinkProofs.{MemoryTakes-none, MemoryTakes-more}
 use Rattle.vault_text.specs.Source.{MemSourceState, MemoryGives}
-use Rattle.vault_program_tests.specs.OnePassword.{OnePassword, Takes, new_reader}
+use Rattle.vault_program_tests.specs.OnePassword.{new_reader}
 
 -- two calls that changed nothing
 pub same : {T : Type 0} {s t u : T} → t ≡ s → u ≡ t → u ≡ s
 same first then = then ∙ first
-
--- what the output took in no call, and in two
-pub Takes-none : (s : OnePassword) → Takes s [] s
-Takes-none s = record { output = MemoryTakes-none s.output; password = refl }
-
-pub Takes-more : (s t u : OnePassword) (xs ys : List ℕ)
-    → Takes s xs t → Takes t ys u → Takes s (xs ++ ys) u
-Takes-more s t u xs ys p q = record {
-  output = MemoryTakes-more s.output t.output u.output xs ys p.output q.output;
-  password = q.password ∙ p.password;
-}
 
 -- the first bytes of a text that begins with those that were given
 take-given : (bytes xs rest : List ℕ) (n : ℕ) → bytes ≡ xs ++ rest → length xs ≤ n

@@ -4,7 +4,7 @@ use vault_aes::{Key, ctr_apply};
 use vault_cli::{Status, run};
 use vault_core::{Form, Secrets, password_of, prepare_encrypt};
 use vault_fault::Fault;
-use vault_files::{Access, FileSystem, MemFile, MemFiles};
+use vault_files::{Access, FileOutput, MemFile, MemFiles};
 use vault_kdf::{Hmac, Meter, derive, hmac};
 use vault_request::{CommandName, parse, settle};
 use vault_text::{Label, MemSink, MemSource, Salt, Sink, TAG_LENGTH, put_all, write_envelope};
@@ -79,10 +79,10 @@ fn of_vault_files(rt: HostRuntime) -> Result<(), Fail> {
     let alloc = rt.alloc();
     let entries = [MemFile::whole("one", b"first\n")];
     let mut files = MemFiles::new(alloc, &entries);
-    files.set_output(String::from_str(alloc, "two")?, Access::OwnerOnly);
-    files.begin()?;
-    put_all(&mut files, b"second\n")?;
-    files.finish()?;
+    let mut output = FileOutput::new(&mut files, "two", Access::OwnerOnly);
+    output.begin()?;
+    put_all(&mut output, b"second\n")?;
+    output.finish()?;
     assert!(rt; files.content("one") == Some(b"first\n".as_slice()));
     assert!(rt; files.content("two") == Some(b"second\n".as_slice()));
     Ok(())

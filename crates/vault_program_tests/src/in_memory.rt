@@ -4,6 +4,7 @@ use std::process::Abort;
 use std::test::Fail;
 use vault_cli::{MemFile, MemFiles, MemSink, MemSource, Status, drive_in_memory};
 use vault_core_tests::line_of;
+use vault_files::PATH_LIMIT;
 use vault_made::envelope;
 
 const PLAINTEXT: &[u8] = b"key: value\n";
@@ -140,6 +141,40 @@ fn creates_no_file_on_a_refusal(rt: HostRuntime) -> Result<(), Fail> {
         &words,
         vault.as_slice(),
         refused,
+        &wanted,
+    )
+}
+
+/// A file cannot be created at a path that is too long.
+#[test]
+fn fails_where_no_file_can_be_created(rt: HostRuntime) -> Result<(), Fail> {
+    let alloc = rt.alloc();
+    let vault = vault_of_first(alloc)?;
+    let entries = [MemFile::whole("one", b"first\n")];
+    let mut path = String::new(alloc);
+    for _ in 0..=PATH_LIMIT {
+        path.push('x')?;
+    }
+    let words = [
+        "decrypt",
+        "--vault-password-file",
+        "one",
+        "--output",
+        path.as_str(),
+    ];
+    let failed = End {
+        status: Status::DeviceFailed,
+        message: "ERROR! the output cannot be written\n",
+        prints: false,
+    };
+    let wanted: [(&str, Option<&[u8]>); 1] = [(path.as_str(), None)];
+    assert_leaves(
+        &rt,
+        alloc,
+        &entries,
+        &words,
+        vault.as_slice(),
+        failed,
         &wanted,
     )
 }

@@ -1,6 +1,4 @@
 //! Runs of the program over files in memory, and over those of the system.
-ghost use Rattle.std.specs.Prelude.{◌≡◌};
-
 use crate::leaving::assert_left;
 use crate::ran::{Ended, Left, Ran, left_by, text_of};
 use std::alloc::Global;
@@ -8,23 +6,21 @@ use std::fs::Files;
 use std::io::Read;
 use std::process::Abort;
 use std::test::Fail;
-use vault_cli::{FileSystem, MemFile, MemFiles, MemSink, ReadSource, WriteSink, drive, drive_over};
+use vault_cli::{MemFile, MemFiles, MemSink, ReadSource, System, WriteSink, drive, drive_over};
 use vault_core_tests::{CountingReader, line_of};
-use vault_text::{Source, Stage};
+use vault_text::Source;
 
 /// A file of every Linux system, which holds "Linux" and a line end. It serves as a password file
 /// where a test has no files of its own.
 pub const LINUX_FILE: &str = "/proc/sys/kernel/ostype";
 
 /// Runs the program on these words after its name, over these files. Its messages go to a writer.
-pub fn run_program<F: FileSystem, S: Source>(
+pub fn run_program<D: System, S: Source>(
     alloc: Global,
-    files: &mut F,
+    files: &mut D,
     words: &[&str],
     src: &mut S,
-) -> Result<Ran, Fail>
-    requires unbegun { F.stage files.old ≡ Stage.Unbegun }
-{
+) -> Result<Ran, Fail> {
     let line = line_of(alloc, words)?;
     let mut out = MemSink::new(alloc, 4_096);
     let mut err = WriteSink::new(Vec::new(alloc));

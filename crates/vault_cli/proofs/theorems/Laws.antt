@@ -1,7 +1,7 @@
 -- The laws of the answers.
 use Rattle.std.proofs.Common.{◌≡◌, ◌⊎◌, ℕ, ◌*◌, ◌≤◌, List, [], ◌∷◌, length, Result}
 use Rattle.std.proofs.Common.{Ok, Err, inl, inr, refl, sym, ap, ◌∙◌, arith}
-use Rattle.std.specs.Prelude.{Option, unwrap_or}
+use Rattle.std.specs.Prelude.{IfErr, Option, unwrap_or}
 use Rattle.vault_core.specs.Decryption.{decryption}
 use Rattle.vault_core.specs.Form.{Envelope}
 use Rattle.vault_core.specs.Laws.{EncryptedDecrypts, RekeyedDecrypts, ShortInputs}
@@ -10,7 +10,7 @@ use Rattle.vault_core.specs.Secrets.{Secret, SecretList}
 use Rattle.vault_fault.specs.declared.fault.Fault.{Fault}
 use Rattle.vault_cli.specs.Laws.{EncryptThenDecrypt, UnsealsWith, AnswersAreDecided}
 use Rattle.vault_cli.specs.Laws.{RekeyKeepsThePlaintext, ShortTexts}
-use Rattle.vault_cli.specs.runs.Answer.{answered, input_limit, run_answer_within, performed}
+use Rattle.vault_cli.specs.runs.Answer.{input_limit, output_of, run_answer_within, performed}
 use Rattle.vault_cli.specs.runs.Answer.{ready_by, room_limit, task_limit, text_of_request}
 use Rattle.vault_request.specs.Request.{Request}
 use Rattle.vault_cli.specs.runs.Task.{Task, Encrypt, Decrypt, Rekey, planned}
@@ -18,15 +18,16 @@ use Rattle.vault_fault.specs.declared.label_rule.LabelRule.TheVariants.{Hint}
 use Rattle.vault_request.specs.declared.command_name.CommandName.{CommandName}
 use Rattle.vault_cli.proofs.AnswerLemmas.{ready-text, run_answer-output, run_answer-performed}
 use Rattle.vault_cli.proofs.PlannedLemmas.{keeps-planned}
-use Rattle.vault_cli.specs.declared.runs.status.Status.TheVariants.{Refused, Success}
+use Rattle.vault_cli.specs.declared.runs.status.Status.TheVariants.{Refused}
 use Rattle.vault_core.specs.Ready.{Ready}
+use Rattle.vault_cli.specs.runs.Status.{status_of}
 use Rattle.vault_cli.proofs.StatusLemmas.{IsRefusedAlone, alone-performed, next}
 
 -- what a request that opens answers
 opened : (limit : ℕ) (request : Request) (contents : List (List ℕ)) (salt input : List ℕ)
     (secrets : SecretList) → UnsealsWith request contents salt secrets
     → run_answer_within limit request contents salt input
-    ≡ answered (decryption limit secrets input)
+    ≡ output_of (decryption limit secrets input)
 opened limit request contents salt input secrets opens =
     run_answer-performed limit request contents salt input opens.settled
     (λ string. elim opens.command [ inl decrypt ↦ cc | inr view ↦ cc ]) (Decrypt secrets)
@@ -43,7 +44,7 @@ encrypt_then_decrypt law limit encrypting decrypting contents other_contents sal
     let plain = law limit list index used input ready label used_salt.bytes used_salt.limit
     input_bytes is secrets first in
     opened limit decrypting other_contents other_salt envelope secrets opens
-    ∙ ap answered (rw same at plain)
+    ∙ ap output_of (rw same at plain)
 
 pub rekey_keeps_the_plaintext : RekeyedDecrypts → RekeyKeepsThePlaintext
 rekey_keeps_the_plaintext law limit rekeying before after contents old_contents new_contents salt
@@ -57,8 +58,8 @@ rekey_keeps_the_plaintext law limit rekeying before after contents old_contents 
     used_salt.limit is in
     opened limit after new_contents new_salt envelope (record { secrets = new ∷ []; rule = rule })
     opens
-    ∙ ap answered (rw same at (opens_to rule))
-    ∙ sym (opened limit before old_contents old_salt input secrets old ∙ ap answered was)
+    ∙ ap output_of (rw same at (opens_to rule))
+    ∙ sym (opened limit before old_contents old_salt input secrets old ∙ ap output_of was)
 
 -- any secret and any list, where a law speaks of more than is asked
 no_secret : Secret
@@ -106,16 +107,16 @@ short-tasks larger smaller string input (Err fault) h = refl
 pub short_texts : ShortInputs → ShortTexts
 unfolding run_answer_within
 short_texts law smaller larger request contents salt input short more =
-    ap answered
+    ap output_of
     (short-tasks larger smaller request.string input (planned request contents salt) (λ task found.
     short-performed law smaller larger (text_of_request request input) more task request.command
     ((rw found at (keeps-planned request salt contents)).0 smaller) short))
 
 -- what is refused is refused with status 1
 decided : (ready : Result Ready Fault) → IsRefusedAlone ready
-    → ((answered ready).status ≡ Success) ⊎ ((answered ready).status ≡ Refused)
-decided (Ok ready) alone = inl refl
-decided (Err fault) alone = inr alone
+    → IfErr (output_of ready) (λ fault. status_of fault ≡ Refused)
+decided (Ok ready) alone = tt
+decided (Err fault) alone = alone
 
 pub answers_are_decided : AnswersAreDecided
 unfolding run_answer_within

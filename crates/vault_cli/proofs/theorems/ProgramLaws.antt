@@ -15,7 +15,7 @@ use Rattle.vault_request.specs.CommandLine.{vault_app}
 use Rattle.vault_cli.specs.InMemory.{stands_after}
 use Rattle.vault_cli.specs.Laws as run_answers
 use Rattle.vault_request.specs.Laws.{IsRequest, SettledRequests}
-use Rattle.vault_cli.specs.runs.Answer.{Answer, answered, input_limit, performed, ready_by}
+use Rattle.vault_cli.specs.runs.Answer.{input_limit, output_of, performed, ready_by}
 use Rattle.vault_cli.specs.runs.Answer.{run_answer, run_answer_within, task_limit}
 use Rattle.vault_cli.specs.Program.{input_in, can_open_input, output_path}
 use Rattle.vault_cli.specs.ProgramLaws.{ProgramEncryptsThenDecrypts, IsInput, ProgramIsRun}
@@ -64,7 +64,7 @@ program_is_run run =
     let found = task-found run.request run.files run.contents run.salt run.secrets run.salted
     (can_open-input run.files.input run.stdin run.input run.is_input) in
     rw (run.requested, found)
-    (ap answered
+    (ap output_of
     (ready_by-input PLAINTEXT_LIMIT (input_limit PLAINTEXT_LIMIT run.request.command)
     (planned run.request run.contents run.salt) run.request.string run.files.input run.stdin
     run.input
@@ -83,10 +83,9 @@ module _ (settles : SettledRequests) where
   is-request run = settled-request settles (command_in (subcommand_of vault_app run.words))
       run.request run.requested
 
-  output-of : (run : Run) (bytes : List ℕ) → (answer run).output ≡ Some bytes
-      → (run_answer run.request run.contents run.salt run.input).output ≡ Some bytes
-  output-of run bytes written =
-      sym (ap (λ (o : Answer). o.output) (program_is_run run)) ∙ written
+  output-of : (run : Run) (bytes : List ℕ) → answer run ≡ Ok bytes
+      → run_answer run.request run.contents run.salt run.input ≡ Ok bytes
+  output-of run bytes written = sym (program_is_run run) ∙ written
 
   pub encrypt_then_decrypt : run_answers.EncryptThenDecrypt → ProgramEncryptsThenDecrypts
   encrypt_then_decrypt law encrypting decrypting list index used secrets encrypts text_bytes
@@ -113,6 +112,6 @@ module _ (settles : SettledRequests) where
 
 pub written_is_read : WrittenIsRead
 written_is_read before writing reading bytes path request written reads input =
-    let at = stands_after before (output_path (requested_by writing)) (Some bytes) in
+    let at = stands_after before (output_path (requested_by writing)) bytes in
     let there : at path ≡ Whole bytes = rw (written, bytes_eq-same path) in
     rw (reads, input, there)

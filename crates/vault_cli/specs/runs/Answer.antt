@@ -13,31 +13,17 @@ use Rattle.vault_core.specs.Ready.{Ready}
 use Rattle.vault_core.specs.Rekeying.{rekeying}
 use Rattle.vault_fault.specs.declared.fault.Fault.{Fault}
 use Rattle.vault_request.specs.CommandName.{encrypts}
-use Rattle.vault_cli.specs.runs.Reports.{line_of}
 use Rattle.vault_request.specs.Request.{Request}
-use Rattle.vault_cli.specs.runs.Status.{status_of}
 use Rattle.vault_cli.specs.runs.Task as task
 use Rattle.vault_cli.specs.runs.Task.{Task, planned}
 use Rattle.vault_request.specs.declared.command_name.CommandName.{CommandName}
 use Rattle.vault_request.specs.declared.command_name.CommandName.TheVariants.{Encrypt, Decrypt}
 use Rattle.vault_request.specs.declared.command_name.CommandName.TheVariants.{Rekey}
-use Rattle.vault_cli.specs.declared.runs.status.Status.{Status}
-use Rattle.vault_cli.specs.declared.runs.status.Status.TheVariants.{Success}
 
--- the bytes to be written, where there are any; the line on standard error; the status
-pub record Answer : Type 0 where
-  pub output : Option (List ℕ)
-  pub line : List ℕ
-  pub status : Status
-
--- the answer where there is a fault
-abbrev pub reported : Fault → Answer
-reported fault = record { output = None; line = line_of fault; status = status_of fault }
-
--- the answer where a text is ready to be written, or where there is a fault
-abbrev pub answered : Result Ready Fault → Answer
-answered (Ok ready) = record { output = Some ready.output; line = []; status = Success }
-answered (Err fault) = reported fault
+-- the bytes to be written, or why there are none
+abbrev pub output_of : Result Ready Fault → Result (List ℕ) Fault
+output_of (Ok ready) = Ok ready.output
+output_of (Err fault) = Err fault
 
 -- how much input a command takes, by how much plaintext is encrypted
 abbrev pub input_limit : ℕ → CommandName → ℕ
@@ -94,11 +80,13 @@ input_needed limit request contents salt =
     (input_limit limit request.command)
 
 -- the answer to a request where plaintext up to the limit is encrypted
-unfoldable pub run_answer_within : ℕ → Request → List (List ℕ) → List ℕ → List ℕ → Answer
+unfoldable pub run_answer_within : ℕ → Request → List (List ℕ) → List ℕ → List ℕ
+    → Result (List ℕ) Fault
 run_answer_within limit request contents salt input =
-    answered (ready_by limit (planned request contents salt) request.string (Ok input))
+    output_of (ready_by limit (planned request contents salt) request.string (Ok input))
 
 -- the answer to a request under the limit of the program
-abbrev pub run_answer : Request → List (List ℕ) → List ℕ → List ℕ → Answer
+abbrev pub run_answer : Request → List (List ℕ) → List ℕ → List ℕ
+    → Result (List ℕ) Fault
 run_answer request contents salt input = run_answer_within PLAINTEXT_LIMIT request contents salt
     input

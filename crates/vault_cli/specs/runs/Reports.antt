@@ -21,8 +21,3 @@ module _ {E : Type 0} (err : SinkCall E) where
     pub whole : (HasRisen (err.failures err.old) (err.failures err.new) → ⊥)
         → err.takes err.old line err.new × (err.stage err.new ≡ Finished)
     pub prefix : (n : ℕ) × err.takes err.old (take n line) err.new
-
-  -- a line, or nothing to say, for which the sink is left alone
-  abbrev pub Says : List ℕ → Type 0
-  Says [] = err.new ≡ err.old
-  Says (byte ∷ line) = Reports (byte ∷ line)

@@ -1,13 +1,97 @@
--- What holds of the run of a request, over a source, an output and an error sink.
-use Rattle.std.specs.Prelude.{◌≡◌, ◌≢◌, ◌⊎◌, ℕ, List, is_some, true}
+-- How the run of a request ends: one record for each way.
+use Rattle.std.specs.Prelude.{◌≡◌, ◌≢◌, ◌⊎◌, ℕ, ◌≤◌, List, [], length, take, is_some, true}
+use Rattle.std.specs.Prelude.{Option, Some, None, Result, Ok, Err}
 use Rattle.vault_text.specs.Failures.{HasRisen, IsSaturated}
+use Rattle.vault_text.specs.declared.sink.Stage.TheVariants.{Finished}
+use Rattle.vault_core.specs.Input.{ReadsInput}
+use Rattle.vault_fault.specs.declared.fault.Fault.{Fault}
+use Rattle.vault_fault.specs.declared.fault.Fault.TheVariants.{Read, Write}
+use Rattle.vault_fault.specs.declared.fault.Role.TheVariants.{Input}
 use Rattle.vault_request.specs.Request.{Request}
 use Rattle.vault_cli.specs.Call.{SinkCall, SourceCall}
 use Rattle.vault_cli.specs.runs.Answer.{input_needed, run_answer_within}
-use Rattle.vault_cli.specs.runs.Ending.{Ends, to_sink}
+use Rattle.vault_cli.specs.runs.Reports.{Reports, line_of}
+use Rattle.vault_cli.specs.runs.Status.{status_of}
 use Rattle.vault_cli.specs.declared.runs.status.Status.{Status}
 use Rattle.vault_cli.specs.declared.runs.status.Status.TheVariants.{DeviceFailed, OutOfMemory}
 use Rattle.vault_cli.specs.declared.runs.status.Status.TheVariants.{Success}
+
+-- What became of an output: it was left alone; it received these bytes and was finished; or it took
+-- these and failed.
+pub record Output : Type 1 where
+  pub untouched : Type 0
+  pub received : List ℕ → Type 0
+  pub cut : List ℕ → Type 0
+
+-- of a sink
+abbrev pub to_sink : {K : Type 0} → SinkCall K → Output
+to_sink out = record {
+  untouched = out.new ≡ out.old;
+  received = λ bytes. out.takes out.old bytes out.new × (out.stage out.new ≡ Finished)
+      × (out.failures out.new ≡ out.failures out.old);
+  cut = λ bytes.
+      out.takes out.old bytes out.new × HasRisen (out.failures out.old) (out.failures out.new);
+}
+
+-- This was read of a source. If nothing of it is needed, it was left alone.
+abbrev pub Reads : {S : Type 0} → SourceCall S → Option ℕ → List ℕ → Type 0
+Reads src None input = (src.new ≡ src.old) × (input ≡ [])
+Reads src (Some limit) input = ReadsInput src limit input
+
+-- A run that needs this much of a source, and whose answer to what it reads is the bytes to be
+-- written, or a fault.
+module _ {S E : Type 0} (src : SourceCall S) (out : Output) (err : SinkCall E) (result : Status)
+    (needed : Option ℕ) (answers : List ℕ → Result (List ℕ) Fault) where
+  -- It succeeded: the answer was written whole, and nothing was said.
+  pub record Succeeds : Type 0 where
+    pub input : List ℕ
+    pub reads : Reads src needed input
+    pub bytes : List ℕ
+    pub answer : answers input ≡ Ok bytes
+    pub status : result ≡ Success
+    pub output : out.received bytes
+    pub message : err.new ≡ err.old
+
+  -- It was refused: the answer is a fault, which was reported, and the output was left alone.
+  pub record Refuses : Type 0 where
+    pub input : List ℕ
+    pub reads : Reads src needed input
+    pub fault : Fault
+    pub answer : answers input ≡ Err fault
+    pub status : result ≡ status_of fault
+    pub memory_suffices : result ≢ OutOfMemory
+    pub output : out.untouched
+    pub message : Reports err (line_of fault)
+
+  -- The output failed: of the answer, the first bytes were written.
+  pub record OutputFails : Type 0 where
+    pub input : List ℕ
+    pub reads : Reads src needed input
+    pub bytes : List ℕ
+    pub answer : answers input ≡ Ok bytes
+    pub status : result ≡ DeviceFailed
+    pub count : ℕ
+    pub output : out.cut (take count bytes)
+    pub message : Reports err (line_of Write)
+
+  -- The source failed, after it gave this much of what was needed; the output was left alone.
+  pub record InputFails : Type 0 where
+    pub input : List ℕ
+    pub limit : ℕ
+    pub is_needed : needed ≡ Some limit
+    pub gives : src.gives src.old input src.new
+    pub short : length input ≤ limit
+    pub failed : HasRisen (src.failures src.old) (src.failures src.new)
+    pub status : result ≡ DeviceFailed
+    pub output : out.untouched
+    pub message : Reports err (line_of (Read Input))
+
+  -- one of the four
+  pub data Ends : Type 0 where
+    Succeeded : Succeeds → Ends
+    HasRefused : Refuses → Ends
+    OutputFailed : OutputFails → Ends
+    InputFailed : InputFails → Ends
 
 -- a run, under a limit of the plaintext, of a request, of the contents of its password files, in
 -- their order, and of a salt
@@ -15,18 +99,14 @@ module _ (limit : ℕ) (request : Request) (contents : List (List ℕ)) (salt : 
     {S K E : Type 0} (src : SourceCall S) (out : SinkCall K) (err : SinkCall E)
     (result : Status) where
   pub record RunsRequest : Type 0 where
-    -- it ends with the answer to what the source gave, unless a device fails; the source is left
-    -- alone where the passwords, the secret or the salt are refused, and where there is a STRING
-    pub ends : Ends (to_sink out) err result src (input_needed limit request contents salt)
+    -- the source is left alone if the passwords, the secret or the salt are refused, and if there
+    -- is a STRING
+    pub ends : Ends src (to_sink out) err result (input_needed limit request contents salt)
         (run_answer_within limit request contents salt)
-    -- the status says so exactly where a device failed, and never that memory ran out
+    -- the status says so only if a device failed
     pub device_failed : result ≡ DeviceFailed
         → HasRisen (src.failures src.old) (src.failures src.new)
         ⊎ HasRisen (out.failures out.old) (out.failures out.new)
-    pub none_failed : result ≢ DeviceFailed
-        → (src.failures src.new ≡ src.failures src.old)
-        × (out.failures out.new ≡ out.failures out.old)
-    pub memory_suffices : result ≢ OutOfMemory
     -- once the count of a device's failures is saturated, each of its calls fails, and so does a
     -- run that needs one
     pub full_source : is_some (input_needed limit request contents salt) ≡ true

@@ -1,57 +1,74 @@
-//! All the files in memory of a run.
-ghost use Rattle.std.specs.Prelude.{◌≡◌, [], Some, MatchOption, IsErr, OnOk, OnErr, map};
+//! Files in memory.
+ghost use Rattle.std.specs.Prelude.{◌≡◌, ◌<◌, ◌∷◌, Some, MatchOption, OnOk, OnErr, length, map};
 ghost use Rattle.std.specs.Option.{option_map};
 ghost use Rattle.std.specs.String.{string_bytes};
 ghost use Rattle.vault_files.specs.File.FileState.{Missing};
-ghost use Rattle.vault_text.specs.Failures.{CountsFailure, IsSaturated};
-ghost use Rattle.vault_files.specs.Memory.{StoreTakes, bytes_of, file_at, new_store, stands_at};
+ghost use Rattle.vault_files.specs.Memory.{StoreExecutes, bytes_of, file_at, new_store, stands_at};
 ghost use Rattle.vault_files.specs.PathLog.{new_log};
+ghost use Rattle.vault_files.specs.System.{if_failed};
+ghost use Rattle.vault_files.specs.System.SystemCall.{Create};
 
 use super::file::{MemFile, MemFileReader};
 use super::path_log::PathLog;
-use crate::access::Access;
-use crate::fault::FileFault;
-use crate::file_system::FileSystem;
+use crate::system::System;
+use arrayvec::ArrayString;
 use std::alloc::{AllocError, Global};
+use std::io;
+use std::io::ErrorKind;
 use std::marker::Model;
-use vault_text::{MemSink, Sink, SinkFailed, Stage};
 
-/// Files in memory. Of two files under one path the first counts. From `begin` on, the output is at
-/// the path that was chosen, in place of what was there; if none was chosen, it is at no path. An
-/// allocation that fails counts as a failure of the output. A log keeps the paths that were opened,
-/// whether or not there was a file, as long as all of them have room.
+/// The length of the longest path at which a file can be created in memory: that of Linux.
+pub const PATH_LIMIT: usize = 4_095;
+
+/// A file that was created.
+#[derive(Drop)]
+struct Created {
+    path: ArrayString<PATH_LIMIT>,
+    bytes: Vec<u8>,
+    synced: bool,
+}
+
+impl Model for Created {
+    ghost use Rattle.vault_files.specs.Memory.{Created};
+
+    ghost Value = { Created };
+
+    ghost view = { λ f. record {
+      path = f.path.bytes;
+      bytes = f.bytes.items;
+      synced = f.synced;
+    } };
+}
+
+/// A system whose files are in memory. Of two files under one path the first counts. `create` makes
+/// an empty file, which is at its path in place of what was there, and which `open` does not read.
+/// A log keeps the paths that were opened, whether or not there was a file, as long as all of them
+/// have room.
 #[derive(Drop)]
 pub struct MemFiles<'a> {
     entries: &'a [MemFile<'a>],
-    output_file: Option<String>,
-    output: MemSink,
+    alloc: Global,
+    created: Option<Created>,
     log: Option<PathLog>,
 }
 
 impl<'a> Model for MemFiles<'a> {
-    ghost use Rattle.std.specs.Option.{option_map};
-    ghost use Rattle.std.specs.String.{string_bytes};
     ghost use Rattle.vault_files.specs.Memory.{StoreState};
 
     ghost Value = { StoreState };
 
-    ghost view = { λ s. record {
-      entries = s.entries.now;
-      output_file = option_map string_bytes s.output_file;
-      output = s.output;
-      log = s.log;
-    } };
+    ghost view = { λ s. record { entries = s.entries.now; created = s.created; log = s.log } };
 }
 
 impl<'a> MemFiles<'a> {
-    /// These files, without a log; no output is chosen yet.
+    /// These files, without a log.
     pub fn new(alloc: Global, entries: &'a [MemFile<'a>]) -> Self
         ensures { result ≡ new_store entries.now }
     {
         MemFiles {
             entries,
-            output_file: None,
-            output: MemSink::new(alloc, usize::MAX),
+            alloc,
+            created: None,
             log: None,
         }
     }
@@ -60,8 +77,8 @@ impl<'a> MemFiles<'a> {
     pub fn content(&self, path: &str) -> Option<&[u8]>
         ensures { option_map (λ bytes. bytes.now) result ≡ bytes_of (stands_at self.now path.now) }
     {
-        match &self.output_file {
-            Some(at) if self.output.begun() && at.as_str() == path => Some(self.output.bytes()),
+        match &self.created {
+            Some(file) if file.path.as_str() == path => Some(file.bytes.as_slice()),
             _ => find(self.entries, path).map(|entry| entry.bytes),
         }
     }
@@ -104,80 +121,37 @@ fn find<'a>(entries: &'a [MemFile<'a>], path: &str) -> Option<&'a MemFile<'a>>
     None
 }
 
-impl<'a> Sink for MemFiles<'a> {
-    ghost use Rattle.vault_files.specs.Memory.{StoreTakes};
-    ghost use Rattle.vault_files.specs.MemoryProofs.{StoreTakes-none, StoreTakes-more};
+/// The file that was created.
+#[derive(Drop)]
+pub struct MemWriter;
 
-    ghost takes = { StoreTakes };
-
-    ghost stage = { λ s. s.output.stage };
-
-    ghost failures = { λ s. s.output.failures };
-
-    ghost takes_none = { StoreTakes-none };
-
-    ghost takes_more = { StoreTakes-more };
-
-    ghost failures_monotone = { λ s t xs g. g.output.failures_monotone };
-
-    fn begin(&mut self) -> Result<(), SinkFailed>
-        requires { self.old.output.stage ≡ Stage.Unbegun }
-        ensures takes { StoreTakes self.old [] self.new }
-        ensures begun { OnOk result (self.new.output.stage ≡ Stage.Begun) }
-        ensures unbegun { OnErr result (self.new.output.stage ≡ Stage.Unbegun) }
-        ensures failed { CountsFailure self.old.output.failures self.new.output.failures result }
-        ensures full { IsSaturated self.old.output.failures → IsErr result }
-        ensures only_full { OnErr result (IsSaturated self.old.output.failures) }
-    {
-        self.output.begin()
-    }
-
-    fn put(&mut self, bytes: &[u8]) -> Result<usize, SinkFailed> {
-        self.output.put(bytes)
-    }
-
-    fn finish(&mut self) -> Result<(), SinkFailed>
-        requires { self.old.output.stage ≡ Stage.Begun }
-        ensures takes { StoreTakes self.old [] self.new }
-        ensures finished { OnOk result (self.new.output.stage ≡ Stage.Finished) }
-        ensures unfinished { OnErr result (self.new.output.stage ≡ Stage.Begun) }
-        ensures failed { CountsFailure self.old.output.failures self.new.output.failures result }
-        ensures full { IsSaturated self.old.output.failures → IsErr result }
-        ensures only_full { OnErr result (IsSaturated self.old.output.failures) }
-    {
-        self.output.finish()
-    }
-}
-
-impl<'a> FileSystem for MemFiles<'a> {
-    ghost use Rattle.std.specs.Prelude.{◌≡◌, refl, Some};
-    ghost use Rattle.vault_files.specs.MemoryProofs.{StoreOpens-none, StoreOpens-more};
-    ghost use Rattle.vault_files.specs.MemoryProofs.{prefix-given, break-given};
-    ghost use Rattle.vault_files.specs.Memory.{IsReaderOf, StoreOpens, file_at};
+impl<'a> System for MemFiles<'a> {
+    ghost use Rattle.std.specs.Prelude.{◌≡◌, refl};
+    ghost use Rattle.vault_files.specs.Memory.{IsReaderOf, StoreExecutes, file_at};
+    ghost use Rattle.vault_files.specs.MemoryProofs.{StoreExecutes-more, break-given, opens-entries};
+    ghost use Rattle.vault_files.specs.MemoryProofs.{prefix-given};
 
     type Reader = MemFileReader<'a>;
+
+    type Writer = MemWriter;
+
+    ghost executes = { StoreExecutes };
 
     ghost finds = { λ s path file. file ≡ file_at s.entries path };
 
     ghost reader_at = { λ s path reader. IsReaderOf (file_at s.entries path) reader };
 
-    ghost opens = { StoreOpens };
+    ghost executes_none = { λ s. refl };
 
-    ghost output_set = { λ s path access t. t ≡ record s { output_file = Some path } };
-
-    ghost opens_none = { StoreOpens-none };
-
-    ghost opens_more = { StoreOpens-more };
-
-    ghost opens_stage = { λ s t paths opens. rw opens refl };
-
-    ghost opens_failures = { λ s t paths opens. rw opens refl };
-
-    ghost opens_finds = { λ s t paths path file opens found. rw opens at found };
-
-    ghost opens_reader = { λ s t paths path reader opens opened. rw opens at opened };
+    ghost executes_more = { StoreExecutes-more };
 
     ghost finds_some = { λ s path. (file_at s.entries path, refl) };
+
+    ghost opens_finds = { λ s t paths calls path file opened executes found.
+        rw (opens-entries s t paths calls opened executes) at found };
+
+    ghost opens_reader = { λ s t paths calls path reader opened executes at.
+        rw (opens-entries s t paths calls opened executes) at at };
 
     ghost prefix_found = { λ s path r t xs n opened gives fits end unfailed.
         let file = file_at s.entries path in
@@ -189,15 +163,56 @@ impl<'a> FileSystem for MemFiles<'a> {
         let same = break-given file r t xs n opened gives short risen in
         record { file = file; found = refl; same = same } };
 
-    fn open(&mut self, path: &str) -> Result<MemFileReader<'a>, FileFault> {
+    fn open(&mut self, path: &str) -> io::Result<MemFileReader<'a>> {
         self.log = self.log.take().and_then(|log| log.with(path));
         match find(self.entries, path) {
             Some(entry) => Ok(entry.reader()),
-            None => Err(FileFault::CannotOpen),
+            None => Err(ErrorKind::NotFound.into()),
         }
     }
 
-    fn set_output(&mut self, path: String, _access: Access) {
-        self.output_file = Some(path);
+    fn create(&mut self, path: &str) -> io::Result<MemWriter>
+        ensures executes { StoreExecutes self.old (Create path.now ∷ if_failed result) self.new }
+        ensures only_long { OnErr result (PATH_LIMIT < length path.now) }
+    {
+        let Ok(path) = ArrayString::from(path) else {
+            return Err(ErrorKind::InvalidInput.into());
+        };
+        self.created = Some(Created {
+            path,
+            bytes: Vec::new(self.alloc),
+            synced: false,
+        });
+        Ok(MemWriter)
+    }
+
+    fn chmod_owner_only(&mut self, _file: &MemWriter) -> io::Result<()> {
+        Ok(())
+    }
+
+    fn truncate(&mut self, _file: &MemWriter) -> io::Result<()> {
+        if let Some(file) = &mut self.created {
+            file.bytes.clear();
+            file.synced = false;
+        }
+        Ok(())
+    }
+
+    fn write(&mut self, _file: &mut MemWriter, bytes: &[u8]) -> io::Result<usize> {
+        let Some(file) = &mut self.created else {
+            return Err(ErrorKind::Other.into());
+        };
+        file.synced = false;
+        match file.bytes.extend_from_slice(bytes) {
+            Ok(()) => Ok(bytes.len()),
+            Err(_) => Err(ErrorKind::OutOfMemory.into()),
+        }
+    }
+
+    fn sync(&mut self, _file: &MemWriter) -> io::Result<()> {
+        if let Some(file) = &mut self.created {
+            file.synced = true;
+        }
+        Ok(())
     }
 }

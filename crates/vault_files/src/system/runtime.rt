@@ -4,6 +4,7 @@ use std::fs::{Files, OpenFile, OpenOptions, Permissions};
 use std::io::{ErrorKind, Write};
 use std::os::unix::fs::{OpenOptionsExt, PermissionsExt};
 use std::{fs, io};
+use vault_text::ReadSource;
 
 /// Readable and writable by its owner only.
 const OWNER_ONLY: u32 = 0o600;
@@ -11,9 +12,10 @@ const OWNER_ONLY: u32 = 0o600;
 /// The system itself. No contract covers it: that each method asks for what the trait says, and for
 /// nothing else, is trusted.
 impl<R: Files> System for &R {
-    ghost use Rattle.std.specs.Prelude.{None};
+    ghost use Rattle.vault_files.specs.File.FileState.{Missing};
+    ghost use Rattle.vault_files.specs.FileProofs.{any-break, any-prefix};
 
-    type Reader = R::File;
+    type Reader = ReadSource<R::File>;
 
     type Writer = R::File;
 
@@ -23,14 +25,25 @@ impl<R: Files> System for &R {
 
     ghost executes_more = { λ s t u xs ys p q. tt };
 
-    ghost reader_at = { λ s path found. Unit {0} };
+    ghost finds = { λ s path file. Unit {0} };
 
-    ghost reader_some = { λ s path. (None, tt) };
+    ghost reader_at = { λ s path reader. Unit {0} };
 
-    ghost opens_give = { λ s t paths calls path found opens executes reader_at. tt };
+    ghost finds_some = { λ s path. (Missing, tt) };
 
-    fn open(&mut self, path: &str) -> io::Result<R::File> {
-        fs::open(*self, path)
+    ghost opens_finds = { λ s t paths calls path file opens executes found. tt };
+
+    ghost opens_reader = { λ s t paths calls path reader opens executes found. tt };
+
+    ghost prefix_found = { λ s path r t xs n opened gives fits end unfailed. any-prefix xs n fits };
+
+    ghost break_found = { λ s path r t xs n opened gives short risen. any-break xs n short };
+
+    fn open(&mut self, path: &str) -> io::Result<ReadSource<R::File>> {
+        match fs::open(*self, path) {
+            Ok(file) => Ok(ReadSource::new(file)),
+            Err(error) => Err(error),
+        }
     }
 
     fn create(&mut self, path: &str) -> io::Result<R::File> {

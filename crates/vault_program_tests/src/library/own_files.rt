@@ -1,19 +1,18 @@
-//! A `FileSystem` of one's own: a password that a program has in memory, under every path.
+//! A `System` of one's own: a password that a program has in memory, under every path.
 ghost use Rattle.std.specs.Prelude.{◌≡◌};
 ghost use Rattle.vault_program_tests.specs.OnePassword.{no_output};
 
 use std::alloc::{AllocError, Global};
+use std::io;
+use std::io::ErrorKind;
 use std::marker::Model;
-use vault_cli::{
-    Access, FileFault, FileSystem, MemSink, MemSource, Sink, Stage, Status, drive_over,
-};
-use vault_text::SinkFailed;
+use vault_cli::{MemSink, MemSource, Stage, Status, System, drive_over};
 
 /// Every path holds the password, and the output of `--output` is kept in memory.
 #[derive(Drop)]
 pub struct OnePassword<'a> {
     password: &'a [u8],
-    output: MemSink,
+    output: Vec<u8>,
 }
 
 impl<'a> Model for OnePassword<'a> {
@@ -21,7 +20,7 @@ impl<'a> Model for OnePassword<'a> {
 
     ghost Value = { OnePassword };
 
-    ghost view = { λ files. record { password = files.password.now; output = files.output } };
+    ghost view = { λ files. record { password = files.password.now; output = files.output.items } };
 }
 
 impl<'a> OnePassword<'a> {
@@ -30,48 +29,19 @@ impl<'a> OnePassword<'a> {
     {
         OnePassword {
             password,
-            output: MemSink::new(alloc, 4_096),
+            output: Vec::new(alloc),
         }
     }
 
     /// What was written to the output.
     pub fn output(&self) -> &[u8]
-        ensures { result.now ≡ self.now.output.held }
+        ensures { result.now ≡ self.now.output }
     {
-        self.output.bytes()
+        self.output.as_slice()
     }
 }
 
-impl<'a> Sink for OnePassword<'a> {
-    ghost use Rattle.vault_program_tests.specs.OnePassword.{Takes};
-    ghost use Rattle.vault_program_tests.specs.OnePasswordProofs.{Takes-none, Takes-more};
-
-    ghost takes = { Takes };
-
-    ghost stage = { λ files. files.output.stage };
-
-    ghost failures = { λ files. files.output.failures };
-
-    ghost takes_none = { Takes-none };
-
-    ghost takes_more = { Takes-more };
-
-    ghost failures_monotone = { λ s t xs taken. taken.output.0.failures_monotone };
-
-    fn begin(&mut self) -> Result<(), SinkFailed> {
-        self.output.begin()
-    }
-
-    fn put(&mut self, bytes: &[u8]) -> Result<usize, SinkFailed> {
-        self.output.put(bytes)
-    }
-
-    fn finish(&mut self) -> Result<(), SinkFailed> {
-        self.output.finish()
-    }
-}
-
-impl<'a> FileSystem for OnePassword<'a> {
+impl<'a> System for OnePassword<'a> {
     ghost use Rattle.std.specs.Prelude.{◌≡◌, refl};
     ghost use Rattle.vault_files.specs.File.FileState.{Whole};
     ghost use Rattle.vault_program_tests.specs.OnePassword.{new_reader};
@@ -79,38 +49,56 @@ impl<'a> FileSystem for OnePassword<'a> {
 
     type Reader = MemSource<'a>;
 
+    type Writer = ();
+
+    ghost executes = { λ s calls t. t.password ≡ s.password };
+
     ghost finds = { λ s path file. file ≡ Whole s.password };
 
     ghost reader_at = { λ s path reader. reader ≡ new_reader s.password };
 
-    ghost opens = { λ s paths t. t ≡ s };
+    ghost executes_none = { λ s. refl };
 
-    ghost output_set = { λ s path access t. t ≡ s };
-
-    ghost opens_none = { λ s. refl };
-
-    ghost opens_more = { λ s t u xs ys first then. same first then };
-
-    ghost opens_stage = { λ s t paths opens. rw opens refl };
-
-    ghost opens_failures = { λ s t paths opens. rw opens refl };
-
-    ghost opens_finds = { λ s t paths path file opens found. rw opens at found };
-
-    ghost opens_reader = { λ s t paths path reader opens opened. rw opens at opened };
+    ghost executes_more = { λ s t u xs ys first then. same first then };
 
     ghost finds_some = { λ s path. (Whole s.password, refl) };
+
+    ghost opens_finds = { λ s t paths calls path file opens executes found. rw executes at found };
+
+    ghost opens_reader = { λ s t paths calls path reader opens executes at. rw executes at at };
 
     ghost prefix_found = { λ s path r t xs n opened gives fits end unfailed.
         prefix-found s.password r t xs n opened gives fits end };
 
     ghost break_found = { λ s path r t xs n opened gives short risen. break-found risen };
 
-    fn open(&mut self, _path: &str) -> Result<MemSource<'a>, FileFault> {
+    fn open(&mut self, _path: &str) -> io::Result<MemSource<'a>> {
         Ok(MemSource::new(self.password, 4_096))
     }
 
-    fn set_output(&mut self, _path: String, _access: Access) {}
+    fn create(&mut self, _path: &str) -> io::Result<()> {
+        Ok(())
+    }
+
+    fn chmod_owner_only(&mut self, _file: &()) -> io::Result<()> {
+        Ok(())
+    }
+
+    fn truncate(&mut self, _file: &()) -> io::Result<()> {
+        self.output.clear();
+        Ok(())
+    }
+
+    fn write(&mut self, _file: &mut (), bytes: &[u8]) -> io::Result<usize> {
+        match self.output.extend_from_slice(bytes) {
+            Ok(()) => Ok(bytes.len()),
+            Err(_) => Err(ErrorKind::OutOfMemory.into()),
+        }
+    }
+
+    fn sync(&mut self, _file: &()) -> io::Result<()> {
+        Ok(())
+    }
 }
 
 /// Runs `ansible-vault decrypt` over these files, to which the plaintext goes.
@@ -120,7 +108,6 @@ pub fn decrypt_with(
     vault: &[u8],
     err: &mut MemSink,
 ) -> Result<Status, AllocError>
-    requires files_unbegun { files.old.output.stage ≡ Stage.Unbegun }
     requires err_unbegun { err.old.stage ≡ Stage.Unbegun }
 {
     let mut words = Vec::new(alloc);

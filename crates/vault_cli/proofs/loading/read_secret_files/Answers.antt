@@ -1,4 +1,4 @@
-use Rattle.std.proofs.Common.{arith, ◌<◌, ◌≤◌, ◌+◌, ◌∷◌, ◌∙◌, [], length, length-set, take}
+use Rattle.std.proofs.Common.{rules, arith, ◌<◌, ◌≤◌, ◌+◌, ◌∷◌, ◌∙◌, [], length, length-set, take}
 use Rattle.std.proofs.lemmas.List.{length-map, map-append, take_all, take_more_set}
 use Rattle.std.proofs.lemmas.Result.{err_from_is_err_and}
 use Rattle.vault_fault.specs.declared.fault.Role.TheVariants.{Secret}
@@ -7,11 +7,13 @@ use Rattle.vault_request.specs.Request.{files_of}
 use Rattle.vault_cli.specs.runs.FileContents.{secret_paths}
 use Rattle.vault_cli.proofs.FileContentsLemmas.{ContentsFound-all, GivesPrefix-more, next-long}
 use Rattle.vault_cli.proofs.FileContentsLemmas.{PrefixFound-before, next_path, secrets-refuse}
+use Rattle.vault_files.specs.System.{Opens}
+use Rattle.vault_files.specs.SystemProofs.{Opens-none, Opens-more, Opens-finds}
 use Rattle.vault_cli.proofs.loading.read_secret_files.Goals as goal
 
 pub returns-in_err-fill_from-clause-refused : goal.returns-in_err-fill_from-clause-refused
 returns-in_err-fill_from-clause-refused g c =
-    let finds = g.F.FileSystem.finds in
+    let finds = g.D.System.finds in
     let old = c.args.files.now in
     let new = c.fill_from.new.files in
     let path = c.path.result.now in
@@ -20,20 +22,20 @@ returns-in_err-fill_from-clause-refused g c =
     omega (arith, c.loop-i-test.true, c.files-i-end.ensures.count) in
     let next = next_path c.args.request.now c.loop-i.i path inside c.path.ensures in
     let long = (next-long c.loop-i.bufs c.loop-i.i c.index-bufs-i.result c.fill_from.new.buf
-    (omega (arith, inside, kept.0)) kept.4).0 in
+    (omega (arith, inside, kept.0)) kept.3).0 in
     let p = err_from_is_err_and c.from_residual.result c.from_residual.ensures.1 in
     rw (p.1, p.2) (secrets-refuse (finds old) (secret_paths c.args.request.now) c.loop-i.i _ path
-    next.0 kept.1 (λ paths. g.F.FileSystem.opens old paths new)
-    (g.met.F.FileSystem.finds_some old) _
+    next.0 kept.1 (λ paths. Opens g.D.System.executes old paths new)
+    (g.met.D.System.finds_some old) _
     (PrefixFound-before (finds old path) (finds c.loop-i.files path)
-    (λ file. g.met.F.FileSystem.opens_finds old c.loop-i.files _ path file kept.2) Secret _
+    (λ file. Opens-finds g.D.System.executes g.D.System.finds g.met.D.System.opens_finds old c.loop-i.files _ path file kept.2) Secret _
     (PASSWORD_FILE_LIMIT + 1) _ long c.in_err-fill_from.ensures.refused)
-    (g.met.F.FileSystem.opens_more old c.loop-i.files new _ _ kept.2
+    (Opens-more g.D.System.executes g.met.D.System.executes_more old c.loop-i.files new _ _ kept.2
     c.in_err-fill_from.ensures.opens))
 
 pub loop-i-preserved : goal.loop-i-preserved
 loop-i-preserved g c =
-    let finds = g.F.FileSystem.finds in
+    let finds = g.D.System.finds in
     let old = c.args.files.now in
     let new = c.fill_from.new.files in
     let path = c.path.result.now in
@@ -44,8 +46,8 @@ loop-i-preserved g c =
     omega (arith, c.loop-i-test.true, c.files-i-end.ensures.count) in
     let within : c.loop-i.i < length bufs = omega (arith, inside, kept.0) in
     let next = next_path c.args.request.now c.loop-i.i path inside c.path.ensures in
-    let long = next-long bufs c.loop-i.i c.index-bufs-i.result buf within kept.4 in
-    let went = g.met.F.FileSystem.opens_more old c.loop-i.files new _ _ kept.2
+    let long = next-long bufs c.loop-i.i c.index-bufs-i.result buf within kept.3 in
+    let went = Opens-more g.D.System.executes g.met.D.System.executes_more old c.loop-i.files new _ _ kept.2
     c.in_ok-fill_from.ensures.opens in (
       length-set bufs c.loop-i.i buf ∙ kept.0,
       rw (
@@ -55,10 +57,9 @@ loop-i-preserved g c =
           (GivesPrefix-more (finds old) (secret_paths c.args.request.now) c.loop-i.i _ path next.0
           kept.1 buf.items next.1
           (PrefixFound-before (finds old path) (finds c.loop-i.files path)
-          (λ file. g.met.F.FileSystem.opens_finds old c.loop-i.files _ path file kept.2) Secret _
+          (λ file. Opens-finds g.D.System.executes g.D.System.finds g.met.D.System.opens_finds old c.loop-i.files _ path file kept.2) Secret _
           (PASSWORD_FILE_LIMIT + 1) _ long.0 c.in_ok-fill_from.ensures.read)),
       rw next.1 went,
-      g.met.F.FileSystem.opens_stage old new _ went ∙ c.requires.unbegun,
       long.1,
     )
 
@@ -68,5 +69,13 @@ returns-clause-read g c =
     omega (arith, c.loop-i-test.false, c.files-i-end.ensures.count) in
     let all = take_all c.loop-i.i c.loop-i.bufs (omega (arith, past, c.loop-i.invariant.0)) in
     rw all at
-    (ContentsFound-all (g.F.FileSystem.finds c.args.files.now) (secret_paths c.args.request.now)
+    (ContentsFound-all (g.D.System.finds c.args.files.now) (secret_paths c.args.request.now)
     c.loop-i.i _ (rw length-map past) c.loop-i.invariant.1)
+
+pub loop-i-init : goal.loop-i-init
+loop-i-init g c = (
+  c.requires.count,
+  λ rest found. (rest, found, search (rules), search (rules)),
+  Opens-none g.D.System.executes g.met.D.System.executes_none c.args.files.now,
+  c.requires.long,
+)

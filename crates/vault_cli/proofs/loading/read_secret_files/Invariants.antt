@@ -4,13 +4,13 @@ use Rattle.vault_text.specs.declared.sink.Stage.TheVariants.{Unbegun}
 use Rattle.vault_cli.specs.runs.FileContents.{secret_paths}
 use Rattle.vault_request.specs.Request.{files_of}
 use Rattle.vault_cli.proofs.FileContentsLemmas.{GivesPrefix, IsLong}
+use Rattle.vault_files.specs.System.{Opens}
 use Rattle.vault_cli.proofs.loading.read_secret_files.Given as goal
 
 abbrev pub invariant-loop-i : goal.invariant-loop-i
 invariant-loop-i g l =
     (length l.bufs ≡ length (files_of l.request))
-    × GivesPrefix (g.F.FileSystem.finds l.initial.files) (secret_paths l.request) l.i
+    × GivesPrefix (g.D.System.finds l.initial.files) (secret_paths l.request) l.i
     (map (λ file. file.items) (take l.i l.bufs))
-    × g.F.FileSystem.opens l.initial.files (take l.i (secret_paths l.request)) l.files
-    × (g.F.Sink.stage l.files ≡ Unbegun)
+    × Opens g.D.System.executes l.initial.files (take l.i (secret_paths l.request)) l.files
     × All IsLong (drop l.i l.bufs)

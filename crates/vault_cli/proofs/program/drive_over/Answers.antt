@@ -1,14 +1,10 @@
-use Rattle.std.proofs.Common.{inl, refl}
-use Rattle.vault_cli.proofs.ExplainedLemmas.{explains-memory}
+use Rattle.std.proofs.Common.{refl}
+use Rattle.vault_cli.specs.Drive.Ends.{Stopped}
 use Rattle.vault_cli.proofs.program.drive_over.Goals as goal
 
-pub returns-in-Err-clause-answered : goal.returns-in-Err-clause-answered
-returns-in-Err-clause-answered g c = λ parses. inl (
-  refl,
-  refl,
-  explains-memory _ _ _ _ _ parses c.in-Err.ensures.kinds c.explain.ensures.explains,
-)
+pub returns-in-Err : goal.returns-in-Err
+returns-in-Err g c = Stopped refl refl c.explain.ensures
 
-pub returns-in-Ok-clause-answered : goal.returns-in-Ok-clause-answered
-returns-in-Ok-clause-answered g c =
-    λ parses. rw c.in-Ok.ensures.matches at c.drive_matches.ensures.drives
+pub returns-in-Ok : goal.returns-in-Ok
+returns-in-Ok g c =
+    rw c.in-Ok.ensures.kinds (rw c.in-Ok.ensures.matches at c.drive_matches.ensures)

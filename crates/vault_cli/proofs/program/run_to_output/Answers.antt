@@ -1,29 +1,34 @@
 use Rattle.std.proofs.Common.{◌∙◌, ap, refl, sym}
-use Rattle.std.specs.Option.{option_map}
-use Rattle.std.specs.String.{string_bytes}
-use Rattle.vault_cli.specs.Call.{source}
+use Rattle.std.specs.Option.{option_copied}
+use Rattle.vault_cli.specs.Access.{output_access}
+use Rattle.vault_cli.specs.Call.{sink, source, system}
 use Rattle.vault_cli.proofs.EndingLemmas.{ends-file, ends-out}
 use Rattle.vault_cli.proofs.program.run_to_output.Goals as goal
 
-pub returns-clause-ends : goal.returns-clause-ends
-returns-clause-ends g c =
-    ends-out _ _ _ _ _ (source g.S.Source c.args.src.now c.run_in-in-None.new.src) _ _ _
-    (sym (ap (option_map string_bytes) c.in-None.is) ∙ c.requires.output) refl
-    (rw (
-      c.reserved-text.ensures,
-      c.as_slice-secret_files.ensures.value,
-      c.as_slice-salt.ensures.value,
-    ) at c.run_in-in-None.ensures.ends)
-
-pub returns-in-Some-clause-ends : goal.returns-in-Some-clause-ends
-returns-in-Some-clause-ends g c =
-    ends-file _ _ _ _ _ (source g.S.Source c.args.src.now c.run_in.new.src) _ _ _
-    (string_bytes c.in-Some.path) c.set_output.new.self
-    (sym (ap (option_map string_bytes) c.in-Some.is) ∙ c.requires.output)
-    (rw (c.output_access.ensures, c.command.ensures) at c.set_output.ensures.output_set)
-    c.set_output.ensures.unbegun c.set_output.ensures.failures refl
+pub returns : goal.returns
+returns g c =
+    ends-out (source g.S.Source c.args.src.now c.run_in.new.src) _ _ _ _
+    (system g.D.System c.args.files.now c.args.files.now)
+    (sink g.K.Sink c.args.out.now c.run_in.new.out)
+    (output_access c.args.request.now.command) c.args.request.now.output
+    (sym c.output.ensures ∙ ap option_copied c.in-None.is) refl
     (rw (
       c.reserved-text.ensures,
       c.as_slice-secret_files.ensures.value,
       c.as_slice-salt.ensures.value,
     ) at c.run_in.ensures.ends)
+
+pub returns-in-Some : goal.returns-in-Some
+returns-in-Some g c =
+    let runs = c.run_to_path.ensures.runs in
+    ends-file g.D.System runs.file runs.left
+    (source g.S.Source c.args.src.now c.run_to_path.new.src) _ _ _ _
+    (sink g.K.Sink c.args.out.now c.args.out.now) refl c.in-Some.path.now
+    (output_access c.args.request.now.command) c.args.files.now c.run_to_path.new.files
+    runs.is_old runs.is_chosen runs.is_unfailed runs.is_new
+    c.args.request.now.output (sym c.output.ensures ∙ ap option_copied c.in-Some.is)
+    (rw (
+      c.reserved-text.ensures,
+      c.as_slice-secret_files.ensures.value,
+      c.as_slice-salt.ensures.value,
+    ) at runs.holds.ends)
