@@ -14,8 +14,9 @@ from typing import NamedTuple
 import pytest
 from pytest_subtests import SubTests
 
-from cases import SECONDS, TEXT, Cases, answer_of, by_file
+from cases import TEXT, Cases, answer_of, by_file
 from cases.samples import Sample, each_command, each_to_output, sample_of
+from lib.limits import SECONDS
 from lib.mounts import PAGE, tmpfs
 from lib.needs import needs, needs_mounts
 from model.compared import contents

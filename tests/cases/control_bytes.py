@@ -37,7 +37,7 @@ def escaped(word: str) -> str:
     return UNPRINTABLE.sub(lambda found: f"\\u{{{ord(found[0]):x}}}", word)
 
 
-def check_text(cases: Cases, words: list, stdin: bytes = b"") -> bytes:
+def check_text(cases: Cases, words: list[str], stdin: bytes = b"") -> bytes:
     """The words are refused, in a text, which is returned."""
     done = cases.done(words, stdin)
     found = done.returncode != 0, done.stdout, done.stderr != b"" and is_text(done.stderr)
@@ -45,7 +45,7 @@ def check_text(cases: Cases, words: list, stdin: bytes = b"") -> bytes:
     return done.stderr
 
 
-def check_escaped(cases: Cases, words: list) -> None:
+def check_escaped(cases: Cases, words: list[str]) -> None:
     """The words are refused in the message of the escaped words."""
     assert check_text(cases, words) == cases.done([escaped(word) for word in words]).stderr
 

@@ -31,7 +31,7 @@ def wanted_mode(sample: Sample, old: int) -> str:
     return oct(0o600 if sample.command == "decrypt" else old)
 
 
-def under(cases: Cases, umask: str, sample: Sample, path: str) -> subprocess.CompletedProcess:
+def under(cases: Cases, umask: str, sample: Sample, path: str) -> subprocess.CompletedProcess[bytes]:
     script = f'umask {umask}; exec "$0" "$@"'
     words = ["sh", "-c", script, cases.program, *sample.words, "--output", path]
     return run_captured(words, sample.stdin)

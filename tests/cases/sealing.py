@@ -152,7 +152,7 @@ def test_choices(cases: Cases, subtests: SubTests, command: str) -> None:
         ),
         ("a label of 128 bytes", by_id(one, "a" * 128), RIGHT, b"a" * 128),
     ]
-    refused = [
+    refused: list[tuple[str, list[str], Fault]] = [
         ("no secret", [], Fault.NO_ENCRYPT_SECRET),
         ("no secret and a label", ["--encrypt-vault-id", "dev"], Fault.NO_ENCRYPT_SECRET),
         ("two secrets", both, Fault.MANY_ENCRYPT_SECRETS),

@@ -11,8 +11,9 @@ from typing import NamedTuple
 
 import pytest
 
-from cases import SECONDS, TEXT, Cases, by_file
+from cases import TEXT, Cases, by_file
 from cases.samples import Sample, each_command, sample_of
+from lib.limits import SECONDS
 
 KIB = 1 << 10
 PAGE = resource.getpagesize()

@@ -4,12 +4,14 @@ import os
 import select
 import subprocess
 import tempfile
+from typing import Any
 
 import pytest
 from pytest_subtests import SubTests
 
-from cases import SECONDS, TEXT, Cases, by_file, run_captured
+from cases import TEXT, Cases, by_file, run_captured
 from cases.samples import Sample, each_command, sample_of
+from lib.limits import SECONDS
 from lib.processes import started
 from model.faults import Fault
 from model.vaults import ENVELOPE_LIMIT, HEADER, PLAINTEXT_LIMIT, seal
@@ -19,7 +21,7 @@ LARGE = 1 << 20
 
 
 def test_full_standard_error_of_refusal(cases: Cases) -> None:
-    nothing = {"stdin": subprocess.DEVNULL, "stdout": subprocess.DEVNULL}
+    nothing: dict[str, Any] = {"stdin": subprocess.DEVNULL, "stdout": subprocess.DEVNULL}
     with open(FULL, "wb") as full:
         cases.run_streams(["view"], 1, **nothing, stderr=full)
 
@@ -54,7 +56,7 @@ def test_failing_outputs_of_refusal(cases: Cases, subtests: SubTests) -> None:
 
 
 def check_failing_outputs(cases: Cases, subtests: SubTests, sample: Sample, fault: Fault) -> None:
-    given = {"words": sample.words, "status": fault.status, "input": sample.stdin}
+    given: dict[str, Any] = {"words": sample.words, "status": fault.status, "input": sample.stdin}
     with open(FULL, "wb") as full:
         with subtests.test("to a full device"):
             cases.run_streams(**given, err=fault.line, stdout=full)
@@ -103,6 +105,7 @@ def test_single_bytes(cases: Cases, command: str) -> None:
     sample = sample_of(cases, command)
     pipes = {"stdin": subprocess.PIPE, "stdout": subprocess.PIPE}
     with started([cases.program, *sample.words], **pipes, bufsize=0) as child:
+        assert child.stdin
         for byte in sample.stdin:
             child.stdin.write(bytes([byte]))
         output, _ = child.communicate(timeout=SECONDS)
@@ -118,6 +121,7 @@ def test_leaving_reader(cases: Cases, command: str) -> None:
         stdin.seek(0)
         pipes = {"stdin": stdin, "stdout": subprocess.PIPE, "stderr": subprocess.PIPE}
         with started([cases.program, *sample.words], **pipes, bufsize=0) as child:
+            assert child.stdout
             has_begun, _, _ = select.select([child.stdout], [], [], SECONDS)
             first = child.stdout.read(1) if has_begun else b""
             assert first == sample.output[:1], "first byte"

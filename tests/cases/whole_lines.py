@@ -7,12 +7,14 @@ import contextlib
 import fcntl
 import os
 import subprocess
+from typing import Any
 
 import pytest
 from pytest_subtests import SubTests
 
-from cases import SECONDS, TEXT, Cases, answer_of, by_file, by_id, run_captured
+from cases import TEXT, Cases, answer_of, by_file, by_id, run_captured
 from cases.samples import sample_of
+from lib.limits import SECONDS
 from lib.processes import read_to_end, started
 from lib.resident import wait_for_sleep
 from model.faults import Fault
@@ -29,7 +31,7 @@ def packets(words: list[str], stdin: bytes, stream: str) -> tuple[int, list[byte
     """The status of a run, and what each of its writes gave to a stream."""
     reader, writer = os.pipe2(os.O_DIRECT)
     fcntl.fcntl(writer, fcntl.F_SETPIPE_SZ, PIPE_SIZE)
-    streams = {"stdout": subprocess.DEVNULL, "stderr": subprocess.DEVNULL, stream: writer}
+    streams: dict[str, Any] = {"stdout": subprocess.DEVNULL, "stderr": subprocess.DEVNULL, stream: writer}
     done = subprocess.run(words, input=stdin, timeout=SECONDS, **streams)
     os.close(writer)
     given = list(iter(lambda: os.read(reader, PACKET), b""))
@@ -61,7 +63,7 @@ def test_lines_of_messages(cases: Cases, subtests: SubTests) -> None:
 
 
 @pytest.mark.parametrize("number", range(ROUNDS))
-def test_refused_beside(cases: Cases, number) -> None:
+def test_refused_beside(cases: Cases, number: int) -> None:
     """Runs beside each other that wait for the end of one input, and have one pipe as standard error."""
     fault = Fault.NOT_VAULT
     stdin, to_end = os.pipe()
@@ -92,7 +94,7 @@ def test_header_lines(cases: Cases, size: int, command: str) -> None:
 
 
 @pytest.mark.parametrize("number", range(ROUNDS))
-def test_head_of_envelope(cases: Cases, number) -> None:
+def test_head_of_envelope(cases: Cases, number: int) -> None:
     """`encrypt .. | head -n 1` gives the header line, and says nothing."""
     vault = seal(b"right", TEXT)
     header = vault.splitlines(keepends=True)[0]

@@ -30,7 +30,9 @@ class CaseFiles(HostFiles):
         if path not in self.files:
             raise CannotOpen
         content = self.files[path]
-        return Folder() if content is None else io.BytesIO(content)
+        if content is None:
+            return Folder()
+        return io.BytesIO(content)
 
     def can_be_written(self, answered: Answer) -> bool:
         if answered.path == FULL_DEVICE:
