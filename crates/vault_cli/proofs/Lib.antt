@@ -1,3 +1,4 @@
+pub mod AsBefore
 pub mod theorems
 pub mod DriveLemmas
 pub mod InMemoryLemmas
