@@ -1,4 +1,3 @@
-pub mod AsBefore
 pub mod theorems
 pub mod DriveLemmas
 pub mod InMemoryLemmas
