@@ -114,8 +114,8 @@ def unwritten(page: str) -> list[str]:
 def contracts_of(call: str) -> list[str]:
     """The contracts of the functions of a name, in the files of its crate and its type or module, if it has them."""
     *path, name = call.split("::")
-    # Up to the body, or to the end of a method of a trait.
-    contract = re.compile(rf"\bfn {name}\b.*?(?:^ *\{{|;$)", re.MULTILINE | re.DOTALL)
+    # Up to the body, or to the empty line after a method of a trait.
+    contract = re.compile(rf"\bfn {name}\b.*?(?:^ *\{{|;\n\n)", re.MULTILINE | re.DOTALL)
     found = []
     for file, text in code().items():
         if all(re.search(rf"\b{part}\b", f"{file} {text}") for part in path):
