@@ -255,11 +255,11 @@ module _ {D R W S K E : Type 0} (files : FilesCall D R W) (src : SourceCall S) (
                     message = f.message;
                   })),
                 )
-            | inr (input, (given, fits, stay, whole), done) ↦
+            | inr (input, read, done) ↦
                 let (file, seen, opens, same) = input-found (files.finds files.old) reads reader
                 (limit + 1) (Ok input) (λ missing. cc)
-                (λ path at. prefix_law path reader.old reader.new input (limit + 1) at given fits
-                whole stay) request.input at in
+                (λ path at. prefix_law path reader.old reader.new input (limit + 1) at read.gives
+                read.bounded read.whole read.unfailed) request.input at in
                 (file, seen, opens, rw same done)
           ]
 

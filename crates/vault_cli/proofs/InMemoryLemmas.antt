@@ -301,11 +301,11 @@ module _ (W : Type 0) (result : Status) (files : Change StoreState) (log : Optio
         → IsOfPrefix needed answers → (input : List ℕ) → Reads (memory_source src) needed input
         → (answers input ≡ answers src.old.left) × Taken needed src
     read-all None answers same input (unread, is) = (rw is (same src.old.left), unread)
-    read-all (Some limit) answers same input (given, fits, stay, whole) = (
-      same src.new.ended src.old.left input src.new.left given.0.consumed (at-end input given)
-          whole,
-      taken-left src.old.left input src.new.left limit src.new.ended given.0.consumed fits
-          (at-end input given) whole,
+    read-all (Some limit) answers same input read = (
+      same src.new.ended src.old.left input src.new.left read.gives.0.consumed
+          (at-end input read.gives) read.whole,
+      taken-left src.old.left input src.new.left limit src.new.ended read.gives.0.consumed
+          read.bounded (at-end input read.gives) read.whole,
     )
 
     -- a run ends so

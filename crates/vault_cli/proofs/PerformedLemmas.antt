@@ -6,13 +6,13 @@ use Rattle.vault_fault.specs.declared.fault.Fault.{Fault}
 use Rattle.vault_fault.specs.declared.fault.Fault.TheVariants.{Read}
 use Rattle.vault_fault.specs.declared.fault.Role.TheVariants.{Input}
 use Rattle.vault_core.proofs.InputLemmas.{cases_unread}
+use Rattle.vault_core.specs.Input.{ReadFails, ReadsInput}
 use Rattle.vault_core.specs.Ready.{Ready}
 use Rattle.vault_request.specs.Request.{Request}
 use Rattle.vault_cli.specs.Call.{SinkCall, SourceCall}
 use Rattle.vault_cli.specs.runs.Answer.{input_limit, input_needed, input_needed_by, output_of}
 use Rattle.vault_cli.specs.runs.Answer.{performed, ready_by, run_answer_within, task_limit}
 use Rattle.vault_cli.specs.runs.Delivered.{Delivers}
-use Rattle.vault_cli.specs.runs.Performed.{PerformsOnInput}
 use Rattle.vault_cli.specs.runs.Reports.{Reports, line_of}
 use Rattle.vault_cli.specs.runs.Run.{Ends, Reads, RunsRequest, to_sink}
 use Rattle.vault_cli.specs.runs.Run.Ends.{Succeeded, HasRefused, OutputFailed, InputFailed}
@@ -30,9 +30,14 @@ abbrev pub Performs : {S : Type 0} → SourceCall S → ℕ → Task → Result 
     → Option (List ℕ) → Type 0
 Performs src limit task answer (Some string) =
     (src.new ≡ src.old) × (answer ≡ performed limit task string)
-Performs src limit task answer None =
-    PerformsOnInput src limit task answer
-    × (IsSaturated (src.failures src.old) → answer ≡ Err (Read Input))
+Performs src limit task answer None = record {
+  answered : answer ≢ Err (Read Input) → (input : List ℕ) × record {
+    read : ReadsInput src (task_limit limit task) input;
+    answer : answer ≡ performed limit task input;
+  };
+  failed : answer ≡ Err (Read Input) → ReadFails src (task_limit limit task);
+  full : IsSaturated (src.failures src.old) → answer ≡ Err (Read Input);
+}
 
 module _ {S K E : Type 0} (src : SourceCall S) (out : SinkCall K) (err : SinkCall E)
     (result : Status) where
@@ -86,27 +91,28 @@ module _ {S K E : Type 0} (src : SourceCall S) (out : SinkCall K) (err : SinkCal
     ends-text answer (Some string) (unread, is) done =
         ends-delivered None (λ text. output_of (performed limit task string)) [] (unread, refl)
         answer (rw is (alone-performed limit task string)) (ap output_of (sym is)) done
-    ends-text answer None ((input, reads), full) done =
+    ends-text answer None performs done =
         elim (cases_unread answer) [
           | inl unread ↦
+              let fails = performs.failed unread in
               let (status, unwritten, line) = subst (Delivers out err result) unread done in
               InputFailed (record {
-                input = input;
+                input = fails.input;
                 limit = task_limit limit task;
                 is_needed = refl;
-                gives = reads.gives;
-                short = reads.short unread;
-                failed = reads.failed unread;
+                gives = fails.gives;
+                short = fails.short;
+                failed = fails.failed;
                 status = status;
                 output = unwritten;
                 message = line;
               })
-          | inr read ↦
+          | inr other ↦
+              let (input, was) = performs.answered other in
               ends-delivered (Some (task_limit limit task))
-              (λ text. output_of (performed limit task text)) input
-              (reads.gives, reads.bounded, reads.unfailed read, reads.whole read) answer
-              (rw (reads.answered read) (alone-performed limit task input))
-              (ap output_of (sym (reads.answered read))) done
+              (λ text. output_of (performed limit task text)) input was.read answer
+              (rw was.answer (alone-performed limit task input)) (ap output_of (sym was.answer))
+              done
         ]
 
     -- the status says that a device failed only if one did
@@ -122,12 +128,13 @@ module _ {S K E : Type 0} (src : SourceCall S) (out : SinkCall K) (err : SinkCal
         let refused : status_of fault ≡ Refused =
         rw (sym is) at (alone-performed limit task string) in
         absurd cc
-    device-failed (Err fault) None ((input, reads), full) (status, unwritten, line) failed =
+    device-failed (Err fault) None performs (status, unwritten, line) failed =
         elim (cases_unread {A = Ready} (Err fault)) [
-          | inl unread ↦ inl (reads.failed unread)
-          | inr read ↦
+          | inl unread ↦ inl (performs.failed unread).failed
+          | inr other ↦
+              let (input, was) = performs.answered other in
               let refused : status_of fault ≡ Refused =
-              rw (sym (reads.answered read)) at (alone-performed limit task input) in
+              rw (sym was.answer) at (alone-performed limit task input) in
               absurd cc
         ]
 
@@ -178,7 +185,7 @@ module _ {S K E : Type 0} (src : SourceCall S) (out : SinkCall K) (err : SinkCal
           (ends-text limit task answer request.string performs done));
       device_failed = device-failed limit task answer request.string performs done;
       full_source = λ needed saturated.
-          let unread = (rw (requested-no_string _ _ _ needed) at performs).1 saturated in
+          let unread = (rw (requested-no_string _ _ _ needed) at performs).full saturated in
           (subst (Delivers out err result) unread done).0;
       full_output = full;
     }

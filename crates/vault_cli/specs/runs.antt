@@ -1,7 +1,6 @@
 pub mod FileContents
 pub mod Answer
 pub mod Delivered
-pub mod Performed
 pub mod Reports
 pub mod Run
 pub mod Status

@@ -1,26 +1,21 @@
 -- The answers of decrypting, by what is read.
-use Rattle.std.proofs.Common.{◌≡◌, ◌≢◌, ℕ, ◌+◌, List, Result, Ok, Err, refl}
+use Rattle.std.proofs.Common.{◌≡◌, ◌≢◌, ℕ, List, Result, Ok, Err, refl}
 use Rattle.std.specs.Prelude.{IfOk}
 use Rattle.std.specs.Result.{result_map_both}
 use Rattle.vault_text.specs.Envelope.{Payload, read_within}
-use Rattle.vault_text.specs.Failures.{IsSaturated}
-use Rattle.vault_text.specs.Limits.{envelope_limit}
 use Rattle.vault_text.specs.Steps.{◌>>=◌}
-use Rattle.vault_text.specs.declared.source.Source.{Ghosts as SourceTerms}
 use Rattle.vault_text.specs.declared.fault.TextFault.{TextFault}
 use Rattle.vault_text.specs.declared.fault.TextFault.TheVariants as text
 use Rattle.vault_text.proofs.EnvelopeLemmas.{HasFittingCiphertext, read_within-fits}
 use Rattle.vault_core.specs.Decryption.{decryption, decryption_derivations, derivations_on}
 use Rattle.vault_core.specs.Decryption.{payload_of}
 use Rattle.vault_fault.specs.Fault.{of_text}
-use Rattle.vault_core.specs.Input.{Prepares, ReadsThenAnswers}
 use Rattle.vault_core.specs.Unsealing.{unsealing}
 use Rattle.vault_core.specs.Secrets.{SecretList}
 use Rattle.vault_fault.specs.declared.fault.Fault.{Fault}
 use Rattle.vault_fault.specs.declared.fault.Fault.TheVariants.{Read}
 use Rattle.vault_fault.specs.declared.fault.Role.TheVariants.{Input}
 use Rattle.vault_core.proofs.InputLemmas.{HasAnswered, HasAnswered-is_no_read, HasAnswered-steps}
-use Rattle.vault_core.proofs.InputLemmas.{Prepares-steps}
 use Rattle.vault_core.proofs.UnsealingLemmas.{FitsAgain, unsealing-answers}
 
 -- no fault of an envelope is one of reading
@@ -62,15 +57,10 @@ module _ (limit : ℕ) (secrets : SecretList) (input : List ℕ) where
     unfolding decryption
     decryption-of = rw is refl
 
-  pub Prepares-decryption : {S : Type 0} (source : SourceTerms S) (old new : S) (before after : ℕ)
-      (read : Result Payload Fault)
-      → ReadsThenAnswers source old new (envelope_limit limit) input read (payload_of limit input)
-      → (IsSaturated (source.failures old) → read ≡ Err (Read Input))
-      → after ≡ before + derivations_on secrets read
-      → Prepares source old new (envelope_limit limit) before after (read >>= unsealing secrets)
-      (decryption limit secrets) (decryption_derivations limit secrets)
-  unfolding decryption decryption_derivations
-  Prepares-decryption source old new before after read =
-      Prepares-steps source old new _ before after input read _ (unsealing secrets)
-      (derivations_on secrets) _ _ refl refl
-      (HasAnswered-is_no_read _ (decryption limit secrets input) decryption-answers) refl
+    pub derivations-of : decryption_derivations limit secrets input ≡ derivations_on secrets read
+    unfolding decryption_derivations
+    derivations-of = rw is refl
+
+  pub decryption-is_no_read : decryption limit secrets input ≢ Err (Read Input)
+  decryption-is_no_read =
+      HasAnswered-is_no_read _ (decryption limit secrets input) decryption-answers

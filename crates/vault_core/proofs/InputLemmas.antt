@@ -1,14 +1,9 @@
 -- What a call returns that read its input.
-use Rattle.std.proofs.Common.{◌≡◌, ◌≢◌, ◌⊎◌, ℕ, ◌+◌, Bool, true, false, List}
-use Rattle.std.proofs.Common.{Option, Some, None, Result, Ok, Err, ap, arith, inl, inr, refl, sym}
-use Rattle.std.proofs.Common.{◌∙◌}
+use Rattle.std.proofs.Common.{◌≡◌, ◌≢◌, ◌⊎◌, Bool, true, false}
+use Rattle.std.proofs.Common.{Option, Some, None, Result, Ok, Err, inl, inr, refl}
 use Rattle.std.specs.Prelude.{if◌then◌else◌, MatchResult}
 use Rattle.std.specs.Option.{ok_or}
-use Rattle.vault_text.specs.Failures.{HasRisen, IsSaturated}
 use Rattle.vault_text.specs.Steps.{◌>>=◌}
-use Rattle.vault_text.specs.declared.source.Source.{Ghosts as SourceTerms}
-use Rattle.vault_core.specs.Input.{Prepares, ReadsInput, ReadsThenAnswers}
-use Rattle.vault_core.specs.Ready.{Ready}
 use Rattle.vault_fault.specs.declared.fault.Fault.{Fault}
 use Rattle.vault_fault.specs.declared.fault.Fault.TheVariants.{Read}
 use Rattle.vault_fault.specs.declared.fault.Role.TheVariants.{Input}
@@ -49,74 +44,3 @@ pub HasAnswered-unless : {A : Type 0} (b : Bool) (fault : Fault) (r : Result A F
     → HasAnswered (if b then Err fault else r) P
 HasAnswered-unless true fault r P other rest = other
 HasAnswered-unless false fault r P other rest = rest refl
-
--- a call that read this input and returns the answer, or `Read Input` if the source failed
-module _ {S T E A : Type 0} (source : SourceTerms S) (old new : S) (bound : ℕ) (input : List ℕ)
-    (answer : Result A Fault) (never : answer ≢ Err (Read Input)) where
-  pub ReadsThenAnswers-Err : (e : E) → let read : Result T E = Err e in
-      ReadsInput source old new bound read input
-      → HasRisen (source.failures old) (source.failures new)
-      → ReadsThenAnswers source old new bound input (Err (Read Input)) answer
-  ReadsThenAnswers-Err e reads risen = record {
-    gives = reads.gives;
-    bounded = reads.bounded;
-    failed = λ _. risen;
-    short = λ _. reads.short;
-    unfailed = λ other. absurd (other refl);
-    whole = λ other. absurd (other refl);
-    answered = λ other. absurd (other refl);
-  }
-
-  pub ReadsThenAnswers-Ok : (x : T) → let read : Result T E = Ok x in
-      ReadsInput source old new bound read input
-      → source.failures new ≡ source.failures old
-      → ReadsThenAnswers source old new bound input answer answer
-  ReadsThenAnswers-Ok x reads same = record {
-    gives = reads.gives;
-    bounded = reads.bounded;
-    failed = λ unread. absurd (never unread);
-    short = λ unread. absurd (never unread);
-    unfailed = λ _. same;
-    whole = λ _. reads.whole;
-    answered = λ _. refl;
-  }
-
--- a call that takes a step from what it read, and derives as many keys as its count says
-module _ {S A : Type 0} (source : SourceTerms S) (old new : S) (bound before after : ℕ)
-    (input : List ℕ) (read found : Result A Fault) (step : A → Result Ready Fault)
-    (count : Result A Fault → ℕ) where
-  abbrev stepped : Result A Fault → Result Ready Fault
-  stepped result = result >>= step
-
-  pub Prepares-steps : (answer : List ℕ → Result Ready Fault) (derivations : List ℕ → ℕ)
-      → stepped found ≡ answer input → count found ≡ derivations input
-      → answer input ≢ Err (Read Input) → count (Err (Read Input)) ≡ 0
-      → ReadsThenAnswers source old new bound input read found
-      → (IsSaturated (source.failures old) → read ≡ Err (Read Input))
-      → after ≡ before + count read
-      → Prepares source old new bound before after (stepped read) answer derivations
-  Prepares-steps answer derivations is derived never none reads full counted = record {
-    input = input;
-    reads = record {
-      gives = reads.gives;
-      bounded = reads.bounded;
-      failed = λ unread. reads.failed (first unread);
-      short = λ unread. reads.short (first unread);
-      unfailed = λ other. reads.unfailed (λ unread. other (ap stepped unread));
-      whole = λ other. reads.whole (λ unread. other (ap stepped unread));
-      answered = λ other. ap stepped (found_from other) ∙ is;
-    };
-    underived = λ unread. omega (arith, counted, ap count (first unread), none);
-    derived = λ other. omega (arith, counted, ap count (found_from other), derived);
-    full = λ saturated. ap stepped (full saturated);
-  }
-    where
-      found_from : stepped read ≢ Err (Read Input) → read ≡ found
-      found_from other = reads.answered (λ unread. other (ap stepped unread))
-
-      first : stepped read ≡ Err (Read Input) → read ≡ Err (Read Input)
-      first unread = elim (cases_unread read) [
-        | inl failed ↦ failed
-        | inr other ↦
-            absurd (never (sym (ap stepped (reads.answered other) ∙ is) ∙ unread))
-      ]

@@ -4,6 +4,7 @@ pub mod DecryptionLemmas
 pub mod EncryptionLemmas
 pub mod UnsealingLemmas
 pub mod InputLemmas
+pub mod PreparesAsBefore
 pub mod RekeyingLemmas
 pub mod SealingByteLemmas
 pub mod theorems

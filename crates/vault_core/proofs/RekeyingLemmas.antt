@@ -1,26 +1,22 @@
 -- The answers of rekeying: an envelope of what the input decrypts to, or a fault.
-use Rattle.std.proofs.Common.{◌≡◌, ℕ, ◌+◌, List, Result, Ok, Err, sym, refl, ◌∙◌}
+use Rattle.std.proofs.Common.{◌≡◌, ◌≢◌, ℕ, List, Result, Ok, Err, sym, refl, ◌∙◌}
 use Rattle.vault_text.specs.Envelope.{Payload}
-use Rattle.vault_text.specs.Failures.{IsSaturated}
-use Rattle.vault_text.specs.Limits.{envelope_limit}
 use Rattle.vault_text.specs.Steps.{◌>>=◌}
-use Rattle.vault_text.specs.declared.source.Source.{Ghosts as SourceTerms}
 use Rattle.vault_text.proofs.EnvelopeLemmas.{HasFittingCiphertext}
-use Rattle.vault_core.specs.Decryption.{decryption, decryption_derivations, derivations_on}
+use Rattle.vault_core.specs.Decryption.{decryption}
 use Rattle.vault_core.specs.Decryption.{payload_of}
 use Rattle.vault_core.specs.Encryption.{is_vault}
 use Rattle.vault_core.specs.Form.{Envelope}
-use Rattle.vault_core.specs.Input.{Prepares, ReadsThenAnswers}
 use Rattle.vault_core.specs.Ready.{Ready}
 use Rattle.vault_core.specs.Rekeying.{rekeying, rekeying_of_payload}
-use Rattle.vault_core.specs.Sealing.{sealed, sealing_derivations, text_in}
+use Rattle.vault_core.specs.Sealing.{sealed, text_in}
 use Rattle.vault_core.specs.Secrets.{Secret, SecretList}
 use Rattle.vault_fault.specs.declared.fault.Fault.{Fault}
 use Rattle.vault_fault.specs.declared.fault.Fault.TheVariants.{AlreadyVault, Read}
 use Rattle.vault_fault.specs.declared.fault.Role.TheVariants.{Input}
 use Rattle.vault_core.proofs.DecryptionLemmas.{decryption-of, payload_of-answers}
 use Rattle.vault_core.proofs.InputLemmas.{HasAnswered, HasAnswered-is_no_read, HasAnswered-steps}
-use Rattle.vault_core.proofs.InputLemmas.{HasAnswered-unless, Prepares-steps}
+use Rattle.vault_core.proofs.InputLemmas.{HasAnswered-unless}
 use Rattle.vault_core.proofs.UnsealingLemmas.{FitsAgain, unsealing-answers}
 
 module _ (limit : ℕ) (secrets : SecretList) (new : Secret) (salt input : List ℕ) where
@@ -44,21 +40,11 @@ module _ (limit : ℕ) (secrets : SecretList) (new : Secret) (salt input : List 
       HasAnswered-unless (is_vault unsealed.output) AlreadyVault _ IsRekeyed (λ read. cc) (λ _.
       (unsealed, decryption-of limit secrets input _ (sym read) ∙ found, again, refl))))
 
-  pub Prepares-rekeying : {S : Type 0} (source : SourceTerms S) (before after : S) (m n : ℕ)
-      (read : Result Payload Fault)
-      → ReadsThenAnswers source before after (envelope_limit limit) input read
-      (payload_of limit input)
-      → (IsSaturated (source.failures before) → read ≡ Err (Read Input))
-      → let result = read >>= rekeying_of_payload secrets new salt in
-      n ≡ m + (derivations_on secrets read + sealing_derivations result)
-      → Prepares source before after (envelope_limit limit) m n result
-      (rekeying limit secrets new salt)
-      (λ text. decryption_derivations limit secrets text
-      + sealing_derivations (rekeying limit secrets new salt text))
-  unfolding rekeying decryption_derivations
-  Prepares-rekeying source before after m n read =
-      let step = rekeying_of_payload secrets new salt in
-      Prepares-steps source before after _ m n input read _ step
-      (λ (r : Result Payload Fault). derivations_on secrets r + sealing_derivations (r >>= step))
-      _ _ refl refl
-      (HasAnswered-is_no_read _ (rekeying limit secrets new salt input) rekeying-answers) refl
+  pub rekeying-is_no_read : rekeying limit secrets new salt input ≢ Err (Read Input)
+  rekeying-is_no_read =
+      HasAnswered-is_no_read _ (rekeying limit secrets new salt input) rekeying-answers
+
+  pub rekeying-of : (read : Result Payload Fault) → read ≡ payload_of limit input
+      → rekeying limit secrets new salt input ≡ (read >>= rekeying_of_payload secrets new salt)
+  unfolding rekeying
+  rekeying-of read is = rw is refl

@@ -1,7 +1,11 @@
 //! Decrypting a vault.
-ghost use Rattle.std.specs.Prelude.{◌≡◌, ◌<◌, ◌^◌, [], length};
+ghost use Rattle.std.specs.Prelude.{◌≡◌, ◌≢◌, ℕ, ◌+◌, ◌<◌, ◌^◌, List, [], length, Err};
 ghost use Rattle.vault_core.specs.Decryption.{decryption, decryption_derivations};
-ghost use Rattle.vault_core.specs.Input.{Prepares};
+ghost use Rattle.vault_core.specs.Input.{ReadFails, ReadsInput};
+ghost use Rattle.vault_fault.specs.declared.fault.Fault.TheVariants.{Read};
+ghost use Rattle.vault_fault.specs.declared.fault.Role.TheVariants.{Input};
+ghost use Rattle.vault_text.specs.Call.{source};
+ghost use Rattle.vault_text.specs.Failures.{IsSaturated};
 ghost use Rattle.vault_text.specs.Limits.{IsWorkLength, envelope_limit, limit_of};
 
 use crate::input::read_payload;
@@ -28,9 +32,17 @@ pub fn prepare_decrypt<'a, S: Source>(
 ) -> Result<Ready<'a>, Fault>
     requires room { IsWorkLength (length work.old) }
     requires countable { meter.old < 2 ^ 62 }
-    ensures { let limit = limit_of (length work.old) in
-        Prepares S.Source src.old src.new (envelope_limit limit) meter.old meter.new result
-        (decryption limit secrets.now) (decryption_derivations limit secrets.now) }
+    ensures answered { let limit = limit_of (length work.old) in
+        result ≢ Err (Read Input) → (input : List ℕ) × record {
+          read : ReadsInput (source S.Source src.old src.new) (envelope_limit limit) input;
+          answer : result ≡ decryption limit secrets.now input;
+          counted : meter.new ≡ meter.old + decryption_derivations limit secrets.now input;
+        } }
+    ensures failed { let limit = limit_of (length work.old) in
+        result ≡ Err (Read Input)
+        → ReadFails (source S.Source src.old src.new) (envelope_limit limit) }
+    ensures underived { result ≡ Err (Read Input) → meter.new ≡ meter.old }
+    ensures full { IsSaturated (S.failures src.old) → result ≡ Err (Read Input) }
 {
     prepare_decrypt_in(src, TextMemory::borrowed(work), secrets, meter)
 }
@@ -45,9 +57,17 @@ pub fn prepare_decrypt_in<'a, S: Source>(
     requires empty { memory.bytes ≡ [] }
     requires room { IsWorkLength memory.limit }
     requires countable { meter.old < 2 ^ 62 }
-    ensures { let limit = limit_of memory.entry.limit in
-        Prepares S.Source src.old src.new (envelope_limit limit) meter.old meter.new result
-        (decryption limit secrets.now) (decryption_derivations limit secrets.now) }
+    ensures answered { let limit = limit_of memory.entry.limit in
+        result ≢ Err (Read Input) → (input : List ℕ) × record {
+          read : ReadsInput (source S.Source src.old src.new) (envelope_limit limit) input;
+          answer : result ≡ decryption limit secrets.now input;
+          counted : meter.new ≡ meter.old + decryption_derivations limit secrets.now input;
+        } }
+    ensures failed { let limit = limit_of memory.entry.limit in
+        result ≡ Err (Read Input)
+        → ReadFails (source S.Source src.old src.new) (envelope_limit limit) }
+    ensures underived { result ≡ Err (Read Input) → meter.new ≡ meter.old }
+    ensures full { IsSaturated (S.failures src.old) → result ≡ Err (Read Input) }
 {
     let payload = read_payload(src, memory)?;
     let Unsealed { padded, len, tried } = unseal(payload, secrets, meter)?;

@@ -1,9 +1,13 @@
 //! Encrypting a plaintext.
-ghost use Rattle.std.specs.Prelude.{◌≡◌, ◌+◌, ◌<◌, ◌^◌, [], length};
+ghost use Rattle.std.specs.Prelude.{◌≡◌, ◌≢◌, ℕ, ◌+◌, ◌<◌, ◌^◌, List, [], length, Err};
 ghost use Rattle.vault_core.specs.Encryption.{encryption, is_vault};
 ghost use Rattle.vault_core.specs.Form.{form_of};
-ghost use Rattle.vault_core.specs.Input.{Prepares};
+ghost use Rattle.vault_core.specs.Input.{ReadFails, ReadsInput};
 ghost use Rattle.vault_core.specs.Sealing.{sealing_derivations};
+ghost use Rattle.vault_fault.specs.declared.fault.Fault.TheVariants.{Read};
+ghost use Rattle.vault_fault.specs.declared.fault.Role.TheVariants.{Input};
+ghost use Rattle.vault_text.specs.Call.{source};
+ghost use Rattle.vault_text.specs.Failures.{IsSaturated};
 ghost use Rattle.vault_text.specs.Limits.{IsWorkLength, limit_of};
 
 use crate::input::read_plaintext;
@@ -32,10 +36,16 @@ pub fn prepare_encrypt<'a, S: Source>(
     requires room { IsWorkLength (length work.old) }
     requires chosen { choice < length secrets.now.secrets }
     requires countable { meter.old < 2 ^ 62 }
-    ensures { let limit = limit_of (length work.old) in
-        let answer = encryption limit secrets.now.secrets choice (form_of form.entry) salt.now in
-        Prepares S.Source src.old src.new limit meter.old meter.new result answer
-        (λ input. sealing_derivations (answer input)) }
+    ensures answered { let limit = limit_of (length work.old) in
+        result ≢ Err (Read Input) → (input : List ℕ) × record {
+          read : ReadsInput (source S.Source src.old src.new) limit input;
+          answer : result ≡ encryption limit secrets.now.secrets choice (form_of form.entry)
+              salt.now input;
+        } }
+    ensures counted { meter.new ≡ meter.old + sealing_derivations result }
+    ensures failed { let limit = limit_of (length work.old) in
+        result ≡ Err (Read Input) → ReadFails (source S.Source src.old src.new) limit }
+    ensures full { IsSaturated (S.failures src.old) → result ≡ Err (Read Input) }
 {
     prepare_encrypt_in(
         src,
@@ -62,10 +72,16 @@ pub fn prepare_encrypt_in<'a, S: Source>(
     requires room { IsWorkLength memory.limit }
     requires chosen { choice < length secrets.now.secrets }
     requires countable { meter.old < 2 ^ 62 }
-    ensures { let limit = limit_of memory.entry.limit in
-        let answer = encryption limit secrets.now.secrets choice (form_of form.entry) salt.now in
-        Prepares S.Source src.old src.new limit meter.old meter.new result answer
-        (λ input. sealing_derivations (answer input)) }
+    ensures answered { let limit = limit_of memory.entry.limit in
+        result ≢ Err (Read Input) → (input : List ℕ) × record {
+          read : ReadsInput (source S.Source src.old src.new) limit input;
+          answer : result ≡ encryption limit secrets.now.secrets choice (form_of form.entry)
+              salt.now input;
+        } }
+    ensures counted { meter.new ≡ meter.old + sealing_derivations result }
+    ensures failed { let limit = limit_of memory.entry.limit in
+        result ≡ Err (Read Input) → ReadFails (source S.Source src.old src.new) limit }
+    ensures full { IsSaturated (S.failures src.old) → result ≡ Err (Read Input) }
 {
     read_plaintext(src, &mut memory)?;
     encrypt_plaintext(memory, secrets, choice, form, salt, meter)

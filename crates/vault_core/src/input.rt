@@ -1,10 +1,11 @@
 //! Reading the input of a call.
-ghost use Rattle.std.specs.Prelude.{◌≡◌, ℕ, ◌<◌, ◌≤◌, ◌↔◌, List, [], length};
-ghost use Rattle.std.specs.Prelude.{IsTrue, IsErr, IfOk, OnErr, Err};
+ghost use Rattle.std.specs.Prelude.{◌≡◌, ◌≢◌, ℕ, ◌<◌, ◌≤◌, ◌↔◌, List, [], length};
+ghost use Rattle.std.specs.Prelude.{IsTrue, IsErr, IfOk, OnOk, OnErr, Err};
+ghost use Rattle.vault_text.specs.Call.{source};
 ghost use Rattle.vault_text.specs.EnvelopeReader.{HasRead};
 ghost use Rattle.vault_text.specs.Failures.{CountsFailure, IsSaturated};
 ghost use Rattle.vault_core.specs.Decryption.{payload_of};
-ghost use Rattle.vault_core.specs.Input.{ReadsInput, ReadsThenAnswers};
+ghost use Rattle.vault_core.specs.Input.{ReadFails, ReadsInput};
 ghost use Rattle.vault_text.specs.Limits.{IsWorkLength, envelope_limit, limit_of};
 ghost use Rattle.vault_text.specs.Pieces.{TakesPiece};
 ghost use Rattle.vault_fault.specs.declared.fault.Fault.TheVariants.{Read};
@@ -25,9 +26,10 @@ pub(crate) fn read_plaintext<S: Source>(
     requires empty { memory.old.bytes ≡ [] }
     requires room { IsWorkLength memory.old.limit }
     ensures limit { memory.new.limit ≡ memory.old.limit }
-    ensures reads { ReadsInput S.Source src.old src.new (limit_of memory.old.limit) result
-        memory.new.bytes }
-    ensures failed { CountsFailure (S.failures src.old) (S.failures src.new) result }
+    ensures read { let limit = limit_of memory.old.limit in
+        OnOk result (ReadsInput (source S.Source src.old src.new) limit memory.new.bytes) }
+    ensures failed { let limit = limit_of memory.old.limit in
+        OnErr result (ReadFails (source S.Source src.old src.new) limit) }
     ensures full { IsSaturated (S.failures src.old) → IsErr result }
 {
     let mut buffer = [0; PIECE_LIMIT];
@@ -50,9 +52,14 @@ pub(crate) fn read_payload<'a, S: Source>(
 ) -> Result<Payload<'a>, Fault>
     requires empty { memory.bytes ≡ [] }
     requires room { IsWorkLength memory.limit }
-    ensures answer { let limit = limit_of memory.entry.limit in
-        (input : List ℕ) × ReadsThenAnswers S.Source src.old src.new (envelope_limit limit)
-        input result (payload_of limit input) }
+    ensures answered { let limit = limit_of memory.entry.limit in
+        result ≢ Err (Read Input) → (input : List ℕ) × record {
+          read : ReadsInput (source S.Source src.old src.new) (envelope_limit limit) input;
+          answer : result ≡ payload_of limit input;
+        } }
+    ensures failed { let limit = limit_of memory.entry.limit in
+        result ≡ Err (Read Input)
+        → ReadFails (source S.Source src.old src.new) (envelope_limit limit) }
     ensures full { IsSaturated (S.failures src.old) → result ≡ Err (Read Input) }
 {
     let mut reader = EnvelopeReader::in_memory(memory);
@@ -63,10 +70,13 @@ pub(crate) fn read_payload<'a, S: Source>(
 /// Feeds the reader with the input to its end, or to one byte past its limit.
 fn feed_input<S: Source>(src: &mut S, reader: &mut EnvelopeReader) -> Result<(), SourceFailed>
     ensures limit { reader.new.limit ≡ reader.old.limit }
-    ensures reads { let limit = envelope_limit reader.old.limit in
-        (input : List ℕ) × ReadsInput S.Source src.old src.new limit result input
-        × TakesPiece HasRead reader.old input reader.new }
-    ensures failed { CountsFailure (S.failures src.old) (S.failures src.new) result }
+    ensures read { let limit = envelope_limit reader.old.limit in
+        OnOk result ((input : List ℕ) × record {
+          read : ReadsInput (source S.Source src.old src.new) limit input;
+          fed : TakesPiece HasRead reader.old input reader.new;
+        }) }
+    ensures failed { let limit = envelope_limit reader.old.limit in
+        OnErr result (ReadFails (source S.Source src.old src.new) limit) }
     ensures full { IsSaturated (S.failures src.old) → IsErr result }
 {
     let mut buffer = [0; PIECE_LIMIT];

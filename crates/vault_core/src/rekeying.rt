@@ -1,11 +1,15 @@
 //! Giving a vault a new secret.
-ghost use Rattle.std.specs.Prelude.{◌≡◌, ◌+◌, ◌<◌, ◌^◌, [], length};
+ghost use Rattle.std.specs.Prelude.{◌≡◌, ◌≢◌, ℕ, ◌+◌, ◌<◌, ◌^◌, List, [], length, Err};
 ghost use Rattle.vault_core.specs.TriedSecrets.{tries};
 ghost use Rattle.vault_core.specs.Decryption.{decryption_derivations};
-ghost use Rattle.vault_core.specs.Input.{Prepares};
+ghost use Rattle.vault_core.specs.Input.{ReadFails, ReadsInput};
 ghost use Rattle.vault_core.specs.Rekeying.{rekeying, rekeying_of_payload};
 ghost use Rattle.vault_core.specs.Sealing.{sealing_derivations};
 ghost use Rattle.vault_core.specs.Secrets.{Secret, tried_order};
+ghost use Rattle.vault_fault.specs.declared.fault.Fault.TheVariants.{Read};
+ghost use Rattle.vault_fault.specs.declared.fault.Role.TheVariants.{Input};
+ghost use Rattle.vault_text.specs.Call.{source};
+ghost use Rattle.vault_text.specs.Failures.{IsSaturated};
 ghost use Rattle.vault_text.specs.Limits.{IsWorkLength, envelope_limit, limit_of};
 
 use crate::encryption::is_vault;
@@ -35,12 +39,19 @@ pub fn prepare_rekey<'a, S: Source>(
 ) -> Result<Ready<'a>, Fault>
     requires room { IsWorkLength (length work.old) }
     requires countable { meter.old < 2 ^ 62 }
-    ensures { let limit = limit_of (length work.old) in
+    ensures answered { let limit = limit_of (length work.old) in
         let secret : Secret = record { label = new.now; password = password.now } in
-        let answer = rekeying limit secrets.now secret salt.now in
-        Prepares S.Source src.old src.new (envelope_limit limit) meter.old meter.new result answer
-        (λ input. decryption_derivations limit secrets.now input
-        + sealing_derivations (answer input)) }
+        result ≢ Err (Read Input) → (input : List ℕ) × record {
+          read : ReadsInput (source S.Source src.old src.new) (envelope_limit limit) input;
+          answer : result ≡ rekeying limit secrets.now secret salt.now input;
+          counted : meter.new ≡ meter.old + decryption_derivations limit secrets.now input
+              + sealing_derivations result;
+        } }
+    ensures failed { let limit = limit_of (length work.old) in
+        result ≡ Err (Read Input)
+        → ReadFails (source S.Source src.old src.new) (envelope_limit limit) }
+    ensures underived { result ≡ Err (Read Input) → meter.new ≡ meter.old }
+    ensures full { IsSaturated (S.failures src.old) → result ≡ Err (Read Input) }
 {
     let new = SealingSecret {
         label: new,
@@ -61,11 +72,18 @@ pub fn prepare_rekey_in<'a, S: Source>(
     requires empty { memory.bytes ≡ [] }
     requires room { IsWorkLength memory.limit }
     requires countable { meter.old < 2 ^ 62 }
-    ensures { let limit = limit_of memory.entry.limit in
-        let answer = rekeying limit secrets.now new.now salt.now in
-        Prepares S.Source src.old src.new (envelope_limit limit) meter.old meter.new result answer
-        (λ input. decryption_derivations limit secrets.now input
-        + sealing_derivations (answer input)) }
+    ensures answered { let limit = limit_of memory.entry.limit in
+        result ≢ Err (Read Input) → (input : List ℕ) × record {
+          read : ReadsInput (source S.Source src.old src.new) (envelope_limit limit) input;
+          answer : result ≡ rekeying limit secrets.now new.now salt.now input;
+          counted : meter.new ≡ meter.old + decryption_derivations limit secrets.now input
+              + sealing_derivations result;
+        } }
+    ensures failed { let limit = limit_of memory.entry.limit in
+        result ≡ Err (Read Input)
+        → ReadFails (source S.Source src.old src.new) (envelope_limit limit) }
+    ensures underived { result ≡ Err (Read Input) → meter.new ≡ meter.old }
+    ensures full { IsSaturated (S.failures src.old) → result ≡ Err (Read Input) }
 {
     let payload = read_payload(src, memory)?;
     rekey_payload(payload, secrets, new, salt, meter)

@@ -6,6 +6,7 @@ pub mod Source
 pub mod SourceProofs
 pub mod Sink
 pub mod SinkProofs
+pub mod Call
 pub mod Whitespace
 pub mod Label
 pub mod Header

@@ -1,9 +1,9 @@
 -- How the run of a request ends: one record for each way.
-use Rattle.std.specs.Prelude.{◌≡◌, ◌≢◌, ◌⊎◌, ℕ, ◌+◌, ◌≤◌, List, [], length, take, is_some, true}
+use Rattle.std.specs.Prelude.{◌≡◌, ◌≢◌, ◌⊎◌, ℕ, ◌≤◌, List, [], length, take, is_some, true}
 use Rattle.std.specs.Prelude.{Option, Some, None, Result, Ok, Err}
 use Rattle.vault_text.specs.Failures.{HasRisen, IsSaturated}
 use Rattle.vault_text.specs.declared.sink.Stage.TheVariants.{Finished}
-use Rattle.vault_core.specs.Input.{IsReadToEndOrPastLimit}
+use Rattle.vault_core.specs.Input.{ReadsInput}
 use Rattle.vault_fault.specs.declared.fault.Fault.{Fault}
 use Rattle.vault_fault.specs.declared.fault.Fault.TheVariants.{Read, Write}
 use Rattle.vault_fault.specs.declared.fault.Role.TheVariants.{Input}
@@ -33,13 +33,10 @@ to_sink out = record {
       out.takes out.old bytes out.new × HasRisen (out.failures out.old) (out.failures out.new);
 }
 
--- This was read of a source: all that it has, or one byte more than the limit. If nothing of it is
--- needed, it was left alone.
+-- This was read of a source. If nothing of it is needed, it was left alone.
 abbrev pub Reads : {S : Type 0} → SourceCall S → Option ℕ → List ℕ → Type 0
 Reads src None input = (src.new ≡ src.old) × (input ≡ [])
-Reads src (Some limit) input = src.gives src.old input src.new × (length input ≤ limit + 1)
-    × (src.failures src.new ≡ src.failures src.old)
-    × IsReadToEndOrPastLimit limit (src.ended src.new) input
+Reads src (Some limit) input = ReadsInput src limit input
 
 -- A run that needs this much of a source, and whose answer to what it reads is the bytes to be
 -- written, or a fault.

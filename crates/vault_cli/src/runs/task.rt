@@ -1,13 +1,14 @@
 //! What is to be done with the input of a request: how that is prepared, and how it is performed.
-ghost use Rattle.std.specs.Prelude.{◌≡◌, [], length, map, slice_index_or, true};
+ghost use Rattle.std.specs.Prelude.{◌≡◌, ◌≢◌, ℕ, List, [], length, map, slice_index_or, true};
 ghost use Rattle.std.specs.Prelude.{Err, IfErr, IfOk};
 ghost use Rattle.vault_core.specs.Form.{form_of};
+ghost use Rattle.vault_core.specs.Input.{ReadFails, ReadsInput};
+ghost use Rattle.vault_text.specs.Call.{source};
 ghost use Rattle.vault_text.specs.Failures.{IsSaturated};
 ghost use Rattle.vault_text.specs.Limits.{IsWorkLength, limit_of};
 ghost use Rattle.vault_fault.specs.declared.fault.Fault.TheVariants.{Read};
 ghost use Rattle.vault_fault.specs.declared.fault.Role.TheVariants.{Input};
-ghost use Rattle.vault_cli.specs.Call.{source};
-ghost use Rattle.vault_cli.specs.runs.Performed.{PerformsOnInput};
+ghost use Rattle.vault_cli.specs.runs.Answer.{performed, task_limit};
 ghost use Rattle.vault_request.specs.CommandName.{rekeys};
 ghost use Rattle.vault_request.specs.Request.{files_of};
 ghost use Rattle.vault_cli.specs.runs.StoredTask.{task_in};
@@ -144,8 +145,14 @@ impl<'p> Task<'p> {
         requires empty { memory.bytes ≡ [] }
         requires room { IsWorkLength memory.limit }
         requires index { HasValidIndex (task_in self.now) }
-        ensures performs { PerformsOnInput (source S.Source src.old src.new)
-            (limit_of memory.entry.limit) (task_in self.now) result }
+        ensures answered { let limit = limit_of memory.entry.limit in
+            let task = task_in self.now in
+            result ≢ Err (Read Input) → (input : List ℕ) × record {
+              read : ReadsInput (source S.Source src.old src.new) (task_limit limit task) input;
+              answer : result ≡ performed limit task input;
+            } }
+        ensures failed { let limit = task_limit (limit_of memory.entry.limit) (task_in self.now) in
+            result ≡ Err (Read Input) → ReadFails (source S.Source src.old src.new) limit }
         ensures full { IsSaturated (S.failures src.old) → result ≡ Err (Read Input) }
     {
         let mut meter = Meter::new();

@@ -22,21 +22,22 @@ returns g c =
     let performs : Performs src limit task c.match-string.ready c.args.request.now.string =
     elim c.match-string.branch [
       | in-Some w ↦
-          let (prefix, reads) = w.perform-ready.ensures.performs in
-          let read : w.perform-ready.result ≢ Err (Read Input) =
-          λ unread. let risen = reads.failed unread in absurd cc in
+          let other : w.perform-ready.result ≢ Err (Read Input) =
+          λ unread. let risen = (w.perform-ready.ensures.failed unread).failed in absurd cc in
+          let (prefix, was) = w.perform-ready.ensures.answered other in
+          let gives = was.read.gives.0 in
           let text : w.new.result.left ≡ w.in-Some.string.now =
           rw w.new.ensures w.as_bytes.ensures.value in
           let unended : w.new.result.ended ≡ false = rw w.new.ensures refl in
           rw (w.src-is, w.ready-is, ← (rw w.in-Some.is at c.string.ensures)) (
             refl,
-            reads.answered read
-                ∙ performed-prefix limit task _ _ prefix _ (sym text ∙ reads.gives.0.consumed)
-                (reads.gives.0.end_is_real (λ ended. absurd cc)) (reads.whole read),
+            was.answer
+                ∙ performed-prefix limit task _ _ prefix _ (sym text ∙ gives.consumed)
+                (gives.end_is_real (λ ended. absurd cc)) was.read.whole,
           )
       | in-None w ↦
           rw (w.src-is, w.ready-is, ← (rw w.in-None.is at c.string.ensures))
-          (w.perform-ready-in-None.ensures.performs, w.perform-ready-in-None.ensures.full)
+          w.perform-ready-in-None.ensures
     ] in
     runs-performed src _ _ _ _ _ _ _ task c.in-Ok.ensures.planned c.match-string.ready performs
     c.deliver.ensures.delivers c.deliver.ensures.full

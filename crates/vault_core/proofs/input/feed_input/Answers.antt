@@ -1,25 +1,20 @@
 use Rattle.std.proofs.Common.{◌≡◌, ◌≤◌, ℕ, ◌++◌, append_assoc, arith, eqb-true, inl, length}
 use Rattle.std.proofs.Common.{length-append, length-take, rules, sym, ◌∙◌}
 use Rattle.std.proofs.lemmas.List.{nil_from_length}
-use Rattle.std.proofs.lemmas.Result.{IfOk-from_err, MatchResult-from_err}
+use Rattle.std.proofs.lemmas.Result.{MatchResult-from_err}
 use Rattle.vault_text.proofs.SinkLemmas.{taken_none}
 use Rattle.vault_core.proofs.input.feed_input.Goals as goal
 
-pub returns-in_err-piece-clause-reads : goal.returns-in_err-piece-clause-reads
-returns-in_err-piece-clause-reads g c =
-    let input = c.loop-left.invariant.0 in
-    let kept = c.loop-left.invariant.1 in (
-      input,
-      record {
-        gives = taken_none g.S.Source.gives g.met.S.Source.gives_more _ _ _ input kept.gives
-            c.in_err-piece.ensures.nothing;
-        bounded = omega (arith, kept.left);
-        whole = IfOk-from_err _ _ c.from_residual.ensures.0;
-        short = MatchResult-from_err _ _ _ c.from_residual.ensures.0
-            (λ _. omega (arith, kept.left, c.loop-left-test.true));
-      },
-      kept.taken,
-    )
+pub returns-in_err-piece-clause-failed : goal.returns-in_err-piece-clause-failed
+returns-in_err-piece-clause-failed g c =
+    let (input, kept) = c.loop-left.invariant in
+    MatchResult-from_err _ _ _ c.from_residual.ensures.0 (λ _. record {
+      input = input;
+      gives = taken_none g.S.Source.gives g.met.S.Source.gives_more _ _ _ input kept.gives
+          c.in_err-piece.ensures.nothing;
+      short = omega (arith, kept.left, c.loop-left-test.true);
+      failed = rw kept.failures at c.in_err-piece.ensures.failed;
+    })
 
 pub loop-left-preserved : goal.loop-left-preserved
 loop-left-preserved g c =
@@ -41,19 +36,21 @@ loop-left-preserved g c =
       },
     )
 
-pub returns-then-is_empty-clause-reads : goal.returns-then-is_empty-clause-reads
-returns-then-is_empty-clause-reads g c =
+pub returns-then-is_empty-clause-read : goal.returns-then-is_empty-clause-read
+returns-then-is_empty-clause-read g c =
     let input = c.loop-left.invariant.0 in
     let kept = c.loop-left.invariant.1 in
     let empty : length c.in_ok-piece.piece.now ≡ 0 =
     eqb-true _ _ (sym c.is_empty.ensures ∙ c.if-is_empty.true) in (
       input,
       record {
-        gives = taken_none g.S.Source.gives g.met.S.Source.gives_more _ _ _ input kept.gives
-            (rw (nil_from_length _ empty) at c.in_ok-piece.ensures.gives);
-        bounded = omega (arith, kept.left);
-        whole = inl (c.in_ok-piece.ensures.end.0 empty);
-        short = tt;
+        read = record {
+          gives = taken_none g.S.Source.gives g.met.S.Source.gives_more _ _ _ input kept.gives
+              (rw (nil_from_length _ empty) at c.in_ok-piece.ensures.gives);
+          bounded = omega (arith, kept.left);
+          whole = inl (c.in_ok-piece.ensures.end.0 empty);
+          unfailed = c.in_ok-piece.ensures.failed ∙ kept.failures;
+        };
+        fed = kept.taken;
       },
-      kept.taken,
     )
