@@ -1,10 +1,10 @@
 -- Padding that is put on, and the one plaintext that is left when it is taken off.
 use Rattle.std.proofs.Common.{◌≡◌, ℕ, ◌-◌, ◌%◌, ◌≤◌, List, [], ◌∷◌, ◌++◌, Option, Some}
 use Rattle.std.proofs.Common.{None, refl, sym, ap, ◌∙◌, arith, drop, drop_at, length, length-append}
-use Rattle.std.proofs.Common.{length-drop, length-take-le, replicate, slice_index, take}
+use Rattle.std.proofs.Common.{length-drop, replicate, slice_index, take}
 use Rattle.std.proofs.Common.{take_at, Bool, true, false, inl, inr}
-use Rattle.std.specs.Prelude.{All, IfSome, IsTrue, find, ◌↔◌}
-use Rattle.std.specs.Bool.{Decides, then_some}
+use Rattle.std.specs.Prelude.{All, IfNone, IfSome, IsTrue, find, ◌↔◌}
+use Rattle.std.specs.Bool.{Decides}
 use Rattle.std.specs.Option.{option_map}
 use Rattle.std.specs.Str.{bytes_eq}
 use Rattle.std.proofs.lemmas.Bool.{cases_Bool}
@@ -121,25 +121,35 @@ replicate-from_All value n xs long all =
     same_lists xs (replicate n value) (long ∙ sym (length-replicate n value))
     (λ k d lt. all k d lt ∙ sym (get_or-replicate n k value d (omega arith)))
 
--- what `unpad` returns once it has compared the last bytes
-pub then_some-without_padding : (text : List ℕ) (count : ℕ) (same : Bool) → count ≡ last_of text
-    → 1 ≤ count → count ≤ 16 → 1 ≤ length text → length text % 16 ≡ 0
-    → IsTrue same ↔ All (λ x. x ≡ count) (drop (length text - count) text)
-    → option_map (λ n. take n text) (then_some same (length text - count)) ≡ without_padding text
-unfolding padded
-then_some-without_padding text count true last low high some whole all =
-    let n : ℕ = length text - count in
-    let prefix = length-take-le n text (omega arith) in
-    let counted : count_of (take n text) ≡ count = omega (arith, prefix) in
-    let back : length (drop n text) ≡ count = length-drop n text ∙ omega arith in
-    sym (without_padding-padded (take n text) text
-    (rw (counted, ← replicate-from_All count count (drop n text) back (all.0 refl))
-    (take-append-drop n text)))
-then_some-without_padding text count false last low high some whole all =
-    without_padding-None text (λ plain is.
-    let counted : count_of plain ≡ count = sym (rw is at (last-padded plain)) ∙ sym last in
-    let size = rw is at (length-padded plain) in
-    let start : length text - count ≡ length plain = omega (arith, size) in
-    let tail : drop (length text - count) text ≡ replicate count count =
-    rw (start, ← is, ← counted) (drop_at plain (padding_of plain) (length plain) refl) in
-    cc (all.1 (rw tail (All-replicate (λ x. x ≡ count) count count refl))))
+-- a text in whole blocks whose last byte is a count of 1 to 16: whether so many of its last bytes
+-- are the same says whether it is padded
+module _ (text : List ℕ) (count : ℕ) (same : Bool) (last : count ≡ last_of text) (low : 1 ≤ count)
+    (high : count ≤ 16) (some : 1 ≤ length text) (whole : length text % 16 ≡ 0)
+    (all : IsTrue same ↔ All (λ x. x ≡ count) (drop (length text - count) text)) where
+  pub IsPadded-same : same ≡ true → IsPadded (take (length text - count) text) text
+  IsPadded-same is =
+      let n : ℕ = length text - count in
+      let back : length (drop n text) ≡ count = length-drop n text ∙ omega arith in
+      let tail = replicate-from_All count count (drop n text) back (all.0 is) in
+      (count, low, high, sym (rw tail at (take-append-drop n text)), whole)
+
+  pub not_padded-other : same ≡ false → (plain : List ℕ) → IsPadded plain text → ⊥
+  unfolding padded
+  not_padded-other is plain padding =
+      let unique = sym (padded-unique plain text padding) in
+      let counted : count_of plain ≡ count = sym (rw unique at (last-padded plain)) ∙ sym last in
+      let size = rw unique at (length-padded plain) in
+      let start : length text - count ≡ length plain = omega (arith, size) in
+      let tail : drop (length text - count) text ≡ replicate count count =
+      rw (start, ← unique, ← counted) (drop_at plain (padding_of plain) (length plain) refl) in
+      cc (all.1 (rw tail (All-replicate (λ x. x ≡ count) count count refl)))
+
+-- the length of the plaintext that a text is when it is padded, or none, gives the plaintext
+pub take-without_padding : (text : List ℕ) (found : Option ℕ)
+    → IfSome found (λ n. IsPadded (take n text) text)
+    → IfNone found ((plain : List ℕ) → IsPadded plain text → ⊥)
+    → option_map (λ n. take n text) found ≡ without_padding text
+take-without_padding text (Some n) padding none =
+    sym (without_padding-padded (take n text) text (sym (padded-unique (take n text) text padding)))
+take-without_padding text None padding none =
+    without_padding-None text (λ plain is. none plain (rw is at (IsPadded-padded plain)))

@@ -1,7 +1,7 @@
 //! PKCS #7 padding (RFC 5652, section 6.3) for blocks of 16 bytes.
-ghost use Rattle.std.specs.Prelude.{◌≡◌, ◌≤◌, ◌↔◌, length, take, drop, IfSome, IsTrue, All};
-ghost use Rattle.std.specs.Option.{option_map};
-ghost use Rattle.vault_aes.specs.Padding.{padded, padded_length, without_padding};
+ghost use Rattle.std.specs.Prelude.{◌≡◌, ℕ, ◌≤◌, ◌↔◌, List, length, take, drop, All};
+ghost use Rattle.std.specs.Prelude.{IfSome, IfNone, IsTrue};
+ghost use Rattle.vault_aes.specs.Padding.{IsPadded, padded, padded_length};
 
 use crate::rounds::BLOCK_LEN;
 
@@ -24,7 +24,8 @@ pub fn pad(work: &mut [u8], n: usize) -> usize
 /// length of `padded` is not a positive multiple of 16, the last byte n is not 1 to 16, or the last
 /// n bytes do not all equal n. It does not take constant time.
 pub fn unpad(padded: &[u8]) -> Option<usize>
-    ensures plaintext { option_map (λ n. take n padded.now) result ≡ without_padding padded.now }
+    ensures plaintext { IfSome result (λ n. IsPadded (take n padded.now) padded.now) }
+    ensures none { IfNone result ((plaintext : List ℕ) → ¬ IsPadded plaintext padded.now) }
     ensures len { IfSome result (λ n. padded_length n ≡ length padded.now) }
 {
     let count = *padded.last()?;
