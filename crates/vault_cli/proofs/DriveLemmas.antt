@@ -163,35 +163,47 @@ module _ {D R W S K E : Type 0} (files : FilesCall D R W) (src : SourceCall S) (
           → run.InputFails reader SentTo err result needed answers
           ⊎ ((input : List ℕ) × run.Reads reader needed input
           × run.Ends src SentTo err result None (λ stdin. answers input))
-      kept-ends needed answers (Succeeded s) = inr (s.input, s.reads, Succeeded (record {
-        input = [];
-        reads = (kept, refl);
-        bytes = s.bytes;
-        answer = s.answer;
-        status = s.status;
-        output = s.output;
-        message = s.message;
-      }))
-      kept-ends needed answers (HasRefused r) = inr (r.input, r.reads, HasRefused (record {
-        input = [];
-        reads = (kept, refl);
-        fault = r.fault;
-        answer = r.answer;
-        status = r.status;
-        memory_suffices = r.memory_suffices;
-        output = r.output;
-        message = r.message;
-      }))
-      kept-ends needed answers (OutputFailed f) = inr (f.input, f.reads, OutputFailed (record {
-        input = [];
-        reads = (kept, refl);
-        bytes = f.bytes;
-        answer = f.answer;
-        status = f.status;
-        count = f.count;
-        output = f.output;
-        message = f.message;
-      }))
+      kept-ends needed answers (Succeeded s) = inr (
+        s.input,
+        s.reads,
+        Succeeded (record {
+          input = [];
+          reads = (kept, refl);
+          bytes = s.bytes;
+          answer = s.answer;
+          status = s.status;
+          output = s.output;
+          message = s.message;
+        }),
+      )
+      kept-ends needed answers (HasRefused r) = inr (
+        r.input,
+        r.reads,
+        HasRefused (record {
+          input = [];
+          reads = (kept, refl);
+          fault = r.fault;
+          answer = r.answer;
+          status = r.status;
+          memory_suffices = r.memory_suffices;
+          output = r.output;
+          message = r.message;
+        }),
+      )
+      kept-ends needed answers (OutputFailed f) = inr (
+        f.input,
+        f.reads,
+        OutputFailed (record {
+          input = [];
+          reads = (kept, refl);
+          bytes = f.bytes;
+          answer = f.answer;
+          status = f.status;
+          count = f.count;
+          output = f.output;
+          message = f.message;
+        }),
+      )
       kept-ends needed answers (InputFailed f) = inl f
 
       -- where it was not asked for, it was opened

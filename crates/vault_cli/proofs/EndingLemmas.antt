@@ -1,10 +1,8 @@
 -- How a run ends over one output, carried over to another.
 use Rattle.std.proofs.Common.{◌≡◌, ℕ, List, Option, Some, None, Result, take, ap, ◌∙◌, refl, sym, arith}
-use Rattle.std.proofs.Common.{◌<◌, ◌≤◌}
 use Rattle.vault_text.specs.declared.sink.Stage.TheVariants as stage
-use Rattle.vault_files.specs.Output.{FileOutputState, FileTakes, OutputCalls, OutputState, stage_of}
+use Rattle.vault_files.specs.Output.{FileOutputState, OutputState, stage_of}
 use Rattle.vault_files.specs.Output.OutputState.{Begun, Chosen, Finished}
-use Rattle.vault_files.specs.System.{SystemCall}
 use Rattle.vault_files.specs.declared.access.Access.{Access}
 use Rattle.vault_files.specs.declared.system.System.{Ghosts as SystemTerms}
 use Rattle.vault_fault.specs.declared.fault.Fault.{Fault}
@@ -128,12 +126,12 @@ module _ {D R W S E : Type 0} (terms : SystemTerms D R W) (file left : FileOutpu
               ),
             );
         cut = λ bytes (took, risen).
-            let some : 0 < took.failed = omega (arith, took.failures, fresh, risen) in (
+            let one : took.failed ≡ 1 = omega (arith, took.failures, fresh, risen) in (
               alone,
               (
                 took.calls,
                 rw (is_old, is_new) at took.executed,
-                (took.failed, some, (left.output, rw chosen at took.are_of_output)),
+                (left.output, rw (chosen, one) at took.are_of_output),
               ),
             );
       }) ends)

@@ -1,7 +1,7 @@
 -- How the program ends over files, an input and sinks in memory, from how it ends over any.
-use Rattle.std.proofs.Common.{◌≡◌, ◌⊎◌, ◌≤◌, ◌<◌, ℕ, ◌+◌, ◌-◌, ◌^◌, inl, inr, List, [], ◌∷◌, ◌++◌}
+use Rattle.std.proofs.Common.{◌≡◌, ◌⊎◌, ◌≤◌, ◌<◌, ℕ, ◌+◌, ◌-◌, ◌^◌, inl, inr, List, [], ◌++◌}
 use Rattle.std.proofs.Common.{length, take, drop, Bool, true, false, Option, Some, None, IsTrue}
-use Rattle.std.proofs.Common.{◌≢◌, Result, Ok, Err, refl, sym, arith, ap, ◌∙◌, append_assoc}
+use Rattle.std.proofs.Common.{◌≢◌, Result, refl, sym, arith, ◌∙◌, append_assoc}
 use Rattle.std.specs.Prelude.{IfSome, min}
 use Rattle.std.proofs.lemmas.Bool.{false≢true}
 use Rattle.std.proofs.lemmas.Bool.Decides.{eqb_tells}
@@ -11,7 +11,7 @@ use Rattle.clap.specs.Words.{Kinds}
 use Rattle.vault_text.specs.Sink.{MemSinkState, MemoryTakes}
 use Rattle.vault_text.specs.Source.{MemSourceState, MemoryGives}
 use Rattle.vault_files.specs.Memory.{Entry, IsReaderOf, ReaderState, StoreExecutes, StoreState}
-use Rattle.vault_files.specs.Memory.{file_at, stands_at}
+use Rattle.vault_files.specs.Memory.{file_at}
 use Rattle.vault_files.specs.MemoryProofs.{opens-logged}
 use Rattle.vault_files.specs.PathLog.{LogState, logged}
 use Rattle.vault_files.specs.System.{SystemCall}
@@ -29,7 +29,7 @@ use Rattle.vault_files.specs.declared.system.System.{Ghosts as SystemTerms}
 use Rattle.vault_fault.specs.declared.fault.Fault.{Fault}
 use Rattle.vault_request.specs.Request.{Request}
 use Rattle.vault_cli.specs.Access.{access_of}
-use Rattle.vault_cli.specs.Call.{SinkCall, SourceCall, files_from, sink, source, system}
+use Rattle.vault_cli.specs.Call.{SinkCall, SourceCall, sink, source, system}
 use Rattle.vault_cli.specs.Drive.{Ends, to_path}
 use Rattle.vault_cli.specs.Drive.Ends.{Ran, Stopped}
 use Rattle.vault_cli.specs.Explained.Explains.{MemoryLacked, HelpShown, HelpFailed, Rejected}
@@ -37,7 +37,7 @@ use Rattle.vault_cli.specs.OpenedPaths.{opened_paths}
 use Rattle.vault_cli.specs.Program.{Files, answer_to, files_in, output_path, stdin_needed}
 use Rattle.vault_cli.specs.InMemory as in_memory
 use Rattle.vault_cli.specs.InMemory.{Change, EndsInMemory, Holds, HoldsPrefix, IsCut, IsKept}
-use Rattle.vault_cli.specs.InMemory.{IsSynced, Received, Stands, Taken, change, stands_after}
+use Rattle.vault_cli.specs.InMemory.{IsSynced, Received, Stands, Taken, stands_after}
 use Rattle.vault_cli.specs.runs.Reports.{Reports}
 use Rattle.vault_cli.specs.runs.Run as run
 use Rattle.vault_cli.specs.runs.Run.{Output, Reads}
@@ -185,24 +185,24 @@ module _ (entries : List Entry) (log : Option LogState) (path : List ℕ) where
             elim (outcome access t more ys n true u p rest) [
               | inl left ↦ inl left
               | inr early ↦ inr (record {
-                  created = early.created;
-                  is = early.is;
-                  unfinished = early.unfinished;
-                  unless_long = λ none. elim (early.unless_long none) [
-                    | inl (never, zero) ↦ absurd (false≢true (sym never))
-                    | inr long ↦ inr long
-                  ];
-                })
+                created = early.created;
+                is = early.is;
+                unfinished = early.unfinished;
+                unless_long = λ none. elim (early.unless_long none) [
+                  | inl (never, zero) ↦ absurd (false≢true (sym never))
+                  | inr long ↦ inr long
+                ];
+              })
             ]
         | inr (long, rest) ↦
             elim (outcome access t more ys n b u p rest) [
               | inl left ↦ inl left
               | inr early ↦ inr (record {
-                  created = early.created;
-                  is = early.is;
-                  unfinished = early.unfinished;
-                  unless_long = λ none. inr long;
-                })
+                created = early.created;
+                is = early.is;
+                unfinished = early.unfinished;
+                unless_long = λ none. inr long;
+              })
             ]
       ]
 
@@ -216,10 +216,10 @@ taken-left text input left limit ended e fits last (inr exact) =
     rw (e, ← exact) (sym (drop-append_seam input left))
 
 -- where a call failed and the file was not created, its path is too long
-long-path : (at : List ℕ) (failed : ℕ) → 0 < failed
+long-path : (at : List ℕ) (failed : ℕ) → failed ≡ 1
     → ((false ≡ false) × (failed ≡ 0)) ⊎ (PATH_LIMIT < length at) → PATH_LIMIT < length at
-long-path at failed some (inl (is, zero)) = absurd (omega (arith, some, zero))
-long-path at failed some (inr long) = long
+long-path at failed one (inl (is, zero)) = absurd (omega (arith, one, zero))
+long-path at failed one (inr long) = long
 
 module _ (W : Type 0) (result : Status) (files : Change StoreState) (log : Option LogState)
     (out err : Change MemSinkState) (none : files.old.created ≡ None) (access : Access) where
@@ -279,12 +279,12 @@ module _ (W : Type 0) (result : Status) (files : Change StoreState) (log : Optio
   cut None bytes n ((took, risen), same) =
       let (stands, stays) = kept same in
       (((risen, (n, took.0.appended)), stands), stays)
-  cut (Some at) bytes n (same_out, (calls, executed, (count, some, (state, is)))) =
-      elim (left-at at (take n bytes) calls count state executed is) [
+  cut (Some at) bytes n (same_out, (calls, executed, (state, is))) =
+      elim (left-at at (take n bytes) calls 1 state executed is) [
         | inl left ↦ ((same_out, inr (n, λ p. rw left.is refl)), rw left.is refl)
         | inr unbegun ↦
             let long = λ (none : unbegun.created ≡ false).
-            long-path at count some (unbegun.unless_long none) in
+            long-path at 1 refl (unbegun.unless_long none) in
             let (is_cut, stays) = cut-early at bytes unbegun.created unbegun.is long in
             ((same_out, is_cut), stays)
       ]

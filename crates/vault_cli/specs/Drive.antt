@@ -1,5 +1,5 @@
 -- How the program ends over its files and its standard streams.
-use Rattle.std.specs.Prelude.{◌≡◌, ℕ, ◌<◌, List, [], Option, Some, None, Result, Ok, Err}
+use Rattle.std.specs.Prelude.{◌≡◌, ℕ, List, [], Option, Some, None, Result, Ok, Err}
 use Rattle.clap.specs.Words.{Kinds}
 use Rattle.vault_files.specs.File.{FileState, Found}
 use Rattle.vault_files.specs.Output.{OutputCalls, OutputState}
@@ -42,8 +42,7 @@ module _ {D R W K : Type 0} (files : FilesCall D R W) (out : SinkCall K) where
         × OutputCalls (Chosen path access) calls bytes 0 Finished);
     cut = λ bytes. (out.new ≡ out.old)
         × ((calls : List SystemCall) × files.executes files.old calls files.new
-        × ((failed : ℕ) × (0 < failed)
-        × ((state : OutputState) × OutputCalls (Chosen path access) calls bytes failed state)));
+        × ((state : OutputState) × OutputCalls (Chosen path access) calls bytes 1 state));
   }
 
 module _ {D R W S K E : Type 0} (files : FilesCall D R W) (src : SourceCall S) (out : SinkCall K)
