@@ -11,6 +11,7 @@ import sys
 from dataclasses import dataclass
 from typing import Iterator
 
+from ansible_vault_companions import stopping
 from ansible_vault_companions.program import Refused, shown
 
 MAGIC = b"$ANSIBLE_VAULT"
@@ -164,6 +165,7 @@ def _within(data: bytes) -> Iterator[Envelope]:
     line = _Line(data)
     place = data.find(START)
     while place >= 0:
+        stopping.check()
         line.go_to(place)
         envelope = _block(line) or _elsewhere(line)
         if envelope:

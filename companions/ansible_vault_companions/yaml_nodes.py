@@ -7,6 +7,7 @@ import sys
 from types import ModuleType
 from typing import Any, Collection, Iterator, NamedTuple, Tuple, Union
 
+from ansible_vault_companions import stopping
 from ansible_vault_companions.envelopes import MAGIC
 from ansible_vault_companions.program import Refused
 
@@ -113,6 +114,7 @@ def nodes(data: bytes, tags: Collection[str] = ()) -> Iterator[Node]:
     beginnings = {yaml.MappingStartEvent: MAPPING, yaml.SequenceStartEvent: LIST}
     ends = (yaml.MappingEndEvent, yaml.SequenceEndEvent)
     for event in _events(yaml, UNREADABLE.sub(REPLACEMENT, content)):
+        stopping.check()
         kind = type(event)
         if kind is yaml.ScalarEvent:
             tag, style, value = event.tag, event.style or PLAIN, event.value
