@@ -21,7 +21,7 @@ from ansible_vault_companions.envelopes import MAGIC, TAG_NAME, label_of
 from ansible_vault_companions.program import Refused, shown
 from ansible_vault_companions.sources import Secret
 from ansible_vault_companions.tool import NotDecrypted, SecretRefused, Tool
-from ansible_vault_companions.yaml_nodes import LITERAL, NotYaml
+from ansible_vault_companions.yaml_nodes import LITERAL, NotYaml, Path
 from ansible_vault_companions.yaml_values import Scan
 
 # What git names the sides of a conflict by.
@@ -141,7 +141,7 @@ class _Side:
     def with_token(self, token: bytes) -> _Place | None:
         return next((each for each in self.places if each.token == token), None)
 
-    def at(self, path: tuple[str, ...]) -> _Place | None:
+    def at(self, path: Path) -> _Place | None:
         """The only block that these keys lead to."""
         found = [each for each in self.places if each.block.value.path == path]
         return found[0] if len(found) == 1 else None

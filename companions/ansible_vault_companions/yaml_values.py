@@ -13,7 +13,7 @@ from typing import Collection, Iterable, Iterator, NamedTuple
 
 from ansible_vault_companions import yaml_nodes
 from ansible_vault_companions.envelopes import matched
-from ansible_vault_companions.yaml_nodes import Node
+from ansible_vault_companions.yaml_nodes import Node, Path
 
 TAG = yaml_nodes.TAGS[0]
 # How a line ends in YAML 1.1.
@@ -35,8 +35,8 @@ class Value(NamedTuple):
     # Of the tag: its line, from 1, and where that begins.
     line: int
     line_start: int
-    # The keys that lead to it; places in lists are left out.
-    path: tuple[str, ...]
+    # Of a key, that of its mapping.
+    path: Path
     # The column of the collection that it is in; -1 where it is in none.
     column: int
     in_flow: bool
@@ -55,7 +55,7 @@ class Value(NamedTuple):
 
     @property
     def name(self) -> str:
-        return self.path[-1] if self.path else ""
+        return self.path.last
 
 
 class Scan:
@@ -173,13 +173,12 @@ def _value(data: bytes, node: Node, head: str, tag: int, end: int) -> Value:
     header_end = header.end() if header else end
     line_end = _end_of_line(data, header_end)
     end, content_end = _ends(data, line_end, end, header["indicators"], node.text) if header else (line_end, line_end)
-    keys = node.path[:-1] if node.is_key else node.path
     return Value(
         node.style,
         node.is_key,
         node.line,
         tag - len(_encoded(head)),
-        tuple(key for key in keys if isinstance(key, str)),
+        node.container.path if node.is_key else node.path,
         node.container.column,
         node.container.in_flow,
         LINE_END.search(data, tag, start) is not None,
