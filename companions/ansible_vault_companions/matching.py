@@ -12,7 +12,7 @@ from typing import NamedTuple
 from ansible_vault_companions.blocks import Decrypted, named
 from ansible_vault_companions.program import Refused
 from ansible_vault_companions.sources import Secret
-from ansible_vault_companions.yaml_nodes import Path
+from ansible_vault_companions.yaml_paths import Path
 from ansible_vault_companions.yaml_values import Value
 
 NEW = "is new; choose its secret with --encrypt-vault-id"

@@ -21,7 +21,8 @@ from ansible_vault_companions.envelopes import MAGIC, TAG_NAME, label_of
 from ansible_vault_companions.program import Refused, shown
 from ansible_vault_companions.sources import Secret
 from ansible_vault_companions.tool import NotDecrypted, SecretRefused, Tool
-from ansible_vault_companions.yaml_nodes import LITERAL, NotYaml, Path
+from ansible_vault_companions.yaml_nodes import LITERAL, NotYaml
+from ansible_vault_companions.yaml_paths import Path
 from ansible_vault_companions.yaml_values import Scan
 
 # What git names the sides of a conflict by.

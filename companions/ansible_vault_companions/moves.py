@@ -12,7 +12,7 @@ from ansible_vault_companions.commits import Change, File
 from ansible_vault_companions.envelopes import MAGIC, START, envelopes
 from ansible_vault_companions.plain_values import values
 from ansible_vault_companions.program import shown
-from ansible_vault_companions.yaml_nodes import Path
+from ansible_vault_companions.yaml_paths import Path
 
 Read = Callable[[str], bytes]
 

@@ -8,7 +8,8 @@ from typing import Iterable, NamedTuple
 
 from ansible_vault_companions.envelopes import MAGIC, envelopes
 from ansible_vault_companions.program import Refused, shown
-from ansible_vault_companions.yaml_nodes import ALIAS, PLAIN, Path, Step, nodes
+from ansible_vault_companions.yaml_nodes import ALIAS, PLAIN, nodes
+from ansible_vault_companions.yaml_paths import Path, Step
 
 # The key of any item of a list, and that by which a mapping is merged into another one, which leads to no path of its
 # own.
