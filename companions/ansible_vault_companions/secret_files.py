@@ -79,6 +79,12 @@ def of_options(ids: list[str], paths: list[str], encrypts: bool = False) -> list
     return [sources.obtain(source, encrypts) for source in named]
 
 
+def words(ids: list[str], paths: list[str]) -> list[str]:
+    """The options of a command line that name these secrets."""
+    by_path = (word for path in paths for word in ("--vault-password-file", path))
+    return [*(word for each in ids for word in ("--vault-id", each)), *by_path]
+
+
 def encrypt_label(ids: list[str], paths: list[str]) -> str | None:
     """The label of the secret to encrypt with, by the settings that count beside these options."""
     return Settings(bool(ids or paths)).encrypt_label()

@@ -151,3 +151,43 @@ def test_asked_at_a_terminal(place: Place) -> None:
     assert "what you saved is encrypted in" in session.stderr, "no: it is kept"
     session = ask(place, *words, answers=[(question, b"yes\n")], EDITOR=editor)
     assert (session.returncode, place.get("vars.yml")) == (0, block("old") + b"new: !Vault word\n"), "yes"
+
+
+def commands(stderr: str) -> list[str]:
+    return [line.strip() for line in stderr.splitlines() if line.startswith("  ")]
+
+
+def test_put_back(place: Place, subtests: SubTests) -> None:
+    """The commands of the message mend a text that is no YAML, and put it into its file."""
+    needs_pyyaml()
+    values = block("dev", b"one", "dev", "a") + block("prod", b"two", "prod", "b")
+    both = [*place.by_id("dev", "dev"), *place.by_id("prod", "prod")]
+    for name in ("vars.yml", "it's.yml", "-rf x.yml"):
+        with subtests.test(name):
+            place.put(name, values, 0o640)
+            done = edit(place, 'printf "c: !vault \\"more\\n" >> "$1"', *both, "--encrypt-vault-id", "prod", "--", name)
+            ended("a quote is missing", done, 1, "it cannot be read as YAML", "To mend it, and to put it into")
+            mend, put = commands(done.stderr)
+            ended("not mended", place.shell(put), 1, "it cannot be read as YAML")
+            assert place.get(name) == values, "the file stays"
+            editor = place.script("sed -i '/^c:/s/\"more/more/' \"$1\"", "editor")
+            silent("it is mended", place.shell(mend, EDITOR=editor))
+            ended("it is put back", place.shell(put), 0, "an earlier edit is encrypted in")
+            after = place.get(name)
+            assert after.startswith(values), "the others stay"
+            assert texts(after, "prod") == [None, b"two", b"more"], "it is encrypted"
+            assert place.mode(name) == "0o640", "the mode stays"
+            for copy in place.tree.glob(".ansible-vault-saved-*"):
+                copy.unlink()
+    assert place.left() == [], "no plaintext is left"
+
+
+def test_put_in_its_place(place: Place) -> None:
+    """The commands of the message show what was saved, and put it into the vault."""
+    place.put("all.yml", sealed("old"), 0o640)
+    done = edit(place, 'echo more > "$1"; exit 3', *place.by_file("old"), "all.yml")
+    show, put = commands(done.stderr)
+    ended("it is shown", place.shell(show), 0, "more\n")
+    silent("it is put back", place.shell(put))
+    assert decrypted("old", place.get("all.yml")) == b"more\n", "it is there"
+    assert (place.names(), place.mode("all.yml")) == (["all.yml"], "0o640"), "the copy is gone, and the mode stays"
