@@ -140,15 +140,23 @@ def named(path: str) -> bytes:
     return content
 
 
-def _pieces(file: BinaryIO, path: str, check: Callable[[], None] = lambda: None) -> Iterator[bytes]:
+def pieces(path: str) -> Iterator[bytes]:
+    """What a file holds, as much as it says that it has. A signal ends the reading."""
+    with _opened(path) as file:
+        yield from _pieces(file, path, stopping.check, max(LIMIT, os.fstat(file.fileno()).st_size))
+
+
+def _pieces(
+    file: BinaryIO, path: str, check: Callable[[], None] = lambda: None, limit: int = LIMIT
+) -> Iterator[bytes]:
     """What a file holds, from its beginning, if that is no more than its limit."""
     file.seek(0)
-    left = LIMIT
+    left = limit
     while piece := file.read(CHUNK_SIZE):
         check()
         yield piece[:left]
         if len(piece) > left:
-            raise TooLong(errno.EFBIG, f"it has more than {LIMIT:,} bytes, which no vault has, and is not read", path)
+            raise TooLong(errno.EFBIG, f"it has more than {limit:,} bytes, which no vault has, and is not read", path)
         left -= len(piece)
 
 

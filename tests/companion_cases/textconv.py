@@ -1,5 +1,6 @@
 """ansible-vault-textconv, alone and below git."""
 
+import os
 import re
 
 import pytest
@@ -60,7 +61,12 @@ def test_as_it_is(place: Place, subtests: SubTests) -> None:
     done = place.run(TEXTCONV, *place.by_file("missing"), *place.by_file("old"), "a.yml")
     assert (done.returncode, done.stdout) == (0, TEXT.decode()), "a missing password file is no end"
     assert "missing: a password file cannot be opened" in done.stderr, "but it is reported"
-    ended("no file", place.run(TEXTCONV, *place.by_file("old"), "missing.yml"), 1, "missing.yml")
+    os.mkfifo(place.tree / "pipe")
+    unread = {"missing.yml": "No such file or directory", ".": "Is a directory", "pipe": "it is not a regular file"}
+    for name, why in unread.items():
+        with subtests.test(name):
+            done = place.run(TEXTCONV, *place.by_file("old"), name)
+            assert (done.returncode, done.stdout, done.stderr) == (1, "", f"{TEXTCONV}: {name}: {why}\n")
     for words in ([], ["a.yml"], ["--loud", "a.yml"], place.by_file("old")[:1] + ["a.yml"]):
         with subtests.test(f"{words}"):
             ended("it is refused", place.run(TEXTCONV, *words), 2, "usage: ansible-vault-textconv")
