@@ -149,6 +149,9 @@ def test_asked_at_a_terminal(place: Place) -> None:
     assert (session.returncode, place.get("vars.yml")) == (1, block("old")), "no: the file stays"
     assert "vars.yml: line 3: `!Vault` is not the tag `!vault`" in session.stderr, "no: it is named"
     assert "what you saved is encrypted in" in session.stderr, "no: it is kept"
+    session = ask(place, *words, answers=[(question, b"\x03")], EDITOR=editor)
+    assert (session.returncode, place.get("vars.yml")) == (130, block("old")), "an interrupt ends the question"
+    assert "vars.yml: ended by signal 2; what you saved is encrypted in" in session.stderr, "and it is kept"
     session = ask(place, *words, answers=[(question, b"yes\n")], EDITOR=editor)
     assert (session.returncode, place.get("vars.yml")) == (0, block("old") + b"new: !Vault word\n"), "yes"
 

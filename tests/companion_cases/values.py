@@ -150,7 +150,9 @@ def test_closed(place: Place) -> None:
     done = edit(place, "true", *place.by_file("old"), "plain.yml")
     ended("no vault", done, 1, "it is not a vault", "ansible-vault encrypt", "NAME: !vault TEXT")
     place.put("vars.yml", block("dev"))
-    ended("no secret", edit(place, "true", *place.by_file("old"), "vars.yml"), 1, "no secret decrypts any of")
+    done = edit(place, "true", *place.by_file("old"), "vars.yml")
+    tried = f"vars.yml: line 1: secret: no secret decrypts this vault (no label; tried {place.secret('old')})"
+    ended("no secret", done, 1, tried, "choose their secret with --encrypt-vault-id")
 
 
 def test_shown_by_git(place: Place) -> None:
