@@ -6,7 +6,8 @@ from pathlib import Path
 import pytest
 from pytest_subtests import SubTests
 
-from companion_cases import AWKWARD, EDIT, HOOK, NOBODY, TEXT, Companions, Place, block, decrypted, ended, sealed, silent
+from companion_cases import AWKWARD, EDIT, HOOK, NOBODY, TEXT, Companions, Place
+from companion_cases import block, decrypted, ended, sealed, silent
 from companion_cases.repository import AUTHOR
 from lib.needs import needs
 
