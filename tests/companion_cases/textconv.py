@@ -41,11 +41,11 @@ def test_alone(place: Place, subtests: SubTests) -> None:
 def test_as_it_is(place: Place, subtests: SubTests) -> None:
     """What cannot be decrypted is shown as it is, with the reason, and git continues."""
     files = {
-        "unknown.yml": (sealed("dev"), "no secret decrypts this vault"),
+        "unknown.yml": (sealed("dev"), f"no secret decrypts this vault (no label; tried {place.secret('old')})"),
         "plain.yml": (TEXT, "it is not a vault and has no block"),
         "empty.yml": (b"", "it is not a vault"),
         "header.yml": (b"$ANSIBLE_VAULT;1.1\n", "vault header line is malformed"),
-        "block.yml": (block("dev"), "block.yml:2: shown as it is: no secret decrypts this vault"),
+        "block.yml": (block("dev", label="x"), "block.yml:2: shown as it is: no secret decrypts this vault (label x; "),
     }
     for name, (content, part) in files.items():
         place.put(name, content)
