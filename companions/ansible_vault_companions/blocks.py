@@ -10,6 +10,7 @@ from ansible_vault_companions import literals, yaml_nodes
 from ansible_vault_companions.envelopes import FOLDED, IN_A_LINE, label_of, matched
 from ansible_vault_companions.program import Refused, shown
 from ansible_vault_companions.sources import Secret
+from ansible_vault_companions.yaml_paths import Path
 from ansible_vault_companions.yaml_values import LINE_END, Value
 
 # How many columns an envelope stands to the right of its key, as Ansible's tool writes it.
@@ -106,7 +107,7 @@ class Decrypted(NamedTuple):
     plaintext: bytes
 
     @property
-    def path(self) -> tuple[str, ...]:
+    def path(self) -> Path:
         return self.block.value.path
 
     @property

@@ -3,8 +3,8 @@
 from __future__ import annotations
 
 from ansible_vault_companions.envelopes import MAGIC, label_of
+from ansible_vault_companions.inline import Decrypt
 from ansible_vault_companions.matching import Key
-from ansible_vault_companions.sources import Secret
 from ansible_vault_companions.tool import Tool
 
 # The line that precedes the inner vault, since ansible-vault encrypts no vault as it is.
@@ -20,13 +20,13 @@ def encrypted(tool: Tool, text: bytes, keys: list[Key]) -> bytes:
     return vault
 
 
-def decrypted(tool: Tool, vault: bytes, secrets: list[Secret]) -> tuple[list[Key], bytes]:
+def decrypted(decrypt: Decrypt, vault: bytes) -> tuple[list[Key], bytes]:
     """What each layer is encrypted by, the outermost first, and the text within."""
     keys = []
     text = NOTE + vault
     while text.startswith(NOTE + MAGIC):
         vault = text[len(NOTE) :]
-        secret, text = tool.decrypt(vault, secrets)
+        secret, text = decrypt(vault)
         keys.append((secret, label_of(vault) or ""))
     return keys, text
 

@@ -103,7 +103,7 @@ def now_plain(before: bytes, after: bytes) -> list[str]:
     if START not in before or not plain_values.differ(before, after):
         return []
     paths = plain_values.now_plain(before, after)
-    last_keys = {path[-1] for path in paths if path}
+    last_keys = {path.last for path in paths}
     names = [name for name in _plain_names(before, after) if (name or plain_values.ITEM) not in last_keys]
     return [*map(plain_values.shown_path, paths), *(shown(name) if name else "an item of a list" for name in names)]
 

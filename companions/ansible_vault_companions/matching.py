@@ -12,6 +12,7 @@ from typing import NamedTuple
 from ansible_vault_companions.blocks import Decrypted, named
 from ansible_vault_companions.program import Refused
 from ansible_vault_companions.sources import Secret
+from ansible_vault_companions.yaml_paths import Path
 from ansible_vault_companions.yaml_values import Value
 
 NEW = "is new; choose its secret with --encrypt-vault-id"
@@ -80,7 +81,7 @@ def unclear(value: Value, why: str) -> Refused:
 def actions(blocks: list[Decrypted], typed: list[Typed], choice: Choice) -> list[Action]:
     """What becomes of each value."""
     found: dict[int, Action] = {}
-    left: dict[tuple[str, ...], list[Decrypted]] = {}
+    left: dict[Path, list[Decrypted]] = {}
     for block in blocks:
         left.setdefault(block.path, []).append(block)
     _keep(found, left, typed)
@@ -96,7 +97,7 @@ def actions(blocks: list[Decrypted], typed: list[Typed], choice: Choice) -> list
     return [found[number] for number in range(len(typed))]
 
 
-def _keep(found: dict[int, Action], left: dict[tuple[str, ...], list[Decrypted]], typed: list[Typed]) -> None:
+def _keep(found: dict[int, Action], left: dict[Path, list[Decrypted]], typed: list[Typed]) -> None:
     """Those that stayed as they were."""
     for number, each in enumerate(typed):
         candidates = left.get(each.value.path, [])

@@ -20,8 +20,9 @@ from ansible_vault_companions.inline import Decrypt
 from ansible_vault_companions.envelopes import MAGIC, TAG_NAME, label_of
 from ansible_vault_companions.program import Refused, shown
 from ansible_vault_companions.sources import Secret
-from ansible_vault_companions.tool import NOT_DECRYPTED, SecretRefused, Tool
+from ansible_vault_companions.tool import NotDecrypted, SecretRefused, Tool
 from ansible_vault_companions.yaml_nodes import LITERAL, NotYaml
+from ansible_vault_companions.yaml_paths import Path
 from ansible_vault_companions.yaml_values import Scan
 
 # What git names the sides of a conflict by.
@@ -106,7 +107,7 @@ def _decrypted(decrypt: Decrypt, envelope: bytes, side: str) -> Version:
     except SecretRefused:
         raise
     except Refused as fault:
-        is_locked = str(fault) == NOT_DECRYPTED
+        is_locked = isinstance(fault, NotDecrypted)
         raise Refused(SIDE_NOT_DECRYPTED.format(side, shown(label)) if is_locked else f"{side}: {fault}") from None
     return Version(envelope, label, secret, plaintext)
 
@@ -141,7 +142,7 @@ class _Side:
     def with_token(self, token: bytes) -> _Place | None:
         return next((each for each in self.places if each.token == token), None)
 
-    def at(self, path: tuple[str, ...]) -> _Place | None:
+    def at(self, path: Path) -> _Place | None:
         """The only block that these keys lead to."""
         found = [each for each in self.places if each.block.value.path == path]
         return found[0] if len(found) == 1 else None

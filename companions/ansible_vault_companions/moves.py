@@ -10,8 +10,9 @@ from typing import Callable, Iterator
 from ansible_vault_companions import leaks, plain_values
 from ansible_vault_companions.commits import Change, File
 from ansible_vault_companions.envelopes import MAGIC, START, envelopes
-from ansible_vault_companions.plain_values import Path, values
+from ansible_vault_companions.plain_values import values
 from ansible_vault_companions.program import shown
+from ansible_vault_companions.yaml_paths import Path
 
 Read = Callable[[str], bytes]
 
@@ -94,7 +95,8 @@ class Moves:
             return None
         old, new = values(before), values(content)
         came = plain_values.added(old, new, self._plain_in_gone_files) if old and new else []
-        found = [(name, path) for name, path in lost if any(each[: len(path)] == path for each in came)]
+        branches = plain_values.with_those_above(came)
+        found = [(name, path) for name, path in lost if path in branches]
         names = [f"{plain_values.shown_path(path)} of {_shown(name)}" for name, path in found]
         return f"has {', '.join(names)} in plaintext, encrypted" if names else None
 
@@ -116,7 +118,8 @@ def _envelopes(content: bytes) -> list[str]:
 
 
 def _last_key(path: Path) -> bytes:
-    return next((key.encode(errors="surrogateescape") for key in reversed(path) if key != plain_values.ITEM), b"")
+    key = next(each.last for each in path.upwards() if each.last != plain_values.ITEM)
+    return key.encode(errors="surrogateescape")
 
 
 def _shown(name: bytes) -> str:

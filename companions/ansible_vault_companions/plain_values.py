@@ -4,14 +4,15 @@ from __future__ import annotations
 
 from collections import Counter, defaultdict
 from functools import lru_cache
-from typing import NamedTuple, Tuple
+from typing import Iterable, NamedTuple
 
 from ansible_vault_companions.envelopes import MAGIC, envelopes
 from ansible_vault_companions.program import Refused, shown
-from ansible_vault_companions.yaml_nodes import ALIAS, PLAIN, Node, nodes
+from ansible_vault_companions.yaml_nodes import ALIAS, PLAIN, nodes
+from ansible_vault_companions.yaml_paths import Path, Step
 
-# Keys of mappings. What merges a mapping into another one is none; any item of a list has the same key.
-Path = Tuple[str, ...]
+# The key of any item of a list, and that by which a mapping is merged into another one, which leads to no path of its
+# own.
 ITEM = "[]"
 MERGE = "<<"
 # Plain scalars that have no text.
@@ -33,27 +34,21 @@ def values(content: bytes) -> Values | None:
     encrypted: dict[Path, Counter[str]] = defaultdict(Counter)
     plain: dict[Path, Counter[str]] = defaultdict(Counter)
     try:
-        for node in nodes(content):
+        for node in nodes(content, extend=_extend):
             text = node.text.strip()
             if text.startswith(MAGIC.decode()):
-                encrypted[_path(node)][text] += node.is_value
+                encrypted[node.path][text] += node.is_value
             elif node.is_value and not (node.style == PLAIN and text in NOTHING):
-                plain[_path(node)][ALIAS + text if node.style == ALIAS else text] += 1
+                plain[node.path][ALIAS + text if node.style == ALIAS else text] += 1
     except Refused:
         return None
     return Values(encrypted, plain)
 
 
-def _path(node: Node) -> Path:
-    path: list[str] = []
-    is_merged = False
-    for key in node.path:
-        if isinstance(key, str) and key != MERGE:
-            path.append(key)
-        elif isinstance(key, int) and not is_merged:
-            path.append(ITEM)
-        is_merged = key == MERGE
-    return tuple(path)
+def _extend(path: Path, last: Step, step: Step) -> Path:
+    if step == MERGE or isinstance(step, int) and last == MERGE:
+        return path
+    return Path(path, ITEM if isinstance(step, int) else step)
 
 
 def shown_path(path: Path) -> str:
@@ -82,10 +77,21 @@ def now_plain(before: bytes, after: bytes) -> list[Path]:
     if old is None or new is None:
         return []
     gone, came = lost(old, new), added(old, new)
-    found = [path for path in gone if any(_is_same_branch(path, each) for each in came)]
+    plain, branches = set(came), with_those_above(came)
+    found = [path for path in gone if path in branches or not plain.isdisjoint(path.upwards())]
     fewer = _by_last_key(old.encrypted) - _by_last_key(new.encrypted)
-    named = fewer.keys() & {path[-1:] for path in came} - {path[-1:] for path in found}
-    return [*found, *sorted(named)]
+    named = fewer.keys() & {path.last for path in came} - {path.last for path in found}
+    return [*found, *(Path(Path(), key) for key in sorted(named))]
+
+
+def with_those_above(paths: Iterable[Path]) -> set[Path]:
+    found: set[Path] = set()
+    for path in paths:
+        for each in path.upwards():
+            if each in found:
+                break
+            found.add(each)
+    return found
 
 
 def lost(old: Values, new: Values) -> list[Path]:
@@ -100,15 +106,10 @@ def added(old: Values, new: Values, elsewhere: dict[Path, Counter[str]] | None =
     return [path for path, found in new.plain.items() if found - was[path]]
 
 
-def _by_last_key(found: dict[Path, Counter[str]]) -> Counter[Path]:
+def _by_last_key(found: dict[Path, Counter[str]]) -> Counter[str]:
     """How many texts there are, but for items of lists."""
-    counts: Counter[Path] = Counter()
+    counts: Counter[str] = Counter()
     for path, texts in found.items():
-        if path[-1:] != (ITEM,):
-            counts[path[-1:]] += sum(texts.values())
+        if path.last != ITEM:
+            counts[path.last] += sum(texts.values())
     return counts
-
-
-def _is_same_branch(one: Path, other: Path) -> bool:
-    length = min(len(one), len(other))
-    return one[:length] == other[:length]

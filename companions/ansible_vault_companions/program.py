@@ -62,10 +62,13 @@ def counted_labels(counts: dict[str, int]) -> str:
 
 
 def write(data: bytes) -> None:
-    """Writes to standard output."""
+    """Writes to standard output; a signal ends the wait for who reads it."""
+    from ansible_vault_companions import stopping
+
     try:
-        sys.stdout.buffer.write(data)
-        sys.stdout.flush()
+        with stopping.interruptible():
+            sys.stdout.buffer.write(data)
+            sys.stdout.flush()
     except OSError as fault:
         _discard(sys.stdout)
         raise Refused(f"standard output cannot be written: {reason(fault)}") from None
@@ -84,6 +87,11 @@ def write_error(text: str) -> None:
 def reason(fault: Exception) -> str:
     """Why something is refused, without the path, which precedes it anyway."""
     return fault.strerror if isinstance(fault, OSError) and fault.strerror else str(fault)
+
+
+def refusal(path: str, fault: Exception) -> str:
+    """Which file is refused, and why."""
+    return f"{shown(path)}: {reason(fault)}"
 
 
 def run(name: str, main: Callable[[list[str]], int]) -> None:
@@ -132,7 +140,8 @@ def _status_of_fault(name: str, fault: Exception) -> int:
     if not isinstance(fault, (Refused, OSError)):
         raise fault
     try:
-        write_error(f"{name}: {shown(str(fault))}")
+        where = f"{shown(fault.filename)}: " if isinstance(fault, OSError) and isinstance(fault.filename, str) else ""
+        write_error(f"{name}: {where}{shown(reason(fault))}")
     except OSError:
         pass
     return 1

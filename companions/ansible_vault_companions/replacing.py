@@ -135,7 +135,7 @@ def _copy_metadata(descriptor: int, target: str, is_private: bool) -> None:
     if stat.S_ISREG(old.st_mode) and old.st_nlink > 1:
         raise Refused(f"it has {old.st_nlink} names (hard links), and one alone would change")
     if (old.st_uid, old.st_gid) != (new.st_uid, new.st_gid):
-        os.fchown(descriptor, old.st_uid, old.st_gid)
+        _give(descriptor, old.st_uid, old.st_gid)
     wanted = [] if is_private else _attributes(target)
     # Those that the folder gives to every new file.
     for name in set(_attributes(descriptor)) - set(wanted):
@@ -143,6 +143,14 @@ def _copy_metadata(descriptor: int, target: str, is_private: bool) -> None:
     os.fchmod(descriptor, PRIVATE if is_private else stat.S_IMODE(old.st_mode))
     for name in wanted:
         os.setxattr(descriptor, name, os.getxattr(target, name))
+
+
+def _give(descriptor: int, user: int, group: int) -> None:
+    try:
+        os.fchown(descriptor, user, group)
+    except PermissionError as fault:
+        why = f"its owner {user}:{group} cannot be kept: {fault.strerror}; run this as that user, or as root"
+        raise Refused(why) from None
 
 
 def _attributes(target: str | int) -> list[str]:

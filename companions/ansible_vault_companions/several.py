@@ -2,10 +2,9 @@
 
 from __future__ import annotations
 
-import errno
 import os
 
-from ansible_vault_companions import files, program, prompts, replacing
+from ansible_vault_companions import files, program, prompts, replacing, stopping
 from ansible_vault_companions.program import Refused, write_error
 from ansible_vault_companions.tool import NOT_DECRYPTED
 from ansible_vault_companions.tool_run import Run
@@ -31,7 +30,7 @@ def in_place(companion: str, run: Run) -> int:
     """Replaces each file; the highest status of all."""
 
     def replace(path: str) -> None:
-        before = _content(path)
+        before = files.named(path)
         after = run.output(run.words.options, before)
         replacing.replace(path, after, before, is_private=run.words.command == "decrypt")
 
@@ -44,7 +43,7 @@ def view(companion: str, run: Run) -> int:
 
     def show(path: str) -> None:
         nonlocal end
-        text = run.output(run.words.options, _content(path))
+        text = run.output(run.words.options, files.named(path))
         program.write(end + text)
         end = b"\n" if text and not text.endswith(b"\n") else b""
 
@@ -61,13 +60,6 @@ def _each(companion: str, paths: list[str], work: Callable[[str], None]) -> int:
             statuses.append(fault.status if isinstance(fault, Refused) else 1)
             write_error(f"{companion}: {program.shown(path)}: {program.reason(fault)}")
     return max(statuses)
-
-
-def _content(path: str) -> bytes:
-    content = files.read(path)
-    if content is None:
-        raise FileNotFoundError(errno.ENOENT, os.strerror(errno.ENOENT), path)
-    return content
 
 
 def blocks(run: Run) -> int:
@@ -107,8 +99,9 @@ def _read(words: Words) -> list[Text]:
 
 
 def _standard_input() -> bytes:
-    with open(0, "rb", closefd=False) as file:
-        return file.read()
+    """All of it, or more than the tool takes; a signal ends the wait for it."""
+    with stopping.interruptible(), open(0, "rb", closefd=False) as file:
+        return file.read(files.LIMIT + 1)
 
 
 def _given(words: Words) -> list[Text]:
@@ -134,7 +127,7 @@ def serving(run: Run) -> list[Secret]:
         os.lseek(descriptor, 0, os.SEEK_SET)
         os.dup2(descriptor, 0)
     else:
-        data = _content(path)
+        data = files.named(path)
     for group in run.groups():
         try:
             run.tool.run(["view", *run.matching(), *(secret.word() for secret in group)], data, group)

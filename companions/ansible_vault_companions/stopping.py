@@ -149,14 +149,17 @@ def postponed() -> Iterator[None]:
 @contextmanager
 def interruptible() -> Iterator[None]:
     """A signal ends at once what is within, which waits for what somebody types or another program
-    writes."""
+    writes. Even where signals are postponed none waits for that."""
     global _is_interruptible
+    mask = signal.pthread_sigmask(signal.SIG_UNBLOCK, ENDING if _is_postponed else ())
     _is_interruptible = True
     try:
-        check()
+        if _noted:
+            raise Stopped
         yield
     finally:
         _is_interruptible = False
+        signal.pthread_sigmask(signal.SIG_SETMASK, mask)
 
 
 def end_by_signal() -> None:

@@ -5,10 +5,11 @@ from __future__ import annotations
 import re
 import sys
 from types import ModuleType
-from typing import Any, Collection, Iterator, NamedTuple, Tuple, Union
+from typing import Any, Collection, Iterator, NamedTuple
 
-from ansible_vault_companions.envelopes import MAGIC
+from ansible_vault_companions import stopping
 from ansible_vault_companions.program import Refused
+from ansible_vault_companions.yaml_paths import Extend, Path, Step, by_keys
 
 TAGS = ("!vault", "!vault-encrypted")
 # Styles; others are the quotes of scalars.
@@ -22,9 +23,6 @@ REPLACEMENT = "\ufffd"
 BEGIN_EARLIER = ("while scanning a simple key", "while scanning a quoted scalar")
 
 NO_PYYAML = "to read YAML, PyYAML is needed: install Debian's python3-yaml, or PyYAML by pip"
-
-# Keys of mappings, and indexes of lists.
-Path = Tuple[Union[str, int], ...]
 
 
 class NotYaml(Refused):
@@ -59,18 +57,16 @@ class Node(NamedTuple):
         """Whether it is a text, and no key; or an alias, which stands for a text or a collection."""
         return not self.is_key and self.style not in (LIST, MAPPING)
 
-    @property
-    def is_vault(self) -> bool:
-        return self.tag in TAGS and self.text.lstrip().startswith(MAGIC.decode())
-
 
 class Container:
     """A mapping or a list; or a document, which has a single node, to which nothing leads."""
 
-    __slots__ = ("path", "style", "column", "in_flow", "is_key", "key", "count")
+    __slots__ = ("path", "step", "style", "column", "in_flow", "is_key", "key", "count")
 
-    def __init__(self, path: Path, style: str | None, column: int, in_flow: bool, is_key: bool) -> None:
+    def __init__(self, path: Path, step: Step, style: str | None, column: int, in_flow: bool, is_key: bool) -> None:
         self.path = path
+        # What leads to it from the collection around it.
+        self.step = step
         self.style = style
         # That of its keys or dashes; in flow style, that of the collection around it. -1 for a document.
         self.column = column
@@ -81,19 +77,19 @@ class Container:
         self.key: str | None = None
         self.count = 0
 
-    def next(self, text: str) -> tuple[Path, bool]:
-        """The path of its next node, which has this text, and whether it is a key. A key that is a collection has no
-        text."""
+    def next(self, text: str) -> tuple[Step, bool]:
+        """What leads to its next node, which has this text, and whether that is a key. A key that is a collection has
+        no text."""
         if self.style is MAPPING:
             if self.key is None:
                 self.key = text
-                return (*self.path, text), True
+                return text, True
             key, self.key = self.key, None
-            return (*self.path, key), self.is_key
+            return key, self.is_key
         if self.style is LIST:
             self.count += 1
-            return (*self.path, self.count - 1), self.is_key
-        return (), False
+            return self.count - 1, self.is_key
+        return "", False
 
 
 def decoded(data: bytes) -> str:
@@ -101,18 +97,19 @@ def decoded(data: bytes) -> str:
     return data.decode(errors="surrogateescape")
 
 
-def nodes(data: bytes, tags: Collection[str] = ()) -> Iterator[Node]:
+def nodes(data: bytes, tags: Collection[str] = (), extend: Extend = by_keys) -> Iterator[Node]:
     """All nodes in their order, or those with one of some tags. What YAML has in no text is read as U+FFFD."""
     yaml = _pyyaml()
     text = decoded(data)
     content = text.lstrip(BYTE_ORDER_MARK)
     skipped = len(text) - len(content)
-    containers = [Container((), None, -1, False, False)]
+    containers = [Container(Path(), "", None, -1, False, False)]
     # By anchors: tags and texts of scalars.
     anchored: dict[str, tuple[str | None, str]] = {}
     beginnings = {yaml.MappingStartEvent: MAPPING, yaml.SequenceStartEvent: LIST}
     ends = (yaml.MappingEndEvent, yaml.SequenceEndEvent)
     for event in _events(yaml, UNREADABLE.sub(REPLACEMENT, content)):
+        stopping.check()
         kind = type(event)
         if kind is yaml.ScalarEvent:
             tag, style, value = event.tag, event.style or PLAIN, event.value
@@ -128,14 +125,15 @@ def nodes(data: bytes, tags: Collection[str] = ()) -> Iterator[Node]:
                 containers.pop()
             continue
         around = containers[-1]
-        path, is_key = around.next(value)
+        step, is_key = around.next(value)
+        path = extend(around.path, around.step, step) if around.style else around.path
         if tag in tags or not tags:
             start, end = event.start_mark, event.end_mark
             places = (start.index + skipped, end.index + skipped, start.line + 1, start.column, end.line + 1)
             yield Node(path, is_key, tag, style, value, *places, around)
         if kind in beginnings:
             column = around.column if event.flow_style else _column(content, style, event.end_mark)
-            containers.append(Container(path, style, column, bool(event.flow_style), is_key))
+            containers.append(Container(path, step, style, column, bool(event.flow_style), is_key))
 
 
 def _column(text: str, style: str, mark: Any) -> int:

@@ -13,9 +13,10 @@ from typing import Collection, Iterable, Iterator, NamedTuple
 
 from ansible_vault_companions import yaml_nodes
 from ansible_vault_companions.envelopes import matched
+from ansible_vault_companions.lookalikes import lookalikes
 from ansible_vault_companions.yaml_nodes import Node
+from ansible_vault_companions.yaml_paths import Path
 
-TAG = yaml_nodes.TAGS[0]
 # How a line ends in YAML 1.1.
 LINE_END = re.compile(rb"(?:\r\n?|\n|\xc2\x85|\xe2\x80[\xa8\xa9])")
 LINE_ENDS_IN_TEXT = "\n\u2028\u2029"
@@ -35,8 +36,8 @@ class Value(NamedTuple):
     # Of the tag: its line, from 1, and where that begins.
     line: int
     line_start: int
-    # The keys that lead to it; places in lists are left out.
-    path: tuple[str, ...]
+    # Of a key, that of its mapping.
+    path: Path
     # The column of the collection that it is in; -1 where it is in none.
     column: int
     in_flow: bool
@@ -55,7 +56,7 @@ class Value(NamedTuple):
 
     @property
     def name(self) -> str:
-        return self.path[-1] if self.path else ""
+        return self.path.last
 
 
 class Scan:
@@ -67,11 +68,13 @@ class Scan:
         self.tagged = _Places(node for node in self._nodes(yaml_nodes.TAGS) if node.style != yaml_nodes.ALIAS)
         self.values = list(self._values())
 
-    def hidden(self) -> Iterator[tuple[int, str]]:
-        """The lines, with their numbers, in which `!vault` is part of a comment, or of a text of several lines."""
+    def lookalikes(self) -> Iterator[tuple[int, str, str]]:
+        """What is like the tag and is none, or is the tag within a comment or a text: the number of its line, the line,
+        and it."""
         for number, (place, line) in enumerate(self._lines(), 1):
-            if TAG in line and any(self._is_hidden(place + tag.start()) for tag in re.finditer(TAG, line)):
-                yield number, line.strip()
+            for start, like in lookalikes(line):
+                if not self.tagged.at(place + start):
+                    yield number, line.strip(), like
 
     def comments(self, beginning: str) -> Iterator[tuple[int, int]]:
         """The offsets of the lines, with their ends, that are comments and begin so."""
@@ -105,12 +108,6 @@ class Scan:
         for line in content.splitlines(keepends=True):
             yield place, line
             place += len(line)
-
-    def _is_hidden(self, place: int) -> bool:
-        if self.tagged.at(place):
-            return False
-        node = self._texts.at(place)
-        return node is None or node.last_line > node.line
 
 
 class _Places:
@@ -173,13 +170,12 @@ def _value(data: bytes, node: Node, head: str, tag: int, end: int) -> Value:
     header_end = header.end() if header else end
     line_end = _end_of_line(data, header_end)
     end, content_end = _ends(data, line_end, end, header["indicators"], node.text) if header else (line_end, line_end)
-    keys = node.path[:-1] if node.is_key else node.path
     return Value(
         node.style,
         node.is_key,
         node.line,
         tag - len(_encoded(head)),
-        tuple(key for key in keys if isinstance(key, str)),
+        node.container.path if node.is_key else node.path,
         node.container.column,
         node.container.in_flow,
         LINE_END.search(data, tag, start) is not None,

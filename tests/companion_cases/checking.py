@@ -11,8 +11,8 @@ from lib.paths import version
 def test_labels_and_secrets(place: Place) -> None:
     place.put("a.yml", sealed("old"))
     place.put("b.yml", sealed("prod", label="prod"))
-    place.put("c.yml", b"x: 1\n" + block("dev", label="dev") + block("prod", label="strange"))
-    place.put("d.yml", sealed("old", label="prod"))
+    place.put("c.yml", b"x: 1\n" + block("dev", label="dev") + block("prod", name="b"))
+    place.put("d.yml", sealed("old", label="default"))
     secrets = [*place.by_id("dev", "dev"), *place.by_id("prod", "prod"), *place.by_file("old")]
     before = place.files()
     done = place.run(CHECK, *secrets, ".")
@@ -22,8 +22,8 @@ def test_labels_and_secrets(place: Place) -> None:
         f"./a.yml: default: decrypted by {old}",
         f"./b.yml: prod: decrypted by {prod}",
         f"./c.yml:3: secret: dev: decrypted by {dev}",
-        f"./c.yml:{line}: secret: strange: decrypted by {prod}",
-        f"./d.yml: prod: decrypted by {old}",
+        f"./c.yml:{line}: b: default: decrypted by {prod}",
+        f"./d.yml: default: decrypted by {old}",
         "5 decrypted, 0 not",
     ]
     assert (done.returncode, done.stdout.splitlines(), done.stderr) == (0, wanted, ""), "labels and secrets"
@@ -41,11 +41,12 @@ def test_what_cannot_be_decrypted(place: Place) -> None:
     place.put("a.yml", sealed("old"))
     place.put("b.yml", block("dev", label="dev"))
     done = place.run(CHECK, *place.by_file("old"), ".")
-    why = "./b.yml:2: secret: dev: no secret decrypts this vault\n"
+    tried = f"(label dev; tried {place.secret('old')}): name its secret with --vault-id dev@FILE"
+    why = f"{CHECK}: ./b.yml:2: secret: dev: no secret decrypts this vault {tried}\n"
     ended("a wrong password", done, 1, why, "1 decrypted, 1 not\n")
     assert done.stderr == why, "is reported on standard error"
     done = place.run(CHECK, *place.by_file("old"), "a.yml", "missing")
-    ended("what is not there", done, 1, "missing: No such file or directory", "1 decrypted, 1 not")
+    ended("what is not there", done, 1, f"{CHECK}: missing: No such file or directory", "1 decrypted, 1 not")
     done = place.run(CHECK, *place.by_file("missing"), ".")
     ended("a password file that is not there", done, 1, "missing: a password file cannot be opened")
     place.put("closed.yml", sealed("old"), 0o000)

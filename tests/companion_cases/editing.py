@@ -6,7 +6,8 @@ from pathlib import Path
 import pytest
 from pytest_subtests import SubTests
 
-from companion_cases import AWKWARD, EDIT, HOOK, NOBODY, TEXT, Companions, Place, decrypted, ended, sealed, silent
+from companion_cases import AWKWARD, EDIT, HOOK, NOBODY, TEXT, Companions, Place
+from companion_cases import block, decrypted, ended, sealed, silent
 from companion_cases.repository import AUTHOR
 from lib.needs import needs
 
@@ -135,18 +136,24 @@ def test_what_cannot_be_removed(place: Place) -> None:
 def test_labels(place: Place, subtests: SubTests) -> None:
     """The result is encrypted with the secret that decrypted the vault, under the vault's label."""
     runs = {
-        "under another label": place.by_id("dev", "prod"),
-        "the second secret": [*place.by_id("dev", "dev"), *place.by_id("prod", "prod")],
-        "not that of the label": [*place.by_id("prod", "dev"), *place.by_file("prod")],
-        "the label is chosen": [*place.by_id("prod", "prod"), "--encrypt-vault-id", "prod"],
+        "the only secret": (place.by_id("dev", "prod"), False),
+        "the second secret": ([*place.by_id("dev", "dev"), *place.by_id("prod", "prod")], False),
+        "not that of the label": ([*place.by_id("prod", "dev"), *place.by_id("dev", "prod")], True),
+        "the label is chosen": ([*place.by_id("prod", "prod"), "--encrypt-vault-id", "prod"], False),
     }
-    for name, words in runs.items():
-        with subtests.test(name):
-            place.put("all.yml", sealed("prod", label="prod"))
-            silent("the edit", edit(place, CHANGE, *words, "all.yml"))
-            envelope = place.get("all.yml")
-            assert decrypted("prod", envelope) == CHANGED, "the password stays"
-            assert envelope.partition(b"\n")[0] == b"$ANSIBLE_VAULT;1.2;AES256;prod", "the label stays"
+    files = {"all.yml": sealed("prod", label="prod"), "vars.yml": block("prod", label="prod")}
+    where = {"all.yml": "", "vars.yml": "line 1: secret: "}
+    for name, (words, is_told) in runs.items():
+        for file, content in files.items():
+            with subtests.test(f"{name}: {file}"):
+                place.put(file, content)
+                done = edit(place, CHANGE, *words, file)
+                wrong = f"{EDIT}: {file}: {where[file]}its label is prod, but dev@{place.secret('prod')} decrypts it"
+                told = [line.startswith(wrong) for line in done.stderr.splitlines()]
+                assert (done.returncode, told) == (0, [True] * is_told), done.stderr
+                envelope = b"".join(part.lstrip() for part in place.get(file).splitlines(True) if b"!vault" not in part)
+                assert decrypted("prod", envelope) == CHANGED, "the password stays"
+                assert envelope.partition(b"\n")[0] == b"$ANSIBLE_VAULT;1.2;AES256;prod", "the label stays"
     place.put("odd.yml", sealed("prod", label="a@b"))
     done = edit(place, CHANGE, *place.by_file("prod"), "odd.yml")
     ended("a label that no option can name", done, 1, "the label a@b")

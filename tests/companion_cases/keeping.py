@@ -13,7 +13,7 @@ from companion_cases import EDIT, TEXT, Companions, Place, decrypted, ended, sea
 from companion_cases.editing import ABOVE_EDITOR, CHANGE, CHANGED, edit
 from lib.needs import needs_mounts
 
-ENCRYPTED = re.compile(r"; what you saved is encrypted in (.+)\n\Z")
+ENCRYPTED = re.compile(r"; what you saved is encrypted in (.+)\n")
 PLAIN = re.compile(r"; what you saved is left in plaintext in (.+)\n\Z")
 
 
@@ -155,16 +155,31 @@ def test_mounted_vaults(place: Place) -> None:
 
 def test_sealing_fails(place: Place) -> None:
     """The plaintext stays, since there is no other copy."""
-    vault = b"$ANSIBLE_VAULT\n"
     place.put("all.yml", sealed("old"))
-    done = edit(place, 'printf "\\$ANSIBLE_VAULT\\n" > "$1"', *place.by_file("old"), "all.yml")
-    check_plain("a text like a vault", place, done, "already vault encrypted", vault)
     place.wrap_tool('[ "$1" != encrypt ] || { echo "ERROR! out of memory" >&2; exit 4; }')
     done = edit(place, CHANGE, *place.by_file("old"), "all.yml")
     check_plain("the tool fails", place, done, "out of memory", CHANGED)
     done = edit(place, f"{CHANGE}; exit 3", *place.by_file("old"), "all.yml")
     check_plain("the tool and the editor fail", place, done, "out of memory", CHANGED)
     assert place.get("all.yml") == sealed("old"), "the vault stays"
+
+
+@pytest.mark.parametrize("saved", (sealed("dev"), b"$ANSIBLE_VAULT\nsecret\n", b"$ANSIBLE_VAULT;1.1;AES256\n6162\n"))
+def test_saved_vaults(place: Place, saved: bytes) -> None:
+    """An editor that saves a vault leaves no plaintext, and what only begins like one is encrypted."""
+    place.put("all.yml", sealed("old"))
+    place.put("../typed", saved)
+    place.put("../left", left := saved + b"\n")
+    done = edit(place, 'cp ../typed "$1"; cp ../left "$1.swp"; exit 3', *place.by_file("old"), "all.yml")
+    ended("the edit", done, 1, "what you saved is itself a vault", "; what you saved is encrypted in ")
+    assert "plaintext" not in done.stderr, "nothing is said of plaintext"
+    copies = {place.get(name) for name in place.names() if name.startswith(".ansible-vault-saved-all.yml-")}
+    if saved == sealed("dev"):
+        assert copies == {saved, left}, "vaults are as they were"
+    else:
+        below = b"# What was saved begins below.\n"
+        assert {decrypted("old", copy) for copy in copies} == {below + saved, below + left}, "others are encrypted"
+    assert (place.get("all.yml"), place.left()) == (sealed("old"), []), "the vault stays"
 
 
 def test_what_the_editor_left(cases: Companions, subtests: SubTests) -> None:

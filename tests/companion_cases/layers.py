@@ -5,14 +5,14 @@ import re
 import pytest
 from pytest_subtests import SubTests
 
-from companion_cases import CHECK, ROTATE, TEXT, Companions, Place, block, decrypted, ended, sealed, silent
+from companion_cases import CHECK, ROTATE, TEXT, TEXTCONV, Companions, Place, block, decrypted, ended, sealed, silent
 from companion_cases.editing import edit
 
 OF_DEV, OF_PROD = b"the word of dev\n", b"the word of prod\n"
 SHOWN = b"a: !vault |\n  the word of dev\nb: !vault |\n  the word of prod\n"
 # What no secret is chosen for, and what is no YAML.
 UNFINISHED = {"a new value": "new: !vault more", "no YAML": 'c: !vault "more'}
-KEPT = re.compile(r"; what you saved is encrypted in (\S+), under 2 secrets in turn; ansible-vault-edit decrypts it\n")
+KEPT = re.compile(r"; what you saved is encrypted in (\S+), under 2 secrets in turn\n")
 NOTE = b"# The vault below is under another secret; ansible-vault-edit decrypts both.\n"
 
 
@@ -71,6 +71,13 @@ def test_edited_again(place: Place, subtests: SubTests) -> None:
     outer = decrypted("dev", place.get(copy)) or b""
     wanted = text + b"last\nworse\n"
     assert decrypted("prod", outer.removeprefix(NOTE)) == wanted, "a copy of the copy"
+
+
+def test_shown(place: Place) -> None:
+    name = copy_of("a copy", place, "new: !vault more")
+    both = [*place.by_id("dev", "dev"), *place.by_id("prod", "prod")]
+    shown = place.run(TEXTCONV, *both, name)
+    assert (shown.stdout, shown.stderr) == (SHOWN.decode() + "new: !vault more\n", ""), "within both is the text"
 
 
 def test_checked_and_rotated(place: Place) -> None:

@@ -45,7 +45,7 @@ def test_faults_within(cases: Companions) -> None:
     place = cases.place()
     place.put("all.yml", sealed("old", stray))
     done = place.run(ROTATE, *to_new(place), ".")
-    why = "./all.yml: in its plaintext, line 3: no secret decrypts this vault\n"
+    why = "./all.yml: in its plaintext, line 3: no secret decrypts this vault (no label; "
     ended("a stray block", done, 1, why, summary(2, failed=1))
     assert texts(within(place, "all.yml", "new"), "new") == [None, TEXT], "the others are rotated"
     place = cases.place()
@@ -85,7 +85,7 @@ def test_checked(place: Place) -> None:
     ]
     assert (done.returncode, done.stdout.splitlines(), done.stderr) == (0, lines, ""), "all are decrypted"
     done = place.run(CHECK, *old, ".")
-    why = f"./all.yml: in its plaintext, line {LINE_OF_B}: b: dev: no secret decrypts this vault\n"
+    why = f"./all.yml: in its plaintext, line {LINE_OF_B}: b: dev: no secret decrypts this vault (label dev; "
     ended("one is not", done, 1, why, "2 decrypted, 1 not")
     place.put("all.yml", sealed("old", b"<<<<<<< HEAD\na: 1\n=======\na: 2\n>>>>>>> branch\n"))
     done = place.run(CHECK, *old, ".")

@@ -117,7 +117,7 @@ def test_wrong_passwords(place: Place, subtests: SubTests) -> None:
     (place.path / "empty").write_bytes(b" \n")
     new = place.by_file("new", "new-")
     refused = [
-        ([*place.by_file("dev"), *new], "b.yml:2: no secret decrypts this vault\n"),
+        ([*place.by_file("dev"), *new], "b.yml:2: no secret decrypts this vault (no label; tried "),
         ([*place.by_file("missing"), *new], "missing: a password file cannot be opened"),
         ([*place.by_file("old"), "--new-vault-password-file", "../empty"], "../empty: a password is empty"),
         ([*place.by_file("old"), "--new-vault-id", "dev;@../empty"], "a vault id label is not allowed"),
@@ -175,7 +175,8 @@ def test_owners_and_modes(place: Place) -> None:
         (place.tree / "a.yml").chmod(0o644)
         words = [*place.by_file("new"), *place.by_file("old", "new-")]
         done = place.as_nobody(ROTATE, *words, "a.yml")
-        ended("an owner that cannot be kept", done, 1, "a.yml: Operation not permitted", summary(0, failed=1))
+        why = "a.yml: its owner 0:0 cannot be kept: Operation not permitted; run this as that user, or as root\n"
+        ended("an owner that cannot be kept", done, 1, why, summary(0, failed=1))
         assert decrypted("new", place.get("a.yml")) == TEXT, "its file stays"
         assert place.names() == sorted(modes), "nothing is left"
     if not attributes:

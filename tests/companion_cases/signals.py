@@ -22,7 +22,7 @@ from companion_cases.rotating import summary, to_new
 # The copy of what was saved, and the message that names it.
 COPY = ".ansible-vault-saved-a.yml-"
 TOLD = re.compile(
-    r"a\.yml: ended by signal (\d+);(?: what the editor left .*-before;)? what you saved is encrypted in (.+)\n\Z"
+    r"a\.yml: ended by signal (\d+);(?: what the editor left .*-before;)? what you saved is encrypted in (.+)\n"
 )
 # Signals the companion before the run of the program of this number, which then dies by it or goes on.
 AT_RUN = """

@@ -1,5 +1,6 @@
 """ansible-vault-textconv, alone and below git."""
 
+import os
 import re
 
 import pytest
@@ -40,11 +41,11 @@ def test_alone(place: Place, subtests: SubTests) -> None:
 def test_as_it_is(place: Place, subtests: SubTests) -> None:
     """What cannot be decrypted is shown as it is, with the reason, and git continues."""
     files = {
-        "unknown.yml": (sealed("dev"), "no secret decrypts this vault"),
+        "unknown.yml": (sealed("dev"), f"no secret decrypts this vault (no label; tried {place.secret('old')})"),
         "plain.yml": (TEXT, "it is not a vault and has no block"),
         "empty.yml": (b"", "it is not a vault"),
         "header.yml": (b"$ANSIBLE_VAULT;1.1\n", "vault header line is malformed"),
-        "block.yml": (block("dev"), "block.yml:2: shown as it is: no secret decrypts this vault"),
+        "block.yml": (block("dev", label="x"), "block.yml:2: shown as it is: no secret decrypts this vault (label x; "),
     }
     for name, (content, part) in files.items():
         place.put(name, content)
@@ -60,7 +61,12 @@ def test_as_it_is(place: Place, subtests: SubTests) -> None:
     done = place.run(TEXTCONV, *place.by_file("missing"), *place.by_file("old"), "a.yml")
     assert (done.returncode, done.stdout) == (0, TEXT.decode()), "a missing password file is no end"
     assert "missing: a password file cannot be opened" in done.stderr, "but it is reported"
-    ended("no file", place.run(TEXTCONV, *place.by_file("old"), "missing.yml"), 1, "missing.yml")
+    os.mkfifo(place.tree / "pipe")
+    unread = {"missing.yml": "No such file or directory", ".": "Is a directory", "pipe": "it is not a regular file"}
+    for name, why in unread.items():
+        with subtests.test(name):
+            done = place.run(TEXTCONV, *place.by_file("old"), name)
+            assert (done.returncode, done.stdout, done.stderr) == (1, "", f"{TEXTCONV}: {name}: {why}\n")
     for words in ([], ["a.yml"], ["--loud", "a.yml"], place.by_file("old")[:1] + ["a.yml"]):
         with subtests.test(f"{words}"):
             ended("it is refused", place.run(TEXTCONV, *words), 2, "usage: ansible-vault-textconv")

@@ -43,11 +43,18 @@ def test_links(place: Place) -> None:
     }
     for name, target in targets.items():
         (place.tree / "tree" / name).symlink_to(target)
-    ended("links", place.run(ROTATE, *to_new(place), "tree"), 0, summary(2))
+    shared = str(place.tree / "shared/vault.yml")
+    for words, part in (([], "1 rotated, 0 under"), (["--dry-run"], "0 to be rotated, 1 under")):
+        done = place.run(ROTATE, *words, *to_new(place), "tree")
+        why = f"tree/chain.yml: it leads to {shared}, outside of what is rotated; to rotate that, name it\n"
+        ended("a link out of the folder", done, 1, why, part, "1 failed")
+        assert place.get("shared/vault.yml") == sealed("old"), "its file stays"
+    done = place.run(ROTATE, *to_new(place), "tree", shared)
+    ended("its file is named", done, 0, f"tree/chain.yml ({shared}): rotated\n", summary(1, 1))
     kept = {name: os.readlink(place.tree / "tree" / name) for name in targets}
     assert kept == targets, "links stay links"
-    assert decrypted("new", place.get("shared/vault.yml")) == TEXT, "their files are rotated"
-    assert place.mode("shared/vault.yml") == "0o640", "and keep their modes"
+    assert decrypted("new", place.get("shared/vault.yml")) == TEXT, "it is rotated"
+    assert place.mode("shared/vault.yml") == "0o640", "and keeps its mode"
     assert place.get("elsewhere/deep.yml") == sealed("old"), "links to folders are not followed"
     ended("but where they are the path", place.run(ROTATE, *to_new(place), "tree/folder"), 0, summary(1))
     done = place.run(ROTATE, *to_new(place), "tree/dangling.yml")
@@ -108,3 +115,22 @@ def test_long_files(place: Place) -> None:
         place.put(f"{shift}.yml", b"#" * shift + b"\n" + filler * 16383 + block("old") + filler)
     wanted = [f"./{shift}.yml:16386" for shift in shifts]
     assert found(place, ".") == sorted(wanted), "long files"
+
+
+def test_what_has_no_end(place: Place) -> None:
+    """Of a file no more is read than a vault can have: of one on the disk, and of one of the system's."""
+    with open(place.tree / "image", "wb") as file:
+        file.truncate(1 << 40)
+    (place.tree / "pages.yml").symlink_to("/proc/self/pagemap")
+    place.put("a.yml", sealed("old"))
+    place.put("long.yml", block("old"))
+    place.put("vault.yml", sealed("old"))
+    for name in ("long.yml", "vault.yml"):
+        os.truncate(place.tree / name, 1 << 40)
+    for companion, words in ((CHECK, place.by_file("old")), (ROTATE, to_new(place))):
+        done = place.run(companion, *words, ".")
+        ended(companion, done, 1, "1 decrypted, 2 not" if companion == CHECK else summary(1, failed=2))
+        searched = "only its first 100,671,488 bytes were searched, as many as a vault can have"
+        unread = "it has more than 100,671,488 bytes, which no vault has, and is not read"
+        whys = {"image": searched, "long.yml": unread, "pages.yml": searched, "vault.yml": unread}
+        assert done.stderr.splitlines() == [f"{companion}: ./{name}: {why}" for name, why in whys.items()]

@@ -5,7 +5,7 @@ import subprocess
 
 import pytest
 
-from companion_cases import TEXTCONV, Place, block, decrypted, ended, sealed, silent
+from companion_cases import EDIT, TEXTCONV, Place, block, decrypted, ended, sealed, silent
 from companion_cases.blocks import lines_of, texts
 from companion_cases.editing import edit
 from lib.needs import needs_pyyaml
@@ -121,7 +121,7 @@ def test_refused_forms(place: Place) -> None:
     refused = {f"b: {form}\nc: 2\n": f"line 1: {why}" for form, why in REFUSED.items()} | MISPLACED
     content = block("old", b"x", name="b")
     done = typed(place, content, [*refused])
-    lines = done.stderr.splitlines()
+    lines = [line for line in done.stderr.splitlines() if line.startswith(EDIT)]
     rows = [(f"{number}.yml: {why}", line) for number, (why, line) in enumerate(zip(refused.values(), lines))]
     assert (done.returncode, [row for row in rows if row[0] not in row[1]]) == (1, []), "why it is refused"
     kept = [line.partition("; what you saved is encrypted in ")[2] for line in lines]
@@ -150,7 +150,9 @@ def test_closed(place: Place) -> None:
     done = edit(place, "true", *place.by_file("old"), "plain.yml")
     ended("no vault", done, 1, "it is not a vault", "ansible-vault encrypt", "NAME: !vault TEXT")
     place.put("vars.yml", block("dev"))
-    ended("no secret", edit(place, "true", *place.by_file("old"), "vars.yml"), 1, "no secret decrypts any of")
+    done = edit(place, "true", *place.by_file("old"), "vars.yml")
+    tried = f"vars.yml: line 1: secret: no secret decrypts this vault (no label; tried {place.secret('old')})"
+    ended("no secret", done, 1, tried, "choose their secret with --encrypt-vault-id")
 
 
 def test_shown_by_git(place: Place) -> None:

@@ -12,24 +12,24 @@ from lib.needs import needs_pyyaml
 
 ENVELOPE = "$ANSIBLE_VAULT;1.1;AES256\n6162\n"
 BLOCK = "!vault |\n   $ANSIBLE_VAULT;1.1;AES256\n   6162\n"
-# The values of each text: their paths, whether they are vaults, and the characters that are theirs.
+# The values of each text: their paths, and the characters that are theirs.
 READ = {
-    "a: 1\n'b c': \"x\"\n": [(("a",), False, "1"), (("b c",), False, '"x"')],
-    f"a:\n  b: {BLOCK}": [(("a", "b"), True, BLOCK)],
-    f"a:\n- {BLOCK}- x\n": [(("a", 0), True, BLOCK), (("a", 1), False, "x")],
-    "a: [{b: 1}, c]\n": [(("a", 0, "b"), False, "1"), (("a", 1), False, "c")],
-    "{a: !vault '$ANSIBLE_VAULT;1', b: x}\n": [(("a",), True, "!vault '$ANSIBLE_VAULT;1'"), (("b",), False, "x")],
-    "a: !vault x\nb: !other x\n": [(("a",), False, "!vault x"), (("b",), False, "!other x")],
-    f"a: &x {BLOCK}b: *x\n": [(("a",), True, f"&x {BLOCK}"), (("b",), True, "*x")],
-    "a: &x {b: 1}\nc: *x\n": [(("a", "b"), False, "1"), (("c",), False, "*x")],
-    "? [k]\n: v\n? a\n: !<!vault-encrypted> b\n": [(("",), False, "v"), (("a",), False, "!<!vault-encrypted> b")],
-    "--- a\n...\n---\nb: 1\n": [((), False, "a"), (("b",), False, "1")],
-    f"\ufeffgröße: ä\nb: {BLOCK}": [(("größe",), False, "ä"), (("b",), True, BLOCK)],
-    "a: |\r  x\r\r\nb: 1\x85c: 2\u2028": [(("a",), False, "|\r  x\r\r\n"), (("b",), False, "1"), (("c",), False, "2")],
-    "a:\nb:\n": [(("a",), False, ""), (("b",), False, "")],
-    "# \x00\x0c\ud800\na: \ud8ff\n": [(("a",), False, "\ud8ff")],
+    "a: 1\n'b c': \"x\"\n": [(("a",), "1"), (("b c",), '"x"')],
+    f"a:\n  b: {BLOCK}": [(("a", "b"), BLOCK)],
+    f"a:\n- {BLOCK}- x\n": [(("a",), BLOCK), (("a",), "x")],
+    "a: [{b: 1}, c]\n": [(("a", "b"), "1"), (("a",), "c")],
+    "{a: !vault '$ANSIBLE_VAULT;1', b: x}\n": [(("a",), "!vault '$ANSIBLE_VAULT;1'"), (("b",), "x")],
+    "a: !vault x\nb: !other x\n": [(("a",), "!vault x"), (("b",), "!other x")],
+    f"a: &x {BLOCK}b: *x\n": [(("a",), f"&x {BLOCK}"), (("b",), "*x")],
+    "a: &x {b: 1}\nc: *x\n": [(("a", "b"), "1"), (("c",), "*x")],
+    "? [k]\n: v\n? a\n: !<!vault-encrypted> b\n": [(("",), "v"), (("a",), "!<!vault-encrypted> b")],
+    "--- a\n...\n---\nb: 1\n": [((), "a"), (("b",), "1")],
+    f"\ufeffgröße: ä\nb: {BLOCK}": [(("größe",), "ä"), (("b",), BLOCK)],
+    "a: |\r  x\r\r\nb: 1\x85c: 2\u2028": [(("a",), "|\r  x\r\r\n"), (("b",), "1"), (("c",), "2")],
+    "a:\nb:\n": [(("a",), ""), (("b",), "")],
+    "# \x00\x0c\ud800\na: \ud8ff\n": [(("a",), "\ud8ff")],
     "a: !vault |\n  $ANSIBLE_VAULT;1.1;AES256\n\n\n# c\n": [
-        (("a",), True, "!vault |\n  $ANSIBLE_VAULT;1.1;AES256\n\n\n")
+        (("a",), "!vault |\n  $ANSIBLE_VAULT;1.1;AES256\n\n\n")
     ],
     "": [],
 }
@@ -77,8 +77,8 @@ def test_read(loader: None, text: str, wanted: list) -> None:
     data = as_bytes(text)
     characters = yaml_nodes.decoded(data)
     found = [node for node in yaml_nodes.nodes(data) if node.is_value]
-    wanted = [(path, is_vault, yaml_nodes.decoded(as_bytes(part))) for path, is_vault, part in wanted]
-    assert [(node.path, node.is_vault, characters[node.start : node.end]) for node in found] == wanted
+    wanted = [(path, yaml_nodes.decoded(as_bytes(part))) for path, part in wanted]
+    assert [((*node.path,), characters[node.start : node.end]) for node in found] == wanted
 
 
 @pytest.mark.parametrize("text, column", COLUMNS.items())

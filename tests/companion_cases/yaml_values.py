@@ -146,7 +146,7 @@ def is_text(value: Value) -> bool:
 
 
 def scanned(data: bytes) -> list[tuple[tuple[str, ...], str]]:
-    return [(value.path, value.content.decode()) for value in Scan(data).values if is_text(value)]
+    return [((*value.path,), value.content.decode()) for value in Scan(data).values if is_text(value)]
 
 
 def test_anything() -> None:
@@ -224,6 +224,6 @@ def test_conflicts() -> None:
     """Each side of a conflict is read without the others."""
     needs_pyyaml()
     values = Scan(CONFLICT).values
-    assert [(value.path, value.content) for value in values] == IN_CONFLICT, "the values"
+    assert [((*value.path,), value.content) for value in values] == IN_CONFLICT, "the values"
     parts = [CONFLICT[value.start : value.end] for value in values]
     assert parts == [b"one", b"|-\n    two", b"three", "'fünf'".encode(), b"|\n  six"], "their bytes"

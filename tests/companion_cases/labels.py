@@ -1,0 +1,167 @@
+"""Labels that anybody may have changed: rotate and check trust a secret only with envelopes of its own label."""
+
+import re
+from collections import Counter
+from collections.abc import Callable
+from typing import NamedTuple
+
+import pytest
+from hypothesis import HealthCheck, example, given, seed, settings
+from hypothesis import strategies as any_of
+
+from companion_cases import CHECK, ROTATE, Companions, Place, block, decrypted, sealed
+from companion_cases.running import envelope_of
+
+DEFAULT = "default"
+# The vault around a block within a plaintext: its label, and its password.
+AROUND = ("around", "prod2")
+FORMS = ("file", "block", "within")
+# The new passwords of labels.
+NEW = {DEFAULT: "new", "dev": "dev2"}
+NEXT_STEP = re.compile(r"its label is (\S+), but (\S+) decrypts it, a secret of the label (\S+); .* --vault-id (\S+)$")
+
+
+class Made(NamedTuple):
+    """An envelope, whose label is empty where its first line has none."""
+
+    label: str
+    password: str
+    form: str
+
+    def content(self, text: bytes) -> bytes:
+        if self.form == "file":
+            return sealed(self.password, text, self.label)
+        inner = b"a: 1\n" + block(self.password, text, self.label)
+        return inner if self.form == "block" else sealed(AROUND[1], inner, AROUND[0])
+
+    def texts(self, content: bytes, passwords: list[str]) -> list[bytes | None]:
+        """What each password makes of the envelope."""
+        inner = decrypted(AROUND[1], content) if self.form == "within" else content
+        envelope = inner if self.form == "file" else envelope_of(inner.removeprefix(b"a: 1\n"))
+        return [decrypted(each, envelope) for each in passwords]
+
+
+class Named(NamedTuple):
+    """A secret, with an empty label where none is given."""
+
+    label: str
+    password: str
+
+    def own_label(self) -> str:
+        return self.label or DEFAULT
+
+    def words(self, place: Place) -> list[str]:
+        return place.by_id(self.label, self.password) if self.label else place.by_file(self.password)
+
+
+class Case(NamedTuple):
+    made: list[Made]
+    by_options: list[Named]
+    by_settings: list[Named]
+
+    def named(self) -> list[Named]:
+        return [*self.by_settings, *self.by_options]
+
+    def prepare(self, place: Place) -> None:
+        for number, each in enumerate(self.made):
+            place.put(f"{number}.yml", each.content(b"text %d\n" % number))
+        identities = [f"{each.own_label()}@{place.secret(each.password)}" for each in self.by_settings]
+        place.environment["ANSIBLE_VAULT_IDENTITY_LIST"] = ",".join(identities)
+
+    def words(self, place: Place) -> list[str]:
+        return [word for each in self.by_options for word in each.words(place)]
+
+    def serves(self, made: Made, rotates: bool) -> bool | None:
+        """Whether a secret may decrypt an envelope; None where none can."""
+        fitting = [each.own_label() for each in self.named() if each.password == made.password]
+        if not fitting:
+            return None
+        is_for_all = not rotates or {each.own_label() for each in self.named()} == {DEFAULT}
+        is_only = is_for_all and len({each.password for each in self.named()}) == 1
+        return not made.label or made.label in fitting or is_only
+
+
+PASSWORDS = any_of.sampled_from(["old", "dev", "prod"])
+LABELS = any_of.sampled_from(["", DEFAULT, "dev", "prod"])
+ENVELOPES = any_of.builds(Made, LABELS, PASSWORDS, any_of.sampled_from(FORMS))
+SECRETS = any_of.builds(Named, LABELS, PASSWORDS)
+CASES = any_of.builds(
+    lambda made, options, by_settings: Case(
+        made, options + [Named(*AROUND)] * any(each.form == "within" for each in made), by_settings
+    ),
+    any_of.lists(ENVELOPES, min_size=1, max_size=4),
+    any_of.lists(SECRETS, min_size=1, max_size=2),
+    any_of.lists(SECRETS, max_size=1),
+)
+# A label that was changed, for a secret of an option and of a setting; a copied block; and a single secret.
+DEV, PROD = Named("dev", "dev"), Named("prod", "prod")
+CHANGED = [Made("dev", "prod", "file"), Made("dev", "prod", "block"), Made("dev", "dev", "file")]
+EXAMPLES = [Case(CHANGED, [DEV, PROD], []), Case(CHANGED, [DEV], [PROD]), Case(CHANGED[:1], [PROD], [])]
+EXAMPLES += [Case(CHANGED[:1], [Named("", "prod")], []), Case([Made("", "prod", "file")], [DEV, PROD], [])]
+
+
+def with_cases(test: Callable[[Case], None], number: int) -> None:
+    """Runs a test with these cases and with random ones."""
+    for each in EXAMPLES:
+        test = example(each)(test)
+    checks = [HealthCheck.too_slow, HealthCheck.data_too_large]
+    limits = settings(max_examples=25, deadline=None, database=None, suppress_health_check=checks)
+    limits(seed(number)(given(CASES)(test)))()
+
+
+def test_rotate(cases: Companions, pytestconfig: pytest.Config) -> None:
+    """Text is put under the new password of its label, or stays where it is and is named."""
+    seen: Counter[bool | None] = Counter()
+
+    def rotate(case: Case) -> None:
+        place = cases.place()
+        case.prepare(place)
+        before = place.files()
+        new = [word for label, password in NEW.items() for word in place.by_id(label, password, "new-")]
+        done = place.run(ROTATE, *case.words(place), *new, ".")
+        after = place.files()
+        for number, each in enumerate(case.made):
+            name, label = f"{number}.yml", each.label or DEFAULT
+            serves = case.serves(each, rotates=True)
+            is_rotated = label in NEW and serves is True
+            passwords = [each.password, *NEW.values()]
+            text = b"text %d\n" % number
+            wanted = [None] + [text if is_rotated and NEW[label] == password else None for password in NEW.values()]
+            found = each.texts(after[name], passwords)
+            assert found == (wanted if is_rotated else [text, None, None]), (name, done.stderr)
+            assert is_rotated or before[name] == after[name], f"{name} stays"
+            assert (f"./{name}" in done.stderr) == (label in NEW and not is_rotated), (name, done.stderr)
+            seen[serves if label in NEW else None] += 1
+        failed = any(f"./{number}.yml" in done.stderr for number in range(len(case.made)))
+        unused = "nothing has the label" in done.stderr
+        assert done.returncode == (1 if failed or unused else 0), done.stderr
+
+    with_cases(rotate, pytestconfig.getoption("--seed"))
+    assert min(seen[True], seen[False], seen[None]) > 5, seen
+
+
+def test_check(cases: Companions, pytestconfig: pytest.Config) -> None:
+    """What a secret of another label decrypts is a fault, and what the message says to do mends it."""
+    seen: Counter[bool | None] = Counter()
+
+    def check(case: Case) -> None:
+        place = cases.place()
+        case.prepare(place)
+        before = place.files()
+        done = place.run(CHECK, *case.words(place), ".")
+        steps = []
+        for number, each in enumerate(case.made):
+            lines = [line for line in done.stderr.splitlines() if f"./{number}.yml" in line]
+            serves = case.serves(each, rotates=False)
+            assert bool(lines) == (serves is not True), (number, done.stderr)
+            told = [NEXT_STEP.search(line) for line in lines]
+            assert [found[1] for found in told if found] == [each.label] * (serves is False), done.stderr
+            steps += [word for found in told if found for word in ("--vault-id", found[4])]
+            seen[serves] += 1
+        assert done.returncode == (0 if all(case.serves(each, False) for each in case.made) else 1), done.stderr
+        again = place.run(CHECK, *case.words(place), *steps, ".")
+        assert "decrypts it" not in again.stderr, "as it is told, nothing of this is left"
+        assert place.files() == before, "all stays"
+
+    with_cases(check, pytestconfig.getoption("--seed"))
+    assert min(seen[True], seen[False], seen[None]) > 5, seen

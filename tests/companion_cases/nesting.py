@@ -1,0 +1,102 @@
+"""Deep YAML: what is read of it takes memory in proportion to the text, whatever it is made of."""
+
+import gc
+import tracemalloc
+
+import pytest
+from hypothesis import given, settings
+from hypothesis import strategies as st
+
+from ansible_vault_companions import files, plain_values
+from ansible_vault_companions.yaml_values import Scan
+from companion_cases import EDIT, TEXTCONV, Place, block, ended
+from companion_cases.editing import CHANGE
+from companion_cases.keeping import run_changed
+from lib.needs import needs_pyyaml
+
+# 200 KB take less than 100 MB.
+BYTES_PER_BYTE = 500
+SIZE = 10_000
+LARGE, MEGABYTES = 200_000, 100
+# Notes the most memory that a companion had, in kB.
+NOTE_PEAK = """
+import atexit
+status = lambda: [line for line in open("/proc/self/status") if line.startswith("VmHWM")]
+atexit.register(lambda: open("../peak", "w").write(status()[0].split()[1]))
+"""
+# How a collection begins that has one value at most before the next one within it, and how it ends.
+LAYERS = {
+    "- ": "",
+    "? ": "",
+    "[": "]",
+    "[1, ": "]",
+    "{a: 1, b: ": "}",
+    "{a: !vault x, b: ": "}",
+    "{? [a] : 1, <<: ": "}",
+    "{? ": "}",
+}
+
+
+def nested(layers: list[str], size: int) -> str:
+    """A text of about this size, in which these collections are within each other in turn."""
+    count = size // sum(len(layer + LAYERS[layer]) for layer in layers)
+    ends = "".join(LAYERS[layer] for layer in reversed(layers))
+    return "".join(layers) * count + "x" + ends * count + "\n"
+
+
+BLOCKS = st.lists(st.sampled_from(["- ", "? "]), min_size=1, max_size=3)
+FLOWS = st.lists(st.sampled_from([each for each, end in LAYERS.items() if end]), min_size=1, max_size=3)
+
+
+def peak(work, *words) -> int:
+    gc.collect()
+    tracemalloc.start()
+    try:
+        work(*words)
+        return tracemalloc.get_traced_memory()[1]
+    finally:
+        tracemalloc.stop()
+
+
+def now_plain(before: bytes, after: bytes) -> None:
+    plain_values.values.cache_clear()
+    assert plain_values.now_plain(before, after), "what was encrypted in the first is not in the second"
+
+
+@settings(max_examples=8, deadline=None, database=None)
+@given(layers=st.one_of(BLOCKS, FLOWS))
+def test_memory(layers: list[str]) -> None:
+    needs_pyyaml()
+    deep = b"deep:\n  " + nested(layers, SIZE).encode()
+    text = block("old", b"x") + deep
+    assert len(text) > SIZE / 2, "it is as long as is said"
+    assert Scan(text).values[0].name == "secret", "it can be read"
+    assert peak(lambda: Scan(text).values) < BYTES_PER_BYTE * len(text), "its values"
+    assert peak(now_plain, text, b"secret: x\n" + deep) < BYTES_PER_BYTE * len(text), "what is in plaintext now"
+
+
+def megabytes(place: Place) -> float:
+    return int((place.path / "peak").read_text()) / 1000
+
+
+@pytest.mark.parametrize("companion", (TEXTCONV, EDIT))
+def test_peak(place: Place, companion: str) -> None:
+    needs_pyyaml()
+    place.put("vars.yml", block("old") + b"deep:\n  " + nested(["- "], LARGE).encode())
+    editor = place.script(CHANGE, "editor")
+    done = run_changed(place, companion, NOTE_PEAK, [*place.by_file("old"), "vars.yml"], EDITOR=editor)
+    ended("200 KB", done, 0)
+    assert 5 < megabytes(place) < MEGABYTES
+
+
+def test_long_files(place: Place) -> None:
+    """git shows a file that is no vault, whatever its length, and takes no memory for it."""
+    length = files.LIMIT + 5_000_001
+    with open(place.tree / "long.yml", "wb") as file:
+        file.write(b"a: 1\n")
+        file.truncate(length)
+    show = f"import os\nos.dup2(os.open('../shown', os.O_WRONLY | os.O_CREAT), 1)\n{NOTE_PEAK}"
+    done = run_changed(place, TEXTCONV, show, [*place.by_file("old"), "long.yml"])
+    ended("it", done, 0, "long.yml: shown as it is: only its first 100,671,488 bytes were searched")
+    assert (place.path / "shown").stat().st_size == length, "all of it"
+    assert 5 < megabytes(place) < 40
