@@ -1,0 +1,144 @@
+"""Every wait ends: a signal ends each companion, whatever it reads, searches, runs or waits for."""
+
+import array
+import fcntl
+import os
+import signal
+import subprocess
+import termios
+import time
+from collections.abc import Iterator
+from contextlib import contextmanager, suppress
+from pathlib import Path
+from typing import Any
+
+import pytest
+
+from companion_cases import CHECK, HOOK, MERGE, ROTATE, SECONDS, TEXT, TEXTCONV, WITH, Place, sealed
+from companion_cases.rotating import to_new
+from companion_cases.signals import merge_of, tree, wait_until
+
+# Runs a companion for which each folder has another one below it, and that signals itself there.
+ENDLESS_FOLDERS = """
+import os, runpy, signal, sys
+def walk(path, **options):
+    while True:
+        os.kill(os.getpid(), signal.SIGTERM)
+        yield path, [], []
+os.walk = walk
+sys.argv = sys.argv[1:]
+sys.path[0] = os.path.dirname(os.path.realpath(sys.argv[0]))
+runpy.run_path(sys.argv[0], run_name="__main__")
+"""
+# What a program does first that runs until it is signalled.
+WAITS = "exec 2> /dev/null; : > ../started; : < ../never"
+PIPE_SIZE = 4096
+
+
+@contextmanager
+def started(place: Place, words: list[str], **streams: Any) -> Iterator[subprocess.Popen]:
+    streams = {"stdin": subprocess.DEVNULL, "stdout": subprocess.PIPE, "stderr": subprocess.PIPE} | streams
+    with subprocess.Popen(words, cwd=place.tree, env=place.environment, text=True, **streams) as process:
+        try:
+            yield process
+        finally:
+            process.kill()
+
+
+def end(process: subprocess.Popen, number: int, never: Path | None = None) -> None:
+    """Ends it by a signal, and what survives it by what it reads."""
+    process.send_signal(number)
+    assert process.wait(SECONDS) == -number, "it ends by the signal"
+    if never:
+        with suppress(OSError):
+            os.close(os.open(never, os.O_WRONLY | os.O_NONBLOCK))
+    assert process.communicate(timeout=SECONDS) == ("", ""), "without a word"
+
+
+def test_endless_folders(place: Place) -> None:
+    for companion, words in ((CHECK, place.by_file("old")), (ROTATE, to_new(place))):
+        script = place.script(ENDLESS_FOLDERS, "endless", "/usr/bin/env -S python3 -ISB")
+        done = place.run(script, str(place.tools / companion), *words, ".")
+        assert (done.returncode, done.stdout, done.stderr) == (-signal.SIGTERM, "", ""), companion
+
+
+@pytest.mark.parametrize("number", (signal.SIGINT, signal.SIGTERM))
+@pytest.mark.parametrize("companion", (CHECK, ROTATE))
+def test_while_files_are_searched(place: Place, companion: str, number: int) -> None:
+    """Files that take minutes to read, as long as no signal comes."""
+    first = place.tree / "0.img"
+    with open(first, "wb") as file:
+        file.truncate(1 << 40)
+    for name in range(1, 3000):
+        os.link(first, place.tree / f"{name}.img")
+    words = place.by_file("old") if companion == CHECK else to_new(place)
+    with started(place, [companion, *words, "."]) as process:
+        files = Path("/proc", str(process.pid), "fd")
+        names = lambda: [os.readlink(each) for each in files.iterdir() if each.is_symlink()]
+        wait_until(lambda: any(name.endswith(".img") for name in names()), "the first file")
+        end(process, number)
+
+
+@pytest.mark.parametrize("number", (signal.SIGINT, signal.SIGTERM))
+@pytest.mark.parametrize("companion", (CHECK, MERGE, HOOK))
+def test_while_git_runs(place: Place, git: None, companion: str, number: int) -> None:
+    tree(place)
+    os.mkfifo(place.path / "never")
+    place.shell("git init -q")
+    place.wrap_tool(WAITS, "git")
+    words = {CHECK: [CHECK, *place.by_file("old"), "."], MERGE: merge_of(place, "a.yml"), HOOK: [HOOK]}
+    with started(place, words[companion]) as process:
+        wait_until((place.path / "started").exists, "git")
+        end(process, number, place.path / "never")
+
+
+@pytest.mark.parametrize("number", (signal.SIGINT, signal.SIGTERM))
+def test_while_input_is_awaited(place: Place, number: int) -> None:
+    """Standard input that nobody writes."""
+    words = [WITH, "encrypt_string", *place.by_file("old"), "--stdin-name", "a", "word", "--name", "b"]
+    with started(place, words, stdin=subprocess.PIPE) as process:
+        wait_until(lambda: reads_input(process), "the read")
+        end(process, number)
+
+
+def reads_input(process: subprocess.Popen) -> bool:
+    """Whether it is in the call that reads standard input: the numbers of the call and of the descriptor."""
+    return Path("/proc", str(process.pid), "syscall").read_text().split()[:2] == ["0", "0x0"]
+
+
+def written(place: Place) -> dict[str, list[str]]:
+    """Command lines with more output than a pipe takes."""
+    for number in range(40):
+        place.put(f"{'a' * 200}{number}.yml", sealed("old"))
+    place.put("long.txt", sealed("old", TEXT * 1000))
+    old = place.by_file("old")
+    return {
+        CHECK: [CHECK, *old, "."],
+        ROTATE: [ROTATE, *to_new(place), "."],
+        TEXTCONV: [TEXTCONV, *old, "long.txt"],
+        WITH: [WITH, "view", *old, "long.txt", "long.txt"],
+    }
+
+
+@pytest.mark.parametrize("number", (signal.SIGINT, signal.SIGTERM))
+@pytest.mark.parametrize("companion", (CHECK, ROTATE, TEXTCONV, WITH))
+def test_while_nobody_reads(place: Place, companion: str, number: int) -> None:
+    reader, writer = os.pipe()
+    size = fcntl.fcntl(writer, fcntl.F_SETPIPE_SZ, PIPE_SIZE)
+    with os.fdopen(reader), started(place, written(place)[companion], stdout=writer) as process:
+        os.close(writer)
+        wait_until(lambda: waiting(reader) > size // 2 and is_asleep(process), "a full pipe")
+        process.send_signal(number)
+        assert process.wait(SECONDS) == -number, "it ends by the signal"
+
+
+def waiting(reader: int) -> int:
+    """How many bytes are in a pipe."""
+    count = array.array("i", [0])
+    fcntl.ioctl(reader, termios.FIONREAD, count)
+    return count[0]
+
+
+def is_asleep(process: subprocess.Popen) -> bool:
+    """Whether it is in the call that writes standard output."""
+    return Path("/proc", str(process.pid), "syscall").read_text().split()[:2] == ["1", "0x1"]
