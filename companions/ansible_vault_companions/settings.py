@@ -16,6 +16,8 @@ HOME = "~/.ansible.cfg"
 SYSTEM = "/etc/ansible/ansible.cfg"
 SECTION = "defaults"
 SUFFIXES = (".cfg", ".ini")
+# How many bytes are read of one: a folder may have one that has no end.
+LONGEST = 1 << 20
 # Stands for the current folder in a path of the settings.
 CURRENT = "{{CWD}}"
 # The variable of the environment, and the key in the file.
@@ -127,7 +129,10 @@ def _section(path: str) -> dict[str, str]:
         if not os.path.isfile(path):
             raise Refused("it is not a regular file")
         with open(path, "rb") as file:
-            text = file.read().decode()
+            content = file.read(LONGEST + 1)
+        if len(content) > LONGEST:
+            raise Refused(f"it has more than {LONGEST:,} bytes")
+        text = content.decode()
         found = _simple_section(text)
         return _parsed_section(text) if found is None else found
     except UnicodeDecodeError:

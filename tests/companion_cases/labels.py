@@ -2,9 +2,11 @@
 
 import re
 from collections import Counter
+from collections.abc import Callable
 from typing import NamedTuple
 
-from hypothesis import HealthCheck, example, given, settings
+import pytest
+from hypothesis import HealthCheck, example, given, seed, settings
 from hypothesis import strategies as any_of
 
 from companion_cases import CHECK, ROTATE, Companions, Place, block, decrypted, sealed
@@ -97,15 +99,16 @@ EXAMPLES = [Case(CHANGED, [DEV, PROD], []), Case(CHANGED, [DEV], [PROD]), Case(C
 EXAMPLES += [Case(CHANGED[:1], [Named("", "prod")], []), Case([Made("", "prod", "file")], [DEV, PROD], [])]
 
 
-def with_cases(test):
-    """Runs a test with these cases and others."""
+def with_cases(test: Callable[[Case], None], number: int) -> None:
+    """Runs a test with these cases and with random ones."""
     for each in EXAMPLES:
         test = example(each)(test)
     checks = [HealthCheck.too_slow, HealthCheck.data_too_large]
-    return settings(max_examples=40, deadline=None, database=None, suppress_health_check=checks)(given(CASES)(test))
+    limits = settings(max_examples=25, deadline=None, database=None, suppress_health_check=checks)
+    limits(seed(number)(given(CASES)(test)))()
 
 
-def test_rotate(cases: Companions) -> None:
+def test_rotate(cases: Companions, pytestconfig: pytest.Config) -> None:
     """Text is put under the new password of its label, or stays where it is and is named."""
     seen: Counter[bool | None] = Counter()
 
@@ -132,11 +135,11 @@ def test_rotate(cases: Companions) -> None:
         unused = "nothing has the label" in done.stderr
         assert done.returncode == (1 if failed or unused else 0), done.stderr
 
-    with_cases(rotate)()
+    with_cases(rotate, pytestconfig.getoption("--seed"))
     assert min(seen[True], seen[False], seen[None]) > 5, seen
 
 
-def test_check(cases: Companions) -> None:
+def test_check(cases: Companions, pytestconfig: pytest.Config) -> None:
     """What a secret of another label decrypts is a fault, and what the message says to do mends it."""
     seen: Counter[bool | None] = Counter()
 
@@ -159,5 +162,5 @@ def test_check(cases: Companions) -> None:
         assert "decrypts it" not in again.stderr, "as it is told, nothing of this is left"
         assert place.files() == before, "all stays"
 
-    with_cases(check)()
+    with_cases(check, pytestconfig.getoption("--seed"))
     assert min(seen[True], seen[False], seen[None]) > 5, seen

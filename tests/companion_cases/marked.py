@@ -1,5 +1,6 @@
 """ansible-vault-check in a repository: files that are marked, and labels whose secret somebody has not."""
 
+import os
 import subprocess
 
 import pytest
@@ -36,7 +37,7 @@ def test_marked_files(place: Place, subtests: SubTests) -> None:
     for folder, paths in {".": ["."], place.tree: [str(place.tree / name) for name in plain]}.items():
         with subtests.test(f"all by {folder}"):
             done = place.run(*check, *paths)
-            lines = sorted(f"{folder}/{name}: {why}" for name, (_, why) in plain.items())
+            lines = sorted(f"{CHECK}: {folder}/{name}: {why}" for name, (_, why) in plain.items())
             assert (done.returncode, sorted(done.stderr.splitlines())) == (1, lines)
             assert done.stdout.endswith(f" decrypted, {len(plain)} not\n")
     for name, (_, why) in plain.items():
@@ -53,10 +54,10 @@ def test_several_repositories(place: Place) -> None:
         place.put(f"{name}/a.vault.yml", TEXT)
     place.put("one/.gitattributes", ATTRIBUTES.encode())
     done = place.run(CHECK, *place.by_file("old"), ".")
-    assert done.stderr == "./one/a.vault.yml: is not encrypted\n", "one alone marks it"
+    assert done.stderr == f"{CHECK}: ./one/a.vault.yml: is not encrypted\n", "one alone marks it"
     place.put("one/.git/config", b"[no config\n")
     done = place.run(CHECK, *place.by_file("old"), ".")
-    ended("git fails", done, 1, "which files are marked is not known: git check-attr failed")
+    ended("git fails", done, 1, "which files are to be encrypted or merged is not checked: git check-attr failed")
 
 
 def test_some_labels(place: Place) -> None:
@@ -76,7 +77,8 @@ def test_some_labels(place: Place) -> None:
     ended("one that cannot be decrypted", done, 1, "./d.yml: dev: no secret", counts)
     done = place.run(CHECK, *dev, "--label", "prdo", "--label", "prod", "--label", "none", "b.yml")
     nothing = [f"{CHECK}: nothing has the label {label}" for label in ("none", "prdo")]
-    wanted = ["b.yml: prod: no secret decrypts this vault", *nothing]
+    tried = f"(label prod; tried {dev[1]}): name its secret with --vault-id prod@FILE"
+    wanted = [f"{CHECK}: b.yml: prod: no secret decrypts this vault {tried}", *nothing]
     assert (done.returncode, done.stderr.splitlines()) == (1, wanted), "labels that nothing has"
     place.put("within.yml", sealed("dev", block("old"), "dev"))
     done = place.run(CHECK, *dev, *place.by_file("old"), "--label", "dev", "--label", "default", "within.yml")
@@ -140,3 +142,15 @@ def test_files_behind_dashes(place: Place, name) -> None:
     where = {"cwd": place.tree, "env": place.environment}
     runs = [subprocess.run([*command, *words], capture_output=True, **where) for words in (["--", name], [name])]
     assert [(done.returncode, done.stdout, done.stderr) for done in runs] == [(0, TEXT, b"")] * 2
+
+
+@pytest.mark.usefixtures("git")
+def test_the_repository_of_another_owner(place: Place) -> None:
+    """git refuses it and says what to do; no vault is counted for that."""
+    if os.geteuid() != 0:
+        pytest.skip("only root runs it as somebody else")
+    under_git(place, ATTRIBUTES)
+    place.put("a.yml", sealed("old"))
+    done = place.as_nobody(CHECK, *place.by_file("old"), ".")
+    why = f"{CHECK}: which files are to be encrypted or merged is not checked: git check-attr failed\n"
+    ended("another owner", done, 1, "1 decrypted, 0 not\n", "safe.directory", why)

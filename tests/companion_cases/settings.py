@@ -279,11 +279,12 @@ def test_faults(place: Place, subtests: SubTests) -> None:
         b"no section\n": "ansible.cfg: File contains no section headers",
         b"[defaults]\nvault_password_file = a\nvault_password_file = b\n": "ansible.cfg: While reading from",
         b"[defaults]\n# \xff\n": "ansible.cfg: it is not UTF-8",
+        b"#" * ((1 << 20) + 1): "ansible.cfg: it has more than 1,048,576 bytes",
     }
     by_settings(place)
     for content, part in malformed.items():
         place.put("ansible.cfg", content)
-        with subtests.test(f"{content}"):
+        with subtests.test(part):
             ended("it is refused", place.run(CHECK, "."), 1, f"{CHECK}: {part}")
     (place.path / "settings").write_text(FILE.format("secrets/old"))
     done = place.run(CHECK, ".", ANSIBLE_CONFIG="../settings")
