@@ -122,7 +122,8 @@ def test_by_settings(place: Place) -> None:
     check_session("view", session, OF_DEV)
     # A file of this name is none of it.
     place.put("prompt", PASSWORDS["dev"])
-    done = place.run("setsid", "--wait", CHECK, "a.yml", ANSIBLE_VAULT_PASSWORD_FILE="prompt")
+    place.put("b.yml", sealed("dev"))
+    done = place.run("setsid", "--wait", CHECK, "b.yml", ANSIBLE_VAULT_PASSWORD_FILE="prompt")
     found = done.returncode, done.stdout.splitlines()[-1:]
     assert found == (0, ["1 decrypted, 0 not"]), "a file called prompt"
     done = ours(place, "view", "--vault-password-file", "prompt", "a.yml")
