@@ -140,8 +140,7 @@ def _status_of_fault(name: str, fault: Exception) -> int:
     if not isinstance(fault, (Refused, OSError)):
         raise fault
     try:
-        of_path = isinstance(fault, OSError) and isinstance(fault.filename, str)
-        where = f"{shown(fault.filename)}: " if of_path else ""
+        where = f"{shown(fault.filename)}: " if isinstance(fault, OSError) and isinstance(fault.filename, str) else ""
         write_error(f"{name}: {where}{shown(reason(fault))}")
     except OSError:
         pass

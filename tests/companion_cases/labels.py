@@ -82,8 +82,9 @@ class Case(NamedTuple):
 
 
 PASSWORDS = any_of.sampled_from(["old", "dev", "prod"])
-ENVELOPES = any_of.builds(Made, any_of.sampled_from(["", DEFAULT, "dev", "prod"]), PASSWORDS, any_of.sampled_from(FORMS))
-SECRETS = any_of.builds(Named, any_of.sampled_from(["", DEFAULT, "dev", "prod"]), PASSWORDS)
+LABELS = any_of.sampled_from(["", DEFAULT, "dev", "prod"])
+ENVELOPES = any_of.builds(Made, LABELS, PASSWORDS, any_of.sampled_from(FORMS))
+SECRETS = any_of.builds(Named, LABELS, PASSWORDS)
 CASES = any_of.builds(
     lambda made, options, by_settings: Case(
         made, options + [Named(*AROUND)] * any(each.form == "within" for each in made), by_settings

@@ -175,7 +175,8 @@ def test_owners_and_modes(place: Place) -> None:
         (place.tree / "a.yml").chmod(0o644)
         words = [*place.by_file("new"), *place.by_file("old", "new-")]
         done = place.as_nobody(ROTATE, *words, "a.yml")
-        ended("an owner that cannot be kept", done, 1, "a.yml: its owner 0:0 cannot be kept: Operation", summary(0, failed=1))
+        why = "a.yml: its owner 0:0 cannot be kept: Operation not permitted; run this as that user, or as root\n"
+        ended("an owner that cannot be kept", done, 1, why, summary(0, failed=1))
         assert decrypted("new", place.get("a.yml")) == TEXT, "its file stays"
         assert place.names() == sorted(modes), "nothing is left"
     if not attributes:
