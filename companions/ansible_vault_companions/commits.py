@@ -7,7 +7,7 @@ import tempfile
 from contextlib import contextmanager
 from typing import Iterator, NamedTuple
 
-from ansible_vault_companions.git import FILE_MODES, LINK_MODE, git
+from ansible_vault_companions.git import FILE_MODES, LINK_MODE, PARTIAL, answer, git
 from ansible_vault_companions.program import Refused
 
 RAW = ("--raw", "-z", "--no-abbrev")
@@ -20,6 +20,10 @@ SHALLOW = (
     "this clone is shallow, so earlier commits are missing; run `git fetch --unshallow` first, and let a pipeline "
     "fetch all of them (fetch-depth: 0, GIT_DEPTH: 0)"
 )
+
+
+# What names the remote that is to have what a partial clone lacks.
+PROMISOR = r"^(extensions\.partialclone|remote\..*\.promisor)$"
 
 
 class File(NamedTuple):
@@ -65,10 +69,23 @@ def _change(since: str, *command: str) -> Change:
 
 def staged() -> list[Change]:
     """How the index differs from each parent that a commit of it will have."""
-    ours = _change(PARENT, "diff", "--cached", "--no-relative")
+    ours = _staged_since(_head())
     names = {file.name for file in ours.files}
-    theirs = [_change(PARENT, "diff-index", "--cached", each) for each in _merged()] if names else []
+    theirs = [_staged_since(each) for each in _merged()] if names else []
     return [ours, *(each._replace(files=[file for file in each.files if file.name in names]) for each in theirs)]
+
+
+def _staged_since(name: str) -> Change:
+    return _change(PARENT, "diff-index", "--cached", "--ita-invisible-in-index", name)
+
+
+def _head() -> str:
+    return answer("rev-parse", "--verify", "HEAD").decode().strip() or _empty()
+
+
+def _empty() -> str:
+    """A tree without files is the parent of a first commit."""
+    return git("hash-object", "-t", "tree", "--stdin").decode().strip()
 
 
 def _merged() -> list[str]:
@@ -93,9 +110,8 @@ def of_commit(name: str) -> list[Change]:
 
 
 def _parents(name: str) -> list[str]:
-    """A tree without files is the parent of a first commit."""
     found = git("rev-list", "--parents", "--max-count=1", name).decode().split()[1:]
-    return found or [git("hash-object", "-t", "tree", "--stdin").decode().strip()]
+    return found or [_empty()]
 
 
 def commits_since(first: str) -> list[str]:
@@ -105,11 +121,8 @@ def commits_since(first: str) -> list[str]:
 
 def of_range(first: str, last: str) -> list[Change]:
     """How a commit differs from where its history and that of the first one meet."""
-    try:
-        bases = git("merge-base", "--all", first, last, is_quiet=True).decode().split()
-    except Refused:
-        # They have nothing in common.
-        return []
+    # None if they have nothing in common.
+    bases = answer("merge-base", "--all", first, last).decode().split()
     return [_change(base[:10], "diff-tree", "-r", base, last) for base in bases if base != last]
 
 
@@ -134,9 +147,12 @@ def files_of(name: str) -> list[File]:
     return [File(path, about[2], None, about[0] == LINK_MODE) for about, path in fields if about[0] in modes]
 
 
-def refuse_shallow() -> None:
+def refuse_incomplete() -> None:
+    """A clone that lacks earlier commits or contents."""
     if git("rev-parse", "--is-shallow-repository").strip() == b"true":
         raise Refused(SHALLOW)
+    if answer("config", "--get-regexp", PROMISOR):
+        raise Refused(PARTIAL)
 
 
 @contextmanager

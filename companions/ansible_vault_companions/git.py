@@ -2,11 +2,13 @@
 
 from __future__ import annotations
 
+import hashlib
 import os
 import subprocess
 from functools import lru_cache
 from typing import NamedTuple
 
+from ansible_vault_companions import files, stopping
 from ansible_vault_companions.leaks import DIFF, VAULT_ALONE
 from ansible_vault_companions.program import Refused
 
@@ -19,6 +21,16 @@ LINK_MODE = "120000"
 CONFLICTS = "ansible-vault-conflicts"
 # How many contents are kept, since a file is compared with the one before it in several ways.
 RECENT = 4
+# A folder that somebody else made has settings, hooks and attributes of its own, which name programs. To read an index
+# git would start that of core.fsmonitor, to write one the hook post-index-change, and to get an object that a partial
+# clone lacks a transport, and with it core.sshCommand or a helper for credentials. These are switched off. Filters,
+# pagers, and programs that show differences or merge them belong to commands that are not used here.
+OFF = ("-c", "core.fsmonitor=false", "-c", "submodule.recurse=false")
+HOOKS_OFF = ("-c", f"core.hooksPath={os.devnull}")
+# These run no hook, and say where the hooks are.
+OF_HOOKS = ("rev-parse", "config")
+NO_TRANSPORT = {"GIT_NO_LAZY_FETCH": "1", "GIT_ALLOW_PROTOCOL": "none"}
+PARTIAL = "this clone is partial, so contents are missing, and none is fetched here; clone without --filter"
 # What git calls the commits whose changes it merges.
 THEIRS = ("MERGE_HEAD", "CHERRY_PICK_HEAD", "REBASE_HEAD", "REVERT_HEAD^@")
 
@@ -31,20 +43,35 @@ class Unmerged(NamedTuple):
     theirs: str
 
 
+def _command(words: tuple[str, ...]) -> list[str]:
+    """One of git's commands, so that it starts nothing that a folder names."""
+    hooks = () if words[0] in OF_HOOKS else HOOKS_OFF
+    return ["git", "--no-pager", "--literal-pathspecs", *OFF, *hooks, *words]
+
+
+def _environment(index: str | None = None) -> dict[str, str]:
+    return {**os.environ, **NO_TRANSPORT, **({"GIT_INDEX_FILE": index} if index else {})}
+
+
 def git(
     *words: str, data: bytes = b"", index: str | None = None, folder: str | None = None, is_quiet: bool = False
 ) -> bytes:
-    environment = {**os.environ, "GIT_INDEX_FILE": index} if index else None
-    errors = subprocess.DEVNULL if is_quiet else None
+    streams = {"stdin": subprocess.PIPE, "stdout": subprocess.PIPE, "stderr": subprocess.DEVNULL if is_quiet else None}
     try:
-        done = subprocess.run(
-            ["git", *words], input=data, stdout=subprocess.PIPE, stderr=errors, env=environment, cwd=folder
-        )
+        done = stopping.run(_command(words), data, env=_environment(index), cwd=folder, **streams)
     except FileNotFoundError:
         raise Refused("git is not installed") from None
     if done.returncode != 0:
         raise Refused(f"git {words[0]} failed")
     return done.stdout
+
+
+def answer(*words: str) -> bytes:
+    """What git answers; nothing if it has no answer."""
+    try:
+        return git(*words, is_quiet=True)
+    except Refused:
+        return b""
 
 
 def note_conflict(content: bytes, folder: str | None = None) -> None:
@@ -94,10 +121,21 @@ def unmerged_of(paths: list[str]) -> set[str]:
     found = set()
     for repository, names in _by_repository(paths).items():
         for each in unmerged(repository):
-            if each.name in names:
-                blob = git("hash-object", "--", os.fsdecode(each.name), folder=repository).decode().strip()
-                found.update([names[each.name]] if blob == each.ours else [])
+            path = names.get(each.name)
+            if path is not None and each.ours in _blobs_of(path, each.ours):
+                found.add(path)
     return found
+
+
+def _blobs_of(path: str, like: str) -> list[str]:
+    """What git calls the content of a file, and the same with ends of lines as git keeps them, by the hash of another
+    blob. git itself would run a filter that the folder names."""
+    try:
+        content = files.read(path) or b""
+    except (Refused, OSError):
+        return []
+    new = hashlib.sha1 if len(like) == hashlib.sha1().digest_size * 2 else hashlib.sha256
+    return [new(b"blob %d\0%b" % (len(each), each)).hexdigest() for each in (content, content.replace(b"\r\n", b"\n"))]
 
 
 def unmerged_in_index() -> list[tuple[bytes, str]]:
@@ -161,7 +199,7 @@ def is_meant_plain(name: bytes, index: str | None = None) -> bool:
 
 def staged(path: bytes, index: str | None = None) -> dict[bytes, tuple[str, str]]:
     """What is in an index at a path, or below it: modes and blobs by their names."""
-    words = ["--literal-pathspecs", "ls-files", "-s", "-z", "--", os.fsdecode(path) or "."]
+    words = ["ls-files", "-s", "-z", "--", os.fsdecode(path) or "."]
     lines = git(*words, index=index).split(b"\0")[:-1]
     entries = [(about.decode().split(), name) for about, _, name in (line.partition(b"\t") for line in lines)]
     return {name: (about[0], about[1]) for about, name in entries}
@@ -201,8 +239,9 @@ class Blobs:
     """Reads contents, by one run of git for all of them."""
 
     def __enter__(self) -> Blobs:
-        command = ["git", "cat-file", "--batch"]
-        self.git = subprocess.Popen(command, stdin=subprocess.PIPE, stdout=subprocess.PIPE)
+        command = _command(("cat-file", "--batch"))
+        pipe = subprocess.PIPE
+        self.git = subprocess.Popen(command, stdin=pipe, stdout=pipe, env=_environment())
         assert self.git.stdin and self.git.stdout
         self.stdin, self.stdout = self.git.stdin, self.git.stdout
         self.recent: dict[str, bytes] = {}
@@ -224,7 +263,7 @@ class Blobs:
         self.stdin.flush()
         about = self.stdout.readline().split()
         if len(about) != 3:
-            raise Refused("git cat-file failed")
+            raise Refused(PARTIAL)
         content = self.stdout.read(int(about[2]))
         self.stdout.read(1)
         return content

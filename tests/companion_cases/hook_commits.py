@@ -108,6 +108,24 @@ def test_shallow_clones(place: Place, subtests: SubTests) -> None:
     ended("no longer shallow", done, 1, "a.yml is not a vault, but was one in an earlier commit")
 
 
+def test_partial_clones(place: Place, subtests: SubTests) -> None:
+    """What such a clone lacks is not fetched, since the folder says from where, and by which program."""
+    under_git(place, ATTRIBUTES)
+    for text in (b"one\n", b"two\n"):
+        committed(place, "a.yml", sealed("old", text))
+    place.shell("git config uploadpack.allowFilter true")
+    place.shell("git clone -q --filter=blob:none file://$PWD ../partial")
+    for words in ("--all", "--since HEAD"):
+        with subtests.test(words):
+            done = place.shell(f"cd ../partial && {HOOK} {words}")
+            ended("the hook", done, 1, "this clone is partial", "clone without --filter")
+    place.put("../partial/a.yml", TEXT)
+    done = place.shell(f"cd ../partial && git add -A && {HOOK}")
+    refused("what is staged in it", done, "a.yml", why=WHOLE, hint=meant("a.yml"))
+    done = place.shell(f"cd ../partial && git reset -q --soft HEAD~1 && {HOOK}")
+    ended("a content that is missing", done, 1, "this clone is partial", "clone without --filter")
+
+
 THIS_ONE = "git runs what is in this folder for this repository and its worktrees"
 
 
