@@ -99,11 +99,11 @@ def _without_echo(terminal: FileIO, question: bytes) -> Iterator[None]:
             set_modes(hidden)
             terminal.write(question)
 
-    def stop(number: int, _frame: object) -> None:
+    def stop(*_: object) -> None:
         set_modes(shown)
-        signal.signal(number, signal.SIG_DFL)
-        os.kill(os.getpid(), number)
-        signal.signal(number, stop)
+        signal.signal(signal.SIGTSTP, signal.SIG_DFL)
+        os.kill(os.getpid(), signal.SIGTSTP)
+        signal.signal(signal.SIGTSTP, stop)
         # Where no shell could continue it, it was not stopped.
         with suppress(termios.error):
             set_modes(hidden)

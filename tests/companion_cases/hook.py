@@ -120,7 +120,7 @@ def test_leftovers(place: Place) -> None:
     assert (done.returncode, done.stderr.splitlines()) == (1, lines), "they are refused"
     for line in done.stderr.splitlines()[1::3]:
         assert place.shell(" && ".join(line.split("`")[1::2])).returncode == 0, "as the message says"
-    for name in (".ansible-vault-pass", ".ansible-vault-client.py", "ansible-vault-saved-x", ".ansible-vault-abcdefgh.py"):
+    for name in (".ansible-vault-pass", ".ansible-vault-me.py", "ansible-vault-saved-x", ".ansible-vault-abcdefgh.py"):
         place.put(name, TEXT)
     silent("they are removed, and others pass", add_and_commit(place))
     place.put(".ansible-vault-password", TEXT)
