@@ -49,4 +49,4 @@ def test_refused(path: Path) -> None:
         line = f"{path.name}: Python 3.10 or newer is needed, and the python3 that is first on PATH is {name} "
         assert (done.returncode, done.stdout, done.stderr) == (1, "", f"{line}({sys.executable})\n")
     done = run_as((3, 10, 0), path)
-    assert (done.returncode, done.stderr, done.stdout.split()[0]) == (0, "", path.name), "the oldest that is not refused"
+    assert (done.returncode, done.stderr, done.stdout.split()[0]) == (0, "", path.name), "the oldest"

@@ -210,6 +210,8 @@ def test_no_terminal(place: Place, subtests: SubTests) -> None:
     assert (done.returncode, done.stdout, done.stderr) == expected, "textconv uses the other secret"
     done = ours(place, "view", "a.yml")
     ended("no secret", done, 1, f"{WITH}: no secret is given: name one by --vault-id", "ansible.cfg")
+    done = place.run(*away, WITH, "rekey", *place.by_file("dev"), "a.yml")
+    ended("no new secret", done, 1, f"{WITH}: no new secret is given: name one by --new-vault-id")
 
 
 def test_standard_input(place: Place, subtests: SubTests) -> None:
