@@ -66,7 +66,7 @@ def test_each_commit(place: Place, subtests: SubTests) -> None:
     refused("one that is marked", done, f"{marked[:10]}: a.vault.yml", hint=unmarking("a.vault.yml"))
     for word in ("--since=nowhere", "--since=--all"):
         with subtests.test(word):
-            ended("no commit", place.run(HOOK, word), 1, "ansible-vault-hook: git rev-parse failed")
+            ended("no commit", place.run(HOOK, word), 1, f"{HOOK}: {word[8:]} is no commit of this clone", "`git fetch`")
     place.shell("git checkout -q --orphan empty && git commit -qm one")
     done = place.run(HOOK, "--since", first)
     ended("a first commit", done, 1, "a.vault.yml is not encrypted")
@@ -87,7 +87,9 @@ def test_cherry_picks(place: Place) -> None:
     place.shell("git merge -q --no-verify branch")
     done = place.run(HOOK, "--since", base)
     ended("a merge", done, 1, f"{leak[:10]}: vars.yml {WHOLE}")
-    ended("help", place.run(HOOK, "--help"), 0, "--no-verify", "cherry-pick", "rebase", "fast-forward")
+    done = place.run(HOOK, "--help")
+    ended("help", done, 0, "--no-verify", "cherry-pick", "rebase", "fast-forward", "it encrypts and decrypts nothing.")
+    assert "calls ansible-vault" not in done.stdout
 
 
 def test_shallow_clones(place: Place, subtests: SubTests) -> None:
