@@ -5,6 +5,7 @@ from __future__ import annotations
 import hashlib
 import os
 import subprocess
+from contextlib import suppress
 from functools import lru_cache
 from typing import NamedTuple
 
@@ -248,7 +249,10 @@ class Blobs:
         return self
 
     def __exit__(self, *_: object) -> None:
-        self.stdin.close()
+        # It only reads, and need not come to an end by itself.
+        self.git.terminate()
+        with suppress(BrokenPipeError):
+            self.stdin.close()
         self.stdout.close()
         self.git.wait()
 
