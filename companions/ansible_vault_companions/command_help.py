@@ -9,7 +9,7 @@ SEVERAL_FILES = [("[FILE]", "[FILE]...")]
 IN_PLACE = [
     *SEVERAL_FILES,
     ("The file to read; - or nothing", "Files to replace, or with --output one to read; - or nothing"),
-    ("- or nothing for standard output. It is required if FILE is given", "- for standard output; by default FILE itself"),
+    ("- or nothing for standard output. It is required if FILE is given", "- for standard output; FILE by default"),
 ]
 OTHERWISE = {
     "view": [*SEVERAL_FILES, ("The file to read; ", "Files to show, one after the other; ")],
@@ -19,7 +19,7 @@ OTHERWISE = {
     "encrypt_string": [
         ("[STRING]", "[STRING]..."),
         ("The text to encrypt; ", "Texts to encrypt, each as a block; "),
-        ("written before STRING's block; none by default", "written before STRING's block; repeated for several STRINGs"),
+        ("before STRING's block; none by default", "before STRING's block; repeated for several STRINGs"),
     ],
 }
 FOR_ALL = """\

@@ -101,7 +101,7 @@ def commit(name: str) -> str:
     """The commit that a name means."""
     found = answer("rev-parse", "--verify", "--end-of-options", f"{name}^{{commit}}").decode().strip()
     if not found:
-        raise Refused(f"{shown(name)} is no commit of this clone; `git log --all` shows them, and `git fetch` gets others")
+        raise Refused(f"{shown(name)} is no commit of this clone; `git fetch` gets those of others")
     return found
 
 

@@ -69,7 +69,8 @@ def test_each_commit(place: Place, subtests: SubTests) -> None:
     refused("one that is marked", done, f"{marked[:10]}: a.vault.yml", hint=unmarking("a.vault.yml"))
     for word in ("--since=nowhere", "--since=--all"):
         with subtests.test(word):
-            ended("no commit", place.run(HOOK, word), 1, f"{HOOK}: {word[8:]} is no commit of this clone", "`git fetch`")
+            done = place.run(HOOK, word)
+            ended("no commit", done, 1, f"{HOOK}: {word[8:]} is no commit of this clone", "`git fetch`")
     place.shell("git checkout -q --orphan empty && git commit -qm one")
     done = place.run(HOOK, "--since", first)
     ended("a first commit", done, 1, "a.vault.yml is not encrypted")

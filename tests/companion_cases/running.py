@@ -7,7 +7,7 @@ from contextlib import nullcontext
 import pytest
 from pytest_subtests import SubTests
 
-from companion_cases import AWKWARD, EDIT, MERGE, NOBODY, PASSWORDS, SECONDS, TEXT, WITH
+from companion_cases import AWKWARD, EDIT, NOBODY, PASSWORDS, SECONDS, TEXT, WITH
 from companion_cases import Companions, Place, decrypted, ended, sealed, silent
 from companion_cases.both import for_ansible, ours, theirs
 from lib.needs import needs, needs_ansible
@@ -98,7 +98,7 @@ def test_help(place: Place, command: str) -> None:
     assert f"\nUsage: {WITH} {command} [OPTIONS] {takes}...\n" in done.stdout
     assert f"\n  {takes}...  " in done.stdout and f"{takes} " not in done.stdout, "several are taken"
     assert "required if FILE" not in done.stdout, "it is not needed"
-    in_place = "by default FILE itself" in done.stdout and "Files to replace, or " in done.stdout
+    in_place = "; FILE by default" in done.stdout and "Files to replace, or " in done.stdout
     assert in_place == (command in ("encrypt", "decrypt", "rekey"))
     assert (" one after the other;" in done.stdout) == (command == "view")
 
@@ -319,18 +319,13 @@ def test_abbreviations(place: Place, subtests: SubTests) -> None:
 
 
 def test_what_messages_advise(place: Place) -> None:
-    """What lacks is named, and a command that works."""
+    """A command that works."""
     place.put("plain.yml", TEXT)
     done = place.run(EDIT, *place.by_file("old"), "plain.yml")
     ended("an edit of plaintext", done, 1, "it is not a vault")
     words = done.stderr.split("`")[3].split()
     silent("what it advises", place.run(*words, *place.by_file("old"), "plain.yml"))
     assert decrypted("old", place.get("plain.yml")) == TEXT
-    for words in (["a"], ["a", "b"], ["a", "b", "c"], ["--", "a", "b", "c"], ["a", "b", "c", "d", "e"]):
-        done = place.run(MERGE, *place.by_file("old"), *words)
-        ended("versions that lack", done, 2, f"usage: {MERGE}", "BASE, OURS, THEIRS and PATH are needed")
-    done = place.run(MERGE, *(place.put(name, sealed("old")) or name for name in "abc"), "--help")
-    ended("a file of this name", done, 2, "no secret is given")
 
 
 def test_without_rights(place: Place) -> None:

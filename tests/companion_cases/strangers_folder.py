@@ -5,7 +5,7 @@ from pathlib import Path
 
 import pytest
 
-from companion_cases import CHECK, EDIT, HOOK, MERGE, ROTATE, TEXT, TEXTCONV, WITH, Place, block, sealed
+from companion_cases import CHECK, COMPANIONS, EDIT, HOOK, MERGE, ROTATE, TEXT, TEXTCONV, WITH, Place, block, sealed
 from companion_cases.repository import AUTHOR
 
 pytestmark = pytest.mark.usefixtures("git")
@@ -175,6 +175,12 @@ class Stranger:
         found = set(self.notes.read_text().split()) if self.notes.exists() else set()
         self.notes.unlink(missing_ok=True)
         return found
+
+
+def test_one_place() -> None:
+    """git is started by one module alone, so that what it could start is switched off in each run."""
+    modules = [*COMPANIONS.glob("ansible-vault-*"), *COMPANIONS.glob("*/*.py")]
+    assert [path.name for path in modules if '"git"' in path.read_text()] == ["git.py"]
 
 
 @pytest.fixture(params=[False, True], ids=["of the folder", "by core.hooksPath"])
