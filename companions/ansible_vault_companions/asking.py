@@ -9,11 +9,17 @@ from ansible_vault_companions.tool_run import Run
 from ansible_vault_companions.tool_words import ENCRYPT_ID
 
 
-def secrets(encrypts: bool) -> list[Secret]:
-    """What is asked for where nothing names a secret."""
+NO_NEW = (
+    "no new secret is given: name one by --new-vault-id or --new-vault-password-file, or run this at a terminal, where "
+    "you are asked for it"
+)
+
+
+def secrets(encrypts: bool, none: str = secret_files.NONE) -> list[Secret]:
+    """What is asked for where nothing names a secret, and what is said if that is not possible."""
     [secret] = secret_files.of_options([ASKED], [], encrypts)
     if secret.fault == prompts.NO_TERMINAL:
-        raise Refused(secret_files.NONE)
+        raise Refused(none)
     return [secret]
 
 
@@ -24,4 +30,4 @@ def new_secrets(run: Run, old: list[Secret]) -> list[Secret]:
     fitting = [secret for secret in new or old if secret.label == run.label and (new or secret.is_setting)]
     if run.label and not fitting and (words.value(ENCRYPT_ID) or not new):
         raise Refused(f"no new secret has the label {program.shown(run.label)} to encrypt with")
-    return new or fitting[:1] or secrets(encrypts=True)
+    return new or fitting[:1] or secrets(encrypts=True, none=NO_NEW)

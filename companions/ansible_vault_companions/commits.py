@@ -8,7 +8,7 @@ from contextlib import contextmanager
 from typing import Iterator, NamedTuple
 
 from ansible_vault_companions.git import FILE_MODES, LINK_MODE, PARTIAL, answer, git
-from ansible_vault_companions.program import Refused
+from ansible_vault_companions.program import Refused, shown
 
 RAW = ("--raw", "-z", "--no-abbrev")
 # How messages call other commits.
@@ -20,8 +20,6 @@ SHALLOW = (
     "this clone is shallow, so earlier commits are missing; run `git fetch --unshallow` first, and let a pipeline "
     "fetch all of them (fetch-depth: 0, GIT_DEPTH: 0)"
 )
-
-
 # What names the remote that is to have what a partial clone lacks.
 PROMISOR = r"^(extensions\.partialclone|remote\..*\.promisor)$"
 
@@ -101,7 +99,10 @@ def _merged() -> list[str]:
 
 def commit(name: str) -> str:
     """The commit that a name means."""
-    return git("rev-parse", "--verify", "--end-of-options", f"{name}^{{commit}}").decode().strip()
+    found = answer("rev-parse", "--verify", "--end-of-options", f"{name}^{{commit}}").decode().strip()
+    if not found:
+        raise Refused(f"{shown(name)} is no commit of this clone; `git fetch` gets those of others")
+    return found
 
 
 def of_commit(name: str) -> list[Change]:

@@ -5,8 +5,9 @@ from __future__ import annotations
 import hashlib
 import os
 import subprocess
+from contextlib import suppress
 from functools import lru_cache
-from typing import NamedTuple
+from typing import Any, NamedTuple
 
 from ansible_vault_companions import files, stopping
 from ansible_vault_companions.leaks import DIFF, VAULT_ALONE
@@ -53,14 +54,21 @@ def _environment(index: str | None = None) -> dict[str, str]:
     return {**os.environ, **NO_TRANSPORT, **({"GIT_INDEX_FILE": index} if index else {})}
 
 
+def run(
+    *words: str, data: bytes = b"", index: str | None = None, **options: Any
+) -> subprocess.CompletedProcess[bytes]:
+    """Runs one of git's commands to its end, whatever its status is."""
+    pipes = {"stdin": subprocess.PIPE, "stdout": subprocess.PIPE}
+    try:
+        return stopping.run(_command(words), data, env=_environment(index), **pipes, **options)
+    except FileNotFoundError:
+        raise Refused("git is not installed") from None
+
+
 def git(
     *words: str, data: bytes = b"", index: str | None = None, folder: str | None = None, is_quiet: bool = False
 ) -> bytes:
-    streams = {"stdin": subprocess.PIPE, "stdout": subprocess.PIPE, "stderr": subprocess.DEVNULL if is_quiet else None}
-    try:
-        done = stopping.run(_command(words), data, env=_environment(index), cwd=folder, **streams)
-    except FileNotFoundError:
-        raise Refused("git is not installed") from None
+    done = run(*words, data=data, index=index, cwd=folder, stderr=subprocess.DEVNULL if is_quiet else None)
     if done.returncode != 0:
         raise Refused(f"git {words[0]} failed")
     return done.stdout
@@ -248,7 +256,10 @@ class Blobs:
         return self
 
     def __exit__(self, *_: object) -> None:
-        self.stdin.close()
+        # It only reads, and need not come to an end by itself.
+        self.git.terminate()
+        with suppress(BrokenPipeError):
+            self.stdin.close()
         self.stdout.close()
         self.git.wait()
 

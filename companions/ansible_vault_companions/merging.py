@@ -14,7 +14,7 @@ from contextlib import suppress
 from dataclasses import dataclass
 from typing import NamedTuple
 
-from ansible_vault_companions import blocks, stopping
+from ansible_vault_companions import blocks, git
 from ansible_vault_companions.blocks import Block, Change
 from ansible_vault_companions.inline import Decrypt
 from ansible_vault_companions.envelopes import MAGIC, TAG_NAME, label_of
@@ -55,12 +55,8 @@ def merged_lines(ours: bytes, base: bytes, theirs: bytes) -> Merged:
     files = [_in_memory(text) for text in (ours, base, theirs)]
     names = [word for side in SIDES for word in ("-L", side)]
     paths = [f"/proc/self/fd/{file}" for file in files]
-    words = ["git", "merge-file", "-p", *names, *paths]
-    pipe = subprocess.PIPE
     try:
-        done = stopping.run(words, pass_fds=files, stdin=subprocess.DEVNULL, stdout=pipe, stderr=pipe)
-    except FileNotFoundError:
-        raise Refused("git is not installed") from None
+        done = git.run("merge-file", "-p", *names, *paths, pass_fds=files, stderr=subprocess.PIPE)
     finally:
         for file in files:
             os.close(file)

@@ -20,9 +20,9 @@ else:
     # The module `signal` imports `enum`, which takes half as long as Python's own start.
     import _signal
 
-NOTE = """\
-This program is tested, not proved; it calls ansible-vault for all encryption
-and decryption."""
+BY_TOOL = """\
+it calls ansible-vault for all encryption
+and decryption"""
 
 
 class Refused(Exception):
@@ -33,15 +33,17 @@ class Refused(Exception):
         self.status = status
 
 
-def parser(name: str, summary: str, statuses: str, example: str = "", **options: Any) -> argparse.ArgumentParser:
-    """A command line whose faults end the program with status 2."""
+def parser(
+    name: str, summary: str, statuses: str, example: str = "", ciphers: str = BY_TOOL, **options: Any
+) -> argparse.ArgumentParser:
+    """A command line whose faults end the program with status 2. Its help says what encrypts and decrypts."""
     import argparse
 
     shown_example = f"Example:\n  {example}\n\n" if example else ""
     made = argparse.ArgumentParser(
         prog=name,
         description=summary,
-        epilog=f"{shown_example}Exit status: {statuses}\n\n{NOTE}",
+        epilog=f"{shown_example}Exit status: {statuses}\n\nThis program is tested, not proved; {ciphers}.",
         formatter_class=argparse.RawDescriptionHelpFormatter,
         allow_abbrev=False,
         **options,

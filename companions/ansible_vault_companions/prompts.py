@@ -2,8 +2,13 @@
 
 from __future__ import annotations
 
-import getpass
 import os
+import signal
+import termios
+from contextlib import contextmanager, suppress
+from functools import partial
+from io import FileIO
+from typing import Iterator
 
 from ansible_vault_companions import stopping
 from ansible_vault_companions.program import Refused, shown
@@ -41,10 +46,7 @@ def line(question: str) -> bytes:
     _require_terminal()
     with stopping.interruptible(), open(TERMINAL, "r+b", buffering=0) as terminal:
         terminal.write(question.encode())
-        text = terminal.readline()
-    if not text:
-        raise Refused("nothing was typed")
-    return text.removesuffix(b"\n")
+        return _typed(terminal)
 
 
 def choice(question: str, answers: list[str]) -> str:
@@ -62,16 +64,60 @@ def _answer(question: str) -> bytes:
     return typed
 
 
+def _typed(terminal: FileIO) -> bytes:
+    text = terminal.readline()
+    if not text:
+        raise Refused("nothing was typed")
+    return text.removesuffix(b"\n")
+
+
 def _hidden(question: str) -> bytes:
+    """A line that is typed and not shown. It is UTF-8 whatever the locale says, so that the same keys make the same
+    password."""
     _require_terminal()
+    with stopping.interruptible(), open(TERMINAL, "r+b", buffering=0) as terminal:
+        with _without_echo(terminal, question.encode()):
+            text = _typed(terminal)
+        terminal.write(b"\n")
     try:
-        with stopping.interruptible():
-            text = getpass.getpass(question)
-    except EOFError:
-        raise Refused("nothing was typed") from None
+        text.decode()
     except UnicodeError:
-        raise Refused("what was typed is not valid text") from None
-    return text.encode(errors="surrogateescape")
+        raise Refused("what was typed is not valid UTF-8") from None
+    return text
+
+
+@contextmanager
+def _without_echo(terminal: FileIO, question: bytes) -> Iterator[None]:
+    """Asks, and nothing of the answer is shown, not even after Ctrl-Z and `fg`, where a shell lets it be shown."""
+    shown = termios.tcgetattr(terminal)
+    hidden = [*shown[:3], shown[3] & ~termios.ECHO, *shown[4:]]
+    set_modes = partial(termios.tcsetattr, terminal, termios.TCSAFLUSH)
+
+    def ask(*_: object) -> None:
+        # In the background this fails, and is done again in the foreground.
+        with suppress(termios.error):
+            set_modes(hidden)
+            terminal.write(question)
+
+    def stop(*_: object) -> None:
+        set_modes(shown)
+        signal.signal(signal.SIGTSTP, signal.SIG_DFL)
+        os.kill(os.getpid(), signal.SIGTSTP)
+        signal.signal(signal.SIGTSTP, stop)
+        # Where no shell could continue it, it was not stopped.
+        with suppress(termios.error):
+            set_modes(hidden)
+
+    is_ignored = signal.getsignal(signal.SIGTSTP) == signal.SIG_IGN
+    handlers = {signal.SIGCONT: ask} if is_ignored else {signal.SIGCONT: ask, signal.SIGTSTP: stop}
+    before = {number: signal.signal(number, handler) for number, handler in handlers.items()}
+    try:
+        ask()
+        yield
+    finally:
+        for number, handler in before.items():
+            signal.signal(number, handler)
+        set_modes(shown)
 
 
 def _require_terminal() -> None:

@@ -72,6 +72,11 @@ def copies(target: str) -> list[str]:
     return found
 
 
+def is_leftover(name: str) -> bool:
+    """Whether a file is called as one that is renamed when it is whole, or as a copy of what was saved."""
+    return re.fullmatch(f"{re.escape(PREFIX)}{RANDOM}|{re.escape(SAVED)}.*", name, re.DOTALL) is not None
+
+
 def _places_of_copies(target: str) -> list[tuple[str, str]]:
     """Folders, with what the names of copies begin with there: the target's name, or in $TMPDIR its whole path."""
     # `tempfile` would write a file there to see whether it can.

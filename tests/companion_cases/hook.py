@@ -5,7 +5,8 @@ import os
 import pytest
 from pytest_subtests import SubTests
 
-from companion_cases import AWKWARD, HOOK, TEXT, Place, block, ended, sealed, silent
+from companion_cases import AWKWARD, HOOK, TEXT, WITH, Place, block, ended, sealed, silent
+from companion_cases.editing import CHANGE, edit
 from companion_cases.repository import add_and_commit, commit, under_git
 
 pytestmark = pytest.mark.usefixtures("git")
@@ -93,6 +94,49 @@ def test_blocks(place: Place) -> None:
     silent("diff=ansible-vault", add_and_commit(place))
     place.put("secrets/vars.yml", block("old"))
     refused("ansible-vault", add_and_commit(place), "secrets/vars.yml")
+
+
+# Runs a companion, and kills it where a new file is to get the name of the old one.
+KILLED = """\
+import os, runpy, sys
+os.replace = lambda *_: os.kill(os.getpid(), 9)
+sys.path.insert(0, os.path.dirname(os.path.realpath(sys.argv[1])))
+sys.argv[:1] = []
+runpy.run_path(sys.argv[0], run_name="__main__")"""
+
+
+def test_leftovers(place: Place) -> None:
+    """What companions leave is not committed by `git add -A`."""
+    with_hook(place)
+    place.put("inner/a.yml", sealed("old"))
+    silent("the vault", add_and_commit(place))
+    words = [str(place.tools / WITH), "decrypt", *place.by_file("old"), "inner/a.yml"]
+    assert place.run("python3", "-c", KILLED, *words).returncode == -9
+    ended("an edit", edit(place, f"{CHANGE}; exit 1", *place.by_file("old"), "inner/a.yml"), 1, "is encrypted in")
+    names = sorted(name for name in place.files() if "/.ansible-vault-" in name)
+    assert [place.get(name) == TEXT for name in names] == [True, False], "one in plaintext, one encrypted"
+    done = add_and_commit(place)
+    lines = [line for name in names for line in leftover(name)]
+    assert (done.returncode, done.stderr.splitlines()) == (1, lines), "they are refused"
+    for line in done.stderr.splitlines()[1::3]:
+        assert place.shell(" && ".join(line.split("`")[1::2])).returncode == 0, "as the message says"
+    for name in (".ansible-vault-pass", ".ansible-vault-me.py", "ansible-vault-saved-x", ".ansible-vault-abcdefgh.py"):
+        place.put(name, TEXT)
+    silent("they are removed, and others pass", add_and_commit(place))
+    place.put(".ansible-vault-password", TEXT)
+    done = add_and_commit(place)
+    name = ".ansible-vault-password"
+    assert (done.returncode, done.stderr.splitlines()) == (1, leftover(name)), "a name of that form"
+    place.put(".gitattributes", done.stderr.splitlines()[-1].rpartition(": ")[2].encode())
+    silent("with the attribute", add_and_commit(place))
+
+
+def leftover(name: str) -> list[str]:
+    return [
+        f"ansible-vault-hook: {name} has the name of a leftover of a companion, which may be plaintext",
+        f"  look into it, and remove it by `git rm --cached {name}` and `rm {name}`",
+        f"  if that is meant, commit with --no-verify, or add to .gitattributes: /{name} -ansible-vault",
+    ]
 
 
 def test_awkward_names(place: Place) -> None:

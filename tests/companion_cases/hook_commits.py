@@ -1,15 +1,18 @@
 """ansible-vault-hook in a pipeline (--all, --since), and how it is installed."""
 
 import os
+import signal
+import subprocess
 from pathlib import Path
 
 import pytest
 from pytest_subtests import SubTests
 
-from companion_cases import HOOK, TEXT, Companions, Place, block, ended, sealed, silent
+from companion_cases import HOOK, SECONDS, TEXT, Companions, Place, block, ended, sealed, silent
 from companion_cases.hook import refused, unmarking
 from companion_cases.leaks import IN_PART, WHOLE, again, meant
 from companion_cases.repository import add_and_commit, commit, under_git
+from companion_cases.signals import wait_until
 
 pytestmark = pytest.mark.usefixtures("git")
 
@@ -66,7 +69,8 @@ def test_each_commit(place: Place, subtests: SubTests) -> None:
     refused("one that is marked", done, f"{marked[:10]}: a.vault.yml", hint=unmarking("a.vault.yml"))
     for word in ("--since=nowhere", "--since=--all"):
         with subtests.test(word):
-            ended("no commit", place.run(HOOK, word), 1, "ansible-vault-hook: git rev-parse failed")
+            done = place.run(HOOK, word)
+            ended("no commit", done, 1, f"{HOOK}: {word[8:]} is no commit of this clone", "`git fetch`")
     place.shell("git checkout -q --orphan empty && git commit -qm one")
     done = place.run(HOOK, "--since", first)
     ended("a first commit", done, 1, "a.vault.yml is not encrypted")
@@ -87,7 +91,9 @@ def test_cherry_picks(place: Place) -> None:
     place.shell("git merge -q --no-verify branch")
     done = place.run(HOOK, "--since", base)
     ended("a merge", done, 1, f"{leak[:10]}: vars.yml {WHOLE}")
-    ended("help", place.run(HOOK, "--help"), 0, "--no-verify", "cherry-pick", "rebase", "fast-forward")
+    done = place.run(HOOK, "--help")
+    ended("help", done, 0, "--no-verify", "cherry-pick", "rebase", "fast-forward", "it encrypts and decrypts nothing.")
+    assert "calls ansible-vault" not in done.stdout
 
 
 def test_shallow_clones(place: Place, subtests: SubTests) -> None:
@@ -124,6 +130,25 @@ def test_partial_clones(place: Place, subtests: SubTests) -> None:
     refused("what is staged in it", done, "a.yml", why=WHOLE, hint=meant("a.yml"))
     done = place.shell(f"cd ../partial && git reset -q --soft HEAD~1 && {HOOK}")
     ended("a content that is missing", done, 1, "this clone is partial", "clone without --filter")
+
+
+@pytest.mark.parametrize("number", [signal.SIGINT, signal.SIGTERM])
+@pytest.mark.parametrize("command", ["check-attr", "cat-file"])
+def test_ended(place: Place, command: str, number: int) -> None:
+    """A signal ends it while git works, and nothing is left."""
+    under_git(place, ATTRIBUTES)
+    committed(place, "a.vault.yml", sealed("old"))
+    os.mkfifo(place.path / "never")
+    waits = f": > {place.path}/started; : < {place.path}/never"
+    place.wrap_tool(f'case " $* " in *" {command} "*) {waits};; esac', "git")
+    environment = place.environment | {"TMPDIR": str(place.runtime)}
+    with subprocess.Popen([HOOK, "--all"], cwd=place.tree, env=environment) as process:
+        wait_until((place.path / "started").exists, "git")
+        process.send_signal(number)
+        status = process.wait(SECONDS)
+    # What still waits goes on.
+    os.close(os.open(place.path / "never", os.O_RDWR))
+    assert (status, place.left()) == (-number, [])
 
 
 THIS_ONE = "git runs what is in this folder for this repository and its worktrees"

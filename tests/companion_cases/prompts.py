@@ -8,6 +8,7 @@ from companion_cases.both import ours, theirs_at_terminal
 from companion_cases.secrecy import NOTE
 from companion_cases.terminal import Session, at_terminal
 from lib.needs import needs, needs_ansible
+from model.vaults import seal
 
 ASKED = "Vault password: "
 NEW, AGAIN = "New Vault password: ", "Confirm New Vault password: "
@@ -154,7 +155,7 @@ def test_what_is_typed(place: Place, subtests: SubTests) -> None:
         "nothing": ([(NEW_OF_DEV, b"\n")], "an empty password was typed"),
         "white space": ([(NEW_OF_DEV, b" \t\n")], "an empty password was typed"),
         "an end": ([(NEW_OF_DEV, b"\x04")], "nothing was typed"),
-        "no text": ([(NEW_OF_DEV, b"\xff\n")], "what was typed is not valid text"),
+        "no text": ([(NEW_OF_DEV, b"\xff\n")], "what was typed is not valid UTF-8"),
     }
     words = [WITH, "encrypt", "--vault-id", "dev@prompt", "a.yml"]
     for what, (answers, part) in refused.items():
@@ -172,6 +173,29 @@ def test_what_is_typed(place: Place, subtests: SubTests) -> None:
     assert (session.returncode, decrypted("dev", place.get("a.yml"))) == (0, TEXT), "white space around it"
 
 
+LATIN = "de_DE.ISO-8859-1"
+
+
+@pytest.mark.parametrize("locale", ["C", "C.UTF-8", LATIN])
+def test_locales(place: Place, locale: str) -> None:
+    """The same keys at a terminal make the same password, whatever the locale is."""
+    word = "größe"
+    if locale == LATIN:
+        needs("localedef")
+        language, _, charset = locale.partition(".")
+        made = place.run("localedef", "-i", language, "-f", charset, str(place.path / locale))
+        if "No such file" in made.stderr:
+            pytest.skip("without Debian's package locales")
+    place.put("a.yml", seal(word.encode(), TEXT, b""))
+    variables = {"LC_ALL": locale, "LOCPATH": str(place.path)} if locale == LATIN else {"LC_ALL": locale}
+    words = [WITH, "view", "-J", "a.yml"]
+    session = ask(place, *words, answers=[(ASKED, f"{word}\n".encode())], **variables)
+    assert (session.returncode, session.stdout, session.stderr) == (0, TEXT.decode(), "")
+    session = ask(place, *words, answers=[(ASKED, f"{word}\n".encode("latin-1"))], **variables)
+    wanted = (1, "", f"{WITH}: --ask-vault-password: what was typed is not valid UTF-8\n")
+    assert (session.returncode, session.stdout, session.stderr) == wanted
+
+
 def test_no_terminal(place: Place, subtests: SubTests) -> None:
     place.put("a.yml", sealed("dev"))
     away = ["setsid", "--wait"]
@@ -187,6 +211,8 @@ def test_no_terminal(place: Place, subtests: SubTests) -> None:
     assert (done.returncode, done.stdout, done.stderr) == expected, "textconv uses the other secret"
     done = ours(place, "view", "a.yml")
     ended("no secret", done, 1, f"{WITH}: no secret is given: name one by --vault-id", "ansible.cfg")
+    done = place.run(*away, WITH, "rekey", *place.by_file("dev"), "a.yml")
+    ended("no new secret", done, 1, f"{WITH}: no new secret is given: name one by --new-vault-id")
 
 
 def test_standard_input(place: Place, subtests: SubTests) -> None:
@@ -245,6 +271,30 @@ def test_keys(place: Place, key, status, words) -> None:
     output = session.stdout + session.stderr.removesuffix("Quit\n")
     assert (session.returncode, output) == (status, ""), f"{words} {key}"
     assert session.echoes is True, f"{words} {key}: the terminal echoes"
+
+
+SHELL = "PS1='ready> ' exec bash --norc --noprofile --noediting -i < /dev/tty > /dev/tty 2>&1"
+READY = "ready> "
+
+
+@pytest.mark.parametrize("line", ["fg", "bg", "kill -CONT %1"])
+def test_stopped(place: Place, line: str) -> None:
+    """After Ctrl-Z the shell shows what is typed, and after `fg` the password is not shown."""
+    needs("bash", "stty")
+    place.put("a.yml", sealed("dev"))
+    answers = [
+        (READY, f"{WITH} view -J a.yml; echo the end\n".encode()),
+        (ASKED, b"\x1a"),
+        (READY, b"stty -a\n"),
+        *([] if line == "fg" else [(READY, f"{line}\n".encode())]),
+        (READY, b"fg\n"),
+        (ASKED, PASSWORDS["dev"] + b"\n"),
+        (READY, b"exit\n"),
+    ]
+    session = at_terminal(place, ["sh", "-c", SHELL], *answers)
+    assert PASSWORDS["dev"].decode() not in session.shown, session.shown
+    assert TEXT.decode() in session.shown, session.shown
+    assert " echo " in session.shown, "the shell shows what is typed"
 
 
 def test_secrecy(place: Place) -> None:

@@ -11,6 +11,7 @@ from companion_cases import AWKWARD, EDIT, NOBODY, PASSWORDS, SECONDS, TEXT, WIT
 from companion_cases import Companions, Place, decrypted, ended, sealed, silent
 from companion_cases.both import for_ansible, ours, theirs
 from lib.needs import needs, needs_ansible
+from lib.option_sets import OF_ANSIBLE, help_options, page_sets
 
 # Command lines with a secret, as the tool has them too; and what is read.
 SAME = [
@@ -46,7 +47,7 @@ SAME = [
 # The status of the tool for what it does not read.
 WRONG_COMMAND_LINE = 2
 # Command lines that have no secret.
-BARE = [["view", "--help"], ["encrypt", "-h"], ["strange"], ["strange", "--help"], ["rekey", "--vault-id", "--help"]]
+BARE = [["strange"], ["strange", "--help"], ["rekey", "--vault-id", "--help"]]
 
 
 def prepare(place: Place) -> None:
@@ -82,6 +83,24 @@ def test_the_answers_of_the_tool(place: Place, words: list[str], data: bytes, op
 @pytest.mark.parametrize("words", BARE, ids=repr)
 def test_without_a_secret(place: Place, words: list[str]) -> None:
     assert run(place, [WITH, *words], b"") == run(place, ["ansible-vault", *words], b"")
+
+
+ADDED = {"-J", "--ask-vault-password", "--ask-vault-pass", "--vault-pass-file"}
+
+
+@pytest.mark.parametrize("command", [command for command in page_sets() if command])
+def test_help(place: Place, command: str) -> None:
+    """It describes what this program takes, and not what the tool alone takes."""
+    done = place.run(WITH, "-v", command, "-h")
+    assert (done.returncode, done.stderr) == (0, "")
+    assert help_options(done.stdout) == page_sets()[command] | ADDED | OF_ANSIBLE.get(command, set())
+    takes = "[STRING]" if command == "encrypt_string" else "[FILE]"
+    assert f"\nUsage: {WITH} {command} [OPTIONS] {takes}...\n" in done.stdout
+    assert f"\n  {takes}...  " in done.stdout and f"{takes} " not in done.stdout, "several are taken"
+    assert "required if FILE" not in done.stdout, "it is not needed"
+    in_place = "; FILE by default" in done.stdout and "Files to replace, or " in done.stdout
+    assert in_place == (command in ("encrypt", "decrypt", "rekey"))
+    assert (" one after the other;" in done.stdout) == (command == "view")
 
 
 def test_command_lines(place: Place, subtests: SubTests) -> None:
@@ -297,6 +316,16 @@ def test_abbreviations(place: Place, subtests: SubTests) -> None:
             ended("it is refused", done, 2, f"{WITH}: error: ambiguous option: {word} could match {others}")
     ended("no option", place.run(WITH, "view", "--out", "x", "a.yml"), 2, "unexpected argument '--out'")
     assert place.get("plain.yml") == TEXT, "the file stays"
+
+
+def test_what_messages_advise(place: Place) -> None:
+    """A command that works."""
+    place.put("plain.yml", TEXT)
+    done = place.run(EDIT, *place.by_file("old"), "plain.yml")
+    ended("an edit of plaintext", done, 1, "it is not a vault")
+    words = done.stderr.split("`")[3].split()
+    silent("what it advises", place.run(*words, *place.by_file("old"), "plain.yml"))
+    assert decrypted("old", place.get("plain.yml")) == TEXT
 
 
 def test_without_rights(place: Place) -> None:

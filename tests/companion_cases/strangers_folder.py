@@ -5,7 +5,7 @@ from pathlib import Path
 
 import pytest
 
-from companion_cases import CHECK, EDIT, HOOK, MERGE, ROTATE, TEXT, TEXTCONV, WITH, Place, block, sealed
+from companion_cases import CHECK, COMPANIONS, EDIT, HOOK, MERGE, ROTATE, TEXT, TEXTCONV, WITH, Place, block, sealed
 from companion_cases.repository import AUTHOR
 
 pytestmark = pytest.mark.usefixtures("git")
@@ -30,22 +30,28 @@ PROGRAMS = [
     "difftool.x.cmd",
     "filter.x.clean",
     "filter.x.smudge",
+    "filter.y.process",
     "gpg.program",
     "gpg.ssh.program",
     "gpg.ssh.defaultKeyCommand",
     "gpg.x509.program",
+    "guitool.x.cmd",
+    "imap.tunnel",
     "interactive.diffFilter",
     "man.x.cmd",
     "merge.ansible-vault.driver",
     "mergetool.x.cmd",
     "remote.origin.receivepack",
     "remote.origin.uploadpack",
+    "sendemail.ccCmd",
     "sendemail.smtpServer",
+    "sendemail.toCmd",
     "sequence.editor",
-    "ssh.variant",
+    "tar.x.command",
     "trailer.x.command",
     "trailer.x.cmd",
     "uploadpack.packObjectsHook",
+    "web.browser",
 ]
 # Settings under which git starts more of them.
 OTHERS = {
@@ -73,11 +79,11 @@ HOOKS = [
     "pre-merge-commit", "pre-push", "pre-rebase", "prepare-commit-msg", "push-to-checkout", "reference-transaction",
     "sendemail-validate",
 ]  # fmt: skip
-ATTRIBUTES = "* filter=x merge=ansible-vault ident\n*.yml diff=ansible-vault\n"
+ATTRIBUTES = "* filter=x merge=ansible-vault ident\n*.yml diff=ansible-vault\n*.dat filter=y\n"
 # What git alone does over the same folder, and what of it starts by that.
 PLAIN = [
     "git check-attr --cached diff a.yml",
-    "git hash-object a.yml",
+    "git hash-object a.yml other.dat",
     "git read-tree HEAD",
     "git diff",
     "git -c diff.external= diff",
@@ -86,8 +92,9 @@ PLAIN = [
     "git commit -a",
     "git commit -a -m x",
 ]
-STARTED = {"core.fsmonitor", "filter.x.clean", "post-index-change", "diff.external", "diff.ansible-vault.command"}
-STARTED |= {"diff.ansible-vault.textconv", "core.editor", "gpg.program", "remote.origin.url"}
+STARTED = {"core.fsmonitor", "filter.x.clean", "filter.y.process", "post-index-change", "diff.external"}
+STARTED |= {"diff.ansible-vault.command", "diff.ansible-vault.textconv", "core.editor", "gpg.program"}
+STARTED |= {"remote.origin.url"}
 # The commands of git that the companions use.
 USED = {"cat-file", "check-attr", "config", "diff-index", "diff-tree", "hash-object", "ls-files", "ls-tree"}
 USED |= {"merge-base", "read-tree", "rev-list", "rev-parse"}
@@ -125,7 +132,7 @@ class Stranger:
         place.put(".git/ansible-vault-conflicts", f"{' '.join(blobs)} {b'a.yml'.hex()}\n".encode())
         place.put(".git/MERGE_HEAD", f"{self.git('rev-parse', 'other')}\n".encode())
         place.put("c.yml", sealed("old", b"staged\n"))
-        for name in ("b.yml", "plain.txt"):
+        for name in ("b.yml", "plain.txt", "other.dat"):
             place.put(name, TEXT)
         place.shell("git add c.yml && git -c core.fsmonitor=true update-index --fsmonitor")
         # git gets an object that is missing from a promisor.
@@ -168,6 +175,12 @@ class Stranger:
         found = set(self.notes.read_text().split()) if self.notes.exists() else set()
         self.notes.unlink(missing_ok=True)
         return found
+
+
+def test_one_place() -> None:
+    """git is started by one module alone, so that what it could start is switched off in each run."""
+    modules = [*COMPANIONS.glob("ansible-vault-*"), *COMPANIONS.glob("*/*.py")]
+    assert [path.name for path in modules if '"git"' in path.read_text()] == ["git.py"]
 
 
 @pytest.fixture(params=[False, True], ids=["of the folder", "by core.hooksPath"])

@@ -102,6 +102,46 @@ def test_awkward_names(place: Place, subtests: SubTests) -> None:
             assert found == (0, ["-password: first", "+password: second"] * len(AWKWARD), "")
 
 
+MESSAGE = "shown as it is: its plaintext would stay in git's file COMMIT_EDITMSG"
+# How a commit comes to have its differences below the message.
+VERBOSE = {
+    "commit -v": "git commit -v",
+    "an amendment": "git commit -qm one && git commit --amend -v",
+    "a setting": "git -c commit.verbose=true commit",
+    "an alias": "git -c alias.ci='commit -v' ci",
+    "no hook": "git commit -v --no-verify",
+    "a shell between": 'git config diff.ansible-vault.textconv "exec $(git config diff.ansible-vault.textconv)" && '
+    "git commit -v",
+    "a rebase": "git commit -qm one && git -c commit.verbose=true -c sequence.editor='sed -i s/^pick/reword/' "
+    "rebase -q -i HEAD~1",
+    "a cherry-pick": "git commit -qm one && git checkout -qb other HEAD~1 && "
+    "git -c commit.verbose=true cherry-pick -e @{-1}",
+    "another worktree": "git commit -qm one && git worktree add -q ../second HEAD~1 && cd ../second && "
+    "git checkout -q main -- . && git commit -v",
+}
+
+
+@pytest.mark.parametrize("line", VERBOSE.values(), ids=VERBOSE)
+def test_messages(place: Place, line: str) -> None:
+    """git keeps the differences that stand below a message, so they have no plaintext."""
+    needs("git")
+    with_driver(place, *place.by_file("old"))
+    place.shell("git symbolic-ref HEAD refs/heads/main")
+    for text in (b"password: first\n", b"password: second\n"):
+        place.put("a.yml", sealed("old", text))
+        place.put("b.yml", block("old", text))
+        place.shell("git add -A && git commit -qm first" if b"first" in text else "git add -A")
+    shown = place.shell("git diff --cached").stdout
+    assert shown.count("password: second") == 2, "it is shown elsewhere"
+    editor = place.script(f'cat "$1" >> {place.path}/message; sed -i 1s/^/m/ "$1"', "editor")
+    done = place.shell(line, EDITOR=editor)
+    ended("the commit", done, 0, MESSAGE, "`git diff --cached` shows it")
+    message = (place.path / "message").read_text()
+    assert [message.count(f"+++ b/{name}.yml") for name in "ab"] == [1, 1], "the differences are there"
+    kept = [path for path in place.path.rglob("*") if path.is_file() and b"password: " in path.read_bytes()]
+    assert kept == [], "no plaintext is left"
+
+
 def test_untouched_differences(place: Place) -> None:
     """A vault that cannot be decrypted does not stop git, and the reason is reported."""
     needs("git")

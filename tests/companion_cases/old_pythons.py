@@ -1,0 +1,52 @@
+"""An older Python that is first on PATH is refused in one line."""
+
+import ast
+import subprocess
+import sys
+from operator import attrgetter
+from pathlib import Path
+
+import pytest
+
+from companion_cases import COMPANIONS
+
+# The oldest that anybody still has. It knows no `from __future__ import annotations`.
+ANCIENT = (3, 6)
+NAME = attrgetter("name")
+PROGRAMS = sorted(COMPANIONS.glob("ansible-vault-*"))
+# Runs a program as another Python would.
+AS_OTHER = """\
+import contextlib, runpy, sys
+if {version} < (3, 7):
+    sys.modules["dataclasses"] = None
+    del contextlib.nullcontext
+sys.version_info, sys.version = {version}, "{name} (main)"
+sys.path.insert(0, {folder!r})
+sys.argv[:] = [{path!r}, "--version"]
+runpy.run_path(sys.argv[0], run_name="__main__")"""
+
+
+def run_as(version: tuple[int, ...], path: Path) -> subprocess.CompletedProcess:
+    name = ".".join(map(str, version))
+    text = AS_OTHER.format(version=(*version, "final", 0), name=name, folder=str(path.parent), path=str(path))
+    return subprocess.run([sys.executable, "-ESBc", text], capture_output=True, text=True)
+
+
+@pytest.mark.parametrize("path", [*PROGRAMS, COMPANIONS / "ansible_vault_companions/__init__.py"], ids=NAME)
+def test_what_it_reads(path: Path) -> None:
+    """It can read as much as it needs for that line."""
+    tree = ast.parse(path.read_text(), feature_version=ANCIENT)
+    assert "__future__" not in {each.module for each in ast.walk(tree) if isinstance(each, ast.ImportFrom)}
+    names = [each for each in tree.body if isinstance(each, ast.ImportFrom) and each.module.startswith("ansible_")]
+    assert path.name == "__init__.py" or names, "the program imports the package"
+
+
+@pytest.mark.parametrize("path", PROGRAMS, ids=NAME)
+def test_refused(path: Path) -> None:
+    for version in ((3, 6, 8), (3, 8, 18), (3, 9, 1)):
+        done = run_as(version, path)
+        name = ".".join(map(str, version))
+        line = f"{path.name}: Python 3.10 or newer is needed, and the python3 that is first on PATH is {name} "
+        assert (done.returncode, done.stdout, done.stderr) == (1, "", f"{line}({sys.executable})\n")
+    done = run_as((3, 10, 0), path)
+    assert (done.returncode, done.stderr, done.stdout.split()[0]) == (0, "", path.name), "the oldest"
