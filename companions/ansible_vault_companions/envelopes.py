@@ -107,11 +107,18 @@ def matched(pattern: re.Pattern[bytes], data: bytes, start: int = 0, end: int = 
 
 
 def label_of(text: bytes) -> str | None:
-    """The label in the first line of an envelope; None where that is no header."""
+    """The label of an envelope, `default` if its first line has none; None if that is no header."""
+    label = written_label(text)
+    return "default" if label == "" else label
+
+
+def written_label(text: bytes) -> str | None:
+    """The label in the first line of an envelope, empty if there is none, as in format 1.1; None if that is no
+    header."""
     fields = [field.strip() for field in matched(LINE, text)[0].split(b";")]
     if len(fields) < 3 or not b"".join(fields).isascii():
         return None
-    return (fields[3] if len(fields) > 3 else b"").decode() or "default"
+    return (fields[3] if len(fields) > 3 else b"").decode()
 
 
 def mentions_envelope(data: bytes) -> bool:

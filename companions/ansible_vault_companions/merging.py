@@ -20,7 +20,7 @@ from ansible_vault_companions.inline import Decrypt
 from ansible_vault_companions.envelopes import MAGIC, TAG_NAME, label_of
 from ansible_vault_companions.program import Refused, shown
 from ansible_vault_companions.sources import Secret
-from ansible_vault_companions.tool import NOT_DECRYPTED, SecretRefused, Tool
+from ansible_vault_companions.tool import NotDecrypted, SecretRefused, Tool
 from ansible_vault_companions.yaml_nodes import LITERAL, NotYaml
 from ansible_vault_companions.yaml_values import Scan
 
@@ -106,7 +106,7 @@ def _decrypted(decrypt: Decrypt, envelope: bytes, side: str) -> Version:
     except SecretRefused:
         raise
     except Refused as fault:
-        is_locked = str(fault) == NOT_DECRYPTED
+        is_locked = isinstance(fault, NotDecrypted)
         raise Refused(SIDE_NOT_DECRYPTED.format(side, shown(label)) if is_locked else f"{side}: {fault}") from None
     return Version(envelope, label, secret, plaintext)
 

@@ -5,6 +5,8 @@ from __future__ import annotations
 import argparse
 
 from ansible_vault_companions import sources
+from ansible_vault_companions.envelopes import written_label
+from ansible_vault_companions.program import shown
 from ansible_vault_companions.settings import Settings
 from ansible_vault_companions.sources import ASKED, ASKING, Secret
 
@@ -61,11 +63,14 @@ def from_options(
     """The secrets of a command line and of the settings, in Ansible's order. To encrypt, what is typed is asked for
     twice."""
     found = sources.settings_beside(parser.prog, ids, paths)
-    secrets = sources.load(parser.prog, sources.named(ids, paths, found), encrypts)
+    named = sources.named(ids, paths, found)
+    secrets = sources.load(parser.prog, named, encrypts)
     if not secrets:
         parser.error(NONE)
+    are_all_there = len(secrets) == len(named)
     for secret in secrets:
         secret.requires_match = found.requires_match()
+        secret.is_only = are_all_there and all(each.password() == secret.password() for each in secrets)
     return secrets
 
 
@@ -83,3 +88,29 @@ def in_order(secrets: list[Secret], label: str | None) -> list[Secret]:
     """Those that may decrypt a vault of this label, and those of the same label first."""
     fitting = [secret for secret in secrets if secret.label == label or not secret.requires_match]
     return sorted(fitting, key=lambda secret: secret.label != label)
+
+
+def label_fault(secret: Secret, envelope: bytes) -> str:
+    """Why the label of an envelope does not allow the secret that decrypts it; empty if it does.
+
+    Nothing authenticates a label: anybody can change it, or copy the envelope, without a password. So if another
+    label's secret decrypts an envelope, its text may not be put under the password of the envelope's label, or be
+    taken for its text. An envelope without a label (format 1.1) says nothing, so any secret may decrypt it. So may
+    the only one that is named, which decrypts all labels as with Ansible's tool: no other can be meant.
+    """
+    label = written_label(envelope)
+    if not label or secret.label == label or secret.is_only:
+        return ""
+    return (
+        f"its label is {shown(label)}, but {shown(secret.given)} decrypts it, a secret of the label "
+        f"{shown(secret.label)}; write {shown(secret.label)} as the label in its first line, or if it is to be "
+        f"{shown(label)}, name that secret with --vault-id {shown(f'{label}@{secret.place}')}"
+    )
+
+
+def tried(envelope: bytes, secrets: list[Secret]) -> str:
+    """What was tried for an envelope that none of these secrets decrypts, and what to do."""
+    label = written_label(envelope)
+    names = ", ".join(shown(secret.given) for secret in secrets) or "none, since vault_id_match is set"
+    has = f"label {shown(label)}" if label else "no label"
+    return f"({has}; tried {names}): name its secret with --vault-id {shown(label or sources.DEFAULT)}@FILE"

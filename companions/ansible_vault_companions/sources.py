@@ -61,6 +61,13 @@ class Secret:
         self.fault = ""
         # Whether it decrypts only what has its label.
         self.requires_match = False
+        # Whether its password is the only one that is named.
+        self.is_only = False
+
+    @property
+    def place(self) -> str:
+        """Where its password comes from, as the command line or a setting has it."""
+        return "prompt" if self.given in ASKING else self.given.partition("@")[2] or self.given
 
     def word(self) -> str:
         """The word that names it to the tool, by the option that gave it."""

@@ -3,6 +3,7 @@
 from __future__ import annotations
 
 import os
+from contextlib import suppress
 
 from ansible_vault_companions import program
 from ansible_vault_companions.program import Refused
@@ -25,6 +26,10 @@ OF_SECRETS = ("a password", "a vault id label", "asking for a password")
 
 class SecretRefused(Refused):
     """The tool refuses a secret, whatever it is to decrypt."""
+
+
+class NotDecrypted(Refused):
+    """No secret decrypts a vault."""
 
 
 class Tool:
@@ -80,17 +85,16 @@ class Tool:
                     raise Refused(f"{secret.given}: {fault}", fault.status) from None
 
     def decrypt(self, envelope: bytes, secrets: list[Secret]) -> tuple[Secret, bytes]:
-        """The secret that decrypts it, and the plaintext; secrets with its label are tried first."""
+        """The secret that decrypts it, and the plaintext; secrets with its label are tried first. Each is tried by
+        itself, so it is certain which one it is; whether the label allows it says `secret_files.label_fault`."""
         from ansible_vault_companions import secret_files
         from ansible_vault_companions.envelopes import label_of
 
-        for secret in secret_files.in_order(secrets, label_of(envelope)):
-            try:
+        tried = secret_files.in_order(secrets, label_of(envelope))
+        for secret in tried:
+            with suppress(NotDecrypted):
                 return secret, self.view(envelope, secret)
-            except Refused as fault:
-                if str(fault) != NOT_DECRYPTED:
-                    raise
-        raise Refused(NOT_DECRYPTED)
+        raise NotDecrypted(f"{NOT_DECRYPTED} {secret_files.tried(envelope, tried)}")
 
     def encrypt(self, plaintext: bytes, secret: Secret, label: str) -> bytes:
         """The plaintext under a secret and this label."""
@@ -101,7 +105,7 @@ def _refusal(done: subprocess.CompletedProcess[bytes]) -> Refused:
     if done.returncode < 0:
         return Refused(f"{NAME} was ended by signal {-done.returncode}")
     text = done.stderr.decode(errors="replace").strip().removeprefix("ERROR! ")
-    kind = SecretRefused if text.startswith(OF_SECRETS) else Refused
+    kind = SecretRefused if text.startswith(OF_SECRETS) else NotDecrypted if text == NOT_DECRYPTED else Refused
     return kind(text or f"{NAME} ended with status {done.returncode}", done.returncode)
 
 
