@@ -151,7 +151,7 @@ def test_what_fails(place: Place, subtests: SubTests) -> None:
 
 
 NOT_MERGED = "is not merged: the merge driver failed, and the file has nothing of theirs"
-AGAIN = "  run `git checkout --merge a.yml` with a secret for each side; to keep ours, commit with --no-verify"
+AGAIN = "  `git checkout --merge a.yml` merges it, or says why not; to keep ours, commit with --no-verify"
 
 
 @contextmanager
