@@ -215,6 +215,24 @@ def test_equal_values(place: Place) -> None:
     list(yaml.parse(place.get("a.yml")))
 
 
+def test_what_is_decrypted(place: Place) -> None:
+    """What is the same in all versions is not."""
+    values = [block("old", b"same", name=name) for name in "abcdef"]
+    contents = [values, [block("old", b"I", name="a"), *values[1:]], values]
+    place.wrap_tool('[ "$1" != view ] || echo >> ../runs')
+    done = place.run(MERGE, *place.by_file("old"), *versions(place, "a.yml", *map(b"".join, contents)))
+    silent("the merge", done)
+    assert place.get("a.yml") == b"".join(contents[1])
+    assert (place.path / "runs").read_text() == "\n\n", "the value that was changed, in its two forms"
+
+
+def test_command_line(place: Place, subtests: SubTests) -> None:
+    for words in ([], ["a", "b"], [*place.by_file("old"), "a", "b"], ["--vault-password-file=a", "b", "c", "d"]):
+        with subtests.test(f"{words}"):
+            done = place.run(MERGE, *words)
+            ended("too few", done, 2, f"{MERGE}: error: BASE, OURS, THEIRS and PATH are needed\n")
+
+
 def test_what_fails(place: Place, subtests: SubTests) -> None:
     """A file that is missing, a change meanwhile, the tool and git."""
     changes = [sealed("old", text) for text in (BASE, OURS, THEIRS)]
