@@ -38,6 +38,12 @@ def encrypted(tool: Tool, text: bytes, secret: Secret, label: str) -> bytes:
     return envelope
 
 
+def check_envelopes(content: bytes, known: list[bytes]) -> None:
+    """Refuses a result with an envelope that is in none of its versions."""
+    if not _readable(content).issubset({text for each in known for text in _readable(each)}):
+        raise Refused(TORN)
+
+
 class Values:
     """Three versions of YAML with tokens in the places of their values."""
 
@@ -126,8 +132,8 @@ class Values:
 
     def _check(self, content: bytes, is_whole: bool) -> None:
         """Refuses a result with a value that was not meant, or which is no YAML although both sides are."""
-        known = {text for each in self.versions for text in _readable(each.data)} | {*self.made.values()}
-        if self.mark in content or not known.issuperset(_readable(content)):
+        check_envelopes(content, [*(each.data for each in self.versions), *self.made.values()])
+        if self.mark in content:
             raise Refused(TORN)
         if not (is_whole and self.ours.is_yaml and self.theirs.is_yaml):
             return

@@ -13,7 +13,7 @@ from ansible_vault_companions import secret_files
 from ansible_vault_companions.envelopes import MAGIC, TAG_NAME, label_of
 from ansible_vault_companions.inline import Decrypt
 from ansible_vault_companions.merged_lines import BASE, OURS, THEIRS, Merged, merged_lines
-from ansible_vault_companions.merged_values import Values, encrypted
+from ansible_vault_companions.merged_values import Values, check_envelopes, encrypted
 from ansible_vault_companions.program import Refused, shown
 from ansible_vault_companions.sources import Secret
 from ansible_vault_companions.tool import SecretRefused, Tool
@@ -42,9 +42,11 @@ def merged(tool: Tool, decrypt: Decrypt, base: bytes, ours: bytes, theirs: bytes
         raise Refused(KINDS_DIFFER)
     # A base that was a vault would show its plaintext in a conflict.
     before = b"" if base.startswith(MAGIC) else base
-    if not any(TAG_NAME in each for each in (ours, before, theirs)):
-        return merged_lines(ours, before, theirs)
-    return Values(decrypt, before, ours, theirs).merged(tool)
+    if any(TAG_NAME in each for each in (ours, before, theirs)):
+        return Values(decrypt, before, ours, theirs).merged(tool)
+    found = merged_lines(ours, before, theirs)
+    check_envelopes(found.content, [ours, before, theirs])
+    return found
 
 
 def _merged_vaults(tool: Tool, decrypt: Decrypt, base: bytes, ours: bytes, theirs: bytes) -> Merged:

@@ -116,6 +116,21 @@ REFUSED = {
 }
 
 
+# What git would merge by its lines: digits of an envelope within a text, and what is no YAML together.
+WITHIN = [b"text: |\n  a: %s |\n%s\n" % (tag, lines_of(sealed("old", BASE), 4)) for tag in (b"!vault", b"vault")]
+QUOTED = block("old") + b"a: 1\nb: 1\nc: 1\nd: 1\ne: 1\n"
+REFUSED |= {
+    why: (text, text.replace(b"AES256\n    3", b"AES256\n    4"), text[:-2] + b"0\n")
+    for why, text in zip(("git can merge its lines, but a value of", "git can merge its lines, but a value"), WITHIN)
+} | {
+    "git can merge its lines, but the result would be no YAML (line ": (
+        QUOTED,
+        QUOTED.replace(b"a: 1", b'a: "1').replace(b"e: 1", b'e: 1"'),
+        QUOTED.replace(b"c: 1", b'c: "1"'),
+    ),
+}
+
+
 NOT_DONE = f"{MERGE}: a.yml: not merged, ours is left as it was: "
 NEXT = "  put that right and run `git checkout --merge a.yml`, or take what you need from theirs: `git show :3:a.yml`"
 
