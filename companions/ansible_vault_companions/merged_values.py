@@ -9,6 +9,7 @@ from __future__ import annotations
 import re
 import secrets as randomness
 from collections import Counter
+from typing import Hashable
 
 from ansible_vault_companions import blocks, secret_files
 from ansible_vault_companions.blocks import Block, Change, named
@@ -50,8 +51,8 @@ class Values:
     def __init__(self, decrypt: Decrypt, base: bytes, ours: bytes, theirs: bytes) -> None:
         self.mark = f"ansible-vault-{randomness.token_hex(16)}".encode()
         # By what they stand for: a value with its number among equal ones, and the keys that lead to a value.
-        self.tokens: dict[object, bytes] = {}
-        self.paths: dict[tuple[str, ...], int] = {}
+        self.tokens: dict[Hashable, bytes] = {}
+        self.paths: dict[Hashable, int] = {}
         self.versions = [scanned(each) for each in (ours, base, theirs)]
         self.ours, self.base, self.theirs = self.versions
         self.opened = opened(decrypt, self.versions)
@@ -63,7 +64,7 @@ class Values:
         self.made: dict[bytes, bytes] = {}
 
     def _put_tokens(self, version: Version) -> None:
-        equal: Counter[object] = Counter()
+        equal: Counter[Hashable] = Counter()
         changes: list[Change] = []
         for block in version.blocks:
             place = Place(block, self.opened.get(block.envelope))
@@ -159,7 +160,7 @@ def _check_labels(opened: dict[bytes, Opened], base: Version, sides: dict[str, V
                 raise Refused(f"{side}: line {block.value.line}: {named(block.value)}: {fault}")
 
 
-def _known_by(place: Place) -> object:
+def _known_by(place: Place) -> Hashable:
     """What is the same where nobody has changed a value, though it may be encrypted anew."""
     block = place.block
     looks = block.value.path, block.header, INK.sub(b"", block.body)

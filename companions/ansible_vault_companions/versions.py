@@ -4,7 +4,7 @@ from __future__ import annotations
 
 from collections import defaultdict
 from dataclasses import dataclass, field
-from typing import NamedTuple
+from typing import Hashable, NamedTuple
 
 from ansible_vault_companions import blocks, files
 from ansible_vault_companions.blocks import Block
@@ -51,14 +51,14 @@ class Version:
     text: bytes = b""
     places: dict[bytes, Place] = field(default_factory=dict)
 
-    def at(self, path: tuple[str, ...]) -> Place | None:
+    def at(self, path: Hashable) -> Place | None:
         """The only value that these keys lead to."""
         found = [each for each in self.places.values() if each.block.value.path == path]
         return found[0] if len(found) == 1 else None
 
-    def envelopes_at(self) -> dict[tuple[str, ...], list[bytes]]:
+    def envelopes_at(self) -> dict[Hashable, list[bytes]]:
         """The envelopes by the keys that lead to them."""
-        found = defaultdict(list)
+        found: dict[Hashable, list[bytes]] = defaultdict(list)
         for each in self.blocks:
             found[each.value.path].append(each.envelope)
         return found
