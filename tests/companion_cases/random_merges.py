@@ -4,6 +4,7 @@ Values have few texts, so many of them are equal. A side may hold whatever someb
 other labels, copied envelopes, guessed texts. What is merged is what git makes of the plaintexts.
 """
 
+import functools
 import itertools
 import os
 import re
@@ -96,19 +97,20 @@ def plain(values: list[Value]) -> bytes:
     return document(values, shown)
 
 
+@functools.cache
+def secret_of(name: str) -> Secret:
+    found = Secret(Source(LABELS[name], name, f"{LABELS[name]}@{name}"))
+    found.descriptor = os.memfd_create("password")
+    os.write(found.descriptor, PASSWORDS[name])
+    return found
+
+
 class Tool:
     """In the place of the program, by the model of the tests."""
 
     def __init__(self) -> None:
-        self.secrets = [self.secret(*each) for each in LABELS.items()]
         self.salts = itertools.cycle(SALTS)
         self.made: set[bytes] = set()
-
-    def secret(self, name: str, label: str) -> Secret:
-        found = Secret(Source(label, name, f"{label}@{name}"))
-        found.descriptor = os.memfd_create("password")
-        os.write(found.descriptor, PASSWORDS[name])
-        return found
 
     def view(self, envelope: bytes, secret: Secret) -> bytes:
         text = decrypted(secret.path, envelope)
@@ -117,7 +119,7 @@ class Tool:
         return text
 
     def decrypt(self, envelope: bytes) -> tuple[Secret, bytes]:
-        for secret in secret_files.in_order(self.secrets, label_of(envelope)):
+        for secret in secret_files.in_order([*map(secret_of, LABELS)], label_of(envelope)):
             text = decrypted(secret.path, envelope)
             if text is not None:
                 return secret, text
