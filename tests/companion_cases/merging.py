@@ -241,13 +241,6 @@ def test_what_is_decrypted(place: Place) -> None:
     assert (place.path / "runs").read_text() == "\n\n", "the value that was changed, in its two forms"
 
 
-def test_command_line(place: Place, subtests: SubTests) -> None:
-    for words in ([], ["a", "b"], [*place.by_file("old"), "a", "b"], ["--vault-password-file=a", "b", "c", "d"]):
-        with subtests.test(f"{words}"):
-            done = place.run(MERGE, *words)
-            ended("too few", done, 2, f"{MERGE}: error: BASE, OURS, THEIRS and PATH are needed\n")
-
-
 def test_what_fails(place: Place, subtests: SubTests) -> None:
     """A file that is missing, a change meanwhile, the tool and git."""
     changes = [sealed("old", text) for text in (BASE, OURS, THEIRS)]
