@@ -50,7 +50,8 @@ def test_without_driver(cases: Companions, style: str, what: str, versions: list
     place.shell("git checkout -q -")
     ended(f"{what}: git alone", place.shell("git merge --no-edit theirs"), 1, "Merge conflict in a.yml")
     for name in (EDIT, CHECK):
-        ended(f"{what}: {name}", place.run(name, *secrets, "a.yml", EDITOR="touch ../s"), 1, f"a.yml: {TORN}; {SET_UP}\n")
+        done = place.run(name, *secrets, "a.yml", EDITOR="touch ../s")
+        ended(f"{what}: {name}", done, 1, f"a.yml: {TORN}; {SET_UP}\n")
     assert not (place.path / "s").exists(), f"{what}: no editor is started"
     done = place.shell(f"git add -A; {HOOK}")
     assert (done.returncode, done.stderr) == (1, f"{HOOK}: a.yml {TORN}\n  {SET_UP}\n"), f"{what}: the hook"

@@ -331,3 +331,24 @@ def test_of_vaults(tmp_path: Path, monkeypatch: pytest.MonkeyPatch) -> None:
             assert secret.path == (ours if before.password == theirs.password else theirs).password, vaults
             moved += 1
     assert moved == 12, "those that are rekeyed"
+
+
+def test_of_one_value() -> None:
+    """We change its text, and they encrypt it again: it is under a new secret where all three have one label."""
+    needs("git")
+    needs_pyyaml()
+    moved = 0
+    for vaults in itertools.product(VAULTS, repeat=3):
+        rows = zip((b"text", b"our text", b"text"), vaults, range(3))
+        before, ours, theirs = ([Value("a", text, *vault, salt, 10)] for text, vault, salt in rows)
+        merge, tool = Merge(before, ours, theirs), Tool()
+        try:
+            content = merging.merged(tool, tool.decrypt, *merge.documents()).content
+        except Refused:
+            assert ours[0].is_mislabelled() or theirs[0].is_mislabelled(), vaults
+            continue
+        new = [each for each in blocks_of(content) if each.envelope in tool.made]
+        for each in new:
+            check_new(merge, tool, each)
+        moved += len(new)
+    assert moved == 6, "those that are rekeyed"
