@@ -58,21 +58,40 @@ class Values:
         self.opened = opened(decrypt, self.versions)
         _check_labels(self.opened, self.base, {OURS: self.ours, THEIRS: self.theirs})
         for each in self.versions:
+            self._give_tokens(each)
+        self._keep_rekeyed(self.ours, self.theirs)
+        self._keep_rekeyed(self.theirs, self.ours)
+        for each in self.versions:
             self._put_tokens(each)
         # The envelopes of the result in their order, and the new ones by their tokens.
         self.restored: list[bytes] = []
         self.made: dict[bytes, bytes] = {}
 
-    def _put_tokens(self, version: Version) -> None:
+    def _give_tokens(self, version: Version) -> None:
         equal: Counter[Hashable] = Counter()
-        changes: list[Change] = []
         for block in version.blocks:
             place = Place(block, self.opened.get(block.envelope))
             what = _known_by(place)
-            token = self.tokens.setdefault((what, equal[what]), b"%s-%d" % (self.mark, len(self.tokens)))
+            version.places[self._token((what, equal[what]))] = place
             equal[what] += 1
-            version.places[token] = place
-            changes += self._tokenized(version.data, block, token)
+
+    def _token(self, what: Hashable) -> bytes:
+        return self.tokens.setdefault(what, b"%s-%d" % (self.mark, len(self.tokens)))
+
+    def _keep_rekeyed(self, side: Version, other: Version) -> None:
+        """Makes a conflict of a value that a side has put under another secret, and whose old envelope the other has at
+        other keys, or under another tag: it would be all that is left of the value."""
+        found = {}
+        for token, place in side.places.items():
+            before = self.base.places.get(token)
+            is_rekeyed = before and before.opened and place.opened and not place.is_under_same(before)
+            is_moved = before and token not in other.places and _digits(before.block.envelope) in other.data
+            found[self._token((token, place.block.envelope)) if is_rekeyed and is_moved else token] = place
+        side.places = found
+
+    def _put_tokens(self, version: Version) -> None:
+        tokens = version.places.items()
+        changes = [each for token, place in tokens for each in self._tokenized(version.data, place.block, token)]
         version.text = blocks.changed(version.data, changes)
 
     def _tokenized(self, data: bytes, block: Block, token: bytes) -> list[Change]:
@@ -167,6 +186,11 @@ def _known_by(place: Place) -> Hashable:
     if not place.opened:
         return looks, block.envelope
     return looks, block.label, place.opened.secret.label, place.opened.plaintext
+
+
+def _digits(envelope: bytes) -> bytes:
+    """A line of its tag and ciphertext, which no other envelope has."""
+    return envelope.split()[1:][-2:][0]
 
 
 def _is_newer(ours: Place, base: Place, theirs: Place) -> bool:

@@ -6,7 +6,7 @@ from typing import Iterator
 import pytest
 from pytest_subtests import SubTests
 
-from companion_cases import CHECK, EDIT, HOOK, MERGE, PASSWORDS
+from companion_cases import CHECK, EDIT, HOOK, MERGE, PASSWORDS, TEXT
 from companion_cases import Companions, Place, block, decrypted, ended, sealed, silent
 from companion_cases.beside_ansible import theirs
 from companion_cases.blocks import lines_of, texts
@@ -98,6 +98,20 @@ def test_rotated(place: Place) -> None:
     ended("a rotation", branches(place, base, ours, other, *words), 0)
     assert decrypted("new", place.get("a.yml")) == OURS, "the vault"
     assert texts(place.get("b.yml"), "new") == [b"I", b"2"], "the values"
+
+
+def test_rotated_and_moved(cases: Companions, subtests: SubTests) -> None:
+    """The old envelope does not come back if the other side has moved it, or put it under another tag."""
+    base = b"a: 1\nb: 1\n" + block("old", name="k") + b"y: 1\nz: 1\n"
+    ours = base.replace(block("old", name="k"), block("new", name="k"))
+    moves = {"a tag": (b"!vault", b"!Vault"), "a key": (b"k:", b"key:"), "a comment": (b"k:", b"# k: x\nt:")}
+    for what, change in moves.items():
+        for sides in ((ours, base.replace(*change)), (base.replace(*change), ours)):
+            with subtests.test(f"{what}: {sides.index(ours)}"):
+                place = cases.place()
+                words = [*place.by_file("old"), *place.by_file("new"), *versions(place, "a.yml", base, *sides)]
+                ended(what, place.run(MERGE, *words), 1, "a.yml: 1 conflict")
+                assert TEXT in texts(place.get("a.yml"), "new"), "the new one is there"
 
 
 # Versions that are not merged, and why.

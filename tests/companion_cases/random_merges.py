@@ -304,8 +304,9 @@ VAULTS = [
 def test_of_vaults(tmp_path: Path, monkeypatch: pytest.MonkeyPatch) -> None:
     """Each text of the result was under its password on its side, or all are under secrets of one label."""
     needs("git")
-    for name, value in (("COUNT", "1"), ("KEY_0", "merge.conflictStyle"), ("VALUE_0", "diff3")):
-        monkeypatch.setenv(f"GIT_CONFIG_{name}", value)
+    monkeypatch.chdir(tmp_path)
+    for words in (["init", "-q"], ["config", "merge.conflictStyle", "diff3"]):
+        subprocess.run(["git", *words], check=True)
     texts = [b"the base\n", b"our text\n", b"their text\n"]
     moved = 0
     for vaults in itertools.product(VAULTS, repeat=3):
