@@ -85,12 +85,18 @@ def answer(*words: str) -> bytes:
 def note_conflict(content: bytes, folder: str | None = None) -> None:
     """Notes in the repository of a folder, if there is one, that a content is still to be merged."""
     try:
-        blob = git("hash-object", "--stdin", data=content, folder=folder, is_quiet=True).decode().strip()
+        hashed = [git("hash-object", "--stdin", data=each, folder=folder, is_quiet=True) for each in as_stored(content)]
         path = git("rev-parse", "--git-path", CONFLICTS, folder=folder, is_quiet=True).removesuffix(b"\n")
     except Refused:
         return
-    with open(os.path.join(os.fsencode(folder or ""), path), "a", encoding="ascii") as file:
-        file.write(f"{blob}\n")
+    with open(os.path.join(os.fsencode(folder or ""), path), "ab") as file:
+        file.writelines(hashed)
+
+
+def as_stored(content: bytes) -> set[bytes]:
+    """What git may keep of a content, by the attributes of its file: the same, or with other ends of lines. git itself
+    would run a filter that the folder names."""
+    return {content, content.replace(b"\r\n", b"\n")}
 
 
 def conflicts() -> set[str]:
@@ -143,7 +149,7 @@ def _blobs_of(path: str, like: str) -> list[str]:
     except (Refused, OSError):
         return []
     new = hashlib.sha1 if len(like) == hashlib.sha1().digest_size * 2 else hashlib.sha256
-    return [new(b"blob %d\0%b" % (len(each), each)).hexdigest() for each in (content, content.replace(b"\r\n", b"\n"))]
+    return [new(b"blob %d\0%b" % (len(each), each)).hexdigest() for each in as_stored(content)]
 
 
 def unmerged_in_index() -> list[tuple[bytes, str]]:

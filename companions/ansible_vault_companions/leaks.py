@@ -4,6 +4,7 @@ from __future__ import annotations
 
 import binascii
 import re
+import shlex
 from collections import Counter
 
 from ansible_vault_companions import plain_values
@@ -16,6 +17,8 @@ DIFF, VAULT_ALONE = "diff", "ansible-vault"
 NOT_ENCRYPTED = "is not encrypted"
 DAMAGED = "is a damaged vault"
 UNMERGED = "has git's conflict markers"
+TORN = "has git's conflict markers within an envelope, since it was merged without ansible-vault-merge"
+MERGE_AGAIN = "set up the merge driver as `ansible-vault-merge --help` says, and run `git checkout --merge {}`"
 WAS_VAULT = "is not a vault, but was one"
 WITHOUT_THEIRS = "is not merged: the merge driver failed, and the file has nothing of theirs"
 
@@ -27,6 +30,10 @@ CIPHER_BLOCK = 16
 DIGITS_BEFORE_CIPHERTEXT = 2 * (2 * (2 * 32 + 1))
 DIGITS_PER_BYTE = 4
 CONFLICT_MARKER = re.compile(rb"^(?:<<<<<<<|>>>>>>>|\|\|\|\|\|\|\|)(?:[ \t][^\r\n]*)?\r?$", re.MULTILINE)
+# No line of a value stands directly below a marker where the merge driver has merged it.
+MARKER_IN_ENVELOPE = re.compile(
+    rb"^(?:<{7}|\|{7}|={7}|>{7})(?:[ \t][^\r\n]*)?\r?\n[ \t]*(?:[0-9a-fA-F]{32}|\$ANSIBLE_VAULT;)", re.MULTILINE
+)
 # What follows a block, up to its first character.
 NEXT_LINE = re.compile(rb"(?:\r?\n[ \t]*(?=[\r\n]))*\r?\n(?P<spaces> *)\S")
 # A variable of YAML and what it has in its line.
@@ -57,6 +64,16 @@ def is_unmerged(text: bytes) -> bool:
 def has_unmerged_envelopes(text: bytes) -> bool:
     """Whether it has conflict markers beside envelopes, and is no vault."""
     return not text.startswith(MAGIC) and is_unmerged(text) and bool(envelopes(text))
+
+
+def is_torn(text: bytes) -> bool:
+    """Whether conflict markers are within an envelope, where git leaves them without the merge driver."""
+    return START in text and is_unmerged(text) and bool(text.startswith(MAGIC) or MARKER_IN_ENVELOPE.search(text))
+
+
+def merge_again(name: str) -> str:
+    """What to do about a file in which an envelope is torn."""
+    return MERGE_AGAIN.format(shlex.quote(shown(name)))
 
 
 def fault_of_marked(content: bytes, marks: set[str]) -> str | None:

@@ -81,6 +81,10 @@ class Secret:
         """The password, as the tool takes it from the file."""
         return None if self.descriptor is None else os.pread(self.descriptor, READ_AT_MOST, 0).strip()
 
+    def is_same(self, other: Secret) -> bool:
+        """Whether both have the same password."""
+        return self.password() == other.password()
+
     def why_unusable(self) -> str:
         """Why the tool refuses the password; empty if nothing is known against it."""
         if self.descriptor is None:

@@ -34,7 +34,6 @@ def unmarking(name: str) -> str:
 def test_what_is_refused(place: Place, subtests: SubTests) -> None:
     damaged = {
         "plaintext below": sealed("old") + TEXT,
-        "a merge": sealed("old").replace(b"\n", b"\n<<<<<<< ours\n", 1),
         "a word alone": b"$ANSIBLE_VAULT\npassword: plain\n",
     }
     with_hook(place)

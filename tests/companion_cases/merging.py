@@ -6,13 +6,14 @@ from typing import Iterator
 import pytest
 from pytest_subtests import SubTests
 
-from companion_cases import CHECK, EDIT, HOOK, MERGE, PASSWORDS
+from companion_cases import CHECK, EDIT, HOOK, MERGE, PASSWORDS, TEXT
 from companion_cases import Companions, Place, block, decrypted, ended, sealed, silent
 from companion_cases.beside_ansible import theirs
-from companion_cases.blocks import texts
+from companion_cases.blocks import lines_of, texts
 from companion_cases.editing import edit
 from companion_cases.repository import add_and_commit, commit, under_git
 from lib.ansible import ansible_vault
+from lib.needs import needs_pyyaml
 from model.vaults import SALT, seal
 
 BASE = b"one: 1\n2: 2\n3: 3\nfour: 4\n"
@@ -99,11 +100,25 @@ def test_rotated(place: Place) -> None:
     assert texts(place.get("b.yml"), "new") == [b"I", b"2"], "the values"
 
 
+def test_rotated_and_moved(cases: Companions, subtests: SubTests) -> None:
+    """The old envelope does not come back if the other side has moved it, or put it under another tag."""
+    base = b"a: 1\nb: 1\n" + block("old", name="k") + b"y: 1\nz: 1\n"
+    ours = base.replace(block("old", name="k"), block("new", name="k"))
+    moves = {"a tag": (b"!vault", b"!Vault"), "a key": (b"k:", b"key:"), "a comment": (b"k:", b"# k: x\nt:")}
+    for what, change in moves.items():
+        for sides in ((ours, base.replace(*change)), (base.replace(*change), ours)):
+            with subtests.test(f"{what}: {sides.index(ours)}"):
+                place = cases.place()
+                words = [*place.by_file("old"), *place.by_file("new"), *versions(place, "a.yml", base, *sides)]
+                ended(what, place.run(MERGE, *words), 1, "a.yml: 1 conflict")
+                assert TEXT in texts(place.get("a.yml"), "new"), "the new one is there"
+
+
 # Versions that are not merged, and why.
 REFUSED = {
-    "no secret decrypts theirs, with the label default": (sealed("old"), sealed("old", OURS), sealed("dev", THEIRS)),
-    "no secret decrypts ours, with the label dev": (sealed("old"), sealed("dev", OURS, "dev"), sealed("old", THEIRS)),
-    "no secret decrypts base, with the label default": (sealed("dev"), sealed("old", OURS), sealed("old", THEIRS)),
+    "theirs: no secret decrypts this vault (no label; ": (sealed("old"), sealed("old", OURS), sealed("dev", THEIRS)),
+    "ours: no secret decrypts this vault (label dev; ": (sealed("old"), sealed("dev", OURS, "dev"), sealed("old")),
+    "base: no secret decrypts this vault (no label; ": (sealed("dev"), sealed("old", OURS), sealed("old", THEIRS)),
     "one side is a vault and the other is not": (sealed("old"), sealed("old", OURS), THEIRS),
     "both sides have put it under new secrets, and these differ": (sealed("old"), sealed("new"), sealed("prod")),
     "git merge-file cannot merge it; it may be binary": (
@@ -115,18 +130,129 @@ REFUSED = {
 }
 
 
+# What git would merge by its lines: digits of an envelope within a text, and what is no YAML together.
+WITHIN = [b"text: |\n  a: %s |\n%s\n" % (tag, lines_of(sealed("old", BASE), 4)) for tag in (b"!vault", b"vault")]
+QUOTED = block("old") + b"a: 1\nb: 1\nc: 1\nd: 1\ne: 1\n"
+REFUSED |= {
+    why: (text, text.replace(b"AES256\n    3", b"AES256\n    4"), text[:-2] + b"0\n")
+    for why, text in zip(("git can merge its lines, but a value of", "git can merge its lines, but a value"), WITHIN)
+} | {
+    "git can merge its lines, but the result would be no YAML (line ": (
+        QUOTED,
+        QUOTED.replace(b"a: 1", b'a: "1').replace(b"e: 1", b'e: 1"'),
+        QUOTED.replace(b"c: 1", b'c: "1"'),
+    ),
+}
+
+
 NOT_DONE = f"{MERGE}: a.yml: not merged, ours is left as it was: "
+NEXT = "  put that right and run `git checkout --merge a.yml`, or take what you need from theirs: `git show :3:a.yml`"
+
+
+def not_merged(what: str, place: Place, secrets: list[str], contents: tuple[bytes, bytes, bytes], why: str) -> None:
+    """Ours stays to the byte, no other file is left, and the message says why, and how to go on."""
+    done = place.run(MERGE, *secrets, *versions(place, "a.yml", *contents))
+    lines = done.stderr.splitlines()
+    assert (done.returncode, done.stdout, len(lines), lines[1]) == (1, "", 2, NEXT), (what, lines)
+    assert lines[0].startswith(f"{NOT_DONE}{why}"), (what, lines)
+    assert place.files() == {"a.yml": contents[1]}, f"{what}: ours stays"
 
 
 def test_those_that_fail(cases: Companions, subtests: SubTests) -> None:
-    """Ours stays to the byte, no other file is left, and the message says why."""
     for why, contents in REFUSED.items():
         with subtests.test(why):
             place = cases.place()
             secrets = [*place.by_file("old"), *place.by_file("new"), *place.by_file("prod")]
-            done = place.run(MERGE, *secrets, *versions(place, "a.yml", *contents))
-            assert (done.returncode, done.stdout, done.stderr) == (1, "", f"{NOT_DONE}{why}\n")
-            assert place.files() == {"a.yml": contents[1]}, "ours stays"
+            not_merged(why, place, secrets, contents, why)
+
+
+OF_PROD = block("prod", b"old", "prod", "k") + b"z: 1\n"
+OUR_PROD = block("prod", b"new", "prod", "k") + b"z: 1\n"
+# Versions of which one is under a label that the secret of another label opens, or under none; and why it is refused.
+FOREIGN = {
+    "a vault of theirs": (
+        (sealed("prod", BASE, "prod"), sealed("prod", OURS, "prod"), sealed("dev", b"x", "prod")),
+        "theirs: its label is prod, but dev@",
+    ),
+    "a vault of ours": (
+        (sealed("prod", BASE, "prod"), sealed("dev", b"x", "prod"), sealed("prod", OURS, "prod")),
+        "ours: its label is prod, but dev@",
+    ),
+    "both sides": (
+        (sealed("prod", BASE, "prod"), sealed("dev", OURS, "prod"), sealed("dev", THEIRS, "prod")),
+        "ours: its label is prod, but dev@",
+    ),
+    "no labels": (
+        (sealed("prod", BASE), sealed("prod", OURS), sealed("dev", b"x")),
+        "it is under secrets of two labels: prod in ours, dev in theirs",
+    ),
+    "a value": (
+        (OF_PROD, OUR_PROD, block("dev", b"x", "prod", "k") + b"z: 1\n"),
+        "theirs: line 1: k: its label is prod, but dev@",
+    ),
+    "a guessed value": (
+        (OF_PROD, OUR_PROD, block("dev", b"old", "prod", "k") + b"z: 1\n"),
+        "theirs: line 1: k: its label is prod, but dev@",
+    ),
+    "a guessed value above": (
+        (OF_PROD, OUR_PROD, block("dev", b"old", "prod", "guess") + OF_PROD),
+        "theirs: line 1: guess: its label is prod, but dev@",
+    ),
+}
+
+
+def test_other_labels(cases: Companions, subtests: SubTests) -> None:
+    """No text of ours is put under the password of those who know that of dev, whatever the label is."""
+    for what, (contents, why) in FOREIGN.items():
+        with subtests.test(what):
+            place = cases.place()
+            secrets = [*place.by_id("dev", "dev"), *place.by_id("prod", "prod")]
+            not_merged(what, place, secrets, contents, why)
+
+
+def test_one_secret(place: Place) -> None:
+    """The only secret that is named opens every label."""
+    contents = [sealed("prod", text, "prod") for text in (BASE, OURS, THEIRS)]
+    silent("the merge", place.run(MERGE, *place.by_file("prod"), *versions(place, "a.yml", *contents)))
+    assert decrypted("prod", place.get("a.yml")) == OURS.replace(b"four: 4", b"four: IV")
+
+
+def test_values_without_labels(place: Place) -> None:
+    """What another label's secret opens is no new secret of a value, even if it has the same text."""
+    base, ours = (block("prod", text, name="k") + b"z: 1\n" for text in (b"old", b"new"))
+    theirs = block("dev", b"old", name="k") + b"z: 1\n"
+    secrets = [*place.by_id("dev", "dev"), *place.by_id("prod", "prod")]
+    done = place.run(MERGE, *secrets, *versions(place, "a.yml", base, ours, theirs))
+    ended("a conflict", done, 1, "a.yml: 1 conflict")
+    assert texts(place.get("a.yml"), "dev") == [None, b"old"], "dev opens what it did"
+    assert texts(place.get("a.yml"), "prod") == [b"new", None], "ours is under its secret"
+
+
+def test_equal_values(place: Place) -> None:
+    """Values with one text keep their own envelopes and columns."""
+    needs_pyyaml()
+    import yaml
+
+    envelopes = [seal(PASSWORDS["old"], b"same", b"", salt) for salt in (SALT, SALT[::-1])]
+    first = b"a: !vault |\n" + lines_of(envelopes[0], 10) + b"\n"
+    second = b"b:\n          c: !vault |\n" + lines_of(envelopes[1], 12) + b"\n"
+    contents = [first + second + b"d: 1\ne: 1\nf: 1\n" for _ in range(3)]
+    ours, theirs = contents[1].replace(b"d: 1", b"d: 2"), contents[2].replace(b"f: 1", b"f: 2")
+    done = branches(place, {"a.yml": contents[0]}, {"a.yml": ours}, {"a.yml": theirs})
+    ended("the merge", done, 0)
+    assert place.get("a.yml") == first + second + b"d: 2\ne: 1\nf: 2\n", "each is as it was"
+    list(yaml.parse(place.get("a.yml")))
+
+
+def test_what_is_decrypted(place: Place) -> None:
+    """What is the same in all versions is not."""
+    values = [block("old", b"same", name=name) for name in "abcdef"]
+    contents = [values, [block("old", b"I", name="a"), *values[1:]], values]
+    place.wrap_tool('[ "$1" != view ] || echo >> ../runs')
+    done = place.run(MERGE, *place.by_file("old"), *versions(place, "a.yml", *map(b"".join, contents)))
+    silent("the merge", done)
+    assert place.get("a.yml") == b"".join(contents[1])
+    assert (place.path / "runs").read_text() == "\n\n", "the value that was changed, in its two forms"
 
 
 def test_what_fails(place: Place, subtests: SubTests) -> None:
@@ -151,7 +277,7 @@ def test_what_fails(place: Place, subtests: SubTests) -> None:
 
 
 NOT_MERGED = "is not merged: the merge driver failed, and the file has nothing of theirs"
-AGAIN = "  run `git checkout --merge a.yml` with a secret for each side; to keep ours, commit with --no-verify"
+AGAIN = "  `git checkout --merge a.yml` merges it, or says why not; to keep ours, commit with --no-verify"
 
 
 @contextmanager
@@ -206,7 +332,7 @@ def test_left_as_ours(cases: Companions) -> None:
         place.put("b.yml", b"b: 1\n")
         place.shell("git add b.yml && git commit -qm b && git checkout -q - && git merge -q --no-commit other")
         silent("another merge", commit(place))
-        ended("a cherry-pick", place.shell("git cherry-pick theirs"), 1, "no secret decrypts theirs")
+        ended("a cherry-pick", place.shell("git cherry-pick theirs"), 1, "theirs: no secret decrypts this vault")
         refused_by_hook("and its commit", commit(place, "-a"))
 
 

@@ -103,7 +103,7 @@ def test_ignored_children(place: Place) -> None:
     done = ignoring(WITH, "decrypt", *wrong, "a.yml")
     ended("in place", done, 1, "no secret decrypts this vault")
     words = versions(place, "b.yml", sealed("old", b"a\n"), sealed("old", b"b\n"), sealed("old", b"c\n"))
-    ended("a merge", ignoring(MERGE, *wrong, *words), 1, "no secret decrypts ours, with the label default")
+    ended("a merge", ignoring(MERGE, *wrong, *words), 1, "ours: no secret decrypts this vault (no label; ")
     assert (place.get("a.yml"), place.get("b.yml")) == (sealed("old"), sealed("old", b"b\n")), "both stay"
     ended("a conflict", ignoring(MERGE, *place.by_file("old"), *words), 1, "b.yml: 1 conflict")
     (place.tree / "b.yml").unlink()

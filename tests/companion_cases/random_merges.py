@@ -1,0 +1,355 @@
+"""Random merges of YAML, and all merges of vaults by few secrets, without a process for each envelope.
+
+Values have few texts, so many of them are equal. A side may hold whatever somebody commits who knows one password:
+other labels, copied envelopes, guessed texts. What is merged is what git makes of the plaintexts.
+"""
+
+import functools
+import itertools
+import os
+import re
+import subprocess
+from collections import Counter
+from pathlib import Path
+from typing import NamedTuple
+
+import hypothesis
+import pytest
+from hypothesis import strategies as st
+
+from ansible_vault_companions import merging, secret_files
+from ansible_vault_companions.envelopes import label_of
+from ansible_vault_companions.program import Refused
+from ansible_vault_companions.sources import Secret, Source
+from companion_cases import PASSWORDS, decrypted
+from lib.needs import needs, needs_pyyaml
+from model.vaults import SALT, seal
+
+# The label of each secret that is named. There are an old one and a new one of a label; and one that is not named.
+LABELS = {"dev": "dev", "prod": "prod", "prod2": "prod", "old": "default", "new": "default"}
+UNNAMED = "dev2"
+SALTS = [SALT, SALT[::-1], SALT[1:] + b"s"]
+TEXTS = [b"x", b"y\n", b"two\nlines\n"]
+INDENTATIONS = [4, 10, 10]
+ITEM = ""
+HONEST = ["text", "encrypted anew", "rekeyed", "removed", "indented", "added"]
+HOSTILE = ["mislabelled", "relabelled", "copied", "guessed"]
+BLOCK = re.compile(rb"(?m)^((?:\w+:|  -) )!vault \|\n((?: +\S+\n)+)")
+EXAMPLES = 300
+# How many merges of each kind, and how many changes, are tried at least.
+LEAST = {"merged": 100, "conflicts": 15, "refused": 8, "under a new secret": 4} | dict.fromkeys(HONEST + HOSTILE, 8)
+
+
+class Value(NamedTuple):
+    """A value that is a vault; without a key it is an item of the list."""
+
+    key: str
+    text: bytes
+    label: str
+    password: str
+    salt: int
+    indentation: int
+
+    def envelope(self) -> bytes:
+        return seal(PASSWORDS[self.password], self.text, self.label.encode(), SALTS[self.salt])
+
+    def head(self) -> bytes:
+        return f"{self.key}: ".encode() if self.key else b"  - "
+
+    def block(self) -> bytes:
+        lines = self.envelope().splitlines(keepends=True)
+        return self.head() + b"!vault |\n" + b"".join(b" " * self.indentation + line for line in lines)
+
+    def is_mislabelled(self) -> bool:
+        return self.label not in ("", LABELS.get(self.password, self.label))
+
+    def known_by(self) -> bytes:
+        """What is the same where nothing was changed, whatever the envelope."""
+        closed = self.salt if self.password == UNNAMED else ""
+        label, owner = self.label or "default", LABELS.get(self.password)
+        return f"{label} {owner} {closed} {self.indentation} {self.text!r}".encode()
+
+
+class Merge(NamedTuple):
+    base: list[Value]
+    ours: list[Value]
+    theirs: list[Value]
+
+    def documents(self) -> list[bytes]:
+        return [document(values, Value.block) for values in self]
+
+
+def document(values: list[Value], shown) -> bytes:
+    keyed = [shown(value) for value in values if value.key]
+    items = [shown(value) for value in values if not value.key]
+    return b"".join([b"start: 1\n", *keyed, b"list:\n", *items, b"end: 1\n"])
+
+
+def plain(values: list[Value]) -> bytes:
+    """The plaintexts, with a number for each of those that are equal, and a line that keeps two values apart."""
+    equal: Counter[tuple[str, bytes]] = Counter()
+
+    def shown(value: Value) -> bytes:
+        equal[value.key, value.known_by()] += 1
+        number = equal[value.key, value.known_by()]
+        return value.head() + value.known_by() + b" %d\n# %s\n" % (number, value.key.encode())
+
+    return document(values, shown)
+
+
+@functools.cache
+def secret_of(name: str) -> Secret:
+    found = Secret(Source(LABELS[name], name, f"{LABELS[name]}@{name}"))
+    found.descriptor = os.memfd_create("password")
+    os.write(found.descriptor, PASSWORDS[name])
+    return found
+
+
+class Tool:
+    """In the place of the program, by the model of the tests."""
+
+    def __init__(self) -> None:
+        self.salts = itertools.cycle(SALTS)
+        self.made: set[bytes] = set()
+
+    def view(self, envelope: bytes, secret: Secret) -> bytes:
+        text = decrypted(secret.path, envelope)
+        if text is None:
+            raise Refused("no secret decrypts this vault")
+        return text
+
+    def decrypt(self, envelope: bytes) -> tuple[Secret, bytes]:
+        for secret in secret_files.in_order([*map(secret_of, LABELS)], label_of(envelope)):
+            text = decrypted(secret.path, envelope)
+            if text is not None:
+                return secret, text
+        raise Refused("no secret decrypts this vault")
+
+    def encrypt(self, plaintext: bytes, secret: Secret, label: str) -> bytes:
+        shown = b"" if label == "default" else label.encode()
+        envelope = seal(PASSWORDS[secret.path], plaintext, shown, next(self.salts))
+        self.made.add(envelope)
+        return envelope
+
+
+def by_git(folder: Path, contents: list[bytes]) -> tuple[bytes, int]:
+    """What git makes of base, ours and theirs, with how many conflicts there are."""
+    names = ["base", "ours", "theirs"]
+    for name, content in zip(names, contents):
+        (folder / name).write_bytes(content)
+    words = ["-L", "ours", "-L", "base", "-L", "theirs", "ours", "base", "theirs"]
+    done = subprocess.run(["git", "merge-file", "-p", *words], cwd=folder, capture_output=True)
+    return re.sub(rb"(?m)^# .*\n", b"", done.stdout), done.returncode
+
+
+@st.composite
+def random_value(draw, key: str) -> Value:
+    password = draw(st.sampled_from(["dev", "prod", "prod", "prod2", "old", "new", UNNAMED]))
+    label = draw(st.sampled_from([LABELS.get(password, "dev"), LABELS.get(password, "dev"), ""]))
+    text, salt = draw(st.sampled_from(TEXTS)), draw(st.sampled_from(range(len(SALTS))))
+    return Value(key, text, "" if label == "default" else label, password, salt, draw(st.sampled_from(INDENTATIONS)))
+
+
+def rekeyed(value: Value) -> Value:
+    """Under another secret of its label, where there is one."""
+    others = [name for name, label in LABELS.items() if label == LABELS.get(value.password) and name != value.password]
+    return value._replace(password=others[0] if others else value.password)
+
+
+def changed(kind: str, value: Value, other: Value, new: Value) -> list[Value]:
+    """What takes the place of a value."""
+    anew = value._replace(salt=(value.salt + 1) % len(SALTS))
+    added = new._replace(key=value.key and f"{value.key}{new.text[:1].decode()}", text=value.text)
+    return {
+        "": [value],
+        "text": [anew._replace(text=new.text)],
+        "encrypted anew": [anew],
+        "rekeyed": [rekeyed(value)],
+        "removed": [],
+        "indented": [value._replace(indentation=new.indentation)],
+        "added": [added, value],
+        "mislabelled": [anew._replace(password="dev", text=new.text)],
+        "relabelled": [value._replace(label=new.label)],
+        "copied": [other._replace(key=value.key)],
+        "guessed": [added._replace(label=value.label, password="dev"), value],
+    }[kind]
+
+
+@st.composite
+def random_merge(draw, counts: Counter[str]) -> Merge:
+    keys = ["a", "b", "c", ITEM, ITEM][draw(st.integers(0, 3)) :][: draw(st.integers(1, 5))]
+    base = [draw(random_value(key)) for key in keys]
+    sides: list[list[Value]] = []
+    for kinds in (HONEST, HONEST + HOSTILE * draw(st.sampled_from([0, 2]))):
+        chosen = [draw(st.sampled_from(["", "", "", "text", "rekeyed", *kinds])) for _ in base]
+        counts.update(chosen)
+        others = [(draw(st.sampled_from(base)), draw(random_value(ITEM))) for _ in base]
+        sides.append([each for row in zip(chosen, base, others) for each in changed(row[0], row[1], *row[2])])
+    return Merge(base, *(sides if draw(st.booleans()) else reversed(sides)))
+
+
+class Found(NamedTuple):
+    """A block of a result."""
+
+    key: str
+    block: bytes
+    envelope: bytes
+
+
+def blocks_of(content: bytes) -> list[Found]:
+    found = []
+    for each in BLOCK.finditer(content):
+        envelope = b"".join(line.lstrip(b" ") for line in each[2].splitlines(keepends=True))
+        found.append(Found(each[1].decode().strip(" -:"), each[0], envelope))
+    return found
+
+
+def in_plaintext(content: bytes, tool: Tool, known: dict[bytes, Value]) -> bytes:
+    """A result with what each block is known by."""
+
+    def shown(found: re.Match[bytes]) -> bytes:
+        [each] = blocks_of(found[0])
+        value = known.get(each.envelope)
+        if not value:
+            secret, text = tool.decrypt(each.envelope)
+            label = label_of(each.envelope) or ""
+            value = Value("", text, "" if label == "default" else label, secret.path, 0, 0)
+        indentation = len(found[2]) - len(found[2].lstrip(b" "))
+        return found[1] + value._replace(indentation=indentation).known_by() + b"\n"
+
+    return BLOCK.sub(shown, content)
+
+
+def check_new(merge: Merge, tool: Tool, found: Found) -> None:
+    """A text is encrypted under another password if the other side has put the value under it, by its label."""
+    assert found.envelope in tool.made, "an envelope that no side has"
+    secret, text = tool.decrypt(found.envelope)
+    before, ours, theirs = ([value for value in values if value.key == found.key] for values in merge)
+    for [mine], [other] in ((ours, theirs), (theirs, ours)):
+        is_of_side = (mine.text, mine.password) == (text, before[0].password)
+        is_rekeyed = (other.text, other.password) == (before[0].text, secret.path)
+        all_three = (before[0], mine, other)
+        labels = {value.label for value in all_three} | {label_of(found.envelope) or ""} - {"default"}
+        owners = {LABELS[value.password] for value in all_three}
+        if is_of_side and is_rekeyed and len(labels) == len(owners) == 1 and not mine.is_mislabelled():
+            return
+    raise AssertionError("a text under a password that it was not under")
+
+
+def check_places(merge: Merge, found: list[Found]) -> None:
+    """What no side, or one alone, has touched is there to the byte."""
+    at = [{value.key: value.block() for value in values} for values in merge]
+    for each in found:
+        before, ours, theirs = (values.get(each.key) for values in at)
+        if each.key and before in (ours, theirs):
+            assert each.block == (theirs if before == ours else ours), "the value of the side that changed it"
+    items = [[value.block() for value in values if not value.key] for values in merge]
+    if items[0] == items[1] == items[2]:
+        assert [each.block for each in found if not each.key] == items[0], "a list that nobody changed"
+
+
+def check_merge(folder: Path, merge: Merge) -> list[str]:
+    """What kinds of merges it was."""
+    import yaml
+
+    tool = Tool()
+    wanted, conflicts = by_git(folder, [plain(values) for values in merge])
+    known = {value.envelope(): value for values in merge for value in values}
+    before = [value.envelope() for value in merge.base]
+    foreign = [each for each in merge.ours + merge.theirs if each.is_mislabelled() and each.envelope() not in before]
+    try:
+        result = merging.merged(tool, tool.decrypt, *merge.documents())
+    except Refused as fault:
+        assert foreign and "its label is" in str(fault), fault
+        return ["refused"]
+    assert not foreign, "what another label's secret decrypts is refused"
+    found = blocks_of(result.content)
+    blocks = {value.block() for values in merge for value in values}
+    new = [each for each in found if each.block not in blocks]
+    for each in new:
+        check_new(merge, tool, each)
+    assert in_plaintext(result.content, tool, known) == re.sub(rb"(?m)(?<=') \d+$", b"", wanted), "the merge by git"
+    assert result.conflicts == conflicts
+    if not conflicts:
+        list(yaml.parse(result.content))
+        check_places(merge, [each for each in found if each not in new])
+    return ["conflicts" if conflicts else "merged", *(["under a new secret"] if new else [])]
+
+
+def test_of_values(request: pytest.FixtureRequest, tmp_path: Path) -> None:
+    needs("git")
+    needs_pyyaml()
+    counts: Counter[str] = Counter()
+
+    @hypothesis.seed(request.config.getoption("--seed"))
+    @hypothesis.settings(
+        max_examples=EXAMPLES, deadline=None, database=None, suppress_health_check=list(hypothesis.HealthCheck)
+    )
+    @hypothesis.given(random_merge(counts))
+    def check(merge: Merge) -> None:
+        counts.update(check_merge(tmp_path, merge))
+
+    check()
+    assert [(kind, counts[kind], least) for kind, least in LEAST.items() if counts[kind] < least] == []
+
+
+# Vaults by their labels and passwords.
+VAULTS = [
+    *itertools.product(["prod"], ["prod", "prod2", "dev"]),
+    *itertools.product([""], ["prod", "prod2", "dev", "old", "new"]),
+    ("dev", "dev"),
+]
+
+
+def test_of_vaults(tmp_path: Path, monkeypatch: pytest.MonkeyPatch) -> None:
+    """Each text of the result was under its password on its side, or all are under secrets of one label."""
+    needs("git")
+    monkeypatch.chdir(tmp_path)
+    for words in (["init", "-q"], ["config", "merge.conflictStyle", "diff3"]):
+        subprocess.run(["git", *words], check=True)
+    texts = [b"the base\n", b"our text\n", b"their text\n"]
+    moved = 0
+    for vaults in itertools.product(VAULTS, repeat=3):
+        values = [Value("", text, *vault, 0, 0) for text, vault in zip(texts, vaults)]
+        before, ours, theirs = values
+        tool = Tool()
+        is_kept = ours.password == theirs.password and ours.label == theirs.label
+        is_rekeyed = before.password in (ours.password, theirs.password)
+        is_one_label = len({(each.label, LABELS[each.password]) for each in values}) == 1
+        try:
+            result = merging.merged(tool, tool.decrypt, *(each.envelope() for each in values)).content
+        except Refused:
+            is_foreign = ours.is_mislabelled() or theirs.is_mislabelled()
+            assert is_foreign or not (is_kept or is_rekeyed and is_one_label), vaults
+            continue
+        assert not ours.is_mislabelled() and not theirs.is_mislabelled(), vaults
+        secret, text = tool.decrypt(result)
+        for each in (each for each in values if each.text in text):
+            is_same_label = (each.label, LABELS[each.password]) == (ours.label, LABELS[secret.path])
+            assert each.password == secret.path or is_same_label and not each.is_mislabelled(), (vaults, each)
+        assert ours.text in text and theirs.text in text, vaults
+        if ours.password != theirs.password:
+            assert secret.path == (ours if before.password == theirs.password else theirs).password, vaults
+            moved += 1
+    assert moved == 12, "those that are rekeyed"
+
+
+def test_of_one_value() -> None:
+    """We change its text, and they encrypt it again: it is under a new secret where all three have one label."""
+    needs("git")
+    needs_pyyaml()
+    moved = 0
+    for vaults in itertools.product(VAULTS, repeat=3):
+        rows = zip((b"text", b"our text", b"text"), vaults, range(3))
+        before, ours, theirs = ([Value("a", text, *vault, salt, 10)] for text, vault, salt in rows)
+        merge, tool = Merge(before, ours, theirs), Tool()
+        try:
+            content = merging.merged(tool, tool.decrypt, *merge.documents()).content
+        except Refused:
+            assert ours[0].is_mislabelled() or theirs[0].is_mislabelled(), vaults
+            continue
+        new = [each for each in blocks_of(content) if each.envelope in tool.made]
+        for each in new:
+            check_new(merge, tool, each)
+        moved += len(new)
+    assert moved == 6, "those that are rekeyed"
