@@ -1,4 +1,15 @@
 //! Where a program finds its files: over the runtime, or in memory.
+//!
+//! ```rust
+//! let entries = [MemFile::whole("one", b"first\n")];
+//! let mut files = MemFiles::new(alloc, &entries);
+//! let mut output = FileOutput::new(&mut files, "two", Access::OwnerOnly);
+//! output.begin()?;
+//! put_all(&mut output, b"second\n")?;
+//! output.finish()?;
+//! assert!(rt; files.content("one") == Some(b"first\n".as_slice()));
+//! assert!(rt; files.content("two") == Some(b"second\n".as_slice()));
+//! ```
 #![tactic(auto)]
 
 mod access;
