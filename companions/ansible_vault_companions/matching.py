@@ -84,6 +84,7 @@ def actions(blocks: list[Decrypted], typed: list[Typed], choice: Choice) -> list
     left: dict[Path, list[Decrypted]] = {}
     for block in blocks:
         left.setdefault(block.path, []).append(block)
+    _keep_in_place(found, left, typed)
     _keep(found, left, typed)
     kept = [action.block for action in found.values()]
     unkept = [block for block in blocks if block not in kept]
@@ -97,9 +98,22 @@ def actions(blocks: list[Decrypted], typed: list[Typed], choice: Choice) -> list
     return [found[number] for number in range(len(typed))]
 
 
+def _keep_in_place(found: dict[int, Action], left: dict[Path, list[Decrypted]], typed: list[Typed]) -> None:
+    """Those that stayed as they were, where as many values are at the same keys as before. Another one of these, such
+    as of a list, may have the same text under another secret."""
+    for path, before in left.items():
+        there = [(number, each) for number, each in enumerate(typed) if each.value.path == path]
+        for (number, each), block in zip(there, [*before]) if len(there) == len(before) else ():
+            if each.plaintext == block.plaintext:
+                before.remove(block)
+                found[number] = Action(block)
+
+
 def _keep(found: dict[int, Action], left: dict[Path, list[Decrypted]], typed: list[Typed]) -> None:
-    """Those that stayed as they were."""
+    """The others that stayed as they were."""
     for number, each in enumerate(typed):
+        if number in found:
+            continue
         candidates = left.get(each.value.path, [])
         same = next((block for block in candidates if block.plaintext == each.plaintext), None)
         if same:

@@ -173,3 +173,14 @@ def test_lists(place: Place) -> None:
     place.put("vars.yml", content)
     done = edit(place, 'sed -i "s/one/eins/; s/^l:/l:\\n- !vault neu/" "$1"', *words, "--encrypt-vault-id", "prod")
     ended("new or changed", done, 1, "may be new or changed")
+
+
+def test_equal_items(place: Place) -> None:
+    """A value of a list that stays keeps its envelope, even if another one had the same text under another secret."""
+    first, second = (lines_of(sealed(name, b"same", label=name), 4) for name in ("old", "prod"))
+    place.put("list.yml", b"users:\n- !vault |\n" + first + b"\n- !vault |\n" + second + b"\n")
+    words = [*place.by_id("old", "old"), *place.by_id("prod", "prod"), "list.yml"]
+    silent("an edit", edit(place, 'sed -i "0,/same/s//changed/" "$1"', *words))
+    after = place.get("list.yml")
+    assert (first in after, after.endswith(second + b"\n")) == (False, True), after
+    assert texts(after, "old")[0] == b"changed"
