@@ -1,0 +1,123 @@
+"""What a run costs, in figures that are the same each time, whatever else the machine does: instructions by function,
+allocations of memory, and modules that Python imports.
+
+Valgrind's callgrind counts the instructions. Standard input and output are files, since a pipe gives what it happens
+to hold. The C library chooses among its copying functions by the processor, so those for the newest are ruled out.
+"""
+
+import os
+import re
+import subprocess
+import sys
+import tempfile
+from collections import Counter
+from pathlib import Path
+from typing import Any, NamedTuple
+
+from lib.limits import SECONDS
+
+ENVIRONMENT = {"GLIBC_TUNABLES": "glibc.cpu.hwcaps=-AVX512F,-AVX512VL,-AVX2,-AVX_Fast_Unaligned_Load,-ERMS,-FSRM"}
+# The library that counts allocations, and the descriptor to which it reports them.
+LIBRARY = "count_allocations"
+REPORT_DESCRIPTOR = 3
+# The parts of a run, each with what the names of its functions begin with; what is left is the rest.
+PARTS = {
+    "SHA-256": "sha2::block256::compress",
+    "AES": "vault_aes::key::Key::block",
+    "digits read": "vault_text::hexadecimal::",
+    "digits written": "vault_text::writing::",
+}
+REST, TOTAL = "the rest", "total"
+# What the compiler and the kit write into a program, and the processor that it asks for.
+BUILT_BY = re.compile(rb"Linker: (LLD [\d.]+)|(rattle logic=[0-9a-f]{16})|(x86-64-v\d)(?=, which)")
+# The parameters of a generic function, and the version of one of the C library.
+SUFFIX = re.compile(r"::<.*|@.*|'\d+$")
+
+
+class Allocations(NamedTuple):
+    number: int
+    peak: int
+
+
+class Done(NamedTuple):
+    """How a run ended."""
+
+    status: int
+    output: bytes
+    message: bytes
+
+
+def built_by(program: str) -> str:
+    """The compiler, the kit and the processor that a program was built by and for."""
+    found = {b"".join(each).decode() for each in BUILT_BY.findall(Path(program).read_bytes())}
+    return ", ".join(sorted(found))
+
+
+def run(command: list[str], stdin: bytes, environment: dict[str, str], **options: Any) -> Done:
+    with tempfile.TemporaryFile() as given, tempfile.TemporaryFile() as output:
+        given.write(stdin)
+        given.seek(0)
+        done = subprocess.run(
+            command, stdin=given, stdout=output, stderr=subprocess.PIPE, env=environment, timeout=SECONDS, **options
+        )
+        output.seek(0)
+        return Done(done.returncode, output.read(), done.stderr)
+
+
+def functions_of(profile: Path) -> Counter[str]:
+    """The instructions of each function itself, of a file that callgrind wrote without compressed names."""
+    counts: Counter[str] = Counter()
+    name, is_call = "", False
+    with profile.open(errors="replace") as lines:
+        for line in lines:
+            if line.startswith("fn="):
+                name = SUFFIX.sub("", line[3:].strip())
+            elif line.startswith("calls="):
+                is_call = True
+            elif line[:1].isdigit():
+                # Behind a call stands what it cost, which is counted where it was spent.
+                counts[name] += 0 if is_call else int(line.split()[1])
+                is_call = False
+    return counts
+
+
+def count_instructions(command: list[str], stdin: bytes) -> tuple[Done, Counter[str]]:
+    with tempfile.TemporaryDirectory() as folder:
+        profile = Path(folder) / "profile"
+        options = ["--compress-strings=no", "--compress-pos=no", f"--callgrind-out-file={profile}"]
+        log = [f"--log-file={folder}/log"]
+        done = run(["valgrind", "--tool=callgrind", *options, *log, *command], stdin, ENVIRONMENT)
+        return done, functions_of(profile)
+
+
+def parts_of(functions: Counter[str]) -> dict[str, int]:
+    """The instructions of each part, and of all."""
+    parts = dict.fromkeys([*PARTS, REST], 0)
+    for name, count in functions.items():
+        parts[part_of(name)] += count
+    return {**parts, TOTAL: functions.total()}
+
+
+def part_of(function: str) -> str:
+    return next((part for part, start in PARTS.items() if function.startswith(start)), REST)
+
+
+def count_allocations(library: str, command: list[str], stdin: bytes) -> tuple[Done, Allocations]:
+    """The library is built of `count_allocations.c`."""
+    with tempfile.TemporaryFile() as report:
+        done = run(
+            command, stdin, {"LD_PRELOAD": library},
+            pass_fds=[REPORT_DESCRIPTOR], preexec_fn=lambda: os.dup2(report.fileno(), REPORT_DESCRIPTOR),
+        )
+        report.seek(0)
+        number, peak = report.read().split()
+    return done, Allocations(int(number), int(peak))
+
+
+def imported_modules(script: Path) -> list[str]:
+    """The modules that Python imports until a companion has printed its help."""
+    command = [sys.executable, "-ESB", "-X", "importtime", str(script), "--help"]
+    nothing: dict[str, str] = {}
+    done = subprocess.run(command, capture_output=True, text=True, env=nothing, timeout=SECONDS)
+    lines = [line for line in done.stderr.splitlines() if line.startswith("import time:")]
+    return [line.rpartition("|")[2].strip() for line in lines[1:]]
