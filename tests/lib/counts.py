@@ -21,11 +21,12 @@ ENVIRONMENT = {"GLIBC_TUNABLES": "glibc.cpu.hwcaps=-AVX512F,-AVX512VL,-AVX2,-AVX
 LIBRARY = "count_allocations"
 REPORT_DESCRIPTOR = 3
 # The parts of a run, each with what the names of its functions begin with; what is left is the rest.
-PARTS = {
+PARTS: dict[str, str | tuple[str, ...]] = {
     "SHA-256": "sha2::block256::compress",
     "AES": "vault_aes::key::Key::block",
     "digits read": "vault_text::hexadecimal::",
-    "digits written": "vault_text::writing::",
+    # The lines of an envelope are inlined into what delivers it.
+    "digits written": ("vault_text::writing::", "vault_cli::runs::deliver"),
 }
 REST, TOTAL = "the rest", "total"
 # What the compiler and the kit write into a program, and the processor that it asks for.
