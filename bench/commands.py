@@ -5,14 +5,16 @@ Usage: commands.py PROGRAM [--runs N] [--time clock|processor] [--only START] [-
 
 Of five or more runs of a tool the median is shown, with the minimum and the maximum in parentheses. A ratio is that of
 the medians, with the extremes of single turns in parentheses. It is of processor time, which other work on the machine
-affects least; a ratio of wall-clock times is printed only if both times agree. The vaults are made by the tests' own
-Python; Ansible's tool is found as `tests/lib/ansible.py` says. The last lines are the table of docs/speed.md. The chart
-shows time and memory of `view` against the size of the vault.
+affects least; a ratio of wall-clock times is printed only if both times agree. Below the times stand the instructions
+of a run of this tool, as Valgrind counts them. The vaults are made by the tests' own Python; Ansible's tool is found as
+`tests/lib/ansible.py` says. The last lines are the table of docs/speed.md. The chart shows time and memory of `view`
+against the size of the vault.
 """
 
 import argparse
 import json
 import os
+import shutil
 import subprocess
 import sys
 import tempfile
@@ -26,6 +28,7 @@ TESTS = HERE.parent / "tests"
 sys.path.insert(0, str(TESTS))
 
 from lib.ansible import ansible_vault
+from lib.counts import count_instructions, parts_of
 from measured import CLOCK, PROCESSOR, Spread, Task, Times, measure_in_turn, options, spread
 from model.vaults import seal
 
@@ -200,6 +203,14 @@ def print_alias(row: Row, runs: int, kind: str) -> None:
     print(f"{row.name}: {each}; {ratio}")
 
 
+def print_instructions(row: Row) -> None:
+    """Of a run by this tool, which are the same on each machine."""
+    if shutil.which("valgrind"):
+        _, functions = count_instructions(row.tasks[OURS].command, row.tasks[OURS].stdin)
+        parts = ", ".join(f"{part} {count / 1e6:.1f}" for part, count in parts_of(functions).items())
+        print(f"{'':36} millions of instructions: {parts}", flush=True)
+
+
 def draw(points: list[dict[str, Any]], path: str) -> None:
     subprocess.run([str(HERE / "chart.py"), path], input=json.dumps(points).encode(), check=True)
 
@@ -242,6 +253,7 @@ def main() -> None:
         for row in rows.chosen(QUICK_SIZES if args.quick else SIZES, args.only):
             measured[row.name] = measure_in_turn(row.tasks, args.runs)
             print(line_of(row.name, measured[row.name], args.time), flush=True)
+            print_instructions(row)
         if rows.alias.__name__.startswith(args.only):
             print_alias(rows.alias(), args.runs, args.time)
         if args.chart:

@@ -28,7 +28,7 @@ PROGRAM = ROOT / "bin" / "ansible-vault"
 OUTCOMES = "outcomes"
 # How many tests of each part have to be run with --floors, the others by their markers; and how much they have to make
 # of what they record. Rows that are no tests of their own are counted as one kind.
-FLOORS = {OUTCOMES: 2600, "fuzz": 6, "faults": 44, "allocations": 40, "valgrind": 45, "newcomer": 16}
+FLOORS = {OUTCOMES: 2600, "fuzz": 6, "faults": 44, "allocations": 40, "valgrind": 69, "newcomer": 16}
 ROWS = "subtests"
 HAS_FAILED = pytest.StashKey[bool]()
 LEAST = {ROWS: 4500, "random requests": 200, "refused calls": 700, "signals": 36, "refused allocations": 1200}

@@ -12,7 +12,7 @@ from collections import Counter
 from collections.abc import Callable
 from concurrent.futures import ThreadPoolExecutor
 from pathlib import Path
-from typing import NamedTuple
+from typing import Any, NamedTuple, TypeVar
 
 import pytest
 
@@ -27,6 +27,9 @@ from model.faults import Fault
 from model.vaults import ENVELOPE_LIMIT, MAGIC
 
 pytestmark = pytest.mark.valgrind
+
+Table = dict[str, Any]
+Found = TypeVar("Found")
 
 TABLE = ROOT / "tests" / "counts.toml"
 SPEED = ROOT / "docs" / "speed.md"
@@ -48,22 +51,25 @@ class Run(NamedTuple):
     wanted: Done
 
 
+def repeated(line: bytes, length: int) -> bytes:
+    return (line * (length // len(line) + 1))[:length]
+
+
 def run_of(cases: Cases, name: str) -> Run:
     if name == REFUSED:
-        line = b"3" * 80 + b"\n"
-        text = (MAGIC + b";1.1;AES256\n" + line * (ENVELOPE_LIMIT // len(line) + 1))[: ENVELOPE_LIMIT + 1]
-        words, wanted = ["view", *by_file(cases.file(b"right\n"))], Done(Fault.TOO_LONG.status, b"", Fault.TOO_LONG.line)
-        return Run([cases.program, *words], text, wanted)
+        header = MAGIC + b";1.1;AES256\n"
+        text = header + repeated(b"3" * 80 + b"\n", ENVELOPE_LIMIT + 1 - len(header))
+        wanted = Done(Fault.TOO_LONG.status, b"", Fault.TOO_LONG.line)
+        return Run([cases.program, "view", *by_file(cases.file(b"right\n"))], text, wanted)
     command, _, size = name.partition(", ")
-    text = (b"secret: value of %d bytes\n" % SIZES[size] * SIZES[size])[: SIZES[size]]
-    sample = sample_of(cases, command, text)
+    sample = sample_of(cases, command, repeated(b"secret: value\n", SIZES[size]))
     return Run([cases.program, *sample.words], sample.stdin, Done(0, sample.output, b""))
 
 
-def of_each(cases: Cases, count: Callable[[Run], tuple[Done, object]]) -> dict[str, object]:
+def of_each(cases: Cases, count: Callable[[Run], tuple[Done, Found]]) -> dict[str, Found]:
     """The count of each run, all of which have to end as they should."""
 
-    def counted(name: str) -> object:
+    def counted(name: str) -> Found:
         run = run_of(cases, name)
         done, found = count(run)
         assert done == run.wanted, f"{name}: {done.status}, {done.message!r}, or another output"
@@ -86,7 +92,7 @@ def imports() -> dict[str, int]:
     return {name: len(imported_modules(path)) for name, path in COMPANIONS.items()}
 
 
-def table() -> dict:
+def table() -> Table:
     return tomllib.loads(TABLE.read_text())
 
 
@@ -101,8 +107,8 @@ def is_over(found: int, stored: int) -> bool:
 
 def culprits(part: str, found: Counter[str], stored: Counter[str]) -> str:
     """The functions of a part that grew or shrank most; those that the table lacks are among its others."""
-    changed = {name: count - stored[name] for name, count in found.items() if part in (TOTAL, part_of(name))}
-    changed |= {name: -count for name, count in stored.items() if name not in found and name != OTHERS}
+    names = [name for name in found | stored if part in (TOTAL, part_of(name)) and name != OTHERS]
+    changed = {name: found[name] - stored[name] for name in names}
     most = sorted((name for name in changed if abs(changed[name]) > SLACK), key=lambda name: -abs(changed[name]))
     return ", ".join(f"{name} {stored[name]:,} -> {found[name]:,}" for name in most[:4])
 
@@ -121,7 +127,7 @@ def misses(found: Counter[str], stored: Counter[str]) -> list[str]:
 
 
 @pytest.fixture(scope="module")
-def stored(program: str) -> dict:
+def stored(program: str) -> Table:
     needs("valgrind", "cc")
     stored = table()
     needs_same("a program by", stored["built_by"], built_by(program))
@@ -129,16 +135,25 @@ def stored(program: str) -> dict:
 
 
 @pytest.fixture(scope="module")
-def counted(program: str, stored: dict, tmp_path_factory: pytest.TempPathFactory) -> dict[str, Counter[str]]:
+def counted(program: str, stored: Table, tmp_path_factory: pytest.TempPathFactory) -> dict[str, Counter[str]]:
     return instructions(Cases(program, tmp_path_factory.mktemp("counted")))
 
 
 @pytest.mark.parametrize("name", RUNS)
-def test_instructions(counted: dict[str, Counter[str]], stored: dict, name: str) -> None:
+def test_instructions(counted: dict[str, Counter[str]], stored: Table, name: str) -> None:
     assert misses(counted[name], Counter(stored["instructions"][name])) == []
 
 
-def test_allocations(cases: Cases, stored: dict) -> None:
+def test_what_is_slower_is_named() -> None:
+    reading = "vault_text::hexadecimal::decode_block"
+    before = Counter({reading: 4_000_000, OTHERS: 90_000_000})
+    [more] = misses(before + Counter({reading: 80_000}), before)
+    assert more.startswith("more than the table allows: digits read") and reading in more
+    [less] = misses(before - Counter({reading: 80_000}), before)
+    assert less.startswith("less, so lower the table")
+
+
+def test_allocations(cases: Cases, stored: Table) -> None:
     found = allocations(cases)
     numbers, peaks = ({name: each[index] for name, each in stored["allocations"].items()} for index in (0, 1))
     assert {name: each.number for name, each in found.items()} == numbers
@@ -162,7 +177,7 @@ def rounded(functions: Counter[str]) -> dict[str, int]:
     return kept | {OTHERS: functions.total() - sum(kept.values())}
 
 
-def lines_of(stored: dict) -> list[str]:
+def lines_of(stored: Table) -> list[str]:
     """The table of docs/speed.md, in millions of instructions."""
     heading = [TOTAL, *PARTS, REST]
     lines = [f"| | {' | '.join(heading)} |", "|---" * (len(heading) + 1) + "|"]

@@ -12,7 +12,7 @@ import sys
 import tempfile
 from collections import Counter
 from pathlib import Path
-from typing import NamedTuple
+from typing import Any, NamedTuple
 
 from lib.limits import SECONDS
 
@@ -21,11 +21,12 @@ ENVIRONMENT = {"GLIBC_TUNABLES": "glibc.cpu.hwcaps=-AVX512F,-AVX512VL,-AVX2,-AVX
 LIBRARY = "count_allocations"
 REPORT_DESCRIPTOR = 3
 # The parts of a run, each with what the names of its functions begin with; what is left is the rest.
-PARTS = {
+PARTS: dict[str, str | tuple[str, ...]] = {
     "SHA-256": "sha2::block256::compress",
     "AES": "vault_aes::key::Key::block",
     "digits read": "vault_text::hexadecimal::",
-    "digits written": "vault_text::writing::",
+    # The lines of an envelope are inlined into what delivers it.
+    "digits written": ("vault_text::writing::", "vault_cli::runs::deliver"),
 }
 REST, TOTAL = "the rest", "total"
 # What the compiler and the kit write into a program, and the processor that it asks for.
@@ -53,7 +54,7 @@ def built_by(program: str) -> str:
     return ", ".join(sorted(found))
 
 
-def run(command: list[str], stdin: bytes, environment: dict[str, str], **options) -> Done:
+def run(command: list[str], stdin: bytes, environment: dict[str, str], **options: Any) -> Done:
     with tempfile.TemporaryFile() as given, tempfile.TemporaryFile() as output:
         given.write(stdin)
         given.seek(0)
@@ -117,6 +118,7 @@ def count_allocations(library: str, command: list[str], stdin: bytes) -> tuple[D
 def imported_modules(script: Path) -> list[str]:
     """The modules that Python imports until a companion has printed its help."""
     command = [sys.executable, "-ESB", "-X", "importtime", str(script), "--help"]
-    done = subprocess.run(command, capture_output=True, text=True, env={}, timeout=SECONDS)
+    nothing: dict[str, str] = {}
+    done = subprocess.run(command, capture_output=True, text=True, env=nothing, timeout=SECONDS)
     lines = [line for line in done.stderr.splitlines() if line.startswith("import time:")]
     return [line.rpartition("|")[2].strip() for line in lines[1:]]
