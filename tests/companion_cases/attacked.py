@@ -19,13 +19,13 @@ from hypothesis.stateful import RuleBasedStateMachine, initialize, invariant, ru
 
 from companion_cases import CHECK, EDIT, HOOK, MERGE, ROTATE, WITH, Companions
 from companion_cases.oracle import DEV, NAMES, PROD, TOKEN, Place, Spot, Tree, Watch, block, envelopes, is_false
-from companion_cases.oracle import is_merged, label_of, make, opened, put_tree, read_tree, spots, values, visible
+from companion_cases.oracle import is_merged, label_of, make, opened, put_tree, read_tree, spots, tokens, values, visible
 from companion_cases.stranger import MOVES, Stranger
 from companion_cases.surroundings import Surroundings
 from lib.needs import needs, needs_pyyaml
 from model.vaults import MAGIC
 
-EXAMPLES = 50
+EXAMPLES = 60
 STEPS = 12
 ATTRIBUTES = b"*.yml merge=ansible-vault\nvars.yml diff=ansible-vault\n"
 TAKE_OURS = "sed -i '/^=======/,/^>>>>>>>/d; /^<<<<<<< /d' \"$1\""
@@ -40,7 +40,7 @@ PLACES = [
 REPLACE = "$0 ~ key { n++ } n == number && !done { done = sub(old, new) } { print }"
 # What the names of copies begin with.
 COPY = ".ansible-vault-saved-"
-EDITS = [*["change"] * 5, "add", "misspelt", "UTF-16"]
+EDITS = [*["change"] * 16, "add", "add", "misspelt", "UTF-16"]
 MISSPELT = ["!Vault", "!vaul", "! vault", "!vault:", "!!vault"]
 TAKING = {
     "merge": ["merge", "--quiet", "--no-edit", "stranger"],
@@ -62,10 +62,8 @@ class Attack(RuleBasedStateMachine):
         self.current = {DEV: 0, PROD: 0}
         # What the stranger has guessed, and what the owner was warned of.
         self.known: set[bytes] = set()
-        # Where the stranger has changed something that is not merged yet, and the trees before.
+        # Where the stranger has changed something that is not merged yet.
         self.touched: set[Place] = set()
-        self.base: Tree = {}
-        self.before_last: Tree = {}
         surroundings.begin()
         self.watch = Watch(surroundings.owner, self.place.runtime, surroundings.outside.parent / "saved")
 
@@ -140,7 +138,6 @@ class Attack(RuleBasedStateMachine):
         for name, content in files.items():
             self.place.put(name, content)
         self.place.shell("git add -A && git commit -qm start && git worktree add -q ../stranger -b stranger")
-        self.base = self.before_last = files
 
     @rule(
         data=st.data(),
@@ -150,10 +147,11 @@ class Attack(RuleBasedStateMachine):
     )
     def merge(self, data: st.DataObject, moves: list[str], meanwhile: list[str], how: str) -> None:
         """What the stranger has changed, after the owner has changed something else."""
+        base = read_tree(self.around.stranger)
         self.attack(data, moves)
         for kind in meanwhile:
             self.work(data, kind)
-        self.take(data, how)
+        self.take(data, how, base)
 
     @rule(data=st.data(), kind=st.sampled_from(WORK))
     def work(self, data: st.DataObject, kind: str) -> None:
@@ -175,17 +173,16 @@ class Attack(RuleBasedStateMachine):
             shutil.copy(self.around.canary, self.around.stranger)
         self.place.shell("git add -A && git commit -qm attack", folder="../stranger")
         self.known |= stranger.guessed
-        self.before_last = before
-        was = {(spot.place, spot.envelope) for spot in spots(self.base)}
+        was = {(spot.place, spot.envelope) for spot in spots(before)}
         self.touched = {spot.place for spot in spots(stranger.tree) if (spot.place, spot.envelope) not in was}
 
     def edit(self, data: st.DataObject) -> None:
         kind = data.draw(st.sampled_from(EDITS), "edit")
         before = self.tree()
-        found = [spot for spot in spots(before) if opened(spot.envelope)]
-        if not found:
+        shown = [spot for spot in spots(before) if tokens(spot)]
+        if not shown:
             return
-        spot = data.draw(st.sampled_from([*[each for each in found if each.place in self.touched] * 3, *found]), "what")
+        spot = data.draw(st.sampled_from([*[each for each in shown if each.place in self.touched] * 9, *shown]), "what")
         label = label_of(spot.envelope)
         if not spot.key and kind != "add":
             kind = "change"
@@ -205,7 +202,10 @@ class Attack(RuleBasedStateMachine):
             self.claim(after == before, "an edit that fails changes something", done)
         is_to_fail = kind in ("misspelt", "UTF-16") or not self.is_plain_sailing(before[spot.file])
         self.claim(is_to_fail or not done.returncode, "an edit fails", done)
-        self.compare_edited(before, after, spot, new)
+        envelope = self.compare_edited(before, after, spot)
+        found = opened(envelope)
+        is_changed = kind != "change" or found and new in found.text
+        self.claim(is_to_fail or is_changed, "an edit changes nothing", spot, envelope, done)
         self.commit(*["--verbose"] * data.draw(st.sampled_from([False, False, True]), "with the difference"))
 
     def edit_script(self, data: st.DataObject, kind: str, spot: Spot, new: str) -> tuple[list[str], str]:
@@ -218,27 +218,24 @@ class Attack(RuleBasedStateMachine):
             return ["--encrypt-vault-id", label or DEV], f"sed -i '1i {key}: {tag} {new}' \"$1\""
         if kind == "add":
             return [], f"echo '{key}: {new}' >> \"$1\""
-        found = opened(spot.envelope)
-        old = TOKEN.findall(found.text if found else b"") or [b"public"]
         where = f"-v key='^ *{spot.key.decode()}: ' -v number={spot.place.number}"
-        change = f"awk {where} -v old={old[-1].decode()} -v new={new} '{REPLACE}'"
+        change = f"awk {where} -v old={tokens(spot)[-1].decode()} -v new={new} '{REPLACE}'"
         return [], f'{change} "$1" > "$1.new" && mv "$1.new" "$1"'
 
-    def compare_edited(self, before: Tree, after: Tree, spot: Spot, new: bytes) -> None:
-        """What was not edited is as it was, and what was has its password and its label still."""
+    def compare_edited(self, before: Tree, after: Tree, spot: Spot) -> bytes:
+        """What was not edited is as it was, and what was has its password and its label still. Returns its envelope."""
         old = {each.place: each.envelope for each in spots(before)}
         now = {each.place: each.envelope for each in spots(after)}
         others = [place for place, envelope in old.items() if place != spot.place and now.get(place) != envelope]
         self.claim(not others, "an edit changes what it was not to change", others)
         envelope = now.get(spot.place, b"")
         was, found = opened(spot.envelope), opened(envelope)
-        assert was
         self.claim(label_of(envelope) == label_of(spot.envelope), "an edit changes a label", envelope)
-        self.claim(found and found.name == was.name, "an edit changes a password", was, found)
+        self.claim(was and found and found.name == was.name, "an edit changes a password", was, found)
+        return envelope
 
-    def take(self, data: st.DataObject, how: str) -> None:
+    def take(self, data: st.DataObject, how: str, base: Tree) -> None:
         ours, theirs = self.tree(), read_tree(self.around.stranger)
-        base = self.before_last if how == "cherry-pick" else self.base
         done = self.git(*TAKING[how])
         self.counts["merges"] += 1
         self.look()
@@ -248,7 +245,6 @@ class Attack(RuleBasedStateMachine):
             self.counts["merges without a conflict"] += 1
             self.compare_merged([base, ours, theirs], done)
         self.place.run("git", "-C", "../stranger", "reset", "--quiet", "--hard", "main")
-        self.base = self.before_last = self.tree()
         self.touched = set()
 
     def resolve(self, data: st.DataObject, how: str, ours: Tree, done: subprocess.CompletedProcess[str]) -> None:
@@ -273,7 +269,7 @@ class Attack(RuleBasedStateMachine):
         if sides[1].get(".gitattributes") != ATTRIBUTES:
             return
         after = self.tree()
-        for name in set.intersection(*map(set, [*sides, after])) - {".gitattributes"}:
+        for name in [each for each in after if all(each in side for side in sides) and each != ".gitattributes"]:
             contents = [side[name] for side in [*sides, after]]
             known = [side for side in map(values, contents) if side is not None]
             are_alike = len({each.startswith(MAGIC) for each in contents}) == 1
@@ -387,6 +383,7 @@ def test_stranger(
         return Attack(surroundings, counts)
 
     run_state_machine_as_test(hypothesis.seed(pytestconfig.getoption("--seed"))(machine), settings=settings)
-    for what in ("edits", "merges", "rotations"):
+    for what in ("edits", "rotations"):
         record_property(f"{what} beside a stranger", (counts[what], counts[what]))
+    record_property("merges with a stranger", (counts["merges without a conflict"], counts["merges"]))
     print(*(f"{what}: {count}" for what, count in sorted(counts.items())), sep="\n")

@@ -136,6 +136,12 @@ def spots(tree: Tree) -> list[Spot]:
     return [each for each in found if envelopes(each.envelope)]
 
 
+def tokens(spot: Spot) -> list[bytes]:
+    """Those of its text, if it can be decrypted."""
+    found = opened(spot.envelope)
+    return TOKEN.findall(found.text) if found else []
+
+
 def block(key: bytes, envelope: bytes, spaces: bytes = b"", tag: bytes = b"!vault") -> bytes:
     lines = b"".join(spaces + b"    " + line + b"\n" for line in envelope.splitlines())
     return spaces + key + b": " + tag + b" |\n" + lines
@@ -208,13 +214,22 @@ class Watch:
 
 
 def is_merged(base: Value | None, ours: Value | None, theirs: Value | None, found: Value | None) -> bool:
-    """Whether it is what one side has changed, or, where both have changed an envelope, has a text of theirs."""
-    if theirs in (base, ours):
-        return found == ours
-    if ours == base:
-        return found == theirs
-    texts = [each and (text_of(each[1]) or each[1]) for each in (base, ours, theirs, found)]
-    return texts[3] == (texts[1] if texts[2] in texts[:2] else texts[2]) and len({*texts[:3]}) < 3
+    """Whether it is what one side has changed. Where both have, that goes for its tag and its envelope each, and if both
+    have changed that, for its text."""
+    if theirs in (base, ours) or ours == base:
+        return found == (theirs if ours == base else ours)
+    if not (base and ours and theirs and found):
+        return False
+    tags, envelopes_ = zip(base, ours, theirs, found)
+    texts = tuple(text_of(each) or each for each in envelopes_)
+    return is_of_one(*tags) and (is_of_one(*envelopes_) or found[1] not in envelopes_[:1] and is_of_one(*texts))
+
+
+def is_of_one(base: object, ours: object, theirs: object, found: object) -> bool:
+    """Whether it is that of the side that has changed it."""
+    if ours in (base, theirs) or theirs == base:
+        return found == (theirs if ours == base else ours)
+    return False
 
 
 def text_of(envelope: str) -> bytes:

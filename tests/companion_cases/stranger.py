@@ -127,6 +127,7 @@ def others_than(label: str) -> list[str]:
 
 # Those that matter more are there more often.
 MOVES = [
-    *["relabel", "copy", "replace", "guess"] * 3,
+    *["relabel", "copy", "guess"] * 3,
+    *["replace"] * 5,
     *["duplicate", "nest", "retag", "rename", "link", "attributes", "settings"],
 ]
