@@ -101,7 +101,8 @@ class Attack(RuleBasedStateMachine):
     def is_plain_sailing(self, content: bytes) -> bool:
         """Whether nothing in a file gives a companion a reason to refuse it."""
         found = envelopes(content)
-        is_usual = values(content) is not None and content.count(b"!vault ") == content.count(b"!")
+        tags = [tag for tag, _ in (values(content) or {}).values() if tag.startswith("!")]
+        is_usual = content.startswith(MAGIC) or tags == ["!vault"] * len(found)
         return bool(found) and is_usual and not any(map(is_false, found))
 
     def is_clear(self, tree: Tree, spot: Spot) -> bool:
@@ -304,7 +305,7 @@ class Attack(RuleBasedStateMachine):
     ) -> int:
         """How many envelopes have this label and not its password."""
         pairs = [*zip(envelopes(before), envelopes(after), strict=True)]
-        is_sound = self.is_plain_sailing(before) or before.startswith(MAGIC)
+        is_sound = self.is_plain_sailing(before)
         for old, now in pairs:
             was, found = opened(old), opened(now)
             if label_of(old) != label or is_false(old):
