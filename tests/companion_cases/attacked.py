@@ -18,8 +18,9 @@ from hypothesis import strategies as st
 from hypothesis.stateful import RuleBasedStateMachine, initialize, invariant, rule, run_state_machine_as_test
 
 from companion_cases import CHECK, EDIT, HOOK, MERGE, ROTATE, WITH, Companions
-from companion_cases.oracle import DEV, NAMES, PROD, TOKEN, Place, Spot, Tree, Watch, block, envelopes, is_false
-from companion_cases.oracle import is_merged, label_of, make, opened, put_tree, read_tree, spots, tokens, values, visible
+from companion_cases.oracle import DEV, NAMES, PROD, TOKEN, Place, Spot, Tree, Watch
+from companion_cases.oracle import block, envelopes, is_false, is_merged, label_of, make, opened
+from companion_cases.oracle import put_tree, read_tree, spots, tokens, values, visible
 from companion_cases.stranger import MOVES, Stranger
 from companion_cases.surroundings import Surroundings
 from lib.needs import needs, needs_pyyaml

@@ -214,8 +214,8 @@ class Watch:
 
 
 def is_merged(base: Value | None, ours: Value | None, theirs: Value | None, found: Value | None) -> bool:
-    """Whether it is what one side has changed. Where both have, that goes for its tag and its envelope each, and if both
-    have changed that, for its text."""
+    """Whether it is what one side has changed. Where both have, that goes for its tag and its envelope each, and where
+    both have changed the envelope, for its text."""
     if theirs in (base, ours) or ours == base:
         return found == (theirs if ours == base else ours)
     if not (base and ours and theirs and found):
