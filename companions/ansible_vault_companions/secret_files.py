@@ -109,8 +109,9 @@ def label_fault(secret: Secret, envelope: bytes) -> str:
         return ""
     return (
         f"its label is {shown(label)}, but {shown(secret.given)} decrypts it, a secret of the label "
-        f"{shown(secret.label)}; write {shown(secret.label)} as the label in its first line, or if it is to be "
-        f"{shown(label)}, name that secret with --vault-id {shown(f'{label}@{secret.place}')}"
+        f"{shown(secret.label)}; see who changed the label or copied the text here, and write {shown(secret.label)} as "
+        f"the label in its first line, or if that secret is one of {shown(label)}, too, name it with "
+        f"--vault-id {shown(f'{label}@{secret.place}')}"
     )
 
 
