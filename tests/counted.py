@@ -20,7 +20,7 @@ from cases import Cases, by_file
 from cases.samples import COMMANDS, sample_of
 from lib.counts import LIBRARY, PARTS, REST, TOTAL, Allocations, Done, built_by, count_allocations, count_instructions
 from lib.counts import imported_modules, part_of, parts_of
-from lib.needs import needs
+from lib.needs import OF_ANOTHER_BUILD, needs
 from lib.paths import COMPANIONS, ROOT
 from lib.preloaded import build_library
 from model.faults import Fault
@@ -98,7 +98,7 @@ def table() -> Table:
 
 def needs_same(what: str, stored: str, found: str) -> None:
     if stored != found:
-        pytest.skip(f"tests/counts.toml is of {what} {stored}, and this is {found}")
+        pytest.skip(f"{OF_ANOTHER_BUILD}: tests/counts.toml is of {what} {stored}, and this is {found}")
 
 
 def is_over(found: int, stored: int) -> bool:

@@ -30,5 +30,5 @@ def ansible_vault() -> str | None:
         raise RuntimeError(f"{named} is not of Ansible's core")
     folders = os.environ.get("PATH", "").split(os.pathsep)
     found = [shutil.which(name, path=folder) for folder in folders for name in NAMES]
-    paths = [named] if named else found
+    paths: list[str | None] = [named] if named else [*found]
     return next((path for path in paths if path and is_ansible(path)), None)

@@ -12,10 +12,11 @@ import pytest
 from lib.ansible import ansible_vault
 from lib.paths import ROOT
 
-# Where all is required, these are left out nevertheless: the first by another user than root, and the second where
-# root is confined.
+# Where all is required, these are left out nevertheless: the first by another user than root, the second where root is
+# confined, and the third with another kit or Python than that of the stored counts.
 TAKES_ROOT = "it takes the rights of root"
 TAKES_MOUNTS = "it mounts, which root may not do in a container or a chroot"
+OF_ANOTHER_BUILD = "its counts are of another build"
 # The number of the capability to mount.
 CAP_SYS_ADMIN = 21
 
