@@ -39,7 +39,7 @@ module _ {K E : Type 0} (out : SinkCall K) (err : SinkCall E) (result : Status)
   pub record ShowsHelp : Type 0 where
     pub kind : ErrorKind
     pub is_among : IsAmong kind kinds
-    pub is_help : IsHelp kind
+    pub help : IsHelp kind
     pub text : List ℕ
     pub status : result ≡ Success
     pub output : (to_sink out).received text
@@ -49,7 +49,7 @@ module _ {K E : Type 0} (out : SinkCall K) (err : SinkCall E) (result : Status)
   pub record HelpFails : Type 0 where
     pub kind : ErrorKind
     pub is_among : IsAmong kind kinds
-    pub is_help : IsHelp kind
+    pub help : IsHelp kind
     pub text : List ℕ
     pub count : ℕ
     pub status : result ≡ DeviceFailed
@@ -60,7 +60,7 @@ module _ {K E : Type 0} (out : SinkCall K) (err : SinkCall E) (result : Status)
   pub record Rejects : Type 0 where
     pub kind : ErrorKind
     pub is_among : IsAmong kind kinds
-    pub is_mistake : IsMistake kind
+    pub mistake : IsMistake kind
     pub text : List ℕ
     pub is_shown : All IsShown text
     pub status : result ≡ ParseFault
