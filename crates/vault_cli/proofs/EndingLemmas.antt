@@ -1,5 +1,6 @@
 -- How a run ends over one output, carried over to another.
-use Rattle.std.proofs.Common.{◌≡◌, ℕ, List, Option, Some, None, Result, take, ap, ◌∙◌, refl, sym, arith}
+use Rattle.std.proofs.Common.{◌≡◌, ℕ, List, Option, Some, None, Result, take, ap, ◌∙◌, refl, sym}
+use Rattle.std.proofs.Common.{arith}
 use Rattle.vault_text.specs.declared.sink.Stage.TheVariants as stage
 use Rattle.vault_files.specs.Output.{FileOutputState, OutputState, stage_of}
 use Rattle.vault_files.specs.Output.OutputState.{Begun, Chosen, Finished}

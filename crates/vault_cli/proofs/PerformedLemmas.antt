@@ -164,8 +164,9 @@ module _ {S K E : Type 0} (src : SourceCall S) (out : SinkCall K) (err : SinkCal
         → result ≡ status_of fault → src.new ≡ src.old → out.new ≡ out.old
         → Reports err (line_of fault) → Runs
     runs-unplanned fault refusal status unread unwritten line =
-        let refused : status_of fault ≡ Refused = rw refusal at (keeps-planned request salt contents)
-        in record {
+        let refused : status_of fault ≡ Refused =
+            rw refusal at (keeps-planned request salt contents) in
+        record {
           ends = ends-after (Err fault) refusal
               (ends-delivered None (λ input. Err fault) [] (unread, refl) (Err fault) refused refl
               (status, unwritten, line));

@@ -40,10 +40,6 @@ payload_of-answers limit input = by_read (read_within limit input) (read_within-
     by_read (Ok payload) fits = fits
     by_read (Err fault) fits = of_text-is_no_read fault
 
-pub payload_of-is_no_read : (limit : ℕ) (input : List ℕ) → payload_of limit input ≢ Err (Read Input)
-payload_of-is_no_read limit input =
-    HasAnswered-is_no_read _ (payload_of limit input) (payload_of-answers limit input)
-
 module _ (limit : ℕ) (secrets : SecretList) (input : List ℕ) where
   pub decryption-answers :
       HasAnswered (decryption limit secrets input) (λ ready. FitsAgain limit ready.output)

@@ -4,7 +4,6 @@ pub mod DecryptionLemmas
 pub mod EncryptionLemmas
 pub mod UnsealingLemmas
 pub mod InputLemmas
-pub mod PreparesAsBefore
 pub mod RekeyingLemmas
 pub mod SealingByteLemmas
 pub mod theorems

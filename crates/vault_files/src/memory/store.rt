@@ -128,8 +128,8 @@ pub struct MemWriter;
 impl<'a> System for MemFiles<'a> {
     ghost use Rattle.std.specs.Prelude.{◌≡◌, refl};
     ghost use Rattle.vault_files.specs.Memory.{IsReaderOf, StoreExecutes, file_at};
-    ghost use Rattle.vault_files.specs.MemoryProofs.{StoreExecutes-more, break-given, opens-entries};
-    ghost use Rattle.vault_files.specs.MemoryProofs.{prefix-given};
+    ghost use Rattle.vault_files.specs.MemoryProofs.{StoreExecutes-more, break-given};
+    ghost use Rattle.vault_files.specs.MemoryProofs.{opens-entries, prefix-given};
 
     type Reader = MemFileReader<'a>;
 

@@ -12,12 +12,14 @@ returns-in_err-read_secret_files-clause-refused g c =
     let old = c.args.files.now in
     let p = err_from_is_err_and c.from_residual.result c.from_residual.ensures.1 in
     rw (p.1, p.2) (refused-secrets (g.D.System.finds old) (g.met.D.System.finds_some old)
-    (λ paths. Opens g.D.System.executes old paths c.read_secret_files.new.files) c.args.request.now _
-    c.in_err-read_secret_files.ensures.refused)
+    (λ paths. Opens g.D.System.executes old paths c.read_secret_files.new.files)
+    c.args.request.now _ c.in_err-read_secret_files.ensures.refused)
 
 pub returns-in_err-read_salt-clause-refused : goal.returns-in_err-read_salt-clause-refused
 returns-in_err-read_salt-clause-refused g c =
     let finds = g.D.System.finds in
+    let executes = g.D.System.executes in
+    let opens = g.met.D.System.opens_finds in
     let old = c.args.files.now in
     let middle = c.read_secret_files.new.files in
     let new = c.read_salt.new.files in
@@ -27,9 +29,10 @@ returns-in_err-read_salt-clause-refused g c =
     rw (p.1, p.2) (refused-salt (finds old) (g.met.D.System.finds_some old)
     (λ paths. Opens g.D.System.executes old paths new) c.args.request.now _ _ first.read
     (salt-back (finds old) (finds middle)
-    (λ path file. Opens-finds g.D.System.executes g.D.System.finds g.met.D.System.opens_finds old middle _ path file first.opens) _ _
+    (λ path file. Opens-finds executes finds opens old middle _ path file first.opens) _ _
     c.in_err-read_salt.ensures.refused)
-    (Opens-more g.D.System.executes g.met.D.System.executes_more old middle new _ _ first.opens c.in_err-read_salt.ensures.opens))
+    (Opens-more executes g.met.D.System.executes_more old middle new _ _ first.opens
+    c.in_err-read_salt.ensures.opens))
 
 err-both : {T E : Type 0} (r : Result T E) (P Q : E → Type 0) → IfErr r P → IfErr r Q
     → IfErr r (λ e. P e × Q e)
@@ -39,23 +42,26 @@ err-both (Err e) P Q p q = (p, q)
 pub returns-clause-refused : goal.returns-clause-refused
 returns-clause-refused g c =
     let finds = g.D.System.finds in
+    let executes = g.D.System.executes in
+    let opens = g.met.D.System.opens_finds in
+    let more = g.met.D.System.executes_more in
     let old = c.args.files.now in
     let middle = c.read_secret_files.new.files in
     let last = c.read_salt.new.files in
     let new = c.open_input.new.files in
     let first = c.in_ok-read_secret_files.ensures in
     let second = c.in_ok-read_salt.ensures in
-    let both = Opens-more g.D.System.executes g.met.D.System.executes_more old middle last _ _ first.opens second.opens in
+    let both = Opens-more executes more old middle last _ _ first.opens second.opens in
     let refused = c.open_input.ensures in
     IfErr-weaker c.open_input.result _ _ (λ fault (is, missing).
     refused-input (finds old) (g.met.D.System.finds_some old)
     (λ paths. Opens g.D.System.executes old paths new) c.args.request.now fault _ first.read _
     (salt-back (finds old) (finds middle)
-    (λ path file. Opens-finds g.D.System.executes g.D.System.finds g.met.D.System.opens_finds old middle _ path file first.opens) _ _
+    (λ path file. Opens-finds executes finds opens old middle _ path file first.opens) _ _
     second.read) is
     (at_path-back (finds old) (finds last)
-    (λ path file. Opens-finds g.D.System.executes g.D.System.finds g.met.D.System.opens_finds old last _ path file both) _ _ missing)
-    (Opens-more g.D.System.executes g.met.D.System.executes_more old last new _ _ both refused.opens))
+    (λ path file. Opens-finds executes finds opens old last _ path file both) _ _ missing)
+    (Opens-more executes more old last new _ _ both refused.opens))
     (err-both c.open_input.result _ _ refused.fault refused.missing)
 
 on-ok : {T E : Type 0} (r : Result T E) (P : Type 0) → P → OnOk r P

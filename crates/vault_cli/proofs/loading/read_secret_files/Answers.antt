@@ -14,6 +14,8 @@ use Rattle.vault_cli.proofs.loading.read_secret_files.Goals as goal
 pub returns-in_err-fill_from-clause-refused : goal.returns-in_err-fill_from-clause-refused
 returns-in_err-fill_from-clause-refused g c =
     let finds = g.D.System.finds in
+    let executes = g.D.System.executes in
+    let opens = g.met.D.System.opens_finds in
     let old = c.args.files.now in
     let new = c.fill_from.new.files in
     let path = c.path.result.now in
@@ -28,7 +30,7 @@ returns-in_err-fill_from-clause-refused g c =
     next.0 kept.1 (λ paths. Opens g.D.System.executes old paths new)
     (g.met.D.System.finds_some old) _
     (PrefixFound-before (finds old path) (finds c.loop-i.files path)
-    (λ file. Opens-finds g.D.System.executes g.D.System.finds g.met.D.System.opens_finds old c.loop-i.files _ path file kept.2) Secret _
+    (λ file. Opens-finds executes finds opens old c.loop-i.files _ path file kept.2) Secret _
     (PASSWORD_FILE_LIMIT + 1) _ long c.in_err-fill_from.ensures.refused)
     (Opens-more g.D.System.executes g.met.D.System.executes_more old c.loop-i.files new _ _ kept.2
     c.in_err-fill_from.ensures.opens))
@@ -36,6 +38,8 @@ returns-in_err-fill_from-clause-refused g c =
 pub loop-i-preserved : goal.loop-i-preserved
 loop-i-preserved g c =
     let finds = g.D.System.finds in
+    let executes = g.D.System.executes in
+    let opens = g.met.D.System.opens_finds in
     let old = c.args.files.now in
     let new = c.fill_from.new.files in
     let path = c.path.result.now in
@@ -47,7 +51,7 @@ loop-i-preserved g c =
     let within : c.loop-i.i < length bufs = omega (arith, inside, kept.0) in
     let next = next_path c.args.request.now c.loop-i.i path inside c.path.ensures in
     let long = next-long bufs c.loop-i.i c.index-bufs-i.result buf within kept.3 in
-    let went = Opens-more g.D.System.executes g.met.D.System.executes_more old c.loop-i.files new _ _ kept.2
+    let went = Opens-more executes g.met.D.System.executes_more old c.loop-i.files new _ _ kept.2
     c.in_ok-fill_from.ensures.opens in (
       length-set bufs c.loop-i.i buf ∙ kept.0,
       rw (
@@ -57,7 +61,7 @@ loop-i-preserved g c =
           (GivesPrefix-more (finds old) (secret_paths c.args.request.now) c.loop-i.i _ path next.0
           kept.1 buf.items next.1
           (PrefixFound-before (finds old path) (finds c.loop-i.files path)
-          (λ file. Opens-finds g.D.System.executes g.D.System.finds g.met.D.System.opens_finds old c.loop-i.files _ path file kept.2) Secret _
+          (λ file. Opens-finds executes finds opens old c.loop-i.files _ path file kept.2) Secret _
           (PASSWORD_FILE_LIMIT + 1) _ long.0 c.in_ok-fill_from.ensures.read)),
       rw next.1 went,
       long.1,

@@ -3,8 +3,6 @@ use Rattle.vault_files.specs.Output.OutputStep.{writes, writes_nothing, fails_to
 use Rattle.vault_files.specs.OutputProofs.{FileTakes-none}
 use Rattle.vault_files.proofs.OutputLemmas.{rises, takes_by}
 use Rattle.vault_files.proofs.output.FileOutputSink.put.Goals as goal
-use Rattle.vault_files.proofs.output.FileOutputSink.put.Goals.{in_default-write-via-in-Ok+else-n-gt0}
-use Rattle.vault_files.proofs.output.FileOutputSink.put.Goals.{in_default-write-via-in_default-write}
 
 pub returns-then-is_saturated-clause-takes : goal.returns-then-is_saturated-clause-takes
 returns-then-is_saturated-clause-takes g c = FileTakes-none g.D.System.executes
@@ -19,11 +17,11 @@ pub returns-in_default-write-clause-takes : goal.returns-in_default-write-clause
 returns-in_default-write-clause-takes g c =
     let risen = rises _ _ c.if-is_saturated.ensures.saturated c.raise.ensures.risen in
     rw (← c.self.view_is, c.in-Open.is) (elim c.in_default-write.branch [
-      | in_default-write-via-in-Ok+else-n-gt0 w ↦
+      | goal.in_default-write-via-in-Ok+else-n-gt0 w ↦
           let nothing : w.in-Ok.n ≡ 0 = omega (arith, w.if-n-gt0.false) in
           takes_by g.D.System.executes _ _ writes_nothing
           (rw nothing at w.in-Ok.ensures.executes) risen refl
-      | in_default-write-via-in_default-write w ↦
+      | goal.in_default-write-via-in_default-write w ↦
           takes_by g.D.System.executes _ _ fails_to_write
           (rw w.in_default-write.is at c.write.ensures.executes) risen refl
     ])
