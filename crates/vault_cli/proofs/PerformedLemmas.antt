@@ -165,7 +165,7 @@ module _ {S K E : Type 0} (src : SourceCall S) (out : SinkCall K) (err : SinkCal
         → Reports err (line_of fault) → Runs
     runs-unplanned fault refusal status unread unwritten line =
         let refused : status_of fault ≡ Refused =
-            rw refusal at (keeps-planned request salt contents) in
+        rw refusal at (keeps-planned request salt contents) in
         record {
           ends = ends-after (Err fault) refusal
               (ends-delivered None (λ input. Err fault) [] (unread, refl) (Err fault) refused refl

@@ -1,6 +1,6 @@
 -- Laws of the answers, which hold under every limit, of all requests, password files, salts and
 -- inputs.
-use Rattle.std.specs.Prelude.{◌≡◌, ◌⊎◌, ℕ, ◌≤◌, List, [], ◌∷◌, length, Some, IfSome}
+use Rattle.std.specs.Prelude.{◌≡◌, ◌⊎◌, ℕ, ◌≤◌, List, [], ◌∷◌, length, IfSome}
 use Rattle.std.specs.Prelude.{IfErr, Ok}
 use Rattle.vault_core.specs.Form.{Envelope}
 use Rattle.vault_core.specs.Laws.{IsBytes, IsTriedFirst}

@@ -1,7 +1,7 @@
 -- One call of a system, as the files see it.
 use Rattle.std.proofs.Common.{◌≡◌, ◌↔◌, ℕ, ◌+◌, List, [], ◌∷◌, ◌++◌, refl, arith}
 use Rattle.std.proofs.Common.{inl, inr, false, if◌then◌else◌, IsTrue, Result}
-use Rattle.std.proofs.Common.{Ok, Err, take, String, Global, add-zero}
+use Rattle.std.proofs.Common.{Ok, Err, add-zero}
 use Rattle.std.specs.Result.{is_ok}
 use Rattle.std.proofs.lemmas.Bool.{cases_lt, false≢true}
 use Rattle.std.proofs.lemmas.List.{append-nil}

@@ -1,6 +1,6 @@
 -- Files in memory: what their readers give, and what they are asked for.
 use Rattle.std.specs.Prelude.{◌≡◌, ℕ, ◌<◌, ◌≤◌, nat_lt, ◌⊎◌, List, [], ◌∷◌, ◌++◌, length, take}
-use Rattle.std.specs.Prelude.{Bool, true, false, IsTrue, refl, Option, Ok, Err}
+use Rattle.std.specs.Prelude.{Bool, true, false, IsTrue, refl, Ok, Err}
 use Rattle.std.proofs.Common.{inl, inr, arith, sym, ap, ◌∙◌, append_assoc, length-append}
 use Rattle.std.proofs.Common.{rules, tests}
 use Rattle.std.proofs.lemmas.List.{append-nil, nil_from_length, take_all, take-append-le}

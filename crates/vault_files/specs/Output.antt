@@ -1,6 +1,5 @@
 -- An output of a program over any system, and the system calls that it takes.
 use Rattle.std.specs.Prelude.{◌≡◌, ℕ, ◌+◌, List, [], ◌∷◌, ◌++◌}
-use Rattle.std.specs.String.{string_bytes}
 use Rattle.vault_text.specs.declared.sink.Stage.{Stage}
 use Rattle.vault_text.specs.declared.sink.Stage.TheVariants as stage
 use Rattle.std.specs.Borrow.{MutBor}

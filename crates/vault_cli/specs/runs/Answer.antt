@@ -2,7 +2,7 @@
 -- input: steps 9 to 14 of docs/verification.md, of which the first that refuses decides. The task
 -- has steps 9 to 11: the passwords, the index of the secret that encrypts, and the salt. Then the
 -- text is read (12); its length is checked (13), and the command is carried out (14).
-use Rattle.std.specs.Prelude.{ℕ, ◌*◌, if◌then◌else◌, List, [], Option, Some, None, unwrap_or}
+use Rattle.std.specs.Prelude.{ℕ, ◌*◌, if◌then◌else◌, List, Option, Some, None, unwrap_or}
 use Rattle.std.specs.Prelude.{Result, Ok, Err}
 use Rattle.vault_text.specs.Limits.{envelope_limit}
 use Rattle.vault_text.specs.declared.limits.TheConstants.{PLAINTEXT_LIMIT}

@@ -1,6 +1,5 @@
 use Rattle.std.proofs.Common.{◌≡◌, drop, length, map, take}
 use Rattle.std.specs.Prelude.{All}
-use Rattle.vault_text.specs.declared.sink.Stage.TheVariants.{Unbegun}
 use Rattle.vault_cli.specs.runs.FileContents.{secret_paths}
 use Rattle.vault_request.specs.Request.{files_of}
 use Rattle.vault_cli.proofs.FileContentsLemmas.{GivesPrefix, IsLong}
