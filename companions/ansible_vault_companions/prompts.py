@@ -3,10 +3,8 @@
 from __future__ import annotations
 
 import os
-import signal
 import termios
-from contextlib import contextmanager, suppress
-from functools import partial
+from contextlib import contextmanager
 from io import FileIO
 from typing import Iterator
 
@@ -15,6 +13,8 @@ from ansible_vault_companions.program import Refused, shown
 from ansible_vault_companions.settings import ASK, PROMPT
 
 TERMINAL = "/dev/tty"
+# What Ctrl-Z types where it is no key for a signal, and what stands for no key.
+SUSPEND, NO_KEY = b"\x1a", b"\0"
 NO_TERMINAL = "there is no terminal to ask for the password"
 # The prompts for decrypting, and those for encrypting.
 TO_DECRYPT = {PROMPT: ["Vault password ({}): "], ASK: ["Vault password: "]}
@@ -76,8 +76,9 @@ def _hidden(question: str) -> bytes:
     password."""
     _require_terminal()
     with stopping.interruptible(), open(TERMINAL, "r+b", buffering=0) as terminal:
-        with _without_echo(terminal, question.encode()):
-            text = _typed(terminal)
+        with _without_echo(terminal):
+            terminal.write(question.encode())
+            text = _typed(terminal).replace(SUSPEND, b"")
         terminal.write(b"\n")
     try:
         text.decode()
@@ -87,37 +88,16 @@ def _hidden(question: str) -> bytes:
 
 
 @contextmanager
-def _without_echo(terminal: FileIO, question: bytes) -> Iterator[None]:
-    """Asks, and nothing of the answer is shown, not even after Ctrl-Z and `fg`, where a shell lets it be shown."""
+def _without_echo(terminal: FileIO) -> Iterator[None]:
+    """Meanwhile nothing that is typed is shown, and Ctrl-Z has no effect: after it and `fg`, a shell would show it."""
     shown = termios.tcgetattr(terminal)
-    hidden = [*shown[:3], shown[3] & ~termios.ECHO, *shown[4:]]
-    set_modes = partial(termios.tcsetattr, terminal, termios.TCSAFLUSH)
-
-    def ask(*_: object) -> None:
-        # In the background this fails, and is done again in the foreground.
-        with suppress(termios.error):
-            set_modes(hidden)
-            terminal.write(question)
-
-    def stop(*_: object) -> None:
-        set_modes(shown)
-        signal.signal(signal.SIGTSTP, signal.SIG_DFL)
-        os.kill(os.getpid(), signal.SIGTSTP)
-        signal.signal(signal.SIGTSTP, stop)
-        # Where no shell could continue it, it was not stopped.
-        with suppress(termios.error):
-            set_modes(hidden)
-
-    is_ignored = signal.getsignal(signal.SIGTSTP) == signal.SIG_IGN
-    handlers = {signal.SIGCONT: ask} if is_ignored else {signal.SIGCONT: ask, signal.SIGTSTP: stop}
-    before = {number: signal.signal(number, handler) for number, handler in handlers.items()}
+    keys = [*shown[6]]
+    keys[termios.VSUSP] = NO_KEY
+    termios.tcsetattr(terminal, termios.TCSAFLUSH, [*shown[:3], shown[3] & ~termios.ECHO, *shown[4:6], keys])
     try:
-        ask()
         yield
     finally:
-        for number, handler in before.items():
-            signal.signal(number, handler)
-        set_modes(shown)
+        termios.tcsetattr(terminal, termios.TCSAFLUSH, shown)
 
 
 def _require_terminal() -> None:
