@@ -85,7 +85,9 @@ class Values:
         for token, place in side.places.items():
             before = self.base.places.get(token)
             is_rekeyed = before and before.opened and place.opened and not place.is_under_same(before)
-            is_moved = before and token not in other.places and _digits(before.block.envelope) in other.data
+            there = other.at(place.block.value.path)
+            is_kept = token in other.places or before and there and there.block.envelope == before.block.envelope
+            is_moved = before and not is_kept and _digits(before.block.envelope) in other.data
             found[self._token((token, place.block.envelope)) if is_rekeyed and is_moved else token] = place
         side.places = found
 

@@ -33,6 +33,10 @@ class Refused(Exception):
         self.status = status
 
 
+class NotWritten(Refused):
+    """Standard output cannot be written."""
+
+
 def parser(
     name: str, summary: str, statuses: str, example: str = "", ciphers: str = BY_TOOL, **options: Any
 ) -> argparse.ArgumentParser:
@@ -73,7 +77,7 @@ def write(data: bytes) -> None:
             sys.stdout.flush()
     except OSError as fault:
         _discard(sys.stdout)
-        raise Refused(f"standard output cannot be written: {reason(fault)}") from None
+        raise NotWritten(f"standard output cannot be written: {reason(fault)}") from None
 
 
 def write_line(text: str) -> None:

@@ -113,7 +113,7 @@ def test_leftovers(place: Place) -> None:
     assert place.run("python3", "-c", KILLED, *words).returncode == -9
     ended("an edit", edit(place, f"{CHANGE}; exit 1", *place.by_file("old"), "inner/a.yml"), 1, "is encrypted in")
     names = sorted(name for name in place.files() if "/.ansible-vault-" in name)
-    assert [place.get(name) == TEXT for name in names] == [True, False], "one in plaintext, one encrypted"
+    assert sorted(place.get(name) == TEXT for name in names) == [False, True], "one in plaintext, one encrypted"
     done = add_and_commit(place)
     lines = [line for name in names for line in leftover(name)]
     assert (done.returncode, done.stderr.splitlines()) == (1, lines), "they are refused"

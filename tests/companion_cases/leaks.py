@@ -8,6 +8,7 @@ from pytest_subtests import SubTests
 from companion_cases import AWKWARD, HOOK, TEXT, Companions, Place, block, ended, sealed, silent
 from companion_cases.hook import refused, unmarking
 from companion_cases.repository import add_and_commit, commit, under_git
+from ansible_vault_companions.leaks import TORN, merge_again
 
 pytestmark = pytest.mark.usefixtures("git")
 
@@ -47,7 +48,6 @@ def test_unmarked_vaults(place: Place, subtests: SubTests) -> None:
     refused("plaintext", done, "group_vars/all.yml", why=WHOLE, hint=meant("group_vars/all.yml"))
     for what, content in {
         "a part of it": sealed("old")[:-100],
-        "conflict markers": sealed("old").replace(b"\n", b"\n<<<<<<< ours\n", 1),
         "plaintext below": sealed("old") + TEXT,
         "plaintext with a block": TEXT + block("old"),
     }.items():
@@ -132,7 +132,7 @@ def test_merges(cases: Companions) -> None:
         again(place, "vars.yml", sealed(password))
     place.shell("git merge -q ours")
     done = add_and_commit(place)
-    refused("conflict markers in a vault", done, "vars.yml", why=WHOLE, hint=meant("vars.yml"))
+    refused("conflict markers in a vault", done, "vars.yml", why=TORN, hint=f"  {merge_again('vars.yml')}")
 
 
 def test_marked_content(place: Place, subtests: SubTests) -> None:

@@ -85,7 +85,7 @@ def merged(place: Place, sides: list[bytes], conflicts: int) -> bytes:
 def check_markers(place: Place) -> None:
     """The check sees them where there are conflicts, and nowhere else."""
     lines = place.run(CHECK, *place.by_file("old"), ".").stderr.splitlines()
-    found = [line.partition(":")[0] for line in lines if "conflict markers" in line]
+    found = [line.split(": ")[1].partition(":")[0] for line in lines if "conflict markers" in line]
     assert sorted(found) == sorted(f"./{name}" for name in place.files() if re.search("with [1-9]", name))
 
 

@@ -308,7 +308,7 @@ def test_not_merged(cases: Companions, what, name, tool) -> None:
         both = [*place.by_file("old"), *place.by_file("new")]
         place.wrap_tool("")
         done = place.run(CHECK, *both, ".")
-        assert (done.returncode, done.stderr) == (1, f"./a.yml: {NOT_MERGED}\n"), f"{what}: the check"
+        assert (done.returncode, done.stderr) == (1, f"{CHECK}: ./a.yml: {NOT_MERGED}\n"), f"{what}: the check"
         refused_by_hook(f"{what}: commit -a", commit(place, "-a"))
         refused_by_hook(f"{what}: add", add_and_commit(place))
         place.run("git", "config", "merge.ansible-vault.driver", f"{MERGE} {' '.join(both)} %O %A %B %P")

@@ -148,7 +148,7 @@ def test_closed(place: Place) -> None:
     assert place.get("vars.yml").endswith(b"\n" + quoted), "what is in quotes stays"
     place.put("plain.yml", b"a: 1\n")
     done = edit(place, "true", *place.by_file("old"), "plain.yml")
-    ended("no vault", done, 1, "it is not a vault", "ansible-vault encrypt", "NAME: !vault TEXT")
+    ended("no vault", done, 1, "it is not a vault", "ansible-vault-with encrypt", "NAME: !vault TEXT")
     place.put("vars.yml", block("dev"))
     done = edit(place, "true", *place.by_file("old"), "vars.yml")
     tried = f"vars.yml: line 1: secret: no secret decrypts this vault (no label; tried {place.secret('old')})"
