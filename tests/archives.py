@@ -5,6 +5,7 @@ import pathlib
 import shutil
 import subprocess
 import tarfile
+from typing import Any
 
 import pytest
 
@@ -17,7 +18,7 @@ PROGRAM = f"ansible-vault-{VERSION}-linux-x86_64"
 ARCHIVES = [f"{SOURCE}.tar.gz", f"{PROGRAM}.tar.gz"]
 
 
-def made(program: str, folder: pathlib.Path, at: pathlib.Path = ROOT, **options) -> list[bytes]:
+def made(program: str, folder: pathlib.Path, at: pathlib.Path = ROOT, **options: Any) -> list[bytes]:
     """The archives and their sums, as `make dist` of a checkout makes them."""
     done = run_make(program, "dist", f"DIST={folder}", "CPU=", at=at, **options)
     assert done.returncode == 0, done.stderr

@@ -24,7 +24,7 @@ from lib.needs import needs, needs_pyyaml
 CODECS = sorted(
     name
     for name in {*encodings.aliases.aliases.values(), "utf-16", "utf-32", "utf-8-sig"}
-    if name not in ("mbcs", "oem") and codecs.lookup(name)._is_text_encoding
+    if name not in ("mbcs", "oem") and codecs.lookup(name)._is_text_encoding  # type: ignore[attr-defined]
 )
 BLOCK = b"a: !vault |\n  " + envelope(b"the first").replace(b"\n", b"\n  ") + b"\n"
 # Tags of others, and texts, that nobody is asked about.
@@ -86,7 +86,8 @@ def test_vaults_of_any_encoding(place: Place) -> None:
 def misspelt(draw: st.DrawFn) -> str:
     """The tag with one or two typing errors."""
     letters = [*"vault", ""]
-    for place in draw(st.sampled_from([[], [0], [1], [2], [3], [4], [0, 2], [0, 3], [0, 4], [1, 3], [1, 4], [2, 4]])):
+    places: list[list[int]] = [[], [0], [1], [2], [3], [4], [0, 2], [0, 3], [0, 4], [1, 3], [1, 4], [2, 4]]
+    for place in draw(st.sampled_from(places)):
         letter = draw(st.sampled_from("abcdefghijklmnopqrstuvwxyzVAULT"))
         exchanged = letters[place + 1], letters[place]
         kinds = {"left out": ("",), "added": (letter + letters[place],), "replaced": (letter,), "exchanged": exchanged}

@@ -58,8 +58,11 @@ def test_shown_literals(place: Place, end: bytes) -> None:
     needs_pyyaml()
     import yaml
 
-    loader = type("Loader", (yaml.SafeLoader,), {})
-    loader.add_constructor("!vault", lambda loader, node: loader.construct_scalar(node))
+
+    class Loader(yaml.SafeLoader):
+        pass
+
+    Loader.add_constructor("!vault", Loader.construct_scalar)
     vaults = [lines_of(sealed("old", text.encode()), 4) for text in SHOWN]
     files = {f"{number}.yml": b"a: !vault |\n" + vault + end for number, vault in enumerate(vaults)}
     for name, content in files.items():
@@ -68,7 +71,7 @@ def test_shown_literals(place: Place, end: bytes) -> None:
     done = edit(place, COPY, *place.by_file("old"), *files)
     assert (done.returncode, done.stderr.count("nothing was changed")) == (0, len(files)), "they are shown"
     assert place.files() == files, "they stay"
-    found = [yaml.load((place.path / "shown" / name).read_text(), loader)["a"] for name in files]
+    found = [yaml.load((place.path / "shown" / name).read_text(), Loader)["a"] for name in files]
     # An empty text stays encrypted above a comment, which would become its text.
     wanted = ["$ANSIBLE_VAULT" if b"#" in end and not text.strip("\n") else text for text in SHOWN]
     assert [text[:14] if text.startswith("$ANSIBLE_VAULT") else text for text in found] == wanted, "by PyYAML"
