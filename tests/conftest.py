@@ -32,7 +32,6 @@ FLOORS = {OUTCOMES: 2600, "fuzz": 6, "faults": 44, "allocations": 40, "valgrind"
 ROWS = "subtests"
 HAS_FAILED = pytest.StashKey[bool]()
 LEAST = {ROWS: 4500, "random requests": 200, "refused calls": 700, "signals": 36, "refused allocations": 1200}
-LEAST |= {"edits beside a stranger": 40, "rotations beside a stranger": 15, "merges with a stranger": 25}
 
 
 def seed_of_commit() -> int:

@@ -40,8 +40,8 @@ SAMPLES = {
     "a tool is missing": (NO_TOOL, [], 0, "0 passed, 0 failed, 1 skipped"),
     "a tool is missing, and all is required": (NO_TOOL, ["--require-all"], 1, "0 passed, 1 failed, 0 skipped"),
     "a file is missing": (NO_FILE, [], 1, "0 passed, 1 failed, 0 skipped"),
-    "too few": ("pass", ["--floors"], 1, "1 passed, 14 failed, 0 skipped"),
-    "too few in two processes": ("pass", ["--floors", "--numprocesses=2"], 1, "1 passed, 14 failed, 0 skipped"),
+    "too few": ("pass", ["--floors"], 1, "1 passed, 11 failed, 0 skipped"),
+    "too few in two processes": ("pass", ["--floors", "--numprocesses=2"], 1, "1 passed, 11 failed, 0 skipped"),
     "no test of that name": ("pass", ["-k", "another"], 5, "0 passed, 0 failed, 0 skipped"),
 }
 

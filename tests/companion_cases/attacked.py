@@ -26,6 +26,8 @@ from companion_cases.surroundings import Surroundings
 from lib.needs import needs, needs_pyyaml
 from model.vaults import MAGIC
 
+pytestmark = pytest.mark.attacks
+
 EXAMPLES = 60
 STEPS = 12
 ATTRIBUTES = b"*.yml merge=ansible-vault\nvars.yml diff=ansible-vault\n"
@@ -37,8 +39,8 @@ PLACES = [
     (8, b"web:\n    port: 1\n    users:\n      -\n", b"password"),
     (8, b"      -\n", b"password"),
 ]
-# Puts another text behind the key that is there for this time.
-REPLACE = "$0 ~ key { n++ } n == number && !done { done = sub(old, new) } { print }"
+# Puts another text behind the key that is there for this time, and before the next one.
+REPLACE = "$0 ~ any { there = 0 } $0 ~ key { there = ++n == number } there && !done { done = sub(old, new) } { print }"
 # What the names of copies begin with.
 COPY = ".ansible-vault-saved-"
 EDITS = [*["change"] * 16, "add", "add", "misspelt", "UTF-16"]
@@ -220,8 +222,11 @@ class Attack(RuleBasedStateMachine):
             return ["--encrypt-vault-id", label or DEV], f"sed -i '1i {key}: {tag} {new}' \"$1\""
         if kind == "add":
             return [], f"echo '{key}: {new}' >> \"$1\""
-        where = f"-v key='^ *{spot.key.decode()}: ' -v number={spot.place.number}"
-        change = f"awk {where} -v old={tokens(spot)[-1].decode()} -v new={new} '{REPLACE}'"
+        old = tokens(spot)[-1].decode()
+        if not spot.key:
+            return [], f"sed -i '0,/{old}/s//{new}/' \"$1\""
+        where = f"-v any='^ *[^ ]+:( |$)' -v key='^ *{spot.key.decode()}: ' -v number={spot.place.number}"
+        change = f"awk {where} -v old={old} -v new={new} '{REPLACE}'"
         return [], f'{change} "$1" > "$1.new" && mv "$1.new" "$1"'
 
     def compare_edited(self, before: Tree, after: Tree, spot: Spot) -> bytes:
