@@ -74,6 +74,11 @@ def pytest_sessionstart(session: pytest.Session) -> None:
         pytest.exit("this locale is not UTF-8: try `python3 -X utf8 -m pytest`", pytest.ExitCode.USAGE_ERROR)
 
 
+def pytest_collection_modifyitems(items: list[pytest.Item]) -> None:
+    """The longest begin first."""
+    items.sort(key=lambda item: item.get_closest_marker("newcomer") is None)
+
+
 def missing_tool(raised: pytest.ExceptionInfo[BaseException] | None) -> str | None:
     """The command that could not be run since no folder of PATH has it."""
     if raised is None or not isinstance(raised.value, FileNotFoundError):
