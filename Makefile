@@ -42,7 +42,8 @@ INSTALLED := bin/ansible-vault:$(PROGRAM) $(foreach page,$(MANUALS),$(page:man/%
 	$(foreach page,README.md CHANGELOG.md CONTRIBUTING.md LICENSE debian/copyright tests/README.md \
 		$(sort $(wildcard docs/*)),$(DOCUMENTS)/$(page):$(page)) \
 	$(foreach name,$(COMPANIONS),$(LIBRARY)/ansible-vault-$(name):companions/ansible-vault-$(name)) \
-	$(foreach file,$(wildcard companions/ansible_vault_companions/*.py),$(file:companions/%=$(LIBRARY)/%):$(file))
+	$(foreach file,$(sort $(shell find companions/ansible_vault_companions -name '*.py')),\
+		$(file:companions/%=$(LIBRARY)/%):$(file))
 # Each with what it leads to, after the colon.
 LINKS := $(foreach name,$(COMPANIONS),\
 	bin/ansible-vault-$(name):../$(LIBRARY)/ansible-vault-$(name) \

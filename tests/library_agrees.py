@@ -1,10 +1,9 @@
 """Compares the programs in docs/library.md with the files that they are from, whose tests run them, its table of
-calls with the crates, docs/crates.svg and the table of the crates with crates.txt, and the paths that
-docs/architecture.md and CONTRIBUTING.md name with the files.
+calls with the crates, the table of the crates with crates.txt, and the paths that docs/architecture.md and
+CONTRIBUTING.md name with the files.
 """
 
 import re
-import subprocess
 from pathlib import Path
 
 import pytest
@@ -13,7 +12,6 @@ from lib.contracts import crates
 from lib.paths import ROOT
 
 DOCUMENT = ROOT / "docs" / "library.md"
-PICTURE = ROOT / "docs" / "crates.svg"
 SOURCES = "crates/vault_program_tests/src/library"
 # Where a program is from, and the program.
 LISTING = re.compile(r"(?<=\bFrom `)crates/\S+/(\w+\.rt)`:\n\n```rust\n(?:.*\n)*?```$", re.MULTILINE)
@@ -66,9 +64,7 @@ def test_crate_lines() -> None:
 
 
 def test_crates() -> None:
-    """The picture and the table of the crates are those of crates.txt."""
-    drawn = subprocess.run([ROOT / "tools" / "crates_picture.py"], capture_output=True, text=True).stdout
-    assert PICTURE.read_text() == drawn, "tools/write_documents does not change docs/crates.svg"
+    """The table of the crates is that of crates.txt."""
     page = (ROOT / "docs" / "architecture.md").read_text()
     table = page.partition("\n| Crate | What it does |")[2].partition("\n\n")[0]
     listed = re.findall(r"^\| `(\w+)` \|", table, re.MULTILINE)

@@ -241,7 +241,7 @@ def shell_of(text: str) -> str:
 def test_abbreviations() -> None:
     """ansible-vault-with abbreviates the long options of each command."""
     program = f"import sys; sys.path.insert(0, {str(ROOT / 'companions')!r})\n" + (
-        "from ansible_vault_companions.tool_words import HELP, OPTIONS, SECRETS\n"
+        "from ansible_vault_companions.alias.words import HELP, OPTIONS, SECRETS\n"
         "import json; print(json.dumps({name: [*HELP, *SECRETS, *each] for name, each in OPTIONS.items()}))"
     )
     done = subprocess.run([sys.executable, "-B", "-c", program], capture_output=True, check=True)

@@ -4,7 +4,8 @@ import time
 
 import pytest
 
-from ansible_vault_companions import envelopes, leaks
+from ansible_vault_companions.files import envelopes
+from ansible_vault_companions.git import leaks
 from companion_cases import CHECK, ROTATE, TEXT, Place, block, decrypted, ended, sealed
 from companion_cases.blocks import BODY, lines_of, texts
 from companion_cases.rotating import summary, to_new

@@ -76,13 +76,13 @@ def test_made_meanwhile(cases: Companions) -> None:
     # It comes between the last look at the folder and the end of it.
     editor = place.script('echo a > "$1"; touch ../started', "editor")
     late = f"""
-read = files.read
+read = reading.read
 def late(path):
     found = read(path)
     if os.path.exists("../started") and path == {str(place.tree / "new.yml")!r}:
         open(path, "x").write("theirs")
     return found
-files.read = late
+reading.read = late
 """
     done = run_changed(place, EDIT, late, [*place.by_file("old"), "new.yml"], EDITOR=editor)
     ended("made at the last moment", done, 1, "new.yml: it was created meanwhile", "is encrypted in")
@@ -95,7 +95,7 @@ def run_changed(place: Place, companion: str, change: str, words: list[str], **v
 import os, runpy, sys
 sys.argv = sys.argv[1:]
 sys.path[0] = os.path.dirname(os.path.realpath(sys.argv[0]))
-from ansible_vault_companions import files, replacing
+from ansible_vault_companions.files import reading, replacing
 {change}
 runpy.run_path(sys.argv[0], run_name="__main__")
 """
@@ -281,7 +281,7 @@ shutil.copytree = full
 def test_faults_of_its_own(place: Place) -> None:
     """A fault that nobody thought of does not lose it either."""
     broken = """
-from ansible_vault_companions import layers
+from ansible_vault_companions.tool import layers
 encrypted, seen = layers.encrypted, []
 def broken(*words):
     if not seen:

@@ -12,7 +12,7 @@ from hypothesis import example, given, settings
 from hypothesis import strategies as st
 from pytest_subtests import SubTests
 
-from ansible_vault_companions import inline
+from ansible_vault_companions.yaml import inline
 from companion_cases import EDIT, TEXT, Place, block, decrypted, ended, sealed, silent
 from companion_cases.blocks import texts
 from companion_cases.editing import edit

@@ -7,8 +7,9 @@ import pytest
 from hypothesis import given, settings
 from hypothesis import strategies as st
 
-from ansible_vault_companions import files, plain_values
-from ansible_vault_companions.yaml_values import Scan
+from ansible_vault_companions.files import reading
+from ansible_vault_companions.git import plain_values
+from ansible_vault_companions.yaml.values import Scan
 from companion_cases import EDIT, TEXTCONV, Place, block, ended
 from companion_cases.editing import CHANGE
 from companion_cases.keeping import run_changed
@@ -91,7 +92,7 @@ def test_peak(place: Place, companion: str) -> None:
 
 def test_long_files(place: Place) -> None:
     """git shows a file that is no vault, whatever its length, and takes no memory for it."""
-    length = files.LIMIT + 5_000_001
+    length = reading.LIMIT + 5_000_001
     with open(place.tree / "long.yml", "wb") as file:
         file.write(b"a: 1\n")
         file.truncate(length)

@@ -17,10 +17,11 @@ import hypothesis
 import pytest
 from hypothesis import strategies as st
 
-from ansible_vault_companions import merging, secret_files
-from ansible_vault_companions.envelopes import label_of
+from ansible_vault_companions.files.envelopes import label_of
+from ansible_vault_companions.merging import texts
 from ansible_vault_companions.program import Refused
-from ansible_vault_companions.sources import Secret, Source
+from ansible_vault_companions.secrets import labels
+from ansible_vault_companions.secrets.sources import Secret, Source
 from companion_cases import PASSWORDS, decrypted
 from lib.needs import needs, needs_pyyaml
 from model.vaults import SALT, seal
@@ -119,7 +120,7 @@ class Tool:
         return text
 
     def decrypt(self, envelope: bytes) -> tuple[Secret, bytes]:
-        for secret in secret_files.in_order([*map(secret_of, LABELS)], label_of(envelope)):
+        for secret in labels.in_order([*map(secret_of, LABELS)], label_of(envelope)):
             text = decrypted(secret.path, envelope)
             if text is not None:
                 return secret, text
@@ -272,7 +273,7 @@ def check_merge(folder: Path, merge: Merge) -> list[str]:
     before = [value.envelope() for value in merge.base]
     foreign = [each for each in merge.ours + merge.theirs if each.is_mislabelled() and each.envelope() not in before]
     try:
-        result = merging.merged(tool, tool.decrypt, *merge.documents())
+        result = texts.merged(tool, tool.decrypt, *merge.documents())
     except Refused as fault:
         assert foreign and "its label is" in str(fault), fault
         return ["refused"]
@@ -334,7 +335,7 @@ def test_of_vaults(tmp_path: Path, monkeypatch: pytest.MonkeyPatch) -> None:
         is_rekeyed = before.password in (ours.password, theirs.password)
         is_one_label = len({(each.label, LABELS[each.password]) for each in values}) == 1
         try:
-            result = merging.merged(tool, tool.decrypt, *(each.envelope() for each in values)).content
+            result = texts.merged(tool, tool.decrypt, *(each.envelope() for each in values)).content
         except Refused:
             is_foreign = ours.is_mislabelled() or theirs.is_mislabelled()
             assert is_foreign or not (is_kept or is_rekeyed and is_one_label), vaults
@@ -361,7 +362,7 @@ def test_of_one_value() -> None:
         before, ours, theirs = ([Value("a", text, *vault, salt, 10)] for text, vault, salt in rows)
         merge, tool = Merge(before, ours, theirs), Tool()
         try:
-            content = merging.merged(tool, tool.decrypt, *merge.documents()).content
+            content = texts.merged(tool, tool.decrypt, *merge.documents()).content
         except Refused:
             assert ours[0].is_mislabelled() or theirs[0].is_mislabelled(), vaults
             continue

@@ -249,7 +249,7 @@ def test_simple_files(cases: Companions) -> None:
     program = (
         "import json, sys\n"
         "sys.path.insert(0, sys.argv[1])\n"
-        "from ansible_vault_companions import settings\n"
+        "from ansible_vault_companions.secrets import settings\n"
         "from ansible_vault_companions.program import Refused\n"
         "def parsed(text):\n"
         "    try:\n"

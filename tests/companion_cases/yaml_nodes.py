@@ -5,8 +5,8 @@ import sys
 
 import pytest
 
-from ansible_vault_companions import yaml_nodes
-from ansible_vault_companions.yaml_nodes import NotYaml
+from ansible_vault_companions.yaml import nodes
+from ansible_vault_companions.yaml.nodes import NotYaml
 from companion_cases import Companions, Place, ended
 from lib.needs import needs_pyyaml
 
@@ -75,22 +75,22 @@ def loader(request: pytest.FixtureRequest, monkeypatch: pytest.MonkeyPatch) -> N
 @pytest.mark.parametrize("text, wanted", READ.items())
 def test_read(loader: None, text: str, wanted: list) -> None:
     data = as_bytes(text)
-    characters = yaml_nodes.decoded(data)
-    found = [node for node in yaml_nodes.nodes(data) if node.is_value]
-    wanted = [(path, yaml_nodes.decoded(as_bytes(part))) for path, part in wanted]
+    characters = nodes.decoded(data)
+    found = [node for node in nodes.nodes(data) if node.is_value]
+    wanted = [(path, nodes.decoded(as_bytes(part))) for path, part in wanted]
     assert [((*node.path,), characters[node.start : node.end]) for node in found] == wanted
 
 
 @pytest.mark.parametrize("text, column", COLUMNS.items())
 def test_columns(loader: None, text: str, column: int) -> None:
-    [node] = [node for node in yaml_nodes.nodes(as_bytes(text)) if node.text == "x"]
+    [node] = [node for node in nodes.nodes(as_bytes(text)) if node.text == "x"]
     assert node.container.column == column
 
 
 @pytest.mark.parametrize("text, wanted", REFUSED.items())
 def test_refused(loader: None, text: str, wanted: str) -> None:
     try:
-        found = repr([*yaml_nodes.nodes(as_bytes(text))])
+        found = repr([*nodes.nodes(as_bytes(text))])
     except NotYaml as fault:
         found = str(fault)
     assert found.startswith(wanted)
@@ -99,10 +99,10 @@ def test_refused(loader: None, text: str, wanted: str) -> None:
 SHOW = """\
 import sys
 sys.path[0] = {companions!r}
-from ansible_vault_companions import yaml_nodes
+from ansible_vault_companions.yaml import nodes
 try:
-    print(len([*yaml_nodes.nodes(b"a: 1")]))
-except yaml_nodes.NoPyYaml as fault:
+    print(len([*nodes.nodes(b"a: 1")]))
+except nodes.NoPyYaml as fault:
     print(fault)
 """
 

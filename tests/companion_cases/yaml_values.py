@@ -10,12 +10,12 @@ from collections.abc import Iterator
 
 import pytest
 
-from ansible_vault_companions import inline, yaml_nodes
-from ansible_vault_companions.blocks import Change, changed
-from ansible_vault_companions.matching import Choice
 from ansible_vault_companions.program import Refused
-from ansible_vault_companions.sources import Secret, Source
-from ansible_vault_companions.yaml_values import Scan, Value
+from ansible_vault_companions.secrets.sources import Secret, Source
+from ansible_vault_companions.yaml import nodes, inline
+from ansible_vault_companions.yaml.blocks import Change, changed
+from ansible_vault_companions.yaml.matching import Choice
+from ansible_vault_companions.yaml.values import Scan, Value
 from lib.needs import needs_pyyaml
 
 SEED = 62
@@ -123,7 +123,7 @@ def composed(text: str) -> list[tuple[tuple[str, ...], str]] | None:
         if id(node) in seen:
             return
         seen.add(id(node))
-        if node.tag in yaml_nodes.TAGS and isinstance(node, yaml.ScalarNode):
+        if node.tag in nodes.TAGS and isinstance(node, yaml.ScalarNode):
             found.append((path, node.value))
         elif isinstance(node, yaml.SequenceNode):
             for item in node.value:
@@ -142,7 +142,7 @@ def composed(text: str) -> list[tuple[tuple[str, ...], str]] | None:
 
 
 def is_text(value: Value) -> bool:
-    return not value.is_key and value.style not in (yaml_nodes.LIST, yaml_nodes.MAPPING)
+    return not value.is_key and value.style not in (nodes.LIST, nodes.MAPPING)
 
 
 def scanned(data: bytes) -> list[tuple[tuple[str, ...], str]]:
@@ -188,7 +188,7 @@ def compared(number: int, counts: Counter[str]) -> Iterator[Row]:
 
 
 def typed_anew(showing: inline.Showing, generator: random.Random, counts: Counter[str]) -> Iterator[Row]:
-    literals = [value for value in Scan(showing.text()).values if value.style == yaml_nodes.LITERAL]
+    literals = [value for value in Scan(showing.text()).values if value.style == nodes.LITERAL]
     if not literals:
         return
     value = generator.choice(literals)

@@ -10,7 +10,7 @@ from lib.paths import FIXTURES, ROOT, version
 VERSION = version()
 
 COMPANIONS = {each.name for each in (ROOT / "companions").glob("ansible-vault-*")}
-SHARED = {each.name for each in (ROOT / "companions/ansible_vault_companions").glob("*.py")}
+SHARED = {str(each.relative_to(ROOT / "companions")) for each in (ROOT / "companions").rglob("*.py")}
 NAMES = {"ansible-vault", *COMPANIONS}
 DOCUMENTS = {"README.md", "CHANGELOG.md", "CONTRIBUTING.md", "LICENSE", "debian/copyright", "tests/README.md"}
 DOCUMENTS |= {f"docs/{each.name}" for each in (ROOT / "docs").iterdir()}
@@ -20,7 +20,7 @@ FILES = {
     *(f"share/bash-completion/completions/{name}" for name in NAMES),
     *(f"share/fish/vendor_completions.d/{name}.fish" for name in NAMES),
     *(f"lib/ansible-vault/{name}" for name in COMPANIONS),
-    *(f"lib/ansible-vault/ansible_vault_companions/{name}" for name in SHARED),
+    *(f"lib/ansible-vault/{name}" for name in SHARED),
     *(f"share/doc/ansible-vault/{name}" for name in DOCUMENTS),
 }
 # What `make install` puts below a prefix, but for its sums.

@@ -1,0 +1,46 @@
+"""The help of a command of ansible-vault as ansible-vault-with takes it."""
+
+from __future__ import annotations
+
+from ansible_vault_companions.alias.run import REKEY
+
+# What is otherwise than in the help of the tool.
+SEVERAL_FILES = [("[FILE]", "[FILE]...")]
+IN_PLACE = [
+    *SEVERAL_FILES,
+    ("The file to read; - or nothing", "Files to replace, or with --output one to read; - or nothing"),
+    ("- or nothing for standard output. It is required if FILE is given", "- for standard output; FILE by default"),
+]
+OTHERWISE = {
+    "view": [*SEVERAL_FILES, ("The file to read; ", "Files to show, one after the other; ")],
+    "decrypt": IN_PLACE,
+    "encrypt": IN_PLACE,
+    REKEY: IN_PLACE,
+    "encrypt_string": [
+        ("[STRING]", "[STRING]..."),
+        ("The text to encrypt; ", "Texts to encrypt, each as a block; "),
+        ("before STRING's block; none by default", "before STRING's block; repeated for several STRINGs"),
+    ],
+}
+FOR_ALL = """\
+  -J, --ask-vault-password        Ask at the terminal for the password of the label `default`
+      --ask-vault-pass            The same
+      --vault-pass-file <PATH>    The same as --vault-password-file"""
+# The options that the tool does not have.
+ADDED = {
+    "encrypt_string": """
+  -p, --prompt                    Ask at the terminal for one more text, and for its name
+      --show-input                Show that text while it is typed""",
+    REKEY: """
+      --encrypt-vault-id <LABEL>  The label of the new secret, among those of Ansible's settings""",
+}
+END = """
+A PATH of a password may also be a program that writes it, or the word prompt. Ansible's settings name secrets, too, and
+if nothing does, you are asked. Long options may be abbreviated. `{name} --help` says more."""
+
+
+def of_command(name: str, command: str, text: str) -> str:
+    """The help, from that of the tool."""
+    for old, new in [(f"Usage: ansible-vault {command}", f"Usage: {name} {command}"), *OTHERWISE[command]]:
+        text = text.replace(old, new)
+    return "\n".join([text, f"Added by {name}:", FOR_ALL + ADDED.get(command, ""), END.format(name=name)])

@@ -1,0 +1,72 @@
+"""A run of ansible-vault whose command and secrets are known."""
+
+from __future__ import annotations
+
+from ansible_vault_companions.alias.words import ENCRYPT_ID, MATCH, Words
+from ansible_vault_companions.program import Refused
+from ansible_vault_companions.secrets.settings import Settings
+from ansible_vault_companions.secrets.sources import Secret
+from ansible_vault_companions.tool.tool import NOT_DECRYPTED, Tool
+
+# Commands by what they do with the secrets.
+DECRYPTING = ("view", "decrypt")
+REKEY = "rekey"
+ENCRYPTING = ("encrypt", "encrypt_string")
+# How many secrets the tool takes.
+MOST = 16
+
+
+class Run:
+    """The tool, the words of the command line, and secrets in the order in which they are tried."""
+
+    def __init__(self, tool: Tool, words: Words, found: Settings) -> None:
+        self.tool = tool
+        self.words = words
+        self.found = found
+        self.secrets: list[Secret] = []
+        self.new: list[Secret] = []
+        self.notes_signals = False
+        # Of the secret to encrypt with.
+        self.label = words.value(ENCRYPT_ID) or found.encrypt_label()
+
+    def take(self, secrets: list[Secret], new: list[Secret]) -> None:
+        """Those to encrypt with are reduced to the one that has the label, as the tool takes no more than some."""
+        self.secrets, self.new = secrets, new
+        if self.words.command in ENCRYPTING and self.label:
+            self.secrets = [secret for secret in secrets if secret.label == self.label][:1] or secrets[:1]
+
+    def command(self, secrets: list[Secret]) -> list[str]:
+        """What names the command and these secrets to the tool."""
+        by_path = self.new[len(self.words.new_ids) :] if self.words.new_paths else []
+        by_id = self.new[: len(self.new) - len(by_path)]
+        is_by_settings = self.label and self.words.command in ENCRYPTING and not self.words.has(ENCRYPT_ID)
+        return [
+            self.words.command,
+            *(secret.word() for secret in secrets),
+            *(secret.option("--new-vault-id") for secret in by_id),
+            *(f"--new-vault-password-file={secret.path}" for secret in by_path),
+            *([f"{ENCRYPT_ID}={self.label}"] if is_by_settings else []),
+            *self.matching(),
+        ]
+
+    def matching(self) -> list[str]:
+        """The option by which only secrets of the vault's label are tried, where the settings have it."""
+        decrypts = self.words.command in (*DECRYPTING, REKEY)
+        return [MATCH] if decrypts and self.found.requires_match() and not self.words.has(MATCH) else []
+
+    def groups(self) -> list[list[Secret]]:
+        """The secrets, as many as the tool takes at once in each group."""
+        if self.words.command in ENCRYPTING:
+            return [self.secrets[:MOST]]
+        return [self.secrets[start : start + MOST] for start in range(0, len(self.secrets), MOST)]
+
+    def output(self, options: list[str], data: bytes) -> bytes:
+        """What the tool writes for some input; secrets that are too many for it are tried in several runs."""
+        *groups, last = self.groups()
+        for group in groups:
+            try:
+                return self.tool.run([*self.command(group), *options], data, [*group, *self.new])
+            except Refused as fault:
+                if str(fault) != NOT_DECRYPTED:
+                    raise
+        return self.tool.run([*self.command(last), *options], data, [*last, *self.new])

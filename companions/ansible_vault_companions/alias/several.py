@@ -1,0 +1,140 @@
+"""Several files or strings of one command line of ansible-vault, with a run of the tool for each."""
+
+from __future__ import annotations
+
+import os
+
+from ansible_vault_companions import program, stopping
+from ansible_vault_companions.alias.run import Run
+from ansible_vault_companions.alias.words import OUTPUT, PROMPT, SHOW_INPUT, STANDARD_INPUT, STDIN_NAME, VARIABLE, Words
+from ansible_vault_companions.files import reading, replacing
+from ansible_vault_companions.program import Refused, write_error
+from ansible_vault_companions.secrets import prompts
+from ansible_vault_companions.tool.tool import NOT_DECRYPTED
+
+TYPE_CHECKING = False
+if TYPE_CHECKING:
+    from typing import Callable
+
+    from ansible_vault_companions.secrets.sources import Secret
+
+
+class Text:
+    """A string to encrypt, with the name of its variable, if it has one, and where it comes from."""
+
+    def __init__(self, content: bytes, name: str | None, origin: str) -> None:
+        self.content = content
+        self.name = name
+        self.origin = origin
+
+
+def in_place(companion: str, run: Run) -> int:
+    """Replaces each file; the highest status of all."""
+
+    def replace(path: str) -> None:
+        before = reading.named(path)
+        after = run.output(run.words.options, before)
+        replacing.replace(path, after, before, is_private=run.words.command == "decrypt")
+
+    return _each(companion, run.words.arguments, replace)
+
+
+def view(companion: str, run: Run) -> int:
+    """Shows each file; the next one begins on a line of its own."""
+    end = b""
+
+    def show(path: str) -> None:
+        nonlocal end
+        text = run.output(run.words.options, reading.named(path))
+        program.write(end + text)
+        end = b"\n" if text and not text.endswith(b"\n") else b""
+
+    return _each(companion, run.words.arguments, show)
+
+
+def _each(companion: str, paths: list[str], work: Callable[[str], None]) -> int:
+    """The highest status of all files; one that fails is reported, and the others go on."""
+    statuses = [0]
+    for path in paths:
+        try:
+            work(path)
+        except (Refused, OSError) as fault:
+            statuses.append(fault.status if isinstance(fault, Refused) else 1)
+            write_error(f"{companion}: {program.shown(path)}: {program.reason(fault)}")
+    return max(statuses)
+
+
+def blocks(run: Run) -> int:
+    """Writes a block of YAML for each string, in Ansible's order: what is typed, standard input, arguments."""
+    words = run.words
+    texts = [*_typed(words), *_read(words), *_given(words)]
+    output = words.value(OUTPUT)
+    words.leave_out(VARIABLE, "-n", STDIN_NAME, OUTPUT, PROMPT, SHOW_INPUT)
+    made = []
+    for number, text in enumerate(texts, 1):
+        named = [f"{STDIN_NAME}={text.name}"] if text.name else []
+        made.append(run.output([*words.options, *named], text.content))
+        if len(texts) > 1:
+            what = f"the variable {program.shown(text.name)}" if text.name else "a string without a name"
+            write_error(f"# Block {number} is {what}, from {text.origin}.")
+    if output is None or output == STANDARD_INPUT:
+        program.write(b"".join(made))
+    else:
+        replacing.replace(output, b"".join(made), reading.read(output))
+    return 0
+
+
+def _typed(words: Words) -> list[Text]:
+    if not words.has(PROMPT):
+        return []
+    if words.arguments or not words.values.get(VARIABLE):
+        name = prompts.line("Variable name (enter for no name): ").decode(errors="surrogateescape")
+    else:
+        name = words.values[VARIABLE][0]
+    return [Text(prompts.string(is_hidden=not words.has(SHOW_INPUT)), name, "the prompt")]
+
+
+def _read(words: Words) -> list[Text]:
+    if STANDARD_INPUT not in words.arguments and not words.value(STDIN_NAME):
+        return []
+    return [Text(_standard_input(), words.value(STDIN_NAME), "standard input")]
+
+
+def _standard_input() -> bytes:
+    """All of it, or more than the tool takes; a signal ends the wait for it."""
+    with stopping.interruptible(), open(0, "rb", closefd=False) as file:
+        return file.read(reading.LIMIT + 1)
+
+
+def _given(words: Words) -> list[Text]:
+    strings = [each for each in words.arguments if each != STANDARD_INPUT]
+    names = words.values.get(VARIABLE, [])
+    if strings and len(names) > len(strings):
+        raise Refused(f"there are more names than strings: {', '.join(names)}", 2)
+    if 0 < len(names) < len(strings):
+        write_error(f"# There are fewer names than strings: those after {program.shown(names[-1])} have none.")
+    pairs = zip(strings, [*names, *[None] * len(strings)])
+    return [Text(os.fsencode(string), name, "the command line") for string, name in pairs]
+
+
+def serving(run: Run) -> list[Secret]:
+    """No more secrets than the tool takes at once: those among which one decrypts the input, which is kept if it can
+    be read only once."""
+    path = next(iter(run.words.arguments), STANDARD_INPUT)
+    if path == STANDARD_INPUT:
+        data = _standard_input()
+        descriptor = os.memfd_create("input")
+        with open(descriptor, "wb", closefd=False) as file:
+            file.write(data)
+        os.lseek(descriptor, 0, os.SEEK_SET)
+        os.dup2(descriptor, 0)
+    else:
+        data = reading.named(path)
+    for group in run.groups():
+        try:
+            run.tool.run(["view", *run.matching(), *(secret.word() for secret in group)], data, group)
+            break
+        except Refused as fault:
+            if str(fault) != NOT_DECRYPTED:
+                break
+    return group

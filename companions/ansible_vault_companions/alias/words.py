@@ -1,0 +1,171 @@
+"""The words of a command line of ansible-vault, and among them those that name secrets."""
+
+from __future__ import annotations
+
+from ansible_vault_companions.secrets.sources import ASKED, ASKING
+
+STANDARD_INPUT = "-"
+# What ends the options.
+END = "--"
+HELP = ("-h", "--help")
+VERSION = ("-V", "--version")
+# The option for verbosity of Ansible's tool, which ansible-vault does not have.
+VERBOSE = "--verbose"
+# Options that have a value, but for those that name secrets.
+ENCRYPT_ID, OUTPUT, SALT, VARIABLE, STDIN_NAME = "--encrypt-vault-id", "--output", "--salt", "--name", "--stdin-name"
+VALUED = (ENCRYPT_ID, OUTPUT, SALT, "--salt-file", VARIABLE, "-n", STDIN_NAME)
+# Options of Ansible's tool for a string that is typed.
+PROMPT, SHOW_INPUT = "--prompt", "--show-input"
+MATCH = "--require-id-match"
+SECRETS = ("--vault-id", "--vault-password-file", "--vault-pass-file", *ASKING[1:])
+NEW_SECRETS = ("--new-vault-id", "--new-vault-password-file")
+SALTS = (SALT, "--salt-file")
+# The options of each command that can be abbreviated.
+OPTIONS = {
+    "view": (MATCH,),
+    "decrypt": (MATCH, OUTPUT),
+    "encrypt": (ENCRYPT_ID, OUTPUT, *SALTS),
+    "encrypt_string": (ENCRYPT_ID, OUTPUT, *SALTS, VARIABLE, STDIN_NAME, PROMPT, SHOW_INPUT),
+    "rekey": (ENCRYPT_ID, OUTPUT, *SALTS, MATCH, *NEW_SECRETS),
+    "create": (ENCRYPT_ID,),
+    "edit": (ENCRYPT_ID,),
+}
+# Names of the same option.
+SAME = {"--vault-pass-file": "--vault-password-file", "--ask-vault-pass": "--ask-vault-password"}
+
+
+class Words:
+    """The command, what names secrets, and all else in its order."""
+
+    def __init__(self) -> None:
+        self.command = ""
+        self.ids: list[str] = []
+        self.paths: list[str] = []
+        self.new_ids: list[str] = []
+        self.new_paths: list[str] = []
+        self.arguments: list[str] = []
+        # Options with their values, and arguments, each by the name of the option.
+        self.parts: list[tuple[str, list[str]]] = []
+        # The values of each option.
+        self.values: dict[str, list[str]] = {}
+        # Why an option is refused.
+        self.fault = ""
+
+    @property
+    def others(self) -> list[str]:
+        """All that does not name secrets."""
+        return [word for _, words in self.parts for word in words]
+
+    @property
+    def options(self) -> list[str]:
+        """The same without arguments."""
+        return self.without()
+
+    def has(self, *names: str) -> bool:
+        """Whether one of these options is given."""
+        return any(name in names for name, _ in self.parts)
+
+    def without(self, *names: str) -> list[str]:
+        """The options without some."""
+        return [word for name, words in self.parts for word in words if name and name not in names]
+
+    def value(self, name: str) -> str | None:
+        """The last value of an option."""
+        return self.values[name][-1] if name in self.values else None
+
+    def has_files(self) -> bool:
+        """Whether all arguments are files, and there are some."""
+        return bool(self.arguments) and STANDARD_INPUT not in self.arguments
+
+    def names_secrets(self) -> bool:
+        return bool(self.ids or self.paths)
+
+    def secret_options(self) -> list[str]:
+        """The options that name secrets, with other names where the tool has these."""
+        return [
+            *(f"--vault-id={each}" for each in self.ids),
+            *(f"--vault-password-file={each}" for each in self.paths),
+            *(f"--new-vault-id={each}" for each in self.new_ids),
+            *(f"--new-vault-password-file={each}" for each in self.new_paths),
+        ]
+
+    def leave_out(self, *names: str) -> None:
+        """Takes options away that the tool is not to have."""
+        self.parts = [part for part in self.parts if part[0] not in names]
+
+    def take(self, word: str, following: list[str]) -> None:
+        """One word, with its value where that follows. What has no value is left to the tool to refuse."""
+        if not word.startswith("-") or word == STANDARD_INPUT:
+            self._argument(word)
+            return
+        name, equals, value = self._split(word)
+        named = self._secrets(name)
+        has_value = bool(following) and (following[0] == STANDARD_INPUT or not following[0].startswith("-"))
+        if name in ASKING:
+            self.ids.append(ASKED)
+        elif named is not None and equals:
+            named.append(value)
+        elif named is not None and has_value:
+            named.append(following.pop(0))
+        elif name in VALUED and has_value and not equals:
+            self._option(name, following[0], [name, following.pop(0)])
+        elif name != VERBOSE:
+            self._option(name, value, [f"{name}{equals}{value}"])
+
+    def end(self, words: list[str]) -> None:
+        """The words after the end of the options."""
+        self.arguments += words
+        self.parts.append(("", [END, *words]))
+
+    def _split(self, word: str) -> tuple[str, str, str]:
+        """The name of an option, an equals sign where a value follows, and the value."""
+        if word.startswith("--"):
+            name, equals, value = word.partition("=")
+            return self._whole(name), equals, value
+        if {*word[1:]} <= {"v", "p"}:
+            return PROMPT if "p" in word else VERBOSE, "", ""
+        if word.startswith("-n") and word != "-n":
+            return VARIABLE, "=", word[2:].removeprefix("=")
+        return word, "", ""
+
+    def _whole(self, name: str) -> str:
+        """The name of an abbreviated option, where it is clear."""
+        known = (*HELP, VERBOSE, *SECRETS, *OPTIONS.get(self.command, (VERSION[1], *NEW_SECRETS)))
+        found = [option for option in known if option.startswith(name)]
+        if name in known or not found:
+            return name
+        if len({SAME.get(option, option) for option in found}) > 1:
+            self.fault = self.fault or f"ambiguous option: {name} could match {', '.join(found)}"
+        return found[0]
+
+    def _secrets(self, name: str) -> list[str] | None:
+        """Those that an option names."""
+        return {
+            "--vault-id": self.ids,
+            "--vault-password-file": self.paths,
+            "--vault-pass-file": self.paths,
+            "--new-vault-id": self.new_ids,
+            "--new-vault-password-file": self.new_paths,
+        }.get(name)
+
+    def _option(self, name: str, value: str, words: list[str]) -> None:
+        self.values.setdefault(VARIABLE if name == "-n" else name, []).append(value)
+        self.parts.append((name, words))
+
+    def _argument(self, word: str) -> None:
+        if self.command:
+            self.arguments.append(word)
+            self.parts.append(("", [word]))
+        else:
+            self.command = word
+
+
+def parsed(words: list[str]) -> Words:
+    found, left = Words(), [*words]
+    while left:
+        word = left.pop(0)
+        if word == END:
+            found.end(left)
+            break
+        found.take(word, left)
+    return found

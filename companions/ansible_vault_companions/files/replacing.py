@@ -1,0 +1,195 @@
+"""How a file takes the place of another: it is written whole beside it, and then renamed."""
+
+from __future__ import annotations
+
+import errno
+import os
+import re
+import stat
+import tempfile
+from contextlib import suppress
+
+from ansible_vault_companions.files import reading
+from ansible_vault_companions.program import Refused
+
+PREFIX = ".ansible-vault-"
+# What the name of a copy of what was saved begins with, and how many bytes of other names it has.
+SAVED = f"{PREFIX}saved-"
+LONGEST_NAME = 150
+LONGEST_END = 60
+# What `mkstemp` puts into it.
+RANDOM = "[a-z0-9_]{8}"
+# The mode of what its owner alone may read.
+PRIVATE = 0o600
+# What says that a file system has no hard links.
+NO_LINKS = (errno.EPERM, errno.EOPNOTSUPP, errno.ENOSYS, errno.EMLINK)
+
+
+def replace(path: str, content: bytes, before: bytes | None, is_private: bool = False) -> None:
+    """Replaces the content of a file that is still as it was read; links are followed. A private file is readable by
+    its owner only, whatever its mode was. The folder is synced, so that the old content does not come back after
+    a power failure."""
+    target = os.path.realpath(path)
+    beside = _write_beside(target, content, is_private)
+    try:
+        if reading.read(target) != before:
+            raise Refused("it was changed meanwhile")
+        if before is None:
+            _create(beside, target)
+        else:
+            os.replace(beside, target)
+    except BaseException:
+        os.unlink(beside)
+        raise
+    _sync(os.path.dirname(target))
+
+
+def check_replaceable(target: str) -> None:
+    """Refuses now what `replace` would refuse."""
+    if target in _mount_points():
+        raise Refused("it is itself a mount point, so no other file can take its place")
+    os.unlink(_write_beside(target, b""))
+
+
+def save_copy(target: str, content: bytes, name: str = "") -> str:
+    """The path of a new file with this content, for its owner alone: beside the target, or in $TMPDIR. The name of
+    what else an editor left may end its own."""
+    suffix = f"-{_end_of(name, LONGEST_END)}" if name else ""
+    (folder, prefix), (_, other_prefix) = _places_of_copies(target)
+    try:
+        return _write_new(folder, content, prefix=prefix, suffix=suffix)
+    except OSError:
+        return _write_new(tempfile.gettempdir(), content, prefix=other_prefix, suffix=suffix)
+
+
+def copies(target: str) -> list[str]:
+    """The copies that there are."""
+    found = []
+    for folder, prefix in _places_of_copies(target):
+        is_copy = re.compile(rf"{re.escape(prefix)}{RANDOM}(?:-|\Z)").match
+        with suppress(OSError):
+            found += [os.path.join(folder, name) for name in sorted(os.listdir(folder)) if is_copy(name)]
+    return found
+
+
+def is_leftover(name: str) -> bool:
+    """Whether a file is called as one that is renamed when it is whole, or as a copy of what was saved."""
+    return re.fullmatch(f"{re.escape(PREFIX)}{RANDOM}|{re.escape(SAVED)}.*", name, re.DOTALL) is not None
+
+
+def _places_of_copies(target: str) -> list[tuple[str, str]]:
+    """Folders, with what the names of copies begin with there: the target's name, or in $TMPDIR its whole path."""
+    # `tempfile` would write a file there to see whether it can.
+    temporary = os.environ.get("TMPDIR") or "/tmp"
+    names = [(os.path.dirname(target), os.path.basename(target)), (temporary, target.replace("/", "%"))]
+    return [(folder, f"{SAVED}{_end_of(name, LONGEST_NAME)}-") for folder, name in names]
+
+
+def _end_of(name: str, length: int) -> str:
+    return os.fsencode(name)[-length:].decode(errors="ignore")
+
+
+def _create(beside: str, target: str) -> None:
+    """Gives a new file its name, which nobody else may have taken meanwhile."""
+    try:
+        try:
+            os.link(beside, target)
+        except OSError as fault:
+            if fault.errno not in NO_LINKS:
+                raise
+            os.close(os.open(target, os.O_CREAT | os.O_EXCL | os.O_WRONLY, 0o600))
+            os.replace(beside, target)
+            return
+    except FileExistsError:
+        raise Refused("it was created meanwhile") from None
+    os.unlink(beside)
+
+
+def _write_beside(target: str, content: bytes, is_private: bool = False) -> str:
+    """The path of a new file with this content, and with the owner and the mode of the target if there is
+    one; else for its owner alone."""
+    return _write_new(os.path.dirname(target), content, target if os.path.lexists(target) else None, is_private)
+
+
+def _write_new(
+    folder: str,
+    content: bytes,
+    like: str | None = None,
+    is_private: bool = False,
+    prefix: str = PREFIX,
+    suffix: str = "",
+) -> str:
+    descriptor, path = tempfile.mkstemp(suffix, prefix, folder)
+    try:
+        with open(descriptor, "wb") as file:
+            file.write(content)
+            file.flush()
+            if like is not None:
+                _copy_metadata(descriptor, like, is_private)
+            os.fsync(descriptor)
+    except BaseException:
+        os.unlink(path)
+        raise
+    return path
+
+
+def _copy_metadata(descriptor: int, target: str, is_private: bool) -> None:
+    """Copies owner, mode and extended attributes (such as ACLs), in the order in which none resets another. A
+    private file gets the owner only, and the mode 0600."""
+    old, new = os.stat(target), os.fstat(descriptor)
+    if stat.S_ISREG(old.st_mode) and old.st_nlink > 1:
+        raise Refused(f"it has {old.st_nlink} names (hard links), and one alone would change")
+    if (old.st_uid, old.st_gid) != (new.st_uid, new.st_gid):
+        _give(descriptor, old.st_uid, old.st_gid)
+    wanted = [] if is_private else _attributes(target)
+    # Those that the folder gives to every new file.
+    for name in set(_attributes(descriptor)) - set(wanted):
+        os.removexattr(descriptor, name)
+    os.fchmod(descriptor, PRIVATE if is_private else stat.S_IMODE(old.st_mode))
+    for name in wanted:
+        os.setxattr(descriptor, name, os.getxattr(target, name))
+
+
+def _give(descriptor: int, user: int, group: int) -> None:
+    try:
+        os.fchown(descriptor, user, group)
+    except PermissionError as fault:
+        why = f"its owner {user}:{group} cannot be kept: {fault.strerror}; run this as that user, or as root"
+        raise Refused(why) from None
+
+
+def _attributes(target: str | int) -> list[str]:
+    """The names of the extended attributes but for those of security modules, which the system gives."""
+    try:
+        return [name for name in os.listxattr(target) if not name.startswith("security.")]
+    except OSError as fault:
+        if fault.errno == errno.ENOTSUP:
+            return []
+        raise
+
+
+def _sync(folder: str) -> None:
+    try:
+        descriptor = os.open(folder, os.O_RDONLY | os.O_DIRECTORY)
+    except PermissionError:
+        # A folder that may be written and not be read.
+        os.sync()
+        return
+    try:
+        os.fsync(descriptor)
+    except OSError as fault:
+        # Some file systems sync no folders.
+        if fault.errno != errno.EINVAL:
+            raise
+    finally:
+        os.close(descriptor)
+
+
+def _mount_points() -> set[str]:
+    try:
+        with open("/proc/self/mountinfo", "rb") as file:
+            fields = [line.split(b" ")[4] for line in file]
+    except OSError:
+        return set()
+    unescaped = (re.sub(rb"\\([0-7]{3})", lambda found: bytes([int(found[1], 8)]), field) for field in fields)
+    return {os.fsdecode(each) for each in unescaped}

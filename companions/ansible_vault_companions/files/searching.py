@@ -1,0 +1,94 @@
+"""The files below the paths of a command line, and those that have envelopes."""
+
+from __future__ import annotations
+
+import errno
+import os
+import stat
+from typing import BinaryIO, Callable, Iterator
+
+from ansible_vault_companions import stopping
+from ansible_vault_companions.files.envelopes import MAGIC, UTF_16, mentions_envelope
+from ansible_vault_companions.files.reading import CHUNK_SIZE, LIMIT, TooLong, opened, parts
+from ansible_vault_companions.program import Refused
+
+# Bytes of an envelope's beginning that may end one piece and continue in the next.
+OVERLAP = max(map(len, UTF_16)) - 1
+# Prose shows blocks that are not meant.
+PROSE = (".md", ".rst", ".adoc", ".html")
+PLACES = """\
+Each PATH is a file, or a folder whose files are searched, except below .git.
+Symbolic links to files are followed, and those to folders only if they are a
+PATH. Of files with more than 100,671,488 bytes, the most that a vault can have,
+only these are searched. Blocks are found in every file except documents (.md,
+.rst, .adoc, .html): an envelope whose lines have the same indentation, as after
+`NAME: !vault |`, also within another text; and in the plaintext of a vault. An
+envelope in another form (quotes, JSON, comments, tabs, `!vault >`, UTF-16,
+after a byte order mark, or after empty lines at the start of a file) is
+reported as a failure, with instructions."""
+
+
+class Unsearched(Refused):
+    """A file has no envelope as far as it is read, and goes on."""
+
+
+def files_below(paths: list[str], refuse: Callable[[str, Exception], None]) -> Iterator[str]:
+    """Each file once, whatever leads to it; what cannot be looked at is refused by its name. A signal ends it."""
+    seen = set()
+    for path in paths:
+        for file, is_named in _candidates(path, refuse):
+            stopping.check()
+            try:
+                is_file = stat.S_ISREG(os.stat(file).st_mode)
+            except OSError as fault:
+                if is_named or not _leads_nowhere(file, fault):
+                    refuse(file, fault)
+                continue
+            if is_named and not is_file:
+                refuse(file, Refused("it is neither a file nor a folder"))
+            target = os.path.realpath(file)
+            if is_file and target not in seen:
+                seen.add(target)
+                yield file
+
+
+def _leads_nowhere(file: str, fault: OSError) -> bool:
+    """Whether it is a link to nothing, or to itself."""
+    return os.path.islink(file) and fault.errno in (errno.ENOENT, errno.ELOOP)
+
+
+def _candidates(path: str, refuse: Callable[[str, Exception], None]) -> Iterator[tuple[str, bool]]:
+    """The path itself where it is no folder, else all files below it; and whether it was named."""
+    if not os.path.isdir(path):
+        yield path, True
+        return
+    for folder, folders, names in os.walk(path, onerror=lambda fault: refuse(fault.filename, fault)):
+        stopping.check()
+        folders[:] = sorted(name for name in folders if name != ".git")
+        yield from ((os.path.join(folder, name), False) for name in sorted(names))
+
+
+def is_prose(path: str) -> bool:
+    return path.lower().endswith(PROSE)
+
+
+def contents(path: str, with_prose: bool = False) -> bytes:
+    """The content of a file; empty if it has no envelope that is to be looked at. A signal ends the search."""
+    with opened(path) as file:
+        begins = file.read(CHUNK_SIZE).startswith(MAGIC)
+        is_skipped = is_prose(path) and not with_prose
+        if not begins and (is_skipped or not _mentions_envelope(file, path)):
+            return b""
+        return b"".join(parts(file, path, stopping.check))
+
+
+def _mentions_envelope(file: BinaryIO, path: str) -> bool:
+    end = b""
+    try:
+        for piece in parts(file, path, stopping.check):
+            if mentions_envelope(end + piece):
+                return True
+            end = piece[-OVERLAP:]
+    except TooLong:
+        raise Unsearched(f"only its first {LIMIT:,} bytes were searched, as many as a vault can have") from None
+    return False

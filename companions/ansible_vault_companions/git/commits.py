@@ -1,0 +1,166 @@
+"""What commits change: which files come, and which go."""
+
+from __future__ import annotations
+
+import os
+import tempfile
+from contextlib import contextmanager
+from typing import Iterator, NamedTuple
+
+from ansible_vault_companions.git.commands import answer, git
+from ansible_vault_companions.git.contents import FILE_MODES, LINK_MODE, PARTIAL
+from ansible_vault_companions.program import Refused, shown
+
+RAW = ("--raw", "-z", "--no-abbrev")
+# How messages call other commits.
+PARENT = "the parent commit"
+EARLIER = "an earlier commit"
+# By a variable of this name git names to a hook a commit that is merged.
+MERGED = "GITHEAD_"
+SHALLOW = (
+    "this clone is shallow, so earlier commits are missing; run `git fetch --unshallow` first, and let a pipeline "
+    "fetch all of them (fetch-depth: 0, GIT_DEPTH: 0)"
+)
+# What names the remote that is to have what a partial clone lacks.
+PROMISOR = r"^(extensions\.partialclone|remote\..*\.promisor)$"
+
+
+class File(NamedTuple):
+    """A file of a commit, or a link, with the content of the file that was there before."""
+
+    name: bytes
+    blob: str
+    before: str | None = None
+    is_link: bool = False
+
+
+class Change(NamedTuple):
+    """All differences from another commit."""
+
+    # How messages call that commit.
+    since: str
+    files: list[File]
+    # The files that have gone: their blobs by their names.
+    gone: dict[bytes, str]
+    # What git made it with.
+    command: tuple[str, ...]
+
+    def renames(self) -> Iterator[tuple[bytes, bytes]]:
+        """The names before and after of the files that git finds to be renamed."""
+        fields = git(*self.command, *RAW, "--find-renames", "--diff-filter=R").split(b"\0")
+        yield from zip(fields[1::3], fields[2::3])
+
+
+def _change(since: str, *command: str) -> Change:
+    change = Change(since, [], {}, command)
+    fields = git(*command, *RAW, "--no-renames").split(b"\0")
+    for about, name in zip(fields[::2], fields[1::2]):
+        old_mode, mode, old_blob, blob, status = about.decode().removeprefix(":").split()
+        before = old_blob if old_mode in FILE_MODES else None
+        if mode in FILE_MODES:
+            change.files.append(File(name, blob, before))
+        elif before and mode == LINK_MODE:
+            change.files.append(File(name, blob, before, is_link=True))
+        elif before and status != "U":
+            change.gone[name] = before
+    return change
+
+
+def staged() -> list[Change]:
+    """How the index differs from each parent that a commit of it will have."""
+    ours = _staged_since(_head())
+    names = {file.name for file in ours.files}
+    theirs = [_staged_since(each) for each in _merged()] if names else []
+    return [ours, *(each._replace(files=[file for file in each.files if file.name in names]) for each in theirs)]
+
+
+def _staged_since(name: str) -> Change:
+    return _change(PARENT, "diff-index", "--cached", "--ita-invisible-in-index", name)
+
+
+def _head() -> str:
+    return answer("rev-parse", "--verify", "HEAD").decode().strip() or _empty()
+
+
+def _empty() -> str:
+    """A tree without files is the parent of a first commit."""
+    return git("hash-object", "-t", "tree", "--stdin").decode().strip()
+
+
+def _merged() -> list[str]:
+    """The commits that are merged into the one that is checked out."""
+    found = {name.removeprefix(MERGED) for name in os.environ if name.startswith(MERGED)}
+    try:
+        with open(git("rev-parse", "--git-path", "MERGE_HEAD").removesuffix(b"\n"), encoding="ascii") as file:
+            found.update(file.read().split())
+    except FileNotFoundError:
+        pass
+    return sorted(found)
+
+
+def commit(name: str) -> str:
+    """The commit that a name means."""
+    found = answer("rev-parse", "--verify", "--end-of-options", f"{name}^{{commit}}").decode().strip()
+    if not found:
+        raise Refused(f"{shown(name)} is no commit of this clone; `git fetch` gets those of others")
+    return found
+
+
+def of_commit(name: str) -> list[Change]:
+    """How a commit differs from each of its parents."""
+    return [_change(PARENT, "diff-tree", "-r", parent, name) for parent in _parents(name)]
+
+
+def _parents(name: str) -> list[str]:
+    found = git("rev-list", "--parents", "--max-count=1", name).decode().split()[1:]
+    return found or [_empty()]
+
+
+def commits_since(first: str) -> list[str]:
+    """Those that are checked out and not in this one, the oldest first."""
+    return git("rev-list", "--reverse", "--topo-order", f"{first}..HEAD").decode().split()
+
+
+def of_range(first: str, last: str) -> list[Change]:
+    """How a commit differs from where its history and that of the first one meet."""
+    # None if they have nothing in common.
+    bases = answer("merge-base", "--all", first, last).decode().split()
+    return [_change(base[:10], "diff-tree", "-r", base, last) for base in bases if base != last]
+
+
+def of_history(name: str, text: str) -> Change:
+    """How the files of a commit differ from what they had when this text came into them or went, in any ancestor."""
+    now = {file.name: file for file in files_of(name)}
+    pickaxe = ("--stdin", "-r", "-m", "--root", "--no-commit-id", "--no-textconv", f"-S{text}")
+    fields = git("diff-tree", *pickaxe, *RAW, "--no-renames", data=git("rev-list", name)).split(b"\0")
+    found: set[File] = set()
+    for about, path in zip(fields[::2], fields[1::2]):
+        old_mode, mode, old_blob, blob, _ = about.decode().removeprefix(":").split()
+        befores = [each for each_mode, each in ((old_mode, old_blob), (mode, blob)) if each_mode in FILE_MODES]
+        found.update(now[path]._replace(before=each) for each in befores if path in now and each != now[path].blob)
+    return Change(EARLIER, sorted(found), {}, ())
+
+
+def files_of(name: str) -> list[File]:
+    """All files and links of a commit."""
+    lines = git("ls-tree", "-r", "-z", "--full-tree", name).split(b"\0")[:-1]
+    fields = [(line.partition(b"\t")[0].decode().split(), line.partition(b"\t")[2]) for line in lines]
+    modes = {*FILE_MODES, LINK_MODE}
+    return [File(path, about[2], None, about[0] == LINK_MODE) for about, path in fields if about[0] in modes]
+
+
+def refuse_incomplete() -> None:
+    """A clone that lacks earlier commits or contents."""
+    if git("rev-parse", "--is-shallow-repository").strip() == b"true":
+        raise Refused(SHALLOW)
+    if answer("config", "--get-regexp", PROMISOR):
+        raise Refused(PARTIAL)
+
+
+@contextmanager
+def index_of(name: str) -> Iterator[str]:
+    """An index that has the files of a commit."""
+    with tempfile.TemporaryDirectory(prefix="ansible-vault-") as folder:
+        path = os.path.join(folder, "index")
+        git("read-tree", name, index=path)
+        yield path

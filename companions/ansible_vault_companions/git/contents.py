@@ -1,0 +1,61 @@
+"""What an index has, and the contents of blobs."""
+
+from __future__ import annotations
+
+import os
+import subprocess
+from contextlib import suppress
+
+from ansible_vault_companions.git.commands import command, environment, git
+from ansible_vault_companions.program import Refused
+
+# What git calls files: neither links nor modules.
+FILE_MODES = {"100644", "100755"}
+LINK_MODE = "120000"
+# How many contents are kept, since a file is compared with the one before it in several ways.
+RECENT = 4
+PARTIAL = "this clone is partial, so contents are missing, and none is fetched here; clone without --filter"
+
+
+def staged(path: bytes, index: str | None = None) -> dict[bytes, tuple[str, str]]:
+    """What is in an index at a path, or below it: modes and blobs by their names."""
+    words = ["ls-files", "-s", "-z", "--", os.fsdecode(path) or "."]
+    lines = git(*words, index=index).split(b"\0")[:-1]
+    entries = [(about.decode().split(), name) for about, _, name in (line.partition(b"\t") for line in lines)]
+    return {name: (about[0], about[1]) for about, name in entries}
+
+
+class Blobs:
+    """Reads contents, by one run of git for all of them."""
+
+    def __enter__(self) -> Blobs:
+        pipe = subprocess.PIPE
+        self.git = subprocess.Popen(command(("cat-file", "--batch")), stdin=pipe, stdout=pipe, env=environment())
+        assert self.git.stdin and self.git.stdout
+        self.stdin, self.stdout = self.git.stdin, self.git.stdout
+        self.recent: dict[str, bytes] = {}
+        return self
+
+    def __exit__(self, *_: object) -> None:
+        # It only reads, and need not come to an end by itself.
+        self.git.terminate()
+        with suppress(BrokenPipeError):
+            self.stdin.close()
+        self.stdout.close()
+        self.git.wait()
+
+    def read(self, blob: str) -> bytes:
+        if blob not in self.recent:
+            self.recent = dict([*self.recent.items()][1 - RECENT :])
+            self.recent[blob] = self._read(blob)
+        return self.recent[blob]
+
+    def _read(self, blob: str) -> bytes:
+        self.stdin.write(blob.encode() + b"\n")
+        self.stdin.flush()
+        about = self.stdout.readline().split()
+        if len(about) != 3:
+            raise Refused(PARTIAL)
+        content = self.stdout.read(int(about[2]))
+        self.stdout.read(1)
+        return content

@@ -1,0 +1,134 @@
+"""What is still to be merged, which neither git nor the hook can see without a secret."""
+
+from __future__ import annotations
+
+import hashlib
+import os
+from typing import NamedTuple
+
+from ansible_vault_companions.files import reading
+from ansible_vault_companions.git.commands import git
+from ansible_vault_companions.git.contents import staged
+from ansible_vault_companions.git.repositories import by_repository
+from ansible_vault_companions.program import Refused
+
+# Where it is noted what is still to be merged, which neither git nor the hook can see without a secret. A line of one
+# word is the blob of a content with conflict markers. A line of three is a file that the merge driver could not
+# merge: its blobs in ours and in theirs, and its name in hexadecimal digits.
+CONFLICTS = "ansible-vault-conflicts"
+# What git calls the commits whose changes it merges.
+THEIRS = ("MERGE_HEAD", "CHERRY_PICK_HEAD", "REBASE_HEAD", "REVERT_HEAD^@")
+
+
+class Unmerged(NamedTuple):
+    """A file that is as ours has it, since the merge driver failed."""
+
+    name: bytes
+    ours: str
+    theirs: str
+
+
+def note_conflict(content: bytes, folder: str | None = None) -> None:
+    """Notes in the repository of a folder, if there is one, that a content is still to be merged."""
+    try:
+        hashed = [git("hash-object", "--stdin", data=each, folder=folder, is_quiet=True) for each in as_stored(content)]
+        path = git("rev-parse", "--git-path", CONFLICTS, folder=folder, is_quiet=True).removesuffix(b"\n")
+    except Refused:
+        return
+    with open(os.path.join(os.fsencode(folder or ""), path), "ab") as file:
+        file.writelines(hashed)
+
+
+def as_stored(content: bytes) -> set[bytes]:
+    """What git may keep of a content, by the attributes of its file: the same, or with other ends of lines. git itself
+    would run a filter that the folder names."""
+    return {content, content.replace(b"\r\n", b"\n")}
+
+
+def conflicts() -> set[str]:
+    """The blobs that have conflict markers."""
+    return {words[0] for words in _lines(_notes()) if len(words) == 1}
+
+
+def note_unmerged(name: str, ours: str, theirs: str) -> None:
+    """Notes that a file is not merged yet. Its versions are at these paths."""
+    notes = _notes()
+    if notes:
+        blobs = git("hash-object", "--no-filters", "--", ours, theirs).decode().split()
+        with open(notes, "a", encoding="ascii") as file:
+            file.write(f"{' '.join(blobs)} {os.fsencode(name).hex()}\n")
+
+
+def forget_unmerged(name: str) -> None:
+    """Takes that note back, since the file is merged."""
+    notes = _notes()
+    lines = _lines(notes)
+    kept = [words for words in lines if words[2:] != [os.fsencode(name).hex()]]
+    if notes and len(kept) < len(lines):
+        with open(notes, "w", encoding="ascii") as file:
+            file.writelines(f"{' '.join(words)}\n" for words in kept)
+
+
+def unmerged(folder: str | None = None) -> list[Unmerged]:
+    """The files that the merge driver could not merge, as long as git has not finished that merge."""
+    noted = {Unmerged(bytes.fromhex(words[2]), *words[:2]) for words in _lines(_notes(folder)) if len(words) == 3}
+    merged = _blobs_of_theirs(folder) if noted else set()
+    return sorted(each for each in noted if each.theirs in merged)
+
+
+def unmerged_of(paths: list[str]) -> set[str]:
+    """The files whose content is still that of ours, each in the repository that it is in, if in any."""
+    found = set()
+    for repository, names in by_repository(paths).items():
+        for each in unmerged(repository):
+            path = names.get(each.name)
+            if path is not None and each.ours in _blobs_of(path, each.ours):
+                found.add(path)
+    return found
+
+
+def unmerged_in_index() -> list[tuple[bytes, str]]:
+    """The files whose staged content is still that of ours: their names and blobs."""
+    noted = [(each.name, each.ours) for each in unmerged()]
+    return [(name, blob) for name, blob in noted if staged(name).get(name, ("", ""))[1] == blob]
+
+
+def _blobs_of(path: str, like: str) -> list[str]:
+    """What git calls the content of a file, and the same with ends of lines as git keeps them, by the hash of another
+    blob. git itself would run a filter that the folder names."""
+    try:
+        content = reading.read(path) or b""
+    except (Refused, OSError):
+        return []
+    new = hashlib.sha1 if len(like) == hashlib.sha1().digest_size * 2 else hashlib.sha256
+    return [new(b"blob %d\0%b" % (len(each), each)).hexdigest() for each in as_stored(content)]
+
+
+def _blobs_of_theirs(folder: str | None) -> set[str]:
+    blobs: set[str] = set()
+    for name in THEIRS:
+        try:
+            commits = git("rev-parse", name, folder=folder, is_quiet=True).decode().split()
+        except Refused:
+            continue
+        for each in commits:
+            lines = git("ls-tree", "-r", "-z", "--full-tree", each, folder=folder).split(b"\0")[:-1]
+            blobs.update(line.partition(b"\t")[0].split()[2].decode() for line in lines)
+    return blobs
+
+
+def _notes(folder: str | None = None) -> str | None:
+    """The path of the notes; none outside of a repository."""
+    try:
+        path = git("rev-parse", "--git-path", CONFLICTS, folder=folder, is_quiet=True).removesuffix(b"\n")
+    except Refused:
+        return None
+    return os.path.join(folder or "", os.fsdecode(path))
+
+
+def _lines(notes: str | None) -> list[list[str]]:
+    try:
+        with open(notes or os.devnull, encoding="ascii") as file:
+            return [line.split() for line in file]
+    except FileNotFoundError:
+        return []

@@ -1,0 +1,42 @@
+"""Three texts merged by lines. git does it, which has files in memory alone."""
+
+from __future__ import annotations
+
+import os
+import subprocess
+from typing import NamedTuple
+
+from ansible_vault_companions.git import commands
+from ansible_vault_companions.program import Refused
+
+# What git names the sides of a conflict by.
+SIDES = OURS, BASE, THEIRS = ("ours", "base", "theirs")
+# The status of `git merge-file` is the number of conflicts, up to this; a greater one is a failure.
+MOST_CONFLICTS = 127
+
+
+class Merged(NamedTuple):
+    content: bytes
+    conflicts: int
+
+
+def merged_lines(ours: bytes, base: bytes, theirs: bytes) -> Merged:
+    """What git makes of three texts."""
+    files = [_in_memory(text) for text in (ours, base, theirs)]
+    names = [word for side in SIDES for word in ("-L", side)]
+    paths = [f"/proc/self/fd/{file}" for file in files]
+    try:
+        done = commands.run("merge-file", "-p", *names, *paths, pass_fds=files, stderr=subprocess.PIPE)
+    finally:
+        for file in files:
+            os.close(file)
+    if not 0 <= done.returncode <= MOST_CONFLICTS:
+        raise Refused("git merge-file cannot merge it; it may be binary")
+    return Merged(done.stdout, done.returncode)
+
+
+def _in_memory(text: bytes) -> int:
+    file = os.memfd_create("version")
+    with open(file, "wb", closefd=False) as writer:
+        writer.write(text)
+    return file

@@ -1,0 +1,208 @@
+"""Three versions of YAML with values that are vaults, merged into one.
+
+A token stands for each value in the line of its tag, so that git merges the value as a whole. Two versions have the
+same token where the same keys lead to the same text with the same looks, and it is put back as one of them has it.
+"""
+
+from __future__ import annotations
+
+import re
+import secrets as randomness
+from collections import Counter
+from typing import Hashable
+
+from ansible_vault_companions.files.envelopes import envelopes, label_of
+from ansible_vault_companions.merging.lines import OURS, THEIRS, Merged, merged_lines
+from ansible_vault_companions.merging.versions import Opened, Place, Version, opened, scanned
+from ansible_vault_companions.program import Refused
+from ansible_vault_companions.secrets import labels
+from ansible_vault_companions.secrets.sources import Secret
+from ansible_vault_companions.tool.keys import Decrypt
+from ansible_vault_companions.tool.tool import Tool
+from ansible_vault_companions.yaml import blocks
+from ansible_vault_companions.yaml.blocks import Block, Change, named
+from ansible_vault_companions.yaml.nodes import LITERAL, NotYaml
+from ansible_vault_companions.yaml.values import Scan
+
+# What a block has between its spaces and ends of lines.
+INK = re.compile(rb"\S+")
+
+NOT_ENCRYPTED = "what was encrypted does not decrypt to the text that was meant"
+NO_YAML = "git can merge its lines, but the result would be no YAML ({})"
+TORN = "git can merge its lines, but a value of the result would be none of either side"
+
+
+def encrypted(tool: Tool, text: bytes, secret: Secret, label: str) -> bytes:
+    """A new envelope, which is decrypted again before it takes the place of any other."""
+    envelope = tool.encrypt(text, secret, label)
+    if label_of(envelope) != label or tool.view(envelope, secret) != text:
+        raise Refused(NOT_ENCRYPTED)
+    return envelope
+
+
+def check_envelopes(content: bytes, known: list[bytes]) -> None:
+    """Refuses a result with an envelope that is in none of its versions."""
+    if not _readable(content).issubset({text for each in known for text in _readable(each)}):
+        raise Refused(TORN)
+
+
+class Values:
+    """Three versions of YAML with tokens in the places of their values."""
+
+    def __init__(self, decrypt: Decrypt, base: bytes, ours: bytes, theirs: bytes) -> None:
+        self.mark = f"ansible-vault-{randomness.token_hex(16)}".encode()
+        # By what they stand for: a value with its number among equal ones, and the keys that lead to a value.
+        self.tokens: dict[Hashable, bytes] = {}
+        self.paths: dict[Hashable, int] = {}
+        self.versions = [scanned(each) for each in (ours, base, theirs)]
+        self.ours, self.base, self.theirs = self.versions
+        self.opened = opened(decrypt, self.versions)
+        _check_labels(self.opened, self.base, {OURS: self.ours, THEIRS: self.theirs})
+        for each in self.versions:
+            self._give_tokens(each)
+        self._keep_rekeyed(self.ours, self.theirs)
+        self._keep_rekeyed(self.theirs, self.ours)
+        for each in self.versions:
+            self._put_tokens(each)
+        # The envelopes of the result in their order, and the new ones by their tokens.
+        self.restored: list[bytes] = []
+        self.made: dict[bytes, bytes] = {}
+
+    def _give_tokens(self, version: Version) -> None:
+        equal: Counter[Hashable] = Counter()
+        for block in version.blocks:
+            place = Place(block, self.opened.get(block.envelope))
+            what = _known_by(place)
+            version.places[self._token((what, equal[what]))] = place
+            equal[what] += 1
+
+    def _token(self, what: Hashable) -> bytes:
+        return self.tokens.setdefault(what, b"%s-%d" % (self.mark, len(self.tokens)))
+
+    def _keep_rekeyed(self, side: Version, other: Version) -> None:
+        """Makes a conflict of a value that a side has put under another secret, and whose old envelope the other has at
+        other keys, or under another tag: it would be all that is left of the value."""
+        found = {}
+        for token, place in side.places.items():
+            before = self.base.places.get(token)
+            is_rekeyed = before and before.opened and place.opened and not place.is_under_same(before)
+            there = other.at(place.block.value.path)
+            is_kept = token in other.places or before and there and there.block.envelope == before.block.envelope
+            is_moved = before and not is_kept and _digits(before.block.envelope) in other.data
+            found[self._token((token, place.block.envelope)) if is_rekeyed and is_moved else token] = place
+        side.places = found
+
+    def _put_tokens(self, version: Version) -> None:
+        tokens = version.places.items()
+        changes = [each for token, place in tokens for each in self._tokenized(version.data, place.block, token)]
+        version.text = blocks.changed(version.data, changes)
+
+    def _tokenized(self, data: bytes, block: Block, token: bytes) -> list[Change]:
+        """A token in the line of the tag, and a line below that keeps the lines of two values apart."""
+        value = block.value
+        number = self.paths.setdefault(value.path, len(self.paths))
+        below = blocks.line_end(data, value.line_end) + b"%s/%d" % (self.mark, number)
+        return blocks.replacement(value, token, below, value.content_end)
+
+    def merged(self, tool: Tool) -> Merged:
+        text, conflicts = merged_lines(self.ours.text, self.base.text, self.theirs.text)
+        mark = re.escape(self.mark)
+        below = rb"%s/\d+(?P<%s>\r?\n|\Z)"
+        line = re.compile(
+            rb"(?P<token>%s-\d+)(?P<rest>[^\n]*?)(?P<end>\r?\n|\Z)(?:%s)?|%s"
+            % (mark, below % (mark, b"last"), below % (mark, b"alone"))
+        )
+        content = line.sub(lambda found: self._restored(tool, found), text)
+        self._check(content, is_whole=not conflicts)
+        return Merged(content, conflicts)
+
+    def _restored(self, tool: Tool, found: re.Match[bytes]) -> bytes:
+        """The block of a token, which ends as the line below it; of such a line alone, nothing."""
+        token = found["token"]
+        if token is None:
+            return b""
+        block, envelope = self._chosen(tool, token)
+        self.restored.append(envelope or block.envelope)
+        body = block.replace(block.value, envelope)[1].text if envelope else block.body
+        end = found["end"] if found["last"] is None else found["last"]
+        return block.header + found["rest"] + body + end
+
+    def _chosen(self, tool: Tool, token: bytes) -> tuple[Block, bytes | None]:
+        """The block for a token, and another envelope if the other side has put the value under a new secret."""
+        ours, base, theirs = (each.places.get(token) for each in self.versions)
+        if ours and theirs:
+            return (theirs if base and _is_newer(ours, base, theirs) else ours).block, None
+        if ours:
+            return ours.block, self._anew(tool, token, self.ours, self.theirs)
+        if theirs:
+            return theirs.block, self._anew(tool, token, self.theirs, self.ours)
+        return self.base.places[token].block, None
+
+    def _anew(self, tool: Tool, token: bytes, side: Version, other: Version) -> bytes | None:
+        """The value of a side under the new secret of the other, which has put the same label and text under it. If the
+        other has another text, too, it may be a copy of any envelope, and there is a conflict."""
+        mine = side.places[token]
+        path = mine.block.value.path
+        new, before = other.at(path), self.base.at(path)
+        if not (mine.opened and new and new.opened and before and side.at(path) is mine):
+            return None
+        is_rekeyed = _known_by(new) == _known_by(before) and not new.is_under_same(before)
+        if not (is_rekeyed and mine.is_under_same(before) and mine.is_of_same_label(before)):
+            return None
+        if token not in self.made:
+            self.made[token] = encrypted(tool, mine.opened.plaintext, new.opened.secret, mine.block.label)
+        return self.made[token]
+
+    def _check(self, content: bytes, is_whole: bool) -> None:
+        """Refuses a result with a value that was not meant, or which is no YAML although both sides are."""
+        check_envelopes(content, [*(each.data for each in self.versions), *self.made.values()])
+        if self.mark in content:
+            raise Refused(TORN)
+        if not (is_whole and self.ours.is_yaml and self.theirs.is_yaml):
+            return
+        try:
+            values = [value for value in Scan(content).values if blocks.is_envelope(value)]
+        except NotYaml as fault:
+            raise Refused(NO_YAML.format(fault)) from None
+        found = [value.content.strip() for value in values if value.style == LITERAL]
+        others = {value.content for value in self.ours.values + self.theirs.values}
+        are_others_known = all(value.content in others for value in values if value.style != LITERAL)
+        if found != [each.strip() for each in self.restored] or not are_others_known:
+            raise Refused(TORN)
+
+
+def _check_labels(opened: dict[bytes, Opened], base: Version, sides: dict[str, Version]) -> None:
+    """Refuses what a side has brought in under a label whose secret it is not under."""
+    known = {each.envelope for each in base.blocks}
+    for side, version in sides.items():
+        for block in version.blocks:
+            found = opened.get(block.envelope)
+            fault = labels.fault(found.secret, block.envelope) if found else ""
+            if fault and block.envelope not in known:
+                raise Refused(f"{side}: line {block.value.line}: {named(block.value)}: {fault}")
+
+
+def _known_by(place: Place) -> Hashable:
+    """What is the same where nobody has changed a value, though it may be encrypted anew."""
+    block = place.block
+    looks = block.value.path, block.header, INK.sub(b"", block.body)
+    if not place.opened:
+        return looks, block.envelope
+    return looks, block.label, place.opened.secret.label, place.opened.plaintext
+
+
+def _digits(envelope: bytes) -> bytes:
+    """A line of its tag and ciphertext, which no other envelope has."""
+    return envelope.split()[1:][-2:][0]
+
+
+def _is_newer(ours: Place, base: Place, theirs: Place) -> bool:
+    """Whether theirs is the side that has put a value under another secret, or else has encrypted it again."""
+    if ours.opened and theirs.opened and not ours.is_under_same(theirs):
+        return ours.is_under_same(base)
+    return ours.block.envelope == base.block.envelope
+
+
+def _readable(data: bytes) -> set[bytes]:
+    """The envelopes in a file that the tool can read."""
+    return {each.text.replace(b"\r\n", b"\n") for each in envelopes(data) if each.text}

@@ -1,0 +1,94 @@
+"""A version of a YAML file that is merged, with its values that are vaults, of which some are decrypted."""
+
+from __future__ import annotations
+
+from collections import defaultdict
+from dataclasses import dataclass, field
+from typing import Hashable, NamedTuple
+
+from ansible_vault_companions import parallel
+from ansible_vault_companions.program import Refused
+from ansible_vault_companions.secrets.sources import Secret
+from ansible_vault_companions.tool.keys import Decrypt
+from ansible_vault_companions.tool.tool import SecretRefused
+from ansible_vault_companions.yaml import blocks
+from ansible_vault_companions.yaml.blocks import Block
+from ansible_vault_companions.yaml.nodes import LITERAL, NotYaml
+from ansible_vault_companions.yaml.values import Scan, Value
+
+
+class Opened(NamedTuple):
+    """What is in an envelope."""
+
+    secret: Secret
+    plaintext: bytes
+
+
+class Place(NamedTuple):
+    """A value where it stands in a version."""
+
+    block: Block
+    # None if it is not decrypted: all versions have the same envelopes there, or no secret decrypts it.
+    opened: Opened | None
+
+    def is_under_same(self, other: Place) -> bool:
+        """Whether both are under one password."""
+        return bool(self.opened and other.opened and self.opened.secret.is_same(other.opened.secret))
+
+    def is_of_same_label(self, other: Place) -> bool:
+        """Whether both have one label, and their secrets have one, too."""
+        has_one = self.opened and other.opened and self.opened.secret.label == other.opened.secret.label
+        return bool(has_one) and self.block.label == other.block.label
+
+
+@dataclass
+class Version:
+    data: bytes
+    is_yaml: bool = True
+    # All values that are vaults, and those of them that can be put back.
+    values: list[Value] = field(default_factory=list)
+    blocks: list[Block] = field(default_factory=list)
+    # The text with tokens, and what these stand for.
+    text: bytes = b""
+    places: dict[bytes, Place] = field(default_factory=dict)
+
+    def at(self, path: Hashable) -> Place | None:
+        """The only value that these keys lead to."""
+        found = [each for each in self.places.values() if each.block.value.path == path]
+        return found[0] if len(found) == 1 else None
+
+    def envelopes_at(self) -> dict[Hashable, list[bytes]]:
+        """The envelopes by the keys that lead to them."""
+        found: dict[Hashable, list[bytes]] = defaultdict(list)
+        for each in self.blocks:
+            found[each.value.path].append(each.envelope)
+        return found
+
+
+def scanned(data: bytes) -> Version:
+    """What is no YAML has no values, and is merged as any text."""
+    try:
+        values = [value for value in Scan(data).values if blocks.is_envelope(value)]
+    except NotYaml:
+        return Version(data, is_yaml=False)
+    return Version(data, True, values, [blocks.block_of(data, value) for value in values if value.style == LITERAL])
+
+
+def opened(decrypt: Decrypt, versions: list[Version]) -> dict[bytes, Opened]:
+    """The envelopes that a secret decrypts, of the keys that do not lead to the same ones in all versions."""
+    by_paths = [each.envelopes_at() for each in versions]
+    paths = {path for each in by_paths for path in each}
+    changed = [path for path in paths if any(each.get(path) != by_paths[0].get(path) for each in by_paths)]
+    closed = list({envelope for path in changed for each in by_paths for envelope in each.get(path, [])})
+    found: list[Opened | None] = []
+    parallel.work_on(closed, parallel.processors(), lambda envelope: _opened(decrypt, envelope), found.append)
+    return {envelope: each for envelope, each in zip(closed, found) if each}
+
+
+def _opened(decrypt: Decrypt, envelope: bytes) -> Opened | None:
+    try:
+        return Opened(*decrypt(envelope))
+    except SecretRefused:
+        raise
+    except Refused:
+        return None

@@ -1,0 +1,88 @@
+"""The options that name secrets, and the secrets of a command line and of Ansible's settings."""
+
+from __future__ import annotations
+
+import argparse
+
+from ansible_vault_companions.secrets import sources
+from ansible_vault_companions.secrets.settings import Settings
+from ansible_vault_companions.secrets.sources import ASKED, ASKING, Secret
+
+SOURCES = """\
+A password file that is executable is run, and writes the password; one whose
+name ends in -client, before its suffix, is given --vault-id LABEL. `prompt`
+as FILE asks at the terminal."""
+BY_SETTINGS = """
+Ansible's settings add theirs: ANSIBLE_VAULT_IDENTITY_LIST and
+ANSIBLE_VAULT_PASSWORD_FILE, or else vault_identity_list and
+vault_password_file of ansible.cfg, as Ansible finds it. One that cannot be
+obtained is skipped with a warning if there is another secret.
+If an option names a secret, nothing in the current folder does: neither its
+ansible.cfg nor a relative path in settings. ANSIBLE_CONFIG=ansible.cfg reads
+that file nevertheless."""
+NONE = (
+    "no secret is given: name one by --vault-id or --vault-password-file, in ANSIBLE_VAULT_PASSWORD_FILE or "
+    "in ansible.cfg, or type one with --ask-vault-password"
+)
+
+
+def add_options(parser: argparse.ArgumentParser, prefix: str = "", which: str = "") -> None:
+    """The options that name secrets; they may be repeated. Those with a prefix are not named by settings."""
+    group = parser.add_argument_group(which or "secrets", SOURCES + ("" if prefix else BY_SETTINGS))
+    group.add_argument(
+        f"--{prefix}vault-id",
+        action="append",
+        default=[],
+        metavar="[LABEL@]FILE",
+        help="a password file, with the label of its secret; may be repeated",
+    )
+    group.add_argument(
+        f"--{prefix}vault-password-file",
+        *([] if prefix else ["--vault-pass-file"]),
+        action="append",
+        default=[],
+        metavar="FILE",
+        help="a password file for the label default; may be repeated",
+    )
+    if not prefix:
+        group.add_argument(
+            *ASKING,
+            action="append_const",
+            dest="vault_id",
+            default=[],
+            const=ASKED,
+            help="ask at the terminal for the password of the label default",
+        )
+
+
+def from_options(
+    parser: argparse.ArgumentParser, ids: list[str], paths: list[str], encrypts: bool = False
+) -> list[Secret]:
+    """The secrets of a command line and of the settings, in Ansible's order. To encrypt, what is typed is asked for
+    twice."""
+    found = sources.settings_beside(parser.prog, ids, paths)
+    named = sources.named(ids, paths, found)
+    secrets = sources.load(parser.prog, named, encrypts)
+    if not secrets:
+        parser.error(NONE)
+    are_all_there = len(secrets) == len(named)
+    for secret in secrets:
+        secret.requires_match = found.requires_match()
+        secret.is_only = are_all_there and all(each.password() == secret.password() for each in secrets)
+    return secrets
+
+
+def of_options(ids: list[str], paths: list[str], encrypts: bool = False) -> list[Secret]:
+    named = [*map(sources.of_id, ids), *map(sources.of_path, paths)]
+    return [sources.obtain(source, encrypts) for source in named]
+
+
+def words(ids: list[str], paths: list[str]) -> list[str]:
+    """The options of a command line that name these secrets."""
+    by_path = (word for path in paths for word in ("--vault-password-file", path))
+    return [*(word for each in ids for word in ("--vault-id", each)), *by_path]
+
+
+def encrypt_label(ids: list[str], paths: list[str]) -> str | None:
+    """The label of the secret to encrypt with, by the settings that count beside these options."""
+    return Settings(bool(ids or paths)).encrypt_label()

@@ -1,0 +1,213 @@
+"""Where passwords come from that a command line and Ansible's settings name, in Ansible's order, and the passwords."""
+
+from __future__ import annotations
+
+import os
+import stat
+
+from ansible_vault_companions.program import Refused, shown, write_error
+from ansible_vault_companions.secrets import settings
+from ansible_vault_companions.secrets.settings import ASK, PROMPT, Settings
+
+TYPE_CHECKING = False
+if TYPE_CHECKING:
+    from typing import Iterable, Iterator
+
+# What a password file may have, in bytes.
+LIMIT = 4096
+# One more: a longer file is refused by the tool.
+READ_AT_MOST = LIMIT + 1
+DEFAULT = "default"
+BY_PATH = "--vault-password-file"
+# What is asked for without a label.
+ASKING = ("-J", "--ask-vault-password", "--ask-vault-pass")
+ASKED = f"{DEFAULT}@{ASK}"
+
+
+class Source:
+    """Where a password comes from."""
+
+    def __init__(self, label: str, place: str, given: str, is_prompt: bool = False) -> None:
+        # Empty where none is given.
+        self.label = label
+        # A path, or what stands for a prompt.
+        self.place = place
+        self.given = given
+        self.is_prompt = is_prompt
+        # Whether it is one for the label default.
+        self.is_path = False
+        self.is_setting = False
+
+    def is_active(self) -> bool:
+        """Whether a program is run, or somebody is asked."""
+        return self.is_prompt or _is_script(self.place)
+
+
+class Secret:
+    """A password and its label."""
+
+    def __init__(self, source: Source) -> None:
+        self.label = source.label or DEFAULT
+        # As the value of --vault-id this name alone would ask for a password.
+        self.path = "./prompt" if source.place == PROMPT else source.place
+        # As the command line or a setting has it.
+        self.given = source.given
+        self.is_setting = source.is_setting
+        self.is_prompt = source.is_prompt
+        self.is_path = source.is_path
+        # Of the password, which is kept in memory; None where the file cannot be read.
+        self.descriptor: int | None = None
+        # Why there is no password.
+        self.fault = ""
+        # Whether it decrypts only what has its label.
+        self.requires_match = False
+        # Whether its password is the only one that is named.
+        self.is_only = False
+
+    @property
+    def place(self) -> str:
+        """Where its password comes from, as the command line or a setting has it."""
+        return "prompt" if self.given in ASKING else self.given.partition("@")[2] or self.given
+
+    def word(self) -> str:
+        """The word that names it to the tool, by the option that gave it."""
+        return f"{BY_PATH}={self.path}" if self.is_path else self.option()
+
+    def option(self, name: str = "--vault-id", label: str | None = None) -> str:
+        """The word that names it to the tool, under a label of its own or another."""
+        return f"{name}={self.label if label is None else label}@{self.path}"
+
+    def password(self) -> bytes | None:
+        """The password, as the tool takes it from the file."""
+        return None if self.descriptor is None else os.pread(self.descriptor, READ_AT_MOST, 0).strip()
+
+    def is_same(self, other: Secret) -> bool:
+        """Whether both have the same password."""
+        return self.password() == other.password()
+
+    def why_unusable(self) -> str:
+        """Why the tool refuses the password; empty if nothing is known against it."""
+        if self.descriptor is None:
+            return self.fault or "this password file cannot be read"
+        content = os.pread(self.descriptor, READ_AT_MOST, 0)
+        if len(content) > LIMIT:
+            return f"this password file is longer than {LIMIT} bytes"
+        if content.startswith(b"#!"):
+            return "this password file is a script, but not executable"
+        if content.startswith(b"$ANSIBLE_VAULT"):
+            return "this password file is itself a vault"
+        return "" if content.strip() else "the password is empty"
+
+    def is_plain(self) -> bool:
+        """Whether the tool has nothing to say against the password and the label."""
+        letters = self.label.replace("_", "").replace("-", "")
+        return letters.isalnum() and letters.isascii() and not self.why_unusable()
+
+
+def settings_beside(companion: str, ids: list[str], paths: list[str]) -> Settings:
+    """The settings that count beside the secrets of the options."""
+    return Settings(bool(ids or paths), lambda text: write_error(f"{companion}: {text}"))
+
+
+def named(ids: list[str], paths: list[str], found: Settings) -> list[Source]:
+    """All that are named, in Ansible's order."""
+    password_file = found.password_file()
+    asked = [ASKED] if ASKED in ids or found.asks() else []
+    return [
+        *_by_setting(map(of_id, found.identities())),
+        *(of_id(each) for each in ids if each != ASKED),
+        *map(of_path, paths),
+        *_by_setting([of_path(password_file)] if password_file else []),
+        *map(of_id, asked),
+    ]
+
+
+def load(companion: str, found: list[Source], encrypts: bool) -> list[Secret]:
+    """The secrets, without those that the settings name and that cannot be had, if there is another."""
+    secrets = [obtain(source, encrypts) for source in found]
+    left_out = [secret for secret in secrets if _may_be_left_out(secret, encrypts)]
+    if len(left_out) == len(secrets):
+        return secrets
+    for secret in left_out:
+        write_error(f"{companion}: {shown(secret.given)}: {secret.why_unusable()}; it is ignored")
+    return [secret for secret in secrets if secret not in left_out]
+
+
+def _may_be_left_out(secret: Secret, encrypts: bool) -> bool:
+    """Whether it is a secret of the settings that cannot be had. One that was typed wrongly ends the run, as with
+    Ansible, and to encrypt so does a terminal that is missing: another secret would be chosen."""
+    if not (secret.is_setting and secret.why_unusable()):
+        return False
+    from ansible_vault_companions.secrets import prompts
+
+    return not secret.is_prompt or (secret.fault == prompts.NO_TERMINAL and not encrypts)
+
+
+def _by_setting(found: Iterable[Source]) -> Iterator[Source]:
+    for source in found:
+        source.is_setting = True
+        yield source
+
+
+def of_id(text: str) -> Source:
+    label, at, place = text.partition("@")
+    if not at:
+        label, place = "", text
+    if place in (PROMPT, ASK):
+        return Source(label, place, ASKING[1] if text == ASKED else text, is_prompt=True)
+    return Source(label, settings.expanded(place), text)
+
+
+def of_path(path: str) -> Source:
+    source = Source(DEFAULT, settings.expanded(path), path)
+    source.is_path = True
+    return source
+
+
+def obtain(source: Source, encrypts: bool) -> Secret:
+    """Reads the password, which is kept in memory for all runs of the tool: a file such as `<(..)` can be read only
+    once, or may be gone before the last run. If it cannot be read, the tool reports that."""
+    secret = Secret(source)
+    try:
+        password = _password(source, encrypts)
+    except Refused as fault:
+        secret.fault = str(fault)
+        return secret
+    except OSError:
+        return secret
+    secret.descriptor = os.memfd_create("password")
+    os.write(secret.descriptor, password)
+    secret.path = f"/dev/fd/{secret.descriptor}"
+    return secret
+
+
+def _password(source: Source, encrypts: bool) -> bytes:
+    if source.is_prompt:
+        from ansible_vault_companions.secrets import prompts
+
+        return prompts.password(source.place, source.label or DEFAULT, encrypts)
+    if _is_script(source.place):
+        from ansible_vault_companions.secrets import scripts
+
+        return scripts.password(source.place, source.label)[:READ_AT_MOST]
+    return _content(source.place)
+
+
+def _is_script(path: str) -> bool:
+    """Whether it is a file that anybody may execute."""
+    try:
+        mode = os.stat(path).st_mode
+    except OSError:
+        return False
+    return stat.S_ISREG(mode) and mode & 0o111 != 0
+
+
+def _content(path: str) -> bytes:
+    if os.path.isfile(path):
+        with open(path, "rb") as file:
+            return file.read(READ_AT_MOST)
+    from ansible_vault_companions import stopping
+
+    # What is written to a pipe is waited for.
+    with stopping.interruptible(), open(path, "rb") as file:
+        return file.read(READ_AT_MOST)

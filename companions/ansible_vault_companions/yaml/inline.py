@@ -1,0 +1,204 @@
+"""YAML in which single values are vaults: its text with their plaintexts, and that text encrypted again.
+
+All else keeps every byte, and so does the envelope of a value that stays as it was.
+"""
+
+from __future__ import annotations
+
+import os
+import re
+from collections import Counter
+from dataclasses import dataclass, field
+from typing import NamedTuple
+
+from ansible_vault_companions import parallel
+from ansible_vault_companions.files.envelopes import BYTE_ORDER_MARK, matched
+from ansible_vault_companions.program import Refused
+from ansible_vault_companions.tool.keys import Decrypt
+from ansible_vault_companions.tool.tool import Tool
+from ansible_vault_companions.yaml import blocks, literals, matching
+from ansible_vault_companions.yaml.blocks import Change, Decrypted, named
+from ansible_vault_companions.yaml.matching import Choice, Typed
+from ansible_vault_companions.yaml.nodes import TAGS, NotYaml, decoded
+from ansible_vault_companions.yaml.values import LINE_END, Scan, Value
+
+# How many columns a literal stands to the right of its key.
+INDENTATION = 2
+# What the comments of an edit begin with.
+NOTE = b"# ansible-vault: "
+# What may follow a value: empty lines, and a comment before all else.
+SPACES = re.compile(rb" *")
+EMPTY_LINE = re.compile(rb"%s[ \t]*%s" % (LINE_END.pattern, LINE_END.pattern))
+COMMENT = re.compile(rb"(?:[ \t]*%s)+(?P<spaces> *)#" % LINE_END.pattern)
+# What UTF-8 does not decode; and what UTF-16 and UTF-32 have, and no text.
+NO_UTF_8 = re.compile("[\0\udc80-\udcff]")
+LAST_LINE_END = re.compile(rb"%s\Z" % LINE_END.pattern)
+
+JOINED = "it is empty, and the comment below would become its text"
+HIDDEN = "`!vault` within a comment or another text is no tag, and what follows it would stay in plaintext"
+LIKE_A_TAG = "`{}` is not the tag `!vault`, and what follows it would stay in plaintext"
+NOT_UTF_8 = "it is no longer in UTF-8, so its values are not found; save it in UTF-8"
+MARKED = "it now begins with a byte order mark; save it in UTF-8 without one"
+NO_PLACE = "no block can be put into this YAML; is there a tab, or an indented comment, below a value?"
+
+
+class StillEncrypted(NamedTuple):
+    """A value that stays encrypted, and why."""
+
+    value: Value
+    why: str
+
+
+@dataclass
+class Showing:
+    """What becomes of a file so that its values are seen."""
+
+    data: bytes
+    found: Scan
+    # What its notes begin with; none where they are left out.
+    note: bytes
+    changes: list[Change] = field(default_factory=list)
+    decrypted: list[Decrypted] = field(default_factory=list)
+    still_encrypted: list[StillEncrypted] = field(default_factory=list)
+
+    def text(self) -> bytes:
+        return blocks.changed(self.data, self.changes)
+
+    def show(self, each: Decrypted) -> None:
+        """Shows a plaintext as a literal, whose lines no comment and no empty line below can join."""
+        value, text = each.block.value, each.plaintext
+        end = blocks.line_end(self.data, value.line_end)
+        base = max(value.column, 0)
+        comment = COMMENT.match(self.data, value.content_end)
+        indentation = max(INDENTATION, len(comment["spaces"]) + 1 - base if comment else 0)
+        if comment and not text.strip(b"\n") and len(comment["spaces"]) > max(value.column, 0):
+            raise Refused(JOINED)
+        header = literals.header(text, indentation)
+        body = literals.lines(text, base + indentation, end)
+        if self.needs_final_newline(each):
+            body += end
+        elif self.note and header.endswith(b"+") and EMPTY_LINE.match(self.data, value.content_end):
+            body += end + b" " * base + self.note + b"the empty lines above belong to %s" % _named(value)
+        self.changes += blocks.replacement(value, header, body, value.content_end)
+        self.decrypted.append(each)
+
+    def keep_encrypted(self, value: Value, why: str) -> None:
+        self.still_encrypted.append(StillEncrypted(value, why))
+        if self.note and not value.in_flow:
+            spaces = matched(SPACES, self.data, value.line_start)[0]
+            end = blocks.line_end(self.data, value.line_end)
+            text = spaces + self.note + b"%s stays encrypted: %s" % (_named(value), why.encode()) + end
+            self.changes.append(Change(value.line_start, value.line_start, text))
+
+    def needs_final_newline(self, each: Decrypted) -> bool:
+        """Whether the last line of the file needs an end, which it has not, for this plaintext."""
+        return each.plaintext.endswith(b"\n") and each.block.value.content_end == len(self.data)
+
+    def contents(self) -> list[bytes]:
+        """What its values have to be in the text."""
+        texts = {each.block.value: each.plaintext for each in self.decrypted}
+        return [texts.get(value, value.content) for value in self.found.values]
+
+
+def _named(value: Value) -> bytes:
+    return named(value).encode()
+
+
+def showing(data: bytes, decrypt: Decrypt, with_notes: bool) -> Showing:
+    """A file with its values in plaintext. Notes say which of them stay encrypted."""
+    made = Showing(data, Scan(data), NOTE if with_notes else b"")
+    while made.note and made.note in data:
+        made.note = b"#" + made.note
+    vaults = [value for value in made.found.values if blocks.is_envelope(value)]
+    decrypted: list[Decrypted | Refused] = []
+    parallel.work_on(vaults, parallel.processors(), lambda value: _decrypted(data, value, decrypt), decrypted.append)
+    for value, each in zip(vaults, decrypted):
+        try:
+            if isinstance(each, Refused):
+                raise each
+            made.show(each)
+        except Refused as fault:
+            made.keep_encrypted(value, str(fault))
+    if _contents(made.text()) != made.contents():
+        raise Refused("its values cannot be shown as literals of YAML")
+    return made
+
+
+def _decrypted(data: bytes, value: Value, decrypt: Decrypt) -> Decrypted | Refused:
+    """A value in plaintext, or why it stays encrypted."""
+    try:
+        block = blocks.block_of(data, value)
+        secret, plaintext = decrypt(block.envelope)
+    except Refused as fault:
+        return fault
+    if "@" in block.label:
+        return Refused(f"no option can give the label {block.label}, which has an @")
+    why = literals.obstacle(plaintext)
+    return Refused(why) if why else Decrypted(block, secret, plaintext)
+
+
+def encrypted(shown: Showing, text: bytes, tool: Tool, choice: Choice) -> bytes:
+    """The file for an edited text."""
+    _check_encoding(shown.text(), text)
+    found = Scan(text)
+    _check_lookalikes(shown, found)
+    typed = [Typed(value, _plain(value)) for value in found.values if not blocks.is_envelope(value)]
+    changes = [Change(start, end, b"") for start, end in found.comments(shown.note.strip().decode())]
+    envelopes = {}
+    for (value, plaintext), (old, key) in zip(typed, matching.actions(shown.decrypted, typed, choice)):
+        if key:
+            envelopes[value] = new = tool.encrypt(plaintext, *key)
+            changes += old.block.replace(value, new) if old else blocks.new_block(text, value, new)
+        elif old:
+            envelopes[value] = old.block.envelope
+            changes += old.block.in_place_of(value)
+    after = blocks.changed(text, changes)
+    if any(map(shown.needs_final_newline, shown.decrypted)):
+        after = LAST_LINE_END.sub(b"", after)
+    wanted = [envelopes.get(value, value.content).strip() for value in found.values]
+    if [content.strip() for content in _contents(after)] != wanted:
+        raise Refused(NO_PLACE)
+    return after
+
+
+def _contents(data: bytes) -> list[bytes]:
+    """What the values of a text are; none where it is no YAML."""
+    try:
+        return [value.content for value in Scan(data).values]
+    except NotYaml:
+        return []
+
+
+def _plain(value: Value) -> bytes:
+    try:
+        return literals.plain(value)
+    except Refused as fault:
+        raise Refused(f"line {value.line}: {named(value)} {fault}") from None
+
+
+def _check_encoding(before: bytes, after: bytes) -> None:
+    """Refuses a text in another encoding than before. The file itself may have bytes that are not UTF-8, as in a
+    comment: it may have no more of them."""
+    if after.startswith(BYTE_ORDER_MARK) and not before.startswith(BYTE_ORDER_MARK):
+        raise Refused(MARKED)
+    if Counter(NO_UTF_8.findall(decoded(after))) - Counter(NO_UTF_8.findall(decoded(before))):
+        raise Refused(NOT_UTF_8)
+
+
+def _check_lookalikes(shown: Showing, found: Scan) -> None:
+    """Refuses what was typed like a tag and is none, unless somebody at the terminal says that it is meant."""
+    known = Counter((text, like) for _, text, like in shown.found.lookalikes())
+    for line, text, like in found.lookalikes():
+        known[text, like] -= 1
+        if known[text, like] < 0 and not text.startswith(shown.note.decode()):
+            why = f"line {line}: {HIDDEN if like == TAGS[0] else LIKE_A_TAG.format(like)}"
+            if not _is_meant(why):
+                raise Refused(why)
+
+
+def _is_meant(why: str) -> bool:
+    if not os.isatty(0):
+        return False
+    from ansible_vault_companions.secrets import prompts
+
+    return prompts.choice(f"{why}. Is that meant?", ["yes", "no"]) == "yes"

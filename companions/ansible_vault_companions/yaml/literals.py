@@ -1,0 +1,89 @@
+"""A text as a literal scalar of YAML (`|`), and back what follows a tag `!vault`.
+
+What YAML cannot show as a literal is not shown, and what could be read in another way than it was meant is refused.
+"""
+
+from __future__ import annotations
+
+import re
+
+from ansible_vault_companions.files.envelopes import MAGIC
+from ansible_vault_companions.program import Refused
+from ansible_vault_companions.yaml import nodes
+from ansible_vault_companions.yaml.values import LINE_END, Value
+
+# What YAML has in no text, or would take for the end of a line.
+UNSHOWN = re.compile("[^\t\n\x20-\x7e\xa0-\u2027\u202a-\ud7ff\ue000-\ufefe\uff00-\ufffd\U00010000-\U0010ffff]")
+# A text whose first line begins with a blank would hide its indentation.
+BEGINS_WITH_BLANK = re.compile(rb"\n*[ \t]")
+MOST_INDENTATION = 9
+
+NOT_UTF_8 = "it is not UTF-8"
+CONTROL = "it has control characters"
+VAULT_WITHIN = "its plaintext is itself a vault"
+TOO_DEEP = "its lines would stand too far to the right"
+
+BY_ESCAPES = "has control characters; write them as escapes, in double quotes"
+IN_FLOW = "is within brackets or braces, where no block can be; write it in a line of its own"
+BELOW = "stands below its tag; write it in the line of `!vault`"
+SEVERAL_LINES = "continues in further lines; write `!vault |-`, and its lines below"
+FOLDED = "is a folded scalar (`>`); write `!vault |-`, and its lines below"
+NOTHING = 'is missing after `!vault`; write `""` for an empty one'
+NO_TEXT = "is not a string: a list, a mapping or a key"
+SURROGATE = "has an escape for half of a character; write the character"
+
+
+def obstacle(text: bytes) -> str:
+    """Why a text cannot be shown as a literal; nothing where it can."""
+    if is_envelope(text):
+        return VAULT_WITHIN
+    try:
+        characters = text.decode()
+    except UnicodeDecodeError:
+        return NOT_UTF_8
+    return CONTROL if UNSHOWN.search(characters) else ""
+
+
+def is_envelope(text: bytes) -> bool:
+    """Whether a text, or what follows a tag, is encrypted."""
+    return text.lstrip(b"\"' \t\r\n").startswith(MAGIC)
+
+
+def header(text: bytes, indentation: int) -> bytes:
+    """The header of a literal whose lines are indented by this many columns more than its key."""
+    chomping = b"-" if not text.endswith(b"\n") else b"+" if text == b"\n" or text.endswith(b"\n\n") else b""
+    if not BEGINS_WITH_BLANK.match(text):
+        return b"|" + chomping
+    if indentation > MOST_INDENTATION:
+        raise Refused(TOO_DEEP)
+    return b"|%d%s" % (indentation, chomping)
+
+
+def lines(text: bytes, spaces: int, end: bytes) -> bytes:
+    """Its lines, indented, each after the line ending of the one above; no line ending follows the last."""
+    if not text:
+        return b""
+    margin = b" " * spaces
+    return b"".join(end + (margin + line if line else b"") for line in text.removesuffix(b"\n").split(b"\n"))
+
+
+def plain(value: Value) -> bytes:
+    """The text of a value that is to be encrypted."""
+    written = LINE_END.sub(b"\n", value.written)
+    # What an escape stands for may be anything.
+    as_is = value.content if value.style == nodes.LITERAL else written
+    faults = {
+        NO_TEXT: value.is_key or value.style in (nodes.LIST, nodes.MAPPING),
+        NOTHING: not written,
+        IN_FLOW: value.in_flow,
+        FOLDED: value.style == nodes.FOLDED,
+        BELOW: value.is_below,
+        SEVERAL_LINES: value.style != nodes.LITERAL and b"\n" in written,
+        "is not UTF-8": obstacle(written) == NOT_UTF_8,
+        BY_ESCAPES: CONTROL in (obstacle(written), obstacle(as_is)),
+        SURROGATE: obstacle(value.content) == NOT_UTF_8,
+    }
+    for fault, holds in faults.items():
+        if holds:
+            raise Refused(fault)
+    return value.content

@@ -1,0 +1,144 @@
+"""Which of the values that stood encrypted in a file are those of its edited text.
+
+A value is identified by the keys that lead to it, and in lists by its text and its position. If that leaves open
+which secret it gets, it is refused.
+"""
+
+from __future__ import annotations
+
+import os
+from typing import NamedTuple
+
+from ansible_vault_companions.program import Refused
+from ansible_vault_companions.secrets.sources import Secret
+from ansible_vault_companions.tool.keys import Key
+from ansible_vault_companions.yaml.blocks import Decrypted, named
+from ansible_vault_companions.yaml.paths import Path
+from ansible_vault_companions.yaml.values import Value
+
+NEW = "is new; choose its secret with --encrypt-vault-id"
+NO_SUCH_LABEL = "is new, and no secret has the label of --encrypt-vault-id"
+SEVERAL = "stood there under several labels or secrets; choose one with --encrypt-vault-id"
+NEW_OR_CHANGED = "may be new or changed, which makes two secrets of it; save one change after the other"
+
+
+class Typed(NamedTuple):
+    """A value of the edited text that is to be encrypted."""
+
+    value: Value
+    plaintext: bytes
+
+
+class Action(NamedTuple):
+    """What becomes of a value: it keeps the envelope of a block, or is encrypted by a key, and if it was changed,
+    with the looks of a block."""
+
+    block: Decrypted | None
+    key: Key | None = None
+
+
+class Choice(NamedTuple):
+    """How the secret for a new value is chosen."""
+
+    secrets: list[Secret]
+    # Of --encrypt-vault-id.
+    label: str | None
+
+    def key(self, value: Value) -> Key:
+        fitting = self._fitting()
+        if not fitting:
+            raise unclear(value, NO_SUCH_LABEL)
+        if self.label is None and len(fitting) > 1:
+            fitting = self._asked(value, fitting)
+        return fitting[0], fitting[0].label
+
+    def _asked(self, value: Value, secrets: list[Secret]) -> list[Secret]:
+        """Those of the label that is typed, if somebody is there to ask."""
+        labels = [*dict.fromkeys(secret.label for secret in secrets)]
+        if len(labels) == 1 or not os.isatty(0):
+            raise unclear(value, NEW)
+        from ansible_vault_companions.secrets import prompts
+
+        label = prompts.choice(f"Label to encrypt {named(value)} with", labels)
+        return [secret for secret in secrets if secret.label == label]
+
+    def keys(self) -> list[Key]:
+        """It alone, where it is clear."""
+        fitting = self._fitting()
+        is_clear = self.label is not None or len(fitting) == 1
+        return [(fitting[0], fitting[0].label)] if fitting and is_clear else []
+
+    def _fitting(self) -> list[Secret]:
+        return [secret for secret in self.secrets if self.label in (None, secret.label)]
+
+
+def unclear(value: Value, why: str) -> Refused:
+    return Refused(f"line {value.line}: {named(value)} {why}")
+
+
+def actions(blocks: list[Decrypted], typed: list[Typed], choice: Choice) -> list[Action]:
+    """What becomes of each value."""
+    found: dict[int, Action] = {}
+    left: dict[Path, list[Decrypted]] = {}
+    for block in blocks:
+        left.setdefault(block.path, []).append(block)
+    _keep_in_place(found, left, typed)
+    _keep(found, left, typed)
+    kept = [action.block for action in found.values()]
+    unkept = [block for block in blocks if block not in kept]
+    for path in dict.fromkeys(each.value.path for each in typed):
+        numbers = [number for number, each in enumerate(typed) if each.value.path == path and number not in found]
+        if left.get(path):
+            _change(found, left[path], [(number, typed[number]) for number in numbers], choice)
+    for number, each in enumerate(typed):
+        if number not in found:
+            found[number] = _moved(unkept, each.plaintext) or Action(None, choice.key(each.value))
+    return [found[number] for number in range(len(typed))]
+
+
+def _keep_in_place(found: dict[int, Action], left: dict[Path, list[Decrypted]], typed: list[Typed]) -> None:
+    """Those that stayed as they were, where as many values are at the same keys as before. Another one of these, such
+    as of a list, may have the same text under another secret."""
+    for path, before in left.items():
+        there = [(number, each) for number, each in enumerate(typed) if each.value.path == path]
+        for (number, each), block in zip(there, [*before]) if len(there) == len(before) else ():
+            if each.plaintext == block.plaintext:
+                before.remove(block)
+                found[number] = Action(block)
+
+
+def _keep(found: dict[int, Action], left: dict[Path, list[Decrypted]], typed: list[Typed]) -> None:
+    """The others that stayed as they were."""
+    for number, each in enumerate(typed):
+        if number in found:
+            continue
+        candidates = left.get(each.value.path, [])
+        same = next((block for block in candidates if block.plaintext == each.plaintext), None)
+        if same:
+            candidates.remove(same)
+            found[number] = Action(same)
+
+
+def _change(found: dict[int, Action], left: list[Decrypted], typed: list[tuple[int, Typed]], choice: Choice) -> None:
+    """Those that were changed in their places: as many as there are blocks, or fewer, or more."""
+    keys = {block.key for block in left}
+    for place, (number, each) in enumerate(typed):
+        if len(typed) == len(left):
+            found[number] = Action(left[place], left[place].key)
+        elif len(typed) > len(left) and keys != {*choice.keys()}:
+            raise unclear(each.value, NEW_OR_CHANGED)
+        elif len(keys) == 1:
+            found[number] = Action(left[0], left[0].key)
+        elif choice.label is not None:
+            found[number] = Action(None, choice.key(each.value))
+        else:
+            raise unclear(each.value, SEVERAL)
+
+
+def _moved(unkept: list[Decrypted], plaintext: bytes) -> Action | None:
+    """The envelope of a value that has another key now."""
+    candidates = [block for block in unkept if block.plaintext == plaintext]
+    if len({block.key for block in candidates}) != 1:
+        return None
+    unkept.remove(candidates[0])
+    return Action(candidates[0])

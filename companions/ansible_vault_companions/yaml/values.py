@@ -1,0 +1,204 @@
+"""Where values with the tag `!vault` are in YAML, and which bytes are theirs.
+
+What cannot be read as YAML is refused, so that no plaintext in the wrong column is taken for something else. Between
+git's conflict markers each side is read without the other.
+"""
+
+from __future__ import annotations
+
+import re
+from bisect import bisect_right
+from functools import cached_property
+from typing import Collection, Iterable, Iterator, NamedTuple
+
+from ansible_vault_companions.files.envelopes import matched
+from ansible_vault_companions.yaml import nodes
+from ansible_vault_companions.yaml.lookalikes import lookalikes
+from ansible_vault_companions.yaml.nodes import Node
+from ansible_vault_companions.yaml.paths import Path
+
+# How a line ends in YAML 1.1.
+LINE_END = re.compile(rb"(?:\r\n?|\n|\xc2\x85|\xe2\x80[\xa8\xa9])")
+LINE_ENDS_IN_TEXT = "\n\u2028\u2029"
+# The tag and the anchor of a value, and what is between them and it.
+PROPERTIES = re.compile(rb"(?:[!&][^ \t\r\n]*(?:[ \t]+(?:#[^\r\n]*)?|%s)*)+" % LINE_END.pattern)
+BLOCK_HEADER = re.compile(rb"[|>](?P<indicators>[-+0-9]*)")
+CONFLICT = "<<<<<<<"
+CONFLICT_MARKER = re.compile(r"([<|=>])\1{6}(?:[ \t]|\r?\Z)")
+
+
+class Value(NamedTuple):
+    """What follows a tag."""
+
+    # As of nodes.
+    style: str
+    is_key: bool
+    # Of the tag: its line, from 1, and where that begins.
+    line: int
+    line_start: int
+    # Of a key, that of its mapping.
+    path: Path
+    # The column of the collection that it is in; -1 where it is in none.
+    column: int
+    in_flow: bool
+    # Whether it begins in a line below that of the tag.
+    is_below: bool
+    # Its text, and how that is written.
+    content: bytes
+    written: bytes
+    # Offsets: the first byte; the end of a block scalar's header, or of another scalar; the end of that line; the end.
+    start: int
+    header_end: int
+    line_end: int
+    end: int
+    # The end without the empty lines that belong to it.
+    content_end: int
+
+    @property
+    def name(self) -> str:
+        return self.path.last
+
+
+class Scan:
+    """What a file contains."""
+
+    def __init__(self, data: bytes) -> None:
+        self.data = data
+        self.text = nodes.decoded(data)
+        self.tagged = _Places(node for node in self._nodes(nodes.TAGS) if node.style != nodes.ALIAS)
+        self.values = list(self._values())
+
+    def lookalikes(self) -> Iterator[tuple[int, str, str]]:
+        """What is like the tag and is none, or is the tag within a comment or a text: the number of its line, the line,
+        and it."""
+        for number, (place, line) in enumerate(self._lines(), 1):
+            for start, like in lookalikes(line):
+                if not self.tagged.at(place + start):
+                    yield number, line.strip(), like
+
+    def comments(self, beginning: str) -> Iterator[tuple[int, int]]:
+        """The offsets of the lines, with their ends, that are comments and begin so."""
+        offsets = _Offsets(self.text)
+        for place, line in self._lines():
+            comment = line.lstrip()
+            if comment.startswith(beginning) and self._texts.at(place + len(line) - len(comment)) is None:
+                yield offsets.of(place), offsets.of(place + len(line))
+
+    def _values(self) -> Iterator[Value]:
+        offsets = _Offsets(self.text)
+        for node in self.tagged.nodes:
+            head = self.text[node.start - node.column : node.start]
+            yield _value(self.data, node, head, offsets.of(node.start), offsets.of(node.end))
+
+    def _nodes(self, tags: Collection[str] = ()) -> Iterable[Node]:
+        sides = _sides(self.text) if CONFLICT in self.text else []
+        if not sides:
+            return nodes.nodes(self.data, tags)
+        found = {(node.start, node.end): node for side in sides for node in nodes.nodes(side, tags)}
+        return [found[place] for place in sorted(found)]
+
+    @cached_property
+    def _texts(self) -> _Places:
+        collections = (nodes.LIST, nodes.MAPPING)
+        return _Places(node for node in self._nodes() if node.style not in collections)
+
+    def _lines(self) -> Iterator[tuple[int, str]]:
+        content = self.text.lstrip(nodes.BYTE_ORDER_MARK)
+        place = len(self.text) - len(content)
+        for line in content.splitlines(keepends=True):
+            yield place, line
+            place += len(line)
+
+
+class _Places:
+    """Nodes by their places, of which none is within another's."""
+
+    def __init__(self, nodes: Iterable[Node]) -> None:
+        self.nodes = list(nodes)
+        self.starts = [node.start for node in self.nodes]
+
+    def at(self, place: int) -> Node | None:
+        number = bisect_right(self.starts, place) - 1
+        return self.nodes[number] if number >= 0 and place < self.nodes[number].end else None
+
+
+class _Offsets:
+    """The offsets in bytes of characters, which are asked for in their order."""
+
+    def __init__(self, text: str) -> None:
+        self.text = text
+        self.place = self.offset = 0
+
+    def of(self, place: int) -> int:
+        if place < self.place:
+            self.place = self.offset = 0
+        self.offset += len(_encoded(self.text[self.place : place]))
+        self.place = place
+        return self.offset
+
+
+def _encoded(text: str) -> bytes:
+    return text.encode(errors="surrogateescape")
+
+
+def _sides(text: str) -> list[bytes]:
+    """A text as each side of git's conflicts has it, with comments in the place of the others; none where there are
+    no conflicts."""
+    lines = text.split("\n")
+    # Of each line: the marker of its side; nothing where all sides have it.
+    marks, mark = [], ""
+    for line in lines:
+        found = CONFLICT_MARKER.match(line)
+        if found and (mark or found[1] == "<"):
+            mark = found[1].strip(">")
+            marks.append("marker")
+        else:
+            marks.append(mark)
+    sides = [side for side in "<|=" if side in marks or side == "<"] if "marker" in marks else []
+    return [_encoded("\n".join(_on_side(side, *each) for each in zip(lines, marks))) for side in sides]
+
+
+def _on_side(side: str, line: str, mark: str) -> str:
+    return line if mark in ("", side) else "#" * len(line)
+
+
+def _value(data: bytes, node: Node, head: str, tag: int, end: int) -> Value:
+    """The value of a node that has these bytes, behind the head of its line."""
+    start = matched(PROPERTIES, data, tag, end).end()
+    written = data[start:end]
+    header = BLOCK_HEADER.match(data, start) if node.style in (nodes.LITERAL, nodes.FOLDED) else None
+    header_end = header.end() if header else end
+    line_end = _end_of_line(data, header_end)
+    end, content_end = _ends(data, line_end, end, header["indicators"], node.text) if header else (line_end, line_end)
+    return Value(
+        node.style,
+        node.is_key,
+        node.line,
+        tag - len(_encoded(head)),
+        node.container.path if node.is_key else node.path,
+        node.container.column,
+        node.container.in_flow,
+        LINE_END.search(data, tag, start) is not None,
+        node.text.encode(errors="surrogatepass"),
+        written,
+        start,
+        header_end,
+        line_end,
+        end,
+        content_end,
+    )
+
+
+def _ends(data: bytes, line_end: int, end: int, indicators: bytes, text: str) -> tuple[int, int]:
+    """The ends of a block scalar with the empty lines that its text has, and without them."""
+    content = text.rstrip(LINE_ENDS_IN_TEXT)
+    count = 1 + sum(map(content.count, LINE_ENDS_IN_TEXT)) if content else 0
+    ends = [found.start() for found in LINE_END.finditer(data, line_end, end)]
+    if not ends or matched(LINE_END, data, ends[-1]).end() < end:
+        ends.append(end)
+    return ends[-1] if b"+" in indicators else ends[count], ends[count]
+
+
+def _end_of_line(data: bytes, place: int) -> int:
+    found = LINE_END.search(data, place)
+    return found.start() if found else len(data)

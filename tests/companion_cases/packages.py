@@ -1,0 +1,46 @@
+"""The layers of the companions: what the docstring of each package says that it may import, and no more."""
+
+import ast
+import re
+from pathlib import Path
+
+import pytest
+
+from companion_cases import COMPANIONS
+
+SHARED = "ansible_vault_companions"
+PACKAGES = {path.parent.name: path.parent for path in (COMPANIONS / SHARED).glob("*/__init__.py")}
+PERMITTED = re.compile(r"^May import (?:no other package|([a-z]+(?:, [a-z]+)*))\.$", re.MULTILINE)
+
+
+def permitted(package: str) -> set[str]:
+    docstring = ast.get_docstring(ast.parse((PACKAGES[package] / "__init__.py").read_text())) or ""
+    [names] = PERMITTED.findall(docstring)
+    return set(filter(None, names.split(", ")))
+
+
+def imported(file: Path) -> set[str]:
+    """The packages whose modules a module imports, also within its functions."""
+    found = set()
+    for node in ast.walk(ast.parse(file.read_text())):
+        if isinstance(node, ast.ImportFrom) and (node.module or "").startswith(SHARED):
+            found.update((node.module or "").split(".")[1:2] or (each.name for each in node.names))
+    return found & PACKAGES.keys()
+
+
+@pytest.mark.parametrize("package", PACKAGES)
+def test_imports(package: str) -> None:
+    """What is permitted is also needed."""
+    found = set().union(*map(imported, PACKAGES[package].glob("*.py")))
+    assert found - {package} == permitted(package)
+
+
+def test_layers() -> None:
+    """Packages build on each other without a cycle, and the modules beside them build on none."""
+    assert len(PACKAGES) > 4
+    for package in PACKAGES:
+        below, added = permitted(package), permitted(package)
+        while added := set().union(*map(permitted, added)) - below:
+            below |= added
+        assert package not in below
+    assert [path.name for path in (COMPANIONS / SHARED).glob("*.py") if imported(path)] == []
