@@ -24,7 +24,8 @@ ABOUT = {
 }
 STYLE = """
     bgcolor="white"; pad=0.2; nodesep=0.25; ranksep=0.45; fontname="Helvetica,Arial,sans-serif"; fontsize=11;
-    node [shape=box, style="filled,rounded", color="#57606a", fontname="Helvetica,Arial,sans-serif", fontsize=11, margin="0.15,0.08"];
+    node [fontname="Helvetica,Arial,sans-serif", fontsize=11, color="#57606a"];
+    node [shape=box, style="filled,rounded", margin="0.15,0.08"];
     edge [color="#57606a", arrowsize=0.7];
 """
 

@@ -325,10 +325,10 @@ def test_of_vaults(tmp_path: Path, monkeypatch: pytest.MonkeyPatch) -> None:
     monkeypatch.chdir(tmp_path)
     for words in (["init", "-q"], ["config", "merge.conflictStyle", "diff3"]):
         subprocess.run(["git", *words], check=True)
-    texts = [b"the base\n", b"our text\n", b"their text\n"]
+    plaintexts = [b"the base\n", b"our text\n", b"their text\n"]
     moved = 0
     for vaults in itertools.product(VAULTS, repeat=3):
-        values = [Value("", text, *vault, 0, 0) for text, vault in zip(texts, vaults)]
+        values = [Value("", text, *vault, 0, 0) for text, vault in zip(plaintexts, vaults)]
         before, ours, theirs = values
         tool = Tool()
         is_kept = ours.password == theirs.password and ours.label == theirs.label
