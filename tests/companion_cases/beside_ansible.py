@@ -9,8 +9,9 @@ from pathlib import Path
 
 from pytest_subtests import SubTests
 
-from companion_cases import CHECK, ROTATE, SECONDS, Place, ended
+from companion_cases import CHECK, ROTATE, Place, ended
 from companion_cases.rotating import summary
+from lib.limits import SECONDS
 from lib.needs import needs, needs_ansible
 
 # The old and the new password of each label.
@@ -34,7 +35,7 @@ def secrets(place: Place, which: int, prefix: str = "") -> list[str]:
     return [word for label, names in LABELS.items() for word in place.by_id(label, names[which], prefix)]
 
 
-def theirs(place: Place, ansible: str, *words: str) -> subprocess.CompletedProcess:
+def theirs(place: Place, ansible: str, *words: str) -> subprocess.CompletedProcess[bytes]:
     environment = place.environment | {"PATH": os.environ["PATH"], "LC_ALL": "C.UTF-8"}
     done = subprocess.run([ansible, *words], cwd=place.tree, env=environment, capture_output=True, timeout=SECONDS)
     assert done.returncode == 0, f"{ansible} {words[0]}: {done.stderr.decode()}"

@@ -1,19 +1,18 @@
 """The same command line by Ansible's tool and by ansible-vault-with, where no terminal is to be asked."""
 
 import os
-import subprocess
 from contextlib import contextmanager
 from typing import Iterator
 
-from companion_cases import WITH, Place
+from companion_cases import WITH, Done, Place
 from companion_cases.terminal import Session, at_terminal
 
 
-def ours(place: Place, *words: str, **variables: str) -> subprocess.CompletedProcess[str]:
+def ours(place: Place, *words: str, **variables: str) -> Done:
     return place.run("setsid", "--wait", WITH, *words, **variables)
 
 
-def theirs(place: Place, ansible: str, *words: str, **variables: str) -> subprocess.CompletedProcess[str]:
+def theirs(place: Place, ansible: str, *words: str, **variables: str) -> Done:
     with for_ansible(place):
         return place.run("setsid", "--wait", ansible, *words, **variables)
 
