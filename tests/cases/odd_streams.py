@@ -18,6 +18,7 @@ from cases.samples import COMMANDS, Sample, each_command, sample_of
 from lib.limits import SECONDS
 from lib.processes import started
 from model.faults import Fault
+from shells import all_shown
 
 # The status, and what comes through each output; None for one that is not captured.
 Found = tuple[int, bytes | None, bytes | None]
@@ -165,20 +166,9 @@ def test_terminal(cases: Cases, command: str | None) -> None:
     with started([cases.program, *sample.words], **streams) as child:
         os.close(terminal)
         shown = all_shown(controller)
+        os.close(controller)
         status, text = (0, sample.output) if command else REFUSED_LINE
         assert (child.wait(SECONDS), shown) == (status, text.replace(b"\n", b"\r\n"))
-
-
-def all_shown(terminal: int) -> bytes:
-    """All that is read until the other side is closed."""
-    chunks = []
-    with open(terminal, "rb", buffering=0) as stream:
-        try:
-            while chunk := stream.read(LARGE):
-                chunks.append(chunk)
-        except OSError:
-            pass
-    return b"".join(chunks)
 
 
 @each_or_refused

@@ -17,6 +17,13 @@ def theirs(place: Place, ansible: str, *words: str, **variables: str) -> Done:
         return place.run("setsid", "--wait", ansible, *words, **variables)
 
 
+def written_by_theirs(place: Place, ansible: str, *words: str) -> str:
+    """The output of a run that ends well."""
+    done = theirs(place, ansible, *words)
+    assert done.returncode == 0, f"{ansible} {words[0]}: {done.stderr}"
+    return done.stdout
+
+
 def theirs_at_terminal(place: Place, ansible: str, words: list[str], *answers: tuple[str, bytes]) -> Session:
     with for_ansible(place):
         return at_terminal(place, [ansible, *words], *answers)

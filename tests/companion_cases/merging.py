@@ -8,8 +8,8 @@ from pytest_subtests import SubTests
 
 from companion_cases import CHECK, EDIT, HOOK, MERGE, PASSWORDS, TEXT
 from companion_cases import Companions, Done, Place, block, decrypted, ended, sealed, silent
-from companion_cases.beside_ansible import theirs
 from companion_cases.blocks import lines_of, texts
+from companion_cases.both import written_by_theirs
 from companion_cases.editing import edit
 from companion_cases.repository import add_and_commit, commit, under_git
 from lib.ansible import ansible_vault
@@ -55,8 +55,8 @@ def test_without_conflict(place: Place) -> None:
     wanted = block("old", b"A", name="a") + block("old", b"B", name="b") + b"z: 1\n"
     assert place.get("vars.yml") == wanted, "values keep the envelopes of their sides"
     if ansible := ansible_vault():
-        shown = theirs(place, ansible, "view", *place.by_file("old"), "whole.yml").stdout
-        assert shown.strip() == both.strip(), "Ansible's tool reads it"
+        shown = written_by_theirs(place, ansible, "view", *place.by_file("old"), "whole.yml")
+        assert shown.strip() == both.decode().strip(), "Ansible's tool reads it"
 
 
 def test_with_conflict(place: Place) -> None:
