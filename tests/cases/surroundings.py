@@ -131,8 +131,8 @@ def test_environments(cases: Cases, subtests: SubTests) -> None:
     runs: list[Run] = [(sample.words, sample.stdin, (0, sample.output, b"")) for sample in samples(cases)]
     runs.append((["view", *by_file(cases.file(b"wrong\n"))], seal(b"right", TEXT), refusal(Fault.NO_SECRET_FITS)))
     runs += runs_that_lack_something(cases)
-    for line in ("--help", "rekey --help", "view --loud", "größe", ""):
-        runs.append((line.split(), b"", answer_of(cases.done(line.split()))))
+    for words in map(str.split, ("--help", "rekey --help", "view --loud", "größe", "")):
+        runs.append((words, b"", answer_of(cases.done(words))))
     for given, (words, stdin, wanted) in itertools.product(settings, runs):
         with subtests.test(f"{words!r:.100} with {given!r:.100}"):
             assert answer_of(cases.done(words, stdin, env=given)) == wanted

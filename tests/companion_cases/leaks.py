@@ -191,10 +191,10 @@ def test_modes_and_renames(place: Place) -> None:
 
 def test_outside_of_git(place: Place, subtests: SubTests) -> None:
     for line in ("--all", "--since HEAD", "--install", ""):
-        with subtests.test(line):
+        with subtests.test(f"{HOOK} {line}"):
             ended("no repository", place.run(HOOK, *line.split()), 1, "ansible-vault-hook: git rev-parse failed")
     for line in ("--all --install", "--since"):
-        with subtests.test(line):
+        with subtests.test(f"{HOOK} {line}"):
             ended("the words", place.run(HOOK, *line.split()), 2, "usage: ansible-vault-hook")
 
 

@@ -68,7 +68,7 @@ def test_as_it_is(place: Place, subtests: SubTests) -> None:
             done = place.run(TEXTCONV, *place.by_file("old"), name)
             assert (done.returncode, done.stdout, done.stderr) == (1, "", f"{TEXTCONV}: {name}: {why}\n")
     for line in ("", "a.yml", "--loud a.yml", "--vault-password-file a.yml"):
-        with subtests.test(line):
+        with subtests.test(f"{TEXTCONV} {line}"):
             ended("it is refused", place.run(TEXTCONV, *line.split()), 2, "usage: ansible-vault-textconv")
 
 

@@ -83,12 +83,15 @@ class Repository:
     def pasted(self, shell: str, password: str) -> str:
         """What a terminal shows where the shell is pasted, and the password is typed when it is waited for."""
         controller, terminal = pty.openpty()
-        command = ["bash", "--norc", "--noprofile", "-i"]
-        environment = self.environment | {"PS1": "$ ", "TERM": "dumb"}
         process = subprocess.Popen(
-            command, cwd=self.folder, env=environment, start_new_session=True,
-            stdin=terminal, stdout=terminal, stderr=terminal,
-        )  # fmt: skip
+            ["bash", "--norc", "--noprofile", "-i"],
+            cwd=self.folder,
+            env=self.environment | {"PS1": "$ ", "TERM": "dumb"},
+            stdin=terminal,
+            stdout=terminal,
+            stderr=terminal,
+            start_new_session=True,
+        )
         os.close(terminal)
         os.write(controller, shell.encode())
         wait_for_question(controller)
