@@ -94,7 +94,7 @@ class Stranger:
         self.tree[self.new_name("moved")] = self.tree.pop(self.spot().file)
 
     def link(self) -> None:
-        target = self.choose("target", ["../outside.yml", "nowhere", ".", self.spot().file])
+        target = self.choose("target", [*["../outside.yml"] * 3, "nowhere", ".", self.spot().file])
         self.tree[self.new_name("link")] = LINK + target.encode()
 
     def attributes(self) -> None:
