@@ -25,6 +25,7 @@ from companion_cases.stranger import MOVES, Stranger
 from companion_cases.surroundings import ATTRIBUTES, Surroundings
 from lib.needs import needs, needs_pyyaml
 
+Done = subprocess.CompletedProcess[str]
 EXAMPLES = 40
 STEPS = 12
 # How often each is done at least.
@@ -71,7 +72,7 @@ class Attack(RuleBasedStateMachine):
         self.secret |= {token} if label == PROD else set()
         return token
 
-    def run(self, *words: str, **variables: str) -> subprocess.CompletedProcess[str]:
+    def run(self, *words: str, **variables: str) -> Done:
         done = self.place.run(*words, **variables, **{STEP: str(next(self.numbers))})
         assert "Traceback" not in done.stderr, ("a companion fails", done)
         return done
@@ -160,7 +161,7 @@ class Attack(RuleBasedStateMachine):
                     assert is_merged(*found), ("a merge takes another value", name, key, found, done)
         self.abort(how, done)
 
-    def abort(self, how: str, done: subprocess.CompletedProcess[str]) -> None:
+    def abort(self, how: str, done: Done) -> None:
         if done.returncode:
             self.run("git", how, "--abort")
             self.run("git", "reset", "--quiet", "--hard")
@@ -190,9 +191,7 @@ class Attack(RuleBasedStateMachine):
             self.secret |= {new} if was.label == PROD else set()
         self.commit("edit" if changed else "edit of nothing")
 
-    def changed(
-        self, before: Tree, done: subprocess.CompletedProcess[str], names: list[str]
-    ) -> list[tuple[bytes, bytes]]:
+    def changed(self, before: Tree, done: Done, names: list[str]) -> list[tuple[bytes, bytes]]:
         """The envelopes of these files that are not as before, unlike all else."""
         after = read_tree(self.place.tree)
         assert before.keys() == after.keys(), ("other files", done)
@@ -264,13 +263,9 @@ def test_stranger(cases: Companions, pytestconfig: pytest.Config) -> None:
     needs_pyyaml()
     place, counts = cases.place(), Counter[str]()
     surroundings = Surroundings(place)
-    settings = hypothesis.settings(
-        max_examples=EXAMPLES,
-        stateful_step_count=STEPS,
-        deadline=None,
-        database=None,
-        suppress_health_check=list(hypothesis.HealthCheck),
-    )
+    size = {"max_examples": EXAMPLES, "stateful_step_count": STEPS}
+    checks = list(hypothesis.HealthCheck)
+    settings = hypothesis.settings(**size, deadline=None, database=None, suppress_health_check=checks)
 
     def machine() -> Attack:
         counts["examples"] += 1

@@ -49,7 +49,7 @@ class Forks:
         assert self.process.stdout and self.process.stdout.readline(), "it does not begin"
 
     def __exit__(self, *_: object) -> None:
-        """It ends with its input."""
+        self.process.kill()
         self.process.communicate()
 
 
@@ -112,6 +112,7 @@ def serve(folder: Path, companions: dict[str, CodeType]) -> None:
         make(name, b"", "", number)
     asked, answered = (os.open(folder / name, os.O_RDWR) for name in ("asked", "answered"))
     os.write(1, b"ready\n")
+    # It ends with its input, if not before.
     while 0 not in select.select([0, asked], [], [])[0]:
         process = os.read(asked, 100).decode().strip()
         child = os.fork()

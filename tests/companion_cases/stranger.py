@@ -113,7 +113,7 @@ class Stranger:
 
 # Those that matter more are there more often.
 MOVES = [
-    *["relabel", "copy", "guess"] * 3,
+    *["relabel", "copy", "guess", "link"] * 3,
     *["replace"] * 5,
-    *["duplicate", "nest", "retag", "rename", "link", "attributes", "settings"],
+    *["duplicate", "nest", "retag", "rename", "attributes", "settings"],
 ]
