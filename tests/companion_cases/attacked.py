@@ -263,9 +263,16 @@ def test_stranger(cases: Companions, pytestconfig: pytest.Config) -> None:
     needs_pyyaml()
     place, counts = cases.place(), Counter[str]()
     surroundings = Surroundings(place)
-    size = {"max_examples": EXAMPLES, "stateful_step_count": STEPS}
-    checks = list(hypothesis.HealthCheck)
-    settings = hypothesis.settings(**size, deadline=None, database=None, suppress_health_check=checks)
+    settings = hypothesis.settings(
+        max_examples=EXAMPLES,
+        stateful_step_count=STEPS,
+        deadline=None,
+        database=None,
+        # To find a shorter example takes minutes.
+        phases=[hypothesis.Phase.generate],
+        report_multiple_bugs=False,
+        suppress_health_check=list(hypothesis.HealthCheck),
+    )
 
     def machine() -> Attack:
         counts["examples"] += 1
