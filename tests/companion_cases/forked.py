@@ -79,8 +79,8 @@ def load(companions: Path) -> dict[str, CodeType]:
     import ansible_vault_companions
     from ansible_vault_companions import stopping
 
-    modules = [each.name for each in pkgutil.iter_modules(ansible_vault_companions.__path__)]
-    for name in ("yaml", *(f"ansible_vault_companions.{each}" for each in modules)):
+    modules = pkgutil.walk_packages(ansible_vault_companions.__path__, "ansible_vault_companions.")
+    for name in ("yaml", *(each.name for each in modules)):
         importlib.import_module(name)
     run, numbers = stopping.run, itertools.count()
 
