@@ -195,7 +195,7 @@ class Attack(RuleBasedStateMachine):
         """The envelopes of these files that are not as before, unlike all else."""
         after = read_tree(self.place.tree)
         assert before.keys() == after.keys(), ("other files", done)
-        pairs = []
+        pairs: list[tuple[bytes, bytes]] = []
         for name, content in before.items():
             now = after[name]
             is_same = ENVELOPE.sub(b"", content) == ENVELOPE.sub(b"", now) if name in names else content == now
@@ -279,5 +279,6 @@ def test_stranger(cases: Companions, pytestconfig: pytest.Config) -> None:
         return Attack(surroundings, counts)
 
     with Forks(place, cases.companions):
-        run_state_machine_as_test(hypothesis.seed(pytestconfig.getoption("--seed"))(machine), settings=settings)
+        seeded = hypothesis.seed(pytestconfig.getoption("--seed"))(machine)
+        run_state_machine_as_test(seeded, settings=settings)  # type: ignore[no-untyped-call]
     assert [(what, counts[what], least) for what, least in LEAST.items() if counts[what] < least] == []

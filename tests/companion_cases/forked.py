@@ -44,8 +44,8 @@ class Forks:
         self.path = os.pathsep.join([str(ROOT / "tests"), str(companions)])
 
     def __enter__(self) -> None:
-        pipes = {"stdin": subprocess.PIPE, "stdout": subprocess.PIPE}
-        self.process = subprocess.Popen(self.command, **pipes, env=os.environ | {"PYTHONPATH": self.path})
+        environment, pipe = os.environ | {"PYTHONPATH": self.path}, subprocess.PIPE
+        self.process = subprocess.Popen(self.command, stdin=pipe, stdout=pipe, env=environment)
         assert self.process.stdout and self.process.stdout.readline(), "it does not begin"
 
     def __exit__(self, *_: object) -> None:

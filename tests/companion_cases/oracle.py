@@ -5,7 +5,7 @@ from __future__ import annotations
 import os
 import re
 from collections import Counter
-from collections.abc import Iterator
+from collections.abc import Iterable, Iterator, Sequence
 from functools import lru_cache
 from pathlib import Path
 from typing import Any, NamedTuple
@@ -141,7 +141,7 @@ def values(content: bytes) -> Values | None:
     import yaml
 
     try:
-        documents = list(yaml.compose_all(content, Loader=yaml.CSafeLoader))
+        documents = list(yaml.compose_all(content, Loader=yaml.CSafeLoader))  # type: ignore[no-untyped-call]
     except (yaml.YAMLError, UnicodeDecodeError):
         return None
     return {path: value for document in documents for path, value in _below(document, ())}
@@ -161,7 +161,8 @@ def _below(node: Any, path: tuple[str, ...]) -> Iterator[tuple[tuple[str, ...], 
 def is_merged(*versions: Value | None) -> bool:
     """Whether a tag or a text that one side alone has changed is as that side has it. The versions are base, ours,
     theirs and what was found."""
-    parts = zip(*versions) if all(versions) else [versions]
+    there = [each for each in versions if each]
+    parts: Iterable[Sequence[object]] = zip(*there) if len(there) == len(versions) else [versions]
     return all(
         found == (theirs if ours == base else ours) for base, ours, theirs, found in parts if base in (ours, theirs)
     )
