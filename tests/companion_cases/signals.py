@@ -216,6 +216,29 @@ def test_last_words(place: Place, who: str) -> None:
     check_whole(who, place)
 
 
+# Runs a program from a thread, and signals the companion.
+OF_THREAD = """
+import os, subprocess, sys, threading, time
+words = ["sh", "-c", "echo $$ > ../new; mv ../new ../child; exec sleep 600 > /dev/null 2>&1"]
+threading.Thread(target=lambda: subprocess.run(words)).start()
+while not os.path.exists("../child"):
+    time.sleep(0.02)
+os.kill(int(sys.argv[1]), 15)
+time.sleep(600)
+"""
+
+
+def test_children_of_threads(place: Place) -> None:
+    tree(place)
+    (place.path / "thread.py").write_text(OF_THREAD)
+    place.environment["EDITOR"] = place.script(f"exec python3 ../thread.py {ABOVE_EDITOR}", "editor")
+    done = place.run(EDIT, *place.by_file("old"), "a.yml")
+    assert done.returncode == -signal.SIGTERM, "the status"
+    state = Path("/proc", (place.path / "child").read_text().strip(), "stat")
+    assert not state.exists() or state.read_text().rpartition(")")[2].split()[0] == "Z", "the child ends, too"
+    check_whole("a thread", place)
+
+
 @pytest.mark.parametrize("send", (os.kill, os.killpg))
 def test_half_a_save(place: Place, send) -> None:
     """If the editor is ended while it saves, the save before is kept, too."""

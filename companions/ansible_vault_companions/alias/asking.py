@@ -4,11 +4,10 @@ from __future__ import annotations
 
 from ansible_vault_companions import program
 from ansible_vault_companions.alias.run import Run
-from ansible_vault_companions.alias.words import ENCRYPT_ID
+from ansible_vault_companions.alias.table import ENCRYPT_ID
 from ansible_vault_companions.program import Refused
-from ansible_vault_companions.secrets import options, prompts
-from ansible_vault_companions.secrets.sources import ASKED, Secret
-
+from ansible_vault_companions.secrets import options
+from ansible_vault_companions.secrets.sources import ASKED, NO_TERMINAL, Secret
 
 NO_NEW = (
     "no new secret is given: name one by --new-vault-id or --new-vault-password-file, or run this at a terminal, where "
@@ -19,7 +18,7 @@ NO_NEW = (
 def secrets(encrypts: bool, none: str = options.NONE) -> list[Secret]:
     """What is asked for where nothing names a secret, and what is said if that is not possible."""
     [secret] = options.of_options([ASKED], [], encrypts)
-    if secret.fault == prompts.NO_TERMINAL:
+    if secret.fault == NO_TERMINAL:
         raise Refused(none)
     return [secret]
 

@@ -2,7 +2,7 @@
 
 from __future__ import annotations
 
-from ansible_vault_companions.alias.run import REKEY
+from ansible_vault_companions.alias.table import DECRYPT, ENCRYPT, ENCRYPT_STRING, REKEY, VIEW
 
 # What is otherwise than in the help of the tool.
 SEVERAL_FILES = [("[FILE]", "[FILE]...")]
@@ -12,11 +12,11 @@ IN_PLACE = [
     ("- or nothing for standard output. It is required if FILE is given", "- for standard output; FILE by default"),
 ]
 OTHERWISE = {
-    "view": [*SEVERAL_FILES, ("The file to read; ", "Files to show, one after the other; ")],
-    "decrypt": IN_PLACE,
-    "encrypt": IN_PLACE,
+    VIEW: [*SEVERAL_FILES, ("The file to read; ", "Files to show, one after the other; ")],
+    DECRYPT: IN_PLACE,
+    ENCRYPT: IN_PLACE,
     REKEY: IN_PLACE,
-    "encrypt_string": [
+    ENCRYPT_STRING: [
         ("[STRING]", "[STRING]..."),
         ("The text to encrypt; ", "Texts to encrypt, each as a block; "),
         ("before STRING's block; none by default", "before STRING's block; repeated for several STRINGs"),
@@ -28,7 +28,7 @@ FOR_ALL = """\
       --vault-pass-file <PATH>    The same as --vault-password-file"""
 # The options that the tool does not have.
 ADDED = {
-    "encrypt_string": """
+    ENCRYPT_STRING: """
   -p, --prompt                    Ask at the terminal for one more text, and for its name
       --show-input                Show that text while it is typed""",
     REKEY: """

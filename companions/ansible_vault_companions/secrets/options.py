@@ -4,7 +4,8 @@ from __future__ import annotations
 
 import argparse
 
-from ansible_vault_companions.secrets import sources
+from ansible_vault_companions.program import write_error
+from ansible_vault_companions.secrets import configuration, obtaining, sources
 from ansible_vault_companions.secrets.settings import Settings
 from ansible_vault_companions.secrets.sources import ASKED, ASKING, Secret
 
@@ -60,9 +61,9 @@ def from_options(
 ) -> list[Secret]:
     """The secrets of a command line and of the settings, in Ansible's order. To encrypt, what is typed is asked for
     twice."""
-    found = sources.settings_beside(parser.prog, ids, paths)
+    found = Settings(bool(ids or paths), configuration.section, lambda text: write_error(f"{parser.prog}: {text}"))
     named = sources.named(ids, paths, found)
-    secrets = sources.load(parser.prog, named, encrypts)
+    secrets = sources.load(parser.prog, named, encrypts, obtaining.password)
     if not secrets:
         parser.error(NONE)
     are_all_there = len(secrets) == len(named)
@@ -74,7 +75,7 @@ def from_options(
 
 def of_options(ids: list[str], paths: list[str], encrypts: bool = False) -> list[Secret]:
     named = [*map(sources.of_id, ids), *map(sources.of_path, paths)]
-    return [sources.obtain(source, encrypts) for source in named]
+    return [sources.obtain(source, encrypts, obtaining.password) for source in named]
 
 
 def words(ids: list[str], paths: list[str]) -> list[str]:
@@ -85,4 +86,4 @@ def words(ids: list[str], paths: list[str]) -> list[str]:
 
 def encrypt_label(ids: list[str], paths: list[str]) -> str | None:
     """The label of the secret to encrypt with, by the settings that count beside these options."""
-    return Settings(bool(ids or paths)).encrypt_label()
+    return Settings(bool(ids or paths), configuration.section).encrypt_label()

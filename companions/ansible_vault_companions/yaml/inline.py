@@ -14,6 +14,7 @@ from typing import NamedTuple
 from ansible_vault_companions import parallel
 from ansible_vault_companions.files.envelopes import BYTE_ORDER_MARK, matched
 from ansible_vault_companions.program import Refused
+from ansible_vault_companions.secrets import prompts
 from ansible_vault_companions.tool.keys import Decrypt
 from ansible_vault_companions.tool.tool import Tool
 from ansible_vault_companions.yaml import blocks, literals, matching
@@ -199,6 +200,4 @@ def _check_lookalikes(shown: Showing, found: Scan) -> None:
 def _is_meant(why: str) -> bool:
     if not os.isatty(0):
         return False
-    from ansible_vault_companions.secrets import prompts
-
     return prompts.choice(f"{why}. Is that meant?", ["yes", "no"]) == "yes"
