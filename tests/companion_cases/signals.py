@@ -18,6 +18,7 @@ from companion_cases import Companions, Place, block, decrypted, ended, sealed
 from companion_cases.editing import ABOVE_EDITOR, CHANGE, CHANGED
 from companion_cases.merging import versions
 from companion_cases.rotating import summary, to_new
+from companion_cases.terminal import at_terminal
 
 # The copy of what was saved, and the message that names it.
 COPY = ".ansible-vault-saved-a.yml-"
@@ -194,6 +195,27 @@ def test_while_the_editor_runs(place: Place, name: str, status: int | None) -> N
     assert (told and int(told[1])) == (number if status is None else None), "the message"
     check_saved(name, place, done.stderr)
     check_whole(name, place)
+
+
+# An interactive shell at the terminal, with control of jobs.
+SHELL = "PS1='ready> ' exec bash --norc --noediting -i < /dev/tty > /dev/tty 2>&1"
+
+
+def test_stopped_editors(place: Place) -> None:
+    """Ctrl-Z stops the editor and the companion as one job, and `fg` continues both, with the terminal."""
+    tree(place)
+    place.environment["EDITOR"] = place.script('printf "type: "; read text; printf %s "$text" > "$1"', "editor")
+    line = " ".join([EDIT, *place.by_file("old"), "a.yml"])
+    answers = [
+        ("ready> ", f"{line}\n".encode()),
+        ("type: ", b"\x1a"),
+        ("ready> ", b"fg\n"),
+        ("a.yml\r\n", b"typed\n"),
+        ("ready> ", b"exit\n"),
+    ]
+    session = at_terminal(place, ["sh", "-c", SHELL], *answers)
+    assert "Stopped" in session.shown, session.shown
+    assert decrypted("old", place.get("a.yml")) == b"typed", session.shown
 
 
 LAST = "trap 'sleep 0.3; printf last > \"$1\"; touch ../saved; exit' TERM"
