@@ -2,7 +2,12 @@
 
 from __future__ import annotations
 
+from ansible_vault_companions import program
 from ansible_vault_companions.alias.table import DECRYPT, ENCRYPT, ENCRYPT_STRING, REKEY, VIEW
+from ansible_vault_companions.alias.words import Words
+from ansible_vault_companions.program import Refused
+from ansible_vault_companions.tool import finding
+from ansible_vault_companions.tool.tool import Tool
 
 # What is otherwise than in the help of the tool.
 SEVERAL_FILES = [("[FILE]", "[FILE]...")]
@@ -39,8 +44,16 @@ A PATH of a password may also be a program that writes it, or the word prompt. A
 if nothing does, you are asked. Long options may be abbreviated. `{name} --help` says more."""
 
 
-def of_command(name: str, command: str, text: str) -> str:
-    """The help, from that of the tool."""
-    for old, new in [(f"Usage: ansible-vault {command}", f"Usage: {name} {command}"), *OTHERWISE[command]]:
+def show(companion: str, tool: Tool, words: Words) -> int:
+    """The help, from that of the tool, unless the tool refuses the command line."""
+    line = [words.command, *words.secret_options(), *words.others]
+    try:
+        text = tool.run(line, b"", []).decode()
+    except Refused:
+        return finding.take_over(tool.path, line, [])
+    usage = [(f"Usage: ansible-vault {words.command}", f"Usage: {companion} {words.command}")]
+    for old, new in [*usage, *OTHERWISE[words.command]]:
         text = text.replace(old, new)
-    return "\n".join([text, f"Added by {name}:", FOR_ALL + ADDED.get(command, ""), END.format(name=name)])
+    added = FOR_ALL + ADDED.get(words.command, "")
+    program.write_line("\n".join([text, f"Added by {companion}:", added, END.format(name=companion)]))
+    return 0

@@ -20,9 +20,12 @@ BY_PATH = "--vault-password-file"
 # What is asked for without a label.
 ASKING = ("-J", "--ask-vault-password", "--ask-vault-pass")
 ASKED = f"{DEFAULT}@{ASK}"
-NO_TERMINAL = "there is no terminal to ask for the password"
 # How a tool's password file begins that is none.
 NO_PASSWORD = (b"#!", b"$ANSIBLE_VAULT")
+
+
+class NoTerminal(Refused):
+    """Nobody can be asked for a password."""
 
 
 class Source:
@@ -67,7 +70,7 @@ class Secret:
         # Of the password, which is kept in memory; None where the file cannot be read.
         self.descriptor: int | None = None
         # Why there is no password.
-        self.fault = ""
+        self.fault: Refused | None = None
         # Whether it decrypts only what has its label.
         self.requires_match = False
         # Whether its password is the only one that is named.
@@ -97,7 +100,7 @@ class Secret:
     def why_missing(self) -> str:
         """Why there is no password; empty if there is one. Whether it may be one, the tool says."""
         if self.descriptor is None:
-            return self.fault or "this password file cannot be read"
+            return str(self.fault or "this password file cannot be read")
         return "" if self.password() else "the password is empty"
 
     def is_plain(self) -> bool:
@@ -142,7 +145,7 @@ def _may_be_left_out(secret: Secret, encrypts: bool) -> bool:
     Ansible, and to encrypt so does a terminal that is missing: another secret would be chosen."""
     if not (secret.is_setting and secret.why_missing()):
         return False
-    return not secret.is_prompt or (secret.fault == NO_TERMINAL and not encrypts)
+    return not secret.is_prompt or (isinstance(secret.fault, NoTerminal) and not encrypts)
 
 
 def _by_setting(found: Iterable[Source]) -> Iterator[Source]:
@@ -173,7 +176,7 @@ def obtain(source: Source, encrypts: bool, password: Password) -> Secret:
     try:
         content = password(source, encrypts)
     except Refused as fault:
-        secret.fault = str(fault)
+        secret.fault = fault
         return secret
     except OSError:
         return secret
