@@ -49,8 +49,6 @@ LINKS := $(foreach name,$(COMPANIONS),\
 	bin/ansible-vault-$(name):../$(LIBRARY)/ansible-vault-$(name) \
 	$(BASH_FOLDER)/ansible-vault-$(name):ansible-vault \
 	$(FISH_FOLDER)/ansible-vault-$(name).fish:ansible-vault.fish)
-# Links of version 0.2.0 that are files now.
-FORMER_LINKS := $(foreach name,edit rotate check textconv hook,$(PAGES)/ansible-vault-$(name).1:ansible-vault.1)
 # Where `make dist` puts its archives, their names, and how they are made. The time is that of the newest version.
 DIST := bin/dist
 SOURCE_NAME := ansible-vault-$(VERSION)
@@ -170,12 +168,12 @@ bench: all bin/vault_bench
 
 # Refuses to overwrite a file of another program.
 install: all
-	@tools/installed install "$(TOP)" $(SUMS) "$(FORMER_LINKS)" $(REPLACE) $(INSTALLED) -- $(LINKS)
+	@tools/installed install "$(TOP)" $(SUMS) $(REPLACE) $(INSTALLED) -- $(LINKS)
 	@$(if $(DESTDIR),,echo "Type next: hash -r; ansible-vault --version")
 
 # Removes files that are as they were installed, and lists the others.
 uninstall:
-	@tools/installed uninstall "$(TOP)" $(SUMS) "$(FORMER_LINKS)" $(LINKS)
+	@tools/installed uninstall "$(TOP)" $(SUMS) $(LINKS)
 
 # Fails if the program is built for a newer processor than a package may need.
 portable:

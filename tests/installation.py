@@ -12,9 +12,7 @@ import pytest
 
 from lib.installed import NAMES, PREFIX_FILES, check_program, files_below, printed, run_make
 from lib.needs import needs
-from lib.paths import ROOT
 
-EDIT_PAGE = ROOT / "man" / "ansible-vault-edit.1"
 LOCAL_FILES = PREFIX_FILES | {"lib/ansible-vault/installed.sha256"}
 
 # Loads what bash-completion finds for the command.
@@ -246,19 +244,6 @@ def test_upgraded(tmp_path: pathlib.Path, make: Make) -> None:
     old.write_text("of an older version\n")
     sums = tmp_path / "lib/ansible-vault/installed.sha256"
     sums.write_text(printed("sha256sum", "lib/ansible-vault/older.py", cwd=tmp_path) + sums.read_text())
-    page = tmp_path / "share/man/man1/ansible-vault-edit.1"
-    links_page(page)
-    assert make("install", *words).returncode == 0, "make install takes the place of an older version's link"
-    assert (page.is_symlink(), page.read_bytes()) == (False, EDIT_PAGE.read_bytes()), "with a file"
-    links_page(page)
+    assert make("install", *words).returncode == 0
     make("uninstall", *words)
     assert files_below(tmp_path) == set(), "make uninstall removes what an older version had"
-    links_page(page)
-    done = make("install", *words)
-    assert done.returncode != 0 and page.is_symlink(), "a link without an installation is another's"
-
-
-def links_page(page: pathlib.Path) -> None:
-    """As version 0.2.0 did."""
-    page.unlink(missing_ok=True)
-    page.symlink_to("ansible-vault.1")

@@ -8,6 +8,7 @@ import re
 import subprocess
 import sys
 from collections.abc import Iterable
+from operator import attrgetter
 from pathlib import Path
 
 import pytest
@@ -123,7 +124,7 @@ VALUES = {
 
 @pytest.mark.parametrize("entry", table_options())
 @pytest.mark.parametrize("shell", SHELLS)
-def test_completed_values(shell: str, tmp_path: Path, entry) -> None:
+def test_completed_values(shell: str, tmp_path: Path, entry: Entry) -> None:
     """After an option a shell offers files where its value is a path, and none elsewhere."""
     needs_shell(shell)
     (tmp_path / "one.pass").touch()
@@ -161,7 +162,7 @@ def is_helped(entry: Entry, text: str) -> bool:
 
 
 @pytest.mark.parametrize("command, options", OPTIONS.items())
-def test_model(command, options) -> None:
+def test_model(command: str, options: set[str]) -> None:
     assert options | COMMON == long(page_sets()[command]) - {"--help"}
 
 
@@ -174,6 +175,10 @@ def flat(sets: list[set[str]]) -> list[str]:
     return sorted(set().union(*sets))
 
 
+def in_order(sets: list[set[str]]) -> list[list[str]]:
+    return sorted(sorted(each) for each in sets)
+
+
 @pytest.mark.parametrize("name", COMPANIONS)
 def test_companion(name: str) -> None:
     """The page of a companion beside its help."""
@@ -181,7 +186,6 @@ def test_companion(name: str) -> None:
     titles = [title for title in page if title not in FURTHER]
     assert titles == SECTIONS, "its page has the sections of every companion's"
     described, in_help = spellings(page["OPTIONS"]), companion_options(name)
-    in_order = lambda options: sorted(map(sorted, options))
     assert in_order(described) == in_order(in_help), "its page describes the options of its help"
     named = options_in(page["SYNOPSIS"])
     assert [each for each in described if not each & named] == [], "the synopsis names each option"
@@ -207,15 +211,15 @@ def test_variables() -> None:
 def test_references() -> None:
     """The page of the program lists the companions, by the words of their pages, and each page that is referred
     to is there."""
-    listed = dict(re.findall(r"^\.It Xr (\S+) 1 Ta (.+)$", sections(PAGE.read_text())["COMPANIONS"], re.MULTILINE))
-    described = {name: re.search(r"^\.Nd (.+)$", companion_page(name)["NAME"], re.MULTILINE)[1] for name in COMPANIONS}
-    assert listed == described, "the page lists the companions"
+    items = re.findall(r"^\.It Xr (\S+) 1 Ta (.+)$", sections(PAGE.read_text())["COMPANIONS"], re.MULTILINE)
+    described = {name: re.findall(r"^\.Nd (.+)$", companion_page(name)["NAME"], re.MULTILINE) for name in COMPANIONS}
+    assert {name: [words] for name, words in items} == described, "the page lists the companions"
     assert {page.stem for page in PAGES} == {"ansible-vault", *COMPANIONS}, "each companion has a page"
     references = set().union(*(re.findall(r"\bXr (ansible-vault\S*) 1", page.read_text()) for page in PAGES))
     assert sorted(references - {page.stem for page in PAGES}) == [], "each page that is referred to is there"
 
 
-@pytest.mark.parametrize("page", PAGES, ids=lambda page: page.stem)
+@pytest.mark.parametrize("page", PAGES, ids=attrgetter("stem"))
 @pytest.mark.parametrize("tool", CHECKERS)
 def test_page_as_it_is_shown(tool: str, page: Path) -> None:
     needs(tool)
@@ -260,7 +264,7 @@ def test_alias(program: str) -> None:
     assert {command for _, _, commands in table for command in commands} >= {"create", "edit"}
 
 
-@pytest.mark.parametrize("document", DOCUMENTS, ids=lambda path: path.name)
+@pytest.mark.parametrize("document", DOCUMENTS, ids=attrgetter("name"))
 def test_commands(document: Path) -> None:
     """The options that a document gives to a companion are some of it, or of a command of the tool."""
     sets, unknown = page_sets(), []
