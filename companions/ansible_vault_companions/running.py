@@ -17,22 +17,18 @@ PAUSE = 0.02
 # Seconds after which Python heeds a signal that came just before a system call that waits, and so did not interrupt it.
 WAITING_PERIOD = 1
 
-Done = subprocess.CompletedProcess[bytes]
 
-
-class Program:
+class Program(subprocess.Popen[bytes]):
     """A program that runs, and what it started, where a signal was passed on to it."""
 
-    def __init__(self, process: subprocess.Popen[bytes]) -> None:
-        self.process = process
-        self.started: set[int] = set()
+    started: tuple[int, ...] = ()
 
     def pass_on(self, number: int) -> None:
         """To all of them, as the shell of an editor starts the editor."""
-        if self.process.returncode is None:
-            self.started.update(_descendants(self.process.pid))
-        self.process.send_signal(number)
-        for each in list(self.started):
+        if self.returncode is None:
+            self.started += tuple(_descendants(self.pid))
+        self.send_signal(number)
+        for each in self.started:
             with suppress(OSError):
                 os.kill(each, number)
 
@@ -40,7 +36,7 @@ class Program:
         """What the signal is to end, too, may still write where something is to be read or removed. After the grace
         period it is killed."""
         end = time.monotonic() + GRACE_PERIOD + KILL_PERIOD
-        while any(map(_is_alive, list(self.started))) and time.monotonic() < end:
+        while any(map(_is_alive, self.started)) and time.monotonic() < end:
             time.sleep(PAUSE)
 
 
@@ -63,7 +59,7 @@ def _is_alive(process: int) -> bool:
         return False
 
 
-def run(words: list[str], data: bytes | None = None, **options: Any) -> Done:
+def run(words: list[str], data: bytes | None = None, **options: Any) -> subprocess.CompletedProcess[bytes]:
     """Runs a program to its end."""
     check()
     done = _run(words, data, **options)
@@ -82,24 +78,23 @@ def run_on_terminal(words: list[str]) -> int:
         state.leaves_keys = False
 
 
-def _run(words: list[str], data: bytes | None = None, **options: Any) -> Done:
-    with subprocess.Popen(words, **options) as process:
-        program = Program(process)
+def _run(words: list[str], data: bytes | None = None, **options: Any) -> subprocess.CompletedProcess[bytes]:
+    with Program(words, **options) as program:
         state.programs.add(program.pass_on)
         try:
             if state.noted and not state.is_postponed:
                 program.pass_on(state.noted[0])
-            output, errors = _wait_for_end(process, data)
+            output, errors = _wait_for_end(program, data)
             program.wait_for_started()
         finally:
             state.programs.discard(program.pass_on)
-    return subprocess.CompletedProcess(words, process.returncode, output, errors)
+    return subprocess.CompletedProcess(words, program.returncode, output, errors)
 
 
-def _wait_for_end(process: subprocess.Popen[bytes], data: bytes | None) -> tuple[bytes, bytes]:
+def _wait_for_end(program: Program, data: bytes | None) -> tuple[bytes, bytes]:
     # What reads data ends by itself; and Python does not write the rest of them after a timeout.
     if data is not None:
-        return process.communicate(data)
+        return program.communicate(data)
     while True:
         with suppress(subprocess.TimeoutExpired):
-            return process.communicate(timeout=WAITING_PERIOD)
+            return program.communicate(timeout=WAITING_PERIOD)

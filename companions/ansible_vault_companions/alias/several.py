@@ -8,7 +8,8 @@ from typing import Callable
 
 from ansible_vault_companions import program, stopping
 from ansible_vault_companions.alias.run import Run
-from ansible_vault_companions.alias.table import DECRYPT, OUTPUT, PROMPT, SHOW_INPUT, STDIN_NAME, VARIABLE, VIEW
+from ansible_vault_companions.alias.table import DECRYPT, ENCRYPT_STRING, OUTPUT, PROMPT, SHOW_INPUT, STDIN_NAME
+from ansible_vault_companions.alias.table import VARIABLE, VIEW
 from ansible_vault_companions.alias.words import STANDARD_INPUT, Words
 from ansible_vault_companions.files import reading, replacing
 from ansible_vault_companions.program import Refused, write_error
@@ -16,6 +17,9 @@ from ansible_vault_companions.secrets import prompts
 from ansible_vault_companions.secrets.sources import Secret
 from ansible_vault_companions.tool.faults import NotDecrypted
 from ansible_vault_companions.tool.tool import Tool
+
+# What only several strings or a typed one have, or each has for itself.
+OF_STRINGS = (VARIABLE, STDIN_NAME, PROMPT, SHOW_INPUT)
 
 
 class Text:
@@ -36,28 +40,25 @@ def output(tool: Tool, run: Run, options: list[str], data: bytes) -> bytes:
     return tool.run([*run.command(last), *options], data, [*last, *run.new])
 
 
-def in_place(companion: str, tool: Tool, run: Run) -> int:
-    """Replaces each file; the highest status of all."""
+def handle(companion: str, tool: Tool, run: Run) -> int:
+    """Replaces each file or shows it, or makes a block of each string."""
+    end = b""
 
     def replace(path: str) -> None:
         before = reading.named(path)
         after = output(tool, run, run.words.options, before)
         replacing.replace(path, after, before, is_private=run.words.command == DECRYPT)
 
-    return _each(companion, run.words.arguments, replace)
-
-
-def view(companion: str, tool: Tool, run: Run) -> int:
-    """Shows each file; the next one begins on a line of its own."""
-    end = b""
-
     def show(path: str) -> None:
+        """The next one begins on a line of its own."""
         nonlocal end
         text = output(tool, run, run.words.options, reading.named(path))
         program.write(end + text)
         end = b"\n" if text and not text.endswith(b"\n") else b""
 
-    return _each(companion, run.words.arguments, show)
+    if run.words.command == ENCRYPT_STRING:
+        return _blocks(tool, run)
+    return _each(companion, run.words.arguments, show if run.words.command == VIEW else replace)
 
 
 def _each(companion: str, paths: list[str], work: Callable[[str], None]) -> int:
@@ -72,12 +73,12 @@ def _each(companion: str, paths: list[str], work: Callable[[str], None]) -> int:
     return max(statuses)
 
 
-def blocks(tool: Tool, run: Run) -> int:
+def _blocks(tool: Tool, run: Run) -> int:
     """Writes a block of YAML for each string, in Ansible's order: what is typed, standard input, arguments."""
     words = run.words
     texts = [*_typed(words), *_read(words), *_given(words)]
     path = words.value(OUTPUT)
-    words.leave_out(VARIABLE, STDIN_NAME, OUTPUT, PROMPT, SHOW_INPUT)
+    words.leave_out(*OF_STRINGS, OUTPUT)
     made = []
     for number, text in enumerate(texts, 1):
         named = [f"{STDIN_NAME}={text.name}"] if text.name else []

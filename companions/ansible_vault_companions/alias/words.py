@@ -2,7 +2,8 @@
 
 from __future__ import annotations
 
-from ansible_vault_companions.alias.table import ASKS, FLAG, NAMING, PROMPT, VALUE, VARIABLE, VERBOSE, kind_of, known_to
+from ansible_vault_companions.alias.table import ASKS, ENCRYPT_STRING, FLAG, NAMING, OUTPUT, PROMPT, STDIN_NAME, VALUE
+from ansible_vault_companions.alias.table import VARIABLE, VERBOSE, VIEW, kind_of, known_to
 from ansible_vault_companions.secrets.sources import ASKED
 
 STANDARD_INPUT = "-"
@@ -52,6 +53,14 @@ class Words:
     def has_files(self) -> bool:
         """Whether all arguments are files, and there are some."""
         return bool(self.arguments) and STANDARD_INPUT not in self.arguments
+
+    def are_several(self) -> bool:
+        """Whether they take more than one run of the tool, or one whose output replaces a file or whose string is
+        typed."""
+        is_more = len(self.arguments) > 1
+        if self.command == ENCRYPT_STRING:
+            return self.has(PROMPT) or is_more or bool(self.arguments and self.has(STDIN_NAME))
+        return self.has_files() and (is_more if self.command == VIEW else not self.has(OUTPUT))
 
     def names_secrets(self) -> bool:
         return bool(self.ids or self.paths)
