@@ -7,7 +7,7 @@ from ansible_vault_companions import program, stopping
 from ansible_vault_companions.alias.run import Run
 from ansible_vault_companions.alias.table import ENCRYPT_ID, ENCRYPTING, REKEY
 from ansible_vault_companions.program import Refused
-from ansible_vault_companions.secrets import obtaining, options, sources
+from ansible_vault_companions.secrets import options, sources
 from ansible_vault_companions.secrets.sources import ASKED, NoTerminal, Secret, Source
 from ansible_vault_companions.tool import finding
 from ansible_vault_companions.tool.tool import Tool
@@ -28,7 +28,7 @@ def obtained(
     stopping.listen()
     _refuse_wrong(tool, run.words.command, line)
     encrypts = run.words.command in ENCRYPTING
-    old = sources.load(companion, named, encrypts, obtaining.password) or secrets(encrypts)
+    old = sources.load(companion, named, encrypts, options.password) or secrets(encrypts)
     return old, new_secrets(run, old) if run.words.command == REKEY else []
 
 

@@ -46,13 +46,13 @@ def handle(companion: str, tool: Tool, run: Run) -> int:
 
     def replace(path: str) -> None:
         before = reading.named(path)
-        after = output(tool, run, run.words.options, before)
+        after = output(tool, run, run.words.without(), before)
         replacing.replace(path, after, before, is_private=run.words.command == DECRYPT)
 
     def show(path: str) -> None:
         """The next one begins on a line of its own."""
         nonlocal end
-        text = output(tool, run, run.words.options, reading.named(path))
+        text = output(tool, run, run.words.without(), reading.named(path))
         program.write(end + text)
         end = b"\n" if text and not text.endswith(b"\n") else b""
 
@@ -82,7 +82,7 @@ def _blocks(tool: Tool, run: Run) -> int:
     made = []
     for number, text in enumerate(texts, 1):
         named = [f"{STDIN_NAME}={text.name}"] if text.name else []
-        made.append(output(tool, run, [*words.options, *named], text.content))
+        made.append(output(tool, run, [*words.without(), *named], text.content))
         if len(texts) > 1:
             what = f"the variable {program.shown(text.name)}" if text.name else "a string without a name"
             write_error(f"# Block {number} is {what}, from {text.origin}.")

@@ -33,17 +33,12 @@ class Words:
         """All that does not name secrets."""
         return [word for _, words in self.parts for word in words]
 
-    @property
-    def options(self) -> list[str]:
-        """The same without arguments."""
-        return self.without()
-
     def has(self, *names: str) -> bool:
         """Whether one of these options is given."""
         return any(name in names for name, _ in self.parts)
 
     def without(self, *names: str) -> list[str]:
-        """The options without some."""
+        """The options that do not name secrets, without some."""
         return [word for name, words in self.parts for word in words if name and name not in names]
 
     def value(self, name: str) -> str | None:

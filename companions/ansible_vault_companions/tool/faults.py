@@ -5,18 +5,6 @@ from __future__ import annotations
 from ansible_vault_companions.program import Refused
 
 NOT_DECRYPTED = "no secret decrypts this vault"
-NOT_A_VAULT = "input is not vault encrypted data"
-# Those of a secret, whatever it is to decrypt.
-OF_SECRETS = (
-    "a password file is longer than 4096 bytes",
-    "a password file is a script",
-    "a password file is itself a vault",
-    "a password is empty",
-    "a vault id label is not allowed",
-    "asking for a password is not supported",
-    "a password file cannot be read",
-    "a password file cannot be opened",
-)
 # What begins the line of a fault.
 ERROR = "ERROR! "
 
@@ -35,8 +23,15 @@ class NotVault(Refused):
 
 KINDS: dict[str, type[Refused]] = {
     NOT_DECRYPTED: NotDecrypted,
-    NOT_A_VAULT: NotVault,
-    **{text: SecretRefused for text in OF_SECRETS},
+    "input is not vault encrypted data": NotVault,
+    "a password file is longer than 4096 bytes": SecretRefused,
+    "a password file is a script": SecretRefused,
+    "a password file is itself a vault": SecretRefused,
+    "a password is empty": SecretRefused,
+    "a vault id label is not allowed": SecretRefused,
+    "asking for a password is not supported": SecretRefused,
+    "a password file cannot be read": SecretRefused,
+    "a password file cannot be opened": SecretRefused,
 }
 
 
