@@ -45,7 +45,7 @@ def _descendants(process: int) -> list[int]:
     children: list[int] = []
     with suppress(OSError):
         for thread in os.listdir(f"/proc/{process}/task"):
-            with open(f"/proc/{process}/task/{thread}/children") as file:
+            with suppress(OSError), open(f"/proc/{process}/task/{thread}/children") as file:
                 children += map(int, file.read().split())
     return [each for child in children for each in (child, *_descendants(child))]
 
