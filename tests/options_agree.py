@@ -242,17 +242,26 @@ def shell_of(text: str) -> str:
     return re.sub(r" (?:\\e|\\)\n +", " ", text)
 
 
-def test_abbreviations() -> None:
-    """ansible-vault-with abbreviates the long options of each command."""
-    program = f"import sys; sys.path.insert(0, {str(ROOT / 'companions')!r})\n" + (
-        "from ansible_vault_companions.alias.words import HELP, OPTIONS, SECRETS\n"
-        "import json; print(json.dumps({name: [*HELP, *SECRETS, *each] for name, each in OPTIONS.items()}))"
+# What Ansible's tool has for each command, beside what the program has.
+OF_SECRETS = {"--vault-pass-file", "-J", "--ask-vault-password", "--ask-vault-pass", "--verbose"}
+
+
+def test_alias(program: str) -> None:
+    """The table of ansible-vault-with has the options of each command's help, those with a value among them, and the
+    options of Ansible's tool."""
+    code = f"import sys; sys.path.insert(0, {str(ROOT / 'companions')!r})\n" + (
+        "from ansible_vault_companions.alias.table import FLAG, OPTIONS, VALUE; import json\n"
+        "print(json.dumps([(name, kind in (FLAG, 'asks'), commands) for name, (kind, commands) in OPTIONS.items()]))"
     )
-    done = subprocess.run([sys.executable, "-B", "-c", program], capture_output=True, check=True)
-    known, sets = json.loads(done.stdout), page_sets()
-    of_ansible = {"--vault-pass-file", "--ask-vault-password", "--ask-vault-pass"}
-    wanted = {name: long(sets[name] | of_ansible | OF_ANSIBLE.get(name, set())) for name in sets if name}
-    assert {name: long(known[name]) for name in wanted} == wanted
+    done = subprocess.run([sys.executable, "-B", "-c", code], capture_output=True, check=True)
+    table = json.loads(done.stdout)
+    for command in help_commands(help_text(program, None)):
+        text, of_ansible = help_text(program, command), OF_SECRETS | OF_ANSIBLE.get(command, set())
+        known = {name for name, _, commands in table if command in commands}
+        assert known == help_options(text) - {"-h", "-n"} | of_ansible - {"-p"}, command
+        values = set(re.findall(r"(--[\w-]+) <", text))
+        assert {name for name, is_alone, _ in table if name in known & help_options(text) and not is_alone} == values
+    assert {command for _, _, commands in table for command in commands} >= {"create", "edit"}
 
 
 @pytest.mark.parametrize("document", DOCUMENTS, ids=attrgetter("name"))

@@ -1,16 +1,11 @@
 """Secrets that Ansible's settings name, beside Ansible's own tool."""
 
-import json
-import subprocess
-from random import Random
-
 import pytest
 from pytest_subtests import SubTests
 
 from companion_cases import CHECK, EDIT, MERGE, ROTATE, TEXT, TEXTCONV, WITH
-from companion_cases import Companions, Place, block, decrypted, ended, sealed, silent
+from companion_cases import Place, block, decrypted, ended, sealed, silent
 from companion_cases.both import ours, theirs
-from lib.limits import SECONDS
 from lib.needs import needs_ansible
 
 OPEN = ("old", "dev", "prod")
@@ -217,63 +212,6 @@ def test_many_secrets(place: Place) -> None:
     assert decrypted("dev", place.get("b.yml")) == TEXT, "by the last"
     done = ours(place, "encrypt", "b.yml", **variables)
     ended("without a label", done, 1, "several secrets were given; choose one with --encrypt-vault-id")
-
-
-# Lines of a file of settings, by which some are simple enough to be read without configparser, and others are not.
-LINES = [
-    "[defaults]",
-    "[other]",
-    "[DEFAULT]",
-    "[a]b]",
-    "[]",
-    " [x]",
-    "vault_identity_list = dev@~/dev, prod@x",
-    "vault_password_file=~/p",
-    "Vault_Password_File  =  p ; not q",
-    "vault_password_file: p",
-    "key = a = b",
-    "key",
-    "= x",
-    "key =",
-    "  more",
-    "",
-    "  ",
-    "# a comment",
-    "; a comment",
-    "key = a # b",
-    "größe = 1",
-    "tab\t= 1",
-    "%(x)s = %(y)s",
-]
-
-
-def test_simple_files(cases: Companions) -> None:
-    """What is read without configparser is what that module reads."""
-    program = (
-        "import json, sys\n"
-        "sys.path.insert(0, sys.argv[1])\n"
-        "from ansible_vault_companions.secrets import settings\n"
-        "from ansible_vault_companions.program import Refused\n"
-        "def parsed(text):\n"
-        "    try:\n"
-        "        return settings._parsed_section(text)\n"
-        "    except Refused:\n"
-        "        return 'refused'\n"
-        "texts = json.load(sys.stdin)\n"
-        "print(json.dumps([(settings._simple_section(text), parsed(text)) for text in texts]))\n"
-    )
-    random = Random(1)
-    texts = ["\n".join(random.choices(LINES, k=random.randint(0, 5))) for _ in range(5000)]
-    begins = ("[defaults]", "[other]", "vault_", "key =", "#", ";")
-    simple = [line for line in LINES if line.startswith(begins) or not line]
-    texts += ["[x]\n" + "\n".join(random.sample(simple, k=random.randint(1, 8))) + "\n" for _ in range(1000)]
-    words = ["/usr/bin/env", "python3", "-B", "-c", program, str(cases.companions)]
-    done = subprocess.run(words, input=json.dumps(texts), capture_output=True, text=True, timeout=SECONDS)
-    pairs = json.loads(done.stdout)
-    read = [(text, found, parsed) for text, (found, parsed) in zip(texts, pairs) if found is not None]
-    wrong = [row for row in read if row[1] != row[2]]
-    assert wrong == [], f"{len(read)} of {len(texts)} are simple"
-    assert 500 < len(read) < len(texts) - 500, "some are simple, and some are not"
 
 
 def test_faults(place: Place, subtests: SubTests) -> None:

@@ -19,6 +19,7 @@ from companion_cases import Companions, Place, block, decrypted, ended, sealed
 from companion_cases.editing import ABOVE_EDITOR, CHANGE, CHANGED
 from companion_cases.merging import versions
 from companion_cases.rotating import summary, to_new
+from companion_cases.terminal import at_terminal
 from lib.limits import SECONDS
 
 # The copy of what was saved, and the message that names it.
@@ -198,6 +199,27 @@ def test_while_the_editor_runs(place: Place, name: str, status: int | None) -> N
     check_whole(name, place)
 
 
+# An interactive shell at the terminal, with control of jobs.
+SHELL = "PS1='ready> ' exec bash --norc --noediting -i < /dev/tty > /dev/tty 2>&1"
+
+
+def test_stopped_editors(place: Place) -> None:
+    """Ctrl-Z stops the editor and the companion as one job, and `fg` continues both, with the terminal."""
+    tree(place)
+    place.environment["EDITOR"] = place.script('printf "type: "; read text; printf %s "$text" > "$1"', "editor")
+    line = " ".join([EDIT, *place.by_file("old"), "a.yml"])
+    answers = [
+        ("ready> ", f"{line}\n".encode()),
+        ("type: ", b"\x1a"),
+        ("ready> ", b"fg\n"),
+        ("a.yml\r\n", b"typed\n"),
+        ("ready> ", b"exit\n"),
+    ]
+    session = at_terminal(place, ["sh", "-c", SHELL], *answers)
+    assert "Stopped" in session.shown, session.shown
+    assert decrypted("old", place.get("a.yml")) == b"typed", session.shown
+
+
 LAST = "trap 'sleep 0.3; printf last > \"$1\"; touch ../saved; exit' TERM"
 READY = "until [ -e ../ready ]; do sleep 0.02; done"
 WRITERS = {"itself": LAST, "a child": f"({LAST}; sleep {SECONDS} & touch ../ready; wait) & {READY}; trap exit TERM"}
@@ -216,6 +238,29 @@ def test_last_words(place: Place, who: str) -> None:
     assert done.returncode == -signal.SIGTERM, "the status"
     check_saved(who, place, done.stderr, b"last")
     check_whole(who, place)
+
+
+# Runs a program from a thread, and signals the companion.
+OF_THREAD = """
+import os, subprocess, sys, threading, time
+words = ["sh", "-c", "echo $$ > ../new; mv ../new ../child; exec sleep 600 > /dev/null 2>&1"]
+threading.Thread(target=lambda: subprocess.run(words)).start()
+while not os.path.exists("../child"):
+    time.sleep(0.02)
+os.kill(int(sys.argv[1]), 15)
+time.sleep(600)
+"""
+
+
+def test_children_of_threads(place: Place) -> None:
+    tree(place)
+    (place.path / "thread.py").write_text(OF_THREAD)
+    place.environment["EDITOR"] = place.script(f"exec python3 ../thread.py {ABOVE_EDITOR}", "editor")
+    done = place.run(EDIT, *place.by_file("old"), "a.yml")
+    assert done.returncode == -signal.SIGTERM, "the status"
+    state = Path("/proc", (place.path / "child").read_text().strip(), "stat")
+    assert not state.exists() or state.read_text().rpartition(")")[2].split()[0] == "Z", "the child ends, too"
+    check_whole("a thread", place)
 
 
 def begun_edit(place: Place) -> subprocess.Popen[str]:

@@ -14,6 +14,7 @@ from typing import NamedTuple
 from ansible_vault_companions import parallel
 from ansible_vault_companions.files.envelopes import BYTE_ORDER_MARK, matched
 from ansible_vault_companions.program import Refused
+from ansible_vault_companions.secrets import prompts
 from ansible_vault_companions.tool.keys import Decrypt
 from ansible_vault_companions.tool.tool import Tool
 from ansible_vault_companions.yaml import blocks, literals, matching
@@ -46,7 +47,7 @@ class StillEncrypted(NamedTuple):
     """A value that stays encrypted, and why."""
 
     value: Value
-    why: str
+    why: Refused
 
 
 @dataclass
@@ -82,12 +83,12 @@ class Showing:
         self.changes += blocks.replacement(value, header, body, value.content_end)
         self.decrypted.append(each)
 
-    def keep_encrypted(self, value: Value, why: str) -> None:
+    def keep_encrypted(self, value: Value, why: Refused) -> None:
         self.still_encrypted.append(StillEncrypted(value, why))
         if self.note and not value.in_flow:
             spaces = matched(SPACES, self.data, value.line_start)[0]
             end = blocks.line_end(self.data, value.line_end)
-            text = spaces + self.note + b"%s stays encrypted: %s" % (_named(value), why.encode()) + end
+            text = spaces + self.note + b"%s stays encrypted: %s" % (_named(value), str(why).encode()) + end
             self.changes.append(Change(value.line_start, value.line_start, text))
 
     def needs_final_newline(self, each: Decrypted) -> bool:
@@ -118,7 +119,7 @@ def showing(data: bytes, decrypt: Decrypt, with_notes: bool) -> Showing:
                 raise each
             made.show(each)
         except Refused as fault:
-            made.keep_encrypted(value, str(fault))
+            made.keep_encrypted(value, fault)
     if _contents(made.text()) != made.contents():
         raise Refused("its values cannot be shown as literals of YAML")
     return made
@@ -199,6 +200,4 @@ def _check_lookalikes(shown: Showing, found: Scan) -> None:
 def _is_meant(why: str) -> bool:
     if not os.isatty(0):
         return False
-    from ansible_vault_companions.secrets import prompts
-
     return prompts.choice(f"{why}. Is that meant?", ["yes", "no"]) == "yes"
