@@ -77,19 +77,19 @@ def answer(words: list[str], data: bytes, number: int) -> tuple[int, bytes, byte
 def load(companions: Path) -> dict[str, CodeType]:
     """The companions by their names. What any of them imports is there."""
     import ansible_vault_companions
-    from ansible_vault_companions import stopping
+    from ansible_vault_companions import running
 
     modules = pkgutil.walk_packages(ansible_vault_companions.__path__, "ansible_vault_companions.")
     for name in ("yaml", *(each.name for each in modules)):
         importlib.import_module(name)
-    run, numbers = stopping.run, itertools.count()
+    run, numbers = running.run, itertools.count()
 
     def run_or_answer(words: list[str], data: bytes | None = None, **options: Any) -> Any:
         if os.path.basename(words[0]) != "ansible-vault":
             return run(words, data, **options)
         return subprocess.CompletedProcess(words, *answer(words, data or b"", int(os.environ[STEP]) + next(numbers)))
 
-    stopping.run = run_or_answer
+    running.run = run_or_answer
     paths = companions.glob("ansible-vault-*")
     return {path.name: compile(path.read_text(), path, "exec", dont_inherit=True) for path in paths}
 
