@@ -8,7 +8,7 @@ from typing import NamedTuple
 
 from ansible_vault_companions.files import reading
 from ansible_vault_companions.git.commands import git
-from ansible_vault_companions.git.contents import staged
+from ansible_vault_companions.git.contents import entry
 from ansible_vault_companions.git.repositories import by_repository
 from ansible_vault_companions.program import Refused
 
@@ -90,7 +90,7 @@ def unmerged_of(paths: list[str]) -> set[str]:
 def unmerged_in_index() -> list[tuple[bytes, str]]:
     """The files whose staged content is still that of ours: their names and blobs."""
     noted = [(each.name, each.ours) for each in unmerged()]
-    return [(name, blob) for name, blob in noted if staged(name).get(name, ("", ""))[1] == blob]
+    return [(name, blob) for name, blob in noted if entry(name)[1] == blob]
 
 
 def _blobs_of(path: str, like: str) -> list[str]:
