@@ -35,8 +35,8 @@ def definition() -> dict[str, Any]:
 def by_framework(place: Place, *names: str):
     """Runs the entry as pre-commit does, in the top folder, with the files of the commit, or with those named."""
     hook = definition()
-    listed = place.shell("git diff --staged --name-only --no-ext-diff -z --diff-filter=ACMRTUXB").stdout.split("\0")[:-1]
-    files = [name for name in names or listed if not os.path.islink(place.tree / name)]
+    listed = place.shell("git diff --staged --name-only --no-ext-diff -z --diff-filter=ACMRTUXB").stdout
+    files = [name for name in names or listed.split("\0")[:-1] if not os.path.islink(place.tree / name)]
     program, *words = shlex.split(hook["entry"])
     if not files and not hook.get("always_run"):
         return None

@@ -17,9 +17,7 @@ is that it did not have there, if
 The keys are those of YAML, and all items of a list are at the same ones, so that their order does not matter. A file
 that moves brings its plaintexts along: for 3, what a file that has gone had at the same keys is not new. A name is
 what a line, or an item within braces, has before its colon. PyYAML finds the keys; without it, and in a file that it
-cannot read, there is 2 alone.
-
-What is not seen: the manual page lists it.
+cannot read, there is 2 alone. The manual page lists what is not seen.
 """
 
 from __future__ import annotations
@@ -29,7 +27,7 @@ from collections import Counter, defaultdict
 from functools import cached_property
 from typing import Callable, Iterable, Iterator
 
-from ansible_vault_companions.files.envelopes import MAGIC, START, envelopes
+from ansible_vault_companions.files.envelopes import MAGIC, START
 from ansible_vault_companions.git import places
 from ansible_vault_companions.git.commits import Change, File
 from ansible_vault_companions.git.damage import is_whole
@@ -125,9 +123,9 @@ class Moves:
             return
         balance: Counter[str] = Counter()
         for file in self.change.files:
-            balance.update(_envelopes(self.read(file.blob)))
+            balance.update(places.envelope_texts(self.read(file.blob)))
         for blob in [*self.change.gone.values(), *(file.before for file in self.change.files if file.before)]:
-            balance.subtract(_envelopes(self.read(blob)))
+            balance.subtract(places.envelope_texts(self.read(blob)))
         self.values = {where: found for where, found in self.values.items() if any(balance[each] < 0 for each in found)}
 
     def _fault_of_vault(self, file: File) -> str | None:
@@ -183,12 +181,6 @@ def _by_folders(names: Iterable[bytes]) -> dict[bytes, set[bytes]]:
         folder, base = os.path.split(name)
         found[folder].add(base)
     return found
-
-
-def _envelopes(content: bytes) -> list[str]:
-    """The texts of those within a file."""
-    found = envelopes(content) if START in content and not content.startswith(MAGIC) else []
-    return [each.text.decode(errors="replace").strip() for each in found if each.text]
 
 
 def _last_key(path: Path) -> bytes:

@@ -7,7 +7,7 @@ from collections import Counter, defaultdict
 from functools import lru_cache
 from typing import Iterable, NamedTuple
 
-from ansible_vault_companions.files.envelopes import MAGIC, TAG_NAME, envelopes
+from ansible_vault_companions.files.envelopes import MAGIC, START, TAG_NAME, envelopes
 from ansible_vault_companions.program import Refused, shown
 from ansible_vault_companions.yaml.nodes import ALIAS, PLAIN, nodes
 from ansible_vault_companions.yaml.paths import Path, Step
@@ -107,6 +107,12 @@ def _around_envelopes(content: bytes) -> list[bytes]:
         pieces.append(content[place : each.start])
         place = each.end
     return [*pieces, content[place:]]
+
+
+def envelope_texts(content: bytes) -> list[str]:
+    """The texts of the envelopes within a file."""
+    found = envelopes(content) if START in content and not content.startswith(MAGIC) else []
+    return [each.text.decode(errors="replace").strip() for each in found if each.text]
 
 
 def with_those_above(paths: Iterable[Path]) -> set[Path]:
