@@ -5,7 +5,7 @@ from pathlib import Path
 
 import pytest
 
-from companion_cases import CHECK, HOOK, MERGE, TEXT, Place, ended, sealed, silent
+from companion_cases import CHECK, HOOK, MERGE, TEXT, Place, ended, sealed
 from companion_cases.hook import refused, unmarking
 from companion_cases.leaks import WHOLE
 from companion_cases.repository import under_git

@@ -192,7 +192,8 @@ def test_secrets_of_a_clone(place: Place, subtests: SubTests) -> None:
 def test_home(place: Place) -> None:
     """Its `~` is read as the companions read it, in whatever shell git runs."""
     under_git(place, f"*.vault.yml {MARKS}\n")
-    done = place.run(HOOK, "--install", "--vault-id", "prod@~/secrets/old", "--vault-password-file", "~/secrets/new")
+    (place.secrets / "o@ld").symlink_to(place.secret("old"))
+    done = place.run(HOOK, "--install", "--vault-id", "prod@~/secrets/o@ld", "--vault-password-file", "~/secrets/new")
     assert done.returncode == 0, done.stderr
     place.put("a.vault.yml", sealed("old", label="prod"))
     place.put("b.vault.yml", sealed("new"))
@@ -209,6 +210,8 @@ def test_marks(place: Place) -> None:
     place.put("inner/b.yml", sealed("old"))
     place.put("inner/c d.yml", block("old"))
     place.put("plain.yml", TEXT)
+    place.put("README.md", block("old"))
+    place.put("test.py", b'HEADER = "$ANSIBLE_VAULT;1.1;AES256"\n')
     place.shell("git add -A")
     done = place.shell(f"{HOOK} --install", folder="inner")
     found = done.stdout.splitlines()

@@ -11,7 +11,7 @@ from hypothesis import strategies as st
 
 from ansible_vault_companions.git.contents import LINK_MODE
 from ansible_vault_companions.git.links import target
-from companion_cases import HOOK, TEXT, Place, sealed, silent
+from companion_cases import TEXT, Place, sealed, silent
 from companion_cases.hook import refused
 from companion_cases.leaks import WHOLE, meant, with_hooks
 from companion_cases.repository import add_and_commit
@@ -131,4 +131,5 @@ def test_commits(place: Place, path: str) -> None:
     (place.tree / "vault.yml").symlink_to(path.format(tree=place.tree))
     assert stat.S_ISREG((place.tree / "vault.yml").stat().st_mode)
     name = "..data" if path == "..data" else "deep/plain.yml"
-    refused("plaintext", add_and_commit(place), "vault.yml", why=f"leads to {name}, and {WHOLE}", hint=meant("vault.yml"))
+    why = f"leads to {name}, and {WHOLE}"
+    refused("plaintext", add_and_commit(place), "vault.yml", why=why, hint=meant("vault.yml"))

@@ -7,7 +7,7 @@ import shlex
 import shutil
 from typing import NamedTuple
 
-from ansible_vault_companions.files.envelopes import START
+from ansible_vault_companions.files.searching import is_prose
 from ansible_vault_companions.git import attributes, commands, repositories
 from ansible_vault_companions.program import Refused, shown, write_line
 
@@ -30,6 +30,8 @@ MARKS = "diff=ansible-vault merge=ansible-vault"
 NO_SECRETS = "git diff and git merge are not set up; they need secrets: --install --vault-id prod@~/.vault/prod.pass"
 UNMARKED = "git diff and git merge know vaults by .gitattributes; add to it, for all of the team:"
 MOST_LINES = 10
+# The line in which a vault or a block begins, for git grep.
+ENVELOPE = r"^ *\$ANSIBLE_VAULT;1\.[12];AES256"
 
 
 class Hooks(NamedTuple):
@@ -126,7 +128,8 @@ def _beside(setting: str) -> str:
 
 def say_what_is_unmarked() -> None:
     """The lines that .gitattributes lacks, for the files of the index that have envelopes."""
-    names = commands.answer("grep", "--cached", "-z", "-l", "-I", "-F", "-e", START.decode()).split(b"\0")[:-1]
+    found = commands.answer("grep", "--cached", "-z", "-l", "-I", "-E", "-e", ENVELOPE).split(b"\0")[:-1]
+    names = [name for name in found if not is_prose(os.fsdecode(name))]
     attributes_of = attributes.drivers(names or [b"vault.yml"])
     lacking = [name for name, drivers in attributes_of.items() if drivers != {"diff", "merge"}]
     if lacking:
