@@ -79,7 +79,7 @@ OPERATIONS = {
     "rebase --apply": "git checkout -q theirs && git rebase -q --apply ours",
     "pull --rebase": "git checkout -q theirs && git pull -q --rebase . ours",
     "am": "git format-patch -q -1 --output-directory .. theirs && git am -q -3 ../0001*",
-    "stash": "git checkout -q base && cp ../unknown2.yml a.yml && git stash -q && git checkout -q ours && git stash pop",
+    "stash": "git checkout -q base && cp ../unknown2.yml a.yml && git stash -q && git checkout -q ours; git stash pop",
 }
 NOT_MERGED = "is not merged: the merge driver failed, and the file has nothing of theirs"
 
