@@ -163,7 +163,9 @@ _ansible_vault_companion_options() {
         echo "$common --new-vault-id --new-vault-password-file --dry-run --skip-documents --jobs"
         ;;
     ansible-vault-check) echo "$common --label" ;;
-    ansible-vault-hook) echo "--all --since --install --help -h --version -V" ;;
+    ansible-vault-hook)
+        echo "--all --since --install --uninstall --vault-id --vault-password-file --help -h --version -V"
+        ;;
     *) echo "$common" ;;
     esac
 }
@@ -178,7 +180,7 @@ _ansible_vault_companion() {
         mapfile -t COMPREPLY < <(
             compgen -W "$(_ansible_vault_companion_options "$name")" -- "$word"
         )
-    elif [[ $name != ansible-vault-hook ]]; then
+    else
         _ansible_vault_files "$word"
     fi
     return 0

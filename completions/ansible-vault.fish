@@ -86,14 +86,16 @@ for name in edit rotate check textconv hook merge
     complete -c ansible-vault-$name -s h -l help -d 'Print help'
     complete -c ansible-vault-$name -s V -l version -d 'Print version'
 end
-for name in edit rotate check textconv merge
+for name in edit rotate check textconv hook merge
     complete -c ansible-vault-$name -F
 end
-for name in with edit rotate check textconv merge
+for name in with edit rotate check textconv hook merge
     complete -c ansible-vault-$name -l vault-id -x -a '(__ansible_vault_ids)' \
         -d 'A password file, with the label of its secret'
     complete -c ansible-vault-$name -l vault-password-file -x -a '(__ansible_vault_files)' \
         -d 'A password file for the label default'
+end
+for name in with edit rotate check textconv merge
     complete -c ansible-vault-$name -l vault-pass-file -x -a '(__ansible_vault_files)' \
         -d 'A password file for the label default'
     complete -c ansible-vault-$name -s J -l ask-vault-password -d 'Ask for a password of the label default'
@@ -111,4 +113,5 @@ complete -c ansible-vault-rotate -l jobs -x -d 'How many vaults and blocks at on
 complete -c ansible-vault-check -l label -x -d 'Decrypt only what has this label, and just count the rest'
 complete -c ansible-vault-hook -l all -d 'Look at every file of the commit that is checked out'
 complete -c ansible-vault-hook -l since -x -d 'Look at each commit since this one, which is left out'
-complete -c ansible-vault-hook -l install -d 'Install the hooks of this clone'
+complete -c ansible-vault-hook -l install -d 'Set up this clone'
+complete -c ansible-vault-hook -l uninstall -d 'Undo what --install has set up'

@@ -38,9 +38,10 @@ _ansible_vault_arguments() {
     local -a common=($help '(- *)'{-V,--version}'[print version]')
     local -a labels=('*--label=[decrypt only what has this label, and just count the rest]:label: ')
     local -a commits=(
-        '(--since --install)--all[look at every file of the commit that is checked out]'
-        '(--all --install)--since=[look at each commit since this one, which is left out]:commit: '
-        '(--all --since)--install[install the hooks of this clone]'
+        '(--since --install --uninstall)--all[look at every file of the commit that is checked out]'
+        '(--all --install --uninstall)--since=[look at each commit since this one, which is left out]:commit: '
+        '(--all --since --uninstall)--install[set up this clone]'
+        '(--all --since --install)--uninstall[undo what --install has set up]'
     )
     local -a secrets=(
         '*--vault-id=[a password file, with its label]:[label@]file:_ansible_vault_id'
@@ -98,7 +99,7 @@ _ansible_vault_arguments() {
         check) _arguments -s -S $common $all_secrets $labels '*:path:_ansible_vault_files' ;;
         textconv) _arguments -s -S $common $all_secrets $file ;;
         merge) _arguments -s -S $common $all_secrets '*:file:_ansible_vault_files' ;;
-        hook) _arguments -s -S $common $commits ;;
+        hook) _arguments -s -S $common $commits $secrets '*:file:_ansible_vault_files' ;;
     esac
 }
 

@@ -6,7 +6,7 @@ from collections.abc import Callable
 import pytest
 
 from ansible_vault_companions.files import envelopes
-from ansible_vault_companions.git import leaks
+from ansible_vault_companions.git import damage, leaks
 from companion_cases import CHECK, ROTATE, TEXT, Done, Place, block, decrypted, ended, sealed
 from companion_cases.blocks import BODY, lines_of, texts
 from companion_cases.rotating import summary, to_new
@@ -143,10 +143,10 @@ START = b"x: !vault |\n  $ANSIBLE_VAULT;1.1;AES256\n  61\n"
 WORKS: dict[str, Work] = {
     "the envelopes": envelopes.envelopes,
     "after a first line": lambda data: envelopes.envelopes(b"x: 1\n" + data),
-    "a marked file": lambda data: leaks.fault_of_marked(b"x: 1\n" + data, {"diff"}),
+    "a marked file": lambda data: damage.fault_of_marked(b"x: 1\n" + data, {"diff"}),
     "what is decrypted": lambda data: leaks.decrypted(START + data, b"x: 1\n" + data),
-    "a whole vault": lambda data: leaks.is_whole(b"$ANSIBLE_VAULT;1.1;AES256\n" + data),
-    "conflict markers": leaks.is_unmerged,
+    "a whole vault": lambda data: damage.is_whole(b"$ANSIBLE_VAULT;1.1;AES256\n" + data),
+    "conflict markers": damage.is_unmerged,
 }
 
 

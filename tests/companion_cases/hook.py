@@ -166,4 +166,4 @@ def test_where_it_runs(place: Place) -> None:
     done = place.shell("cd ../second && git add c.vault.yml && git commit -qm second")
     refused("another worktree", done, "c.vault.yml")
     ended("no repository", place.shell(f"cd .. && {HOOK}"), 1, "git rev-parse failed")
-    ended("a word", place.run(HOOK, "word"), 2, "usage: ansible-vault-hook")
+    ended("a word", place.run(HOOK, "word"), 1, "'word' did not match any file", "git ls-files failed")

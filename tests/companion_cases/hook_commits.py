@@ -1,17 +1,16 @@
-"""ansible-vault-hook in a pipeline (--all, --since), and how it is installed."""
+"""ansible-vault-hook in a pipeline (--all, --since)."""
 
 import os
 import signal
 import subprocess
-from pathlib import Path
 
 import pytest
 from pytest_subtests import SubTests
 
-from companion_cases import HOOK, TEXT, Companions, Done, Place, block, ended, sealed, silent
+from companion_cases import HOOK, TEXT, Place, block, ended, sealed, silent
 from companion_cases.hook import refused, unmarking
-from companion_cases.leaks import IN_PART, WHOLE, again, meant
-from companion_cases.repository import add_and_commit, commit, under_git
+from companion_cases.leaks import IN_PART, WHOLE, meant
+from companion_cases.repository import under_git
 from companion_cases.signals import wait_until
 from lib.limits import SECONDS
 
@@ -75,6 +74,18 @@ def test_each_commit(place: Place, subtests: SubTests) -> None:
     place.shell("git checkout -q --orphan empty && git commit -qm one")
     done = place.run(HOOK, "--since", first)
     ended("a first commit", done, 1, "a.vault.yml is not encrypted")
+
+
+def test_merge_commits(place: Place) -> None:
+    """What a merge itself puts in plaintext, since no parent has it so."""
+    under_git(place, "")
+    first = committed(place, "vars.yml", sealed("old"))
+    place.shell("git checkout -qb branch")
+    committed(place, "other.yml", b"a: 1\n")
+    place.shell("git checkout -q - && git merge -q --no-ff --no-commit branch")
+    merged = committed(place, "vars.yml", TEXT)
+    done = place.run(HOOK, "--since", first)
+    refused("the merge", done, f"{merged[:10]}: vars.yml", why=WHOLE, hint=meant("vars.yml"))
 
 
 def test_cherry_picks(place: Place) -> None:
@@ -150,92 +161,3 @@ def test_ended(place: Place, command: str, number: int) -> None:
     # What still waits goes on.
     os.close(os.open(place.path / "never", os.O_RDWR))
     assert (status, place.left()) == (-number, [])
-
-
-THIS_ONE = "git runs what is in this folder for this repository and its worktrees"
-
-
-def installs(what: str, done: Done, hooks: Path, told: str = "installed", which: str = THIS_ONE) -> None:
-    """It prints what it installed where, and for which repositories."""
-    lines = [*(f"{hooks}/{name}: {told}" for name in ("pre-commit", "pre-merge-commit")), which]
-    assert (done.returncode, done.stdout.splitlines(), done.stderr) == (0, lines, ""), what
-
-
-def test_installed(place: Place) -> None:
-    under_git(place, ATTRIBUTES)
-    hooks = place.tree / ".git/hooks"
-    for told in ("installed", "already installed"):
-        installs(told, place.run(HOOK, "--install"), hooks, told)
-    paths = (place.tools / HOOK, hooks / "pre-commit", hooks / "pre-merge-commit")
-    assert len({os.path.realpath(path) for path in paths}) == 1, "both lead to it"
-    place.put("a.vault.yml", TEXT)
-    refused("it works", add_and_commit(place), "a.vault.yml")
-    committed(place, "a.vault.yml", sealed("old"))
-    place.shell("git worktree add -q ../second && echo plain > ../second/b.vault.yml && rm .git/hooks/pre-*commit")
-    installs("from another worktree", place.shell(f"cd ../second && {HOOK} --install"), hooks)
-    done = place.shell("cd ../second && git add -A && git commit -qm second")
-    refused("it works there", done, "b.vault.yml", hint=unmarking("b.vault.yml"))
-    refused("and in the first", again(place, "a.vault.yml", TEXT), "a.vault.yml")
-
-
-def test_other_hooks(cases: Companions) -> None:
-    """One that is there stays; the line to add to it is reported."""
-    place = cases.place()
-    under_git(place, ATTRIBUTES)
-    hook = place.tree / ".git/hooks/pre-commit"
-    hook.parent.mkdir(exist_ok=True)
-    hook.write_text("#!/bin/sh\nexit 0\n")
-    hook.chmod(0o755)
-    done = place.run(HOOK, "--install")
-    reported = f"{hook} is there already; add this line to it: {HOOK} || exit 1\n"
-    ended("a hook that is there", done, 1, reported)
-    assert hook.read_text() == "#!/bin/sh\nexit 0\n", "it stays"
-    assert (hook.parent / "pre-merge-commit").is_symlink(), "the other is installed"
-    hook.write_text(f"#!/bin/sh\n{HOOK} || exit 1\nexit 0\n")
-    place.put("a.vault.yml", TEXT)
-    refused("the line works", add_and_commit(place), "a.vault.yml")
-    place = cases.place()
-    under_git(place, ATTRIBUTES)
-    place.shell("git config core.hooksPath ../my-hooks && mkdir inner")
-    which = "git runs what is in this folder for this repository and its worktrees: core.hooksPath is set by {}"
-    done = place.shell(f"{HOOK} --install", folder="inner")
-    installs("core.hooksPath", done, place.path / "my-hooks", which=which.format(".git/config"))
-    assert sorted(os.listdir(place.path / "my-hooks")) == ["pre-commit", "pre-merge-commit"], "is where they are"
-    place.put("inner/a.vault.yml", TEXT)
-    refused("and they run", add_and_commit(place), "inner/a.vault.yml")
-    place.shell("git rm -qf --cached inner/a.vault.yml")
-    silent("nothing else is refused", commit(place, "--allow-empty"))
-
-
-def test_moved_programs(place: Place) -> None:
-    """git ignores a hook that is a link to nothing; a link to an earlier place of this program is replaced."""
-    under_git(place, ATTRIBUTES)
-    old = place.path / "old" / HOOK
-    old.parent.mkdir()
-    old.symlink_to(place.tools / HOOK)
-    place.shell(f"../old/{HOOK} --install")
-    old.unlink()
-    place.put("a.vault.yml", TEXT)
-    silent("git runs no hook", add_and_commit(place))
-    hooks = place.tree / ".git/hooks"
-    installs("repaired", place.run(HOOK, "--install"), hooks, f"installed in the place of a link to {old}")
-    place.put("a.vault.yml", TEXT * 2)
-    refused("git runs it", add_and_commit(place), "a.vault.yml")
-    (hooks / "pre-commit").unlink()
-    (hooks / "pre-commit").symlink_to("/nowhere/else")
-    done = place.run(HOOK, "--install")
-    why = f"{hooks}/pre-commit leads to /nowhere/else, which is not there"
-    ended("the link of somebody else", done, 1, why)
-    assert os.readlink(hooks / "pre-commit") == "/nowhere/else", "it stays"
-
-
-@pytest.mark.parametrize("variable, whose", (("GLOBAL", "of this user"), ("SYSTEM", "on this machine")))
-def test_for_every_repository(place: Place, variable: str, whose: str) -> None:
-    under_git(place, ATTRIBUTES)
-    hooks = place.path / "hooks"
-    settings = place.path / "settings"
-    settings.write_text(f"[core]\nhooksPath = {hooks}\n")
-    done = place.run(HOOK, "--install", **{f"GIT_CONFIG_{variable}": str(settings)})
-    which = f"git runs what is in this folder for every repository {whose}: core.hooksPath is set by {settings}"
-    installs(whose, done, hooks, which=which)
-    assert sorted(os.listdir(hooks)) == ["pre-commit", "pre-merge-commit"]

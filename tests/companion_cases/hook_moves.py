@@ -93,6 +93,10 @@ def test_without_pyyaml(cases: Companions, place: Place) -> None:
     silent("at first", again(place, "vars.yml", A + B))
     done = again(place, "vars.yml", A_PLAIN + B)
     refused("one of two", done, "vars.yml", why=IN_PART.format("password"), hint=meant("vars.yml"))
+    done = again(place, "vars.yml", b"a: {x: 1, password: plain}\n" + B)
+    refused("within braces", done, "vars.yml", why=IN_PART.format("password"), hint=meant("vars.yml"))
+    done = again(place, "vars.yml", b"a:\n  password: !vault |\n    plain\n" + B)
+    refused("the tag stays", done, "vars.yml", why=IN_PART.format("password"), hint=meant("vars.yml"))
     silent("one that goes", again(place, "vars.yml", B))
     place.put("vars.yml", TEXT)
     silent("all", add_and_commit(place))
@@ -119,6 +123,7 @@ MOVES = {
     "to another folder": ("one/vault.yml", "two/vault.yml"),
     "to another name": ("one/vault.yml", "one/secrets.yml"),
     "to another suffix": ("one/vault.yml", "one/vault.txt"),
+    "to a longer text": ("one/vault.yml", "one/vars.yml"),
     "into a folder of its name": ("group_vars/all", "group_vars/all/main.yml"),
     "out of its folder": ("group_vars/all/vault.yml", "vault.yml"),
 }
@@ -130,7 +135,7 @@ def test_vaults(place: Place, what: str) -> None:
     before, after = MOVES[what]
     silent(f"{what}: at first", again(place, before, sealed("old")))
     place.shell(f"git rm -q {before}")
-    done = again(place, after, TEXT)
+    done = again(place, after, TEXT * 99 if "longer" in what else TEXT)
     refused(what, done, after, why=GONE.format(before), hint=meant(after))
     silent(f"{what}, encrypted", staged(place, after, sealed("new")))
 
@@ -153,12 +158,19 @@ def test_no_moves(place: Place) -> None:
     place.put("one/vault.yml", sealed("old"))
     silent("at first", again(place, "two/vault.yml", sealed("new")))
     place.shell("git rm -q one/vault.yml")
-    silent("a longer file", again(place, "one/README.md", b"# one\n" * 99))
+    silent("a file of another kind", again(place, "one/README.md", b"# one\n" * 99))
+    silent("which is as long", again(place, "one/NOTES.md", TEXT))
     place.put("three/vault.yml", place.get("two/vault.yml"))
     place.shell("git rm -q two/vault.yml")
     silent("a vault that has moved, and plaintext", again(place, "two/secrets.yml", TEXT))
     place.shell("git rm -q three/vault.yml")
     silent("an empty file", again(place, "four/vault.yml", b""))
+    place.put("web/vault.yml", sealed("old"))
+    place.put("web/vars.yml", b"port: 1\n")
+    silent("a folder", again(place, "web/main.yml", b"user: x\n"))
+    place.shell("git mv web www")
+    place.put("www/vars.yml", b"port: 2\n")
+    silent("has another name, a new secret and another plaintext", again(place, "www/vault.yml", sealed("new")))
 
 
 def test_links(place: Place, subtests: SubTests) -> None:

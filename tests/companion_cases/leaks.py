@@ -8,7 +8,7 @@ from pytest_subtests import SubTests
 from companion_cases import AWKWARD, HOOK, TEXT, Companions, Done, Place, block, ended, sealed, silent
 from companion_cases.hook import refused, unmarking
 from companion_cases.repository import add_and_commit, commit, under_git
-from ansible_vault_companions.git.leaks import TORN, merge_again
+from ansible_vault_companions.git.damage import TORN, merge_again
 
 pytestmark = pytest.mark.usefixtures("git")
 

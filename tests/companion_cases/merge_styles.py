@@ -6,8 +6,11 @@ import re
 import subprocess
 from typing import Iterator
 
+import pytest
 from pytest_subtests import SubTests
 
+from ansible_vault_companions.merging.lines import merged_lines
+from ansible_vault_companions.program import Refused
 from companion_cases import CHECK, MERGE, PASSWORDS, Place, decrypted, ended, silent
 from companion_cases.blocks import texts
 from companion_cases.merging import versions
@@ -150,3 +153,14 @@ def test_labels_of_values(place: Place, subtests: SubTests) -> None:
     assert texts(found, "old") == [b"text", b"text"], "both are there"
     headers = [found.count(f"AES256;{label}\n".encode()) for label in ("dev", "prod")]
     assert headers == [1, 1], "with their labels"
+
+
+@pytest.mark.parametrize("count", (0, 1, 2, 126, 127, 128, 255, 256, 257, 300))
+def test_counts(count: int) -> None:
+    """git tells up to 127 conflicts from each other and from a failure."""
+    lines = b"%d %s\n" + FILLER + b"\n"
+    versions = [b"".join(lines % (number, side) for number in range(count)) for side in (b"a", b"b", b"c")]
+    found = merged_lines(*versions)
+    assert (found.conflicts, found.content.count(b"\n=======\n")) == (min(count, 127), count)
+    with pytest.raises(Refused, match="it may be binary"):
+        merged_lines(*(each + b"\0" for each in versions))

@@ -9,7 +9,7 @@ from hypothesis import given, settings
 from hypothesis import strategies as st
 
 from ansible_vault_companions.files import reading
-from ansible_vault_companions.git import plain_values
+from ansible_vault_companions.git import leaks, places
 from ansible_vault_companions.yaml.values import Scan
 from companion_cases import EDIT, TEXTCONV, Place, block, ended
 from companion_cases.editing import CHANGE
@@ -61,8 +61,8 @@ def peak(work: Callable[[], object]) -> int:
 
 
 def now_plain(before: bytes, after: bytes) -> None:
-    plain_values.values.cache_clear()
-    assert plain_values.now_plain(before, after), "what was encrypted in the first is not in the second"
+    places.by_keys.cache_clear()
+    assert leaks.now_plain(before, after), "what was encrypted in the first is not in the second"
 
 
 @settings(max_examples=8, deadline=None, database=None)

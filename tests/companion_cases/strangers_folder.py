@@ -70,8 +70,8 @@ OTHERS = {
     "status.submoduleSummary": "true",
 }
 COMMANDS = [
-    "cat-file", "check-attr", "config", "diff", "diff-index", "diff-tree", "fetch", "hash-object", "ls-files",
-    "ls-tree", "merge-base", "read-tree", "rev-list", "rev-parse", "upload-pack",
+    "cat-file", "check-attr", "config", "diff", "diff-index", "diff-tree", "fetch", "grep", "hash-object",
+    "ls-files", "ls-tree", "merge-base", "read-tree", "rev-list", "rev-parse", "upload-pack",
 ]  # fmt: skip
 HOOKS = [
     "applypatch-msg", "commit-msg", "fsmonitor-watchman", "p4-pre-submit", "post-applypatch", "post-checkout",
@@ -96,8 +96,8 @@ STARTED = {"core.fsmonitor", "filter.x.clean", "filter.y.process", "post-index-c
 STARTED |= {"diff.ansible-vault.command", "diff.ansible-vault.textconv", "core.editor", "gpg.program"}
 STARTED |= {"remote.origin.url"}
 # The commands of git that the companions use.
-USED = {"cat-file", "check-attr", "config", "diff-index", "diff-tree", "hash-object", "ls-files", "ls-tree"}
-USED |= {"merge-base", "read-tree", "rev-list", "rev-parse"}
+USED = {"cat-file", "check-attr", "config", "diff-index", "diff-tree", "grep", "hash-object", "ls-files"}
+USED |= {"ls-tree", "merge-base", "read-tree", "rev-list", "rev-parse"}
 
 
 class Stranger:
@@ -179,8 +179,8 @@ class Stranger:
 
 def test_one_place() -> None:
     """git is started by one module alone, so that what it could start is switched off in each run."""
-    modules = [*COMPANIONS.glob("ansible-vault-*"), *COMPANIONS.glob("*/*.py")]
-    assert [path.name for path in modules if '"git"' in path.read_text()] == ["git.py"]
+    modules = [*COMPANIONS.glob("ansible-vault-*"), *COMPANIONS.glob("*/**/*.py")]
+    assert [path.name for path in modules if '"git"' in path.read_text()] == ["commands.py"]
 
 
 @pytest.fixture(params=[False, True], ids=["of the folder", "by core.hooksPath"])
@@ -206,7 +206,9 @@ def test_companions(stranger: Stranger) -> None:
         [HOOK],
         [HOOK, "--all"],
         [HOOK, "--since", "other"],
-        [HOOK, "--install"],
+        [HOOK, "a.yml"],
+        [HOOK, "--install", *old],
+        [HOOK, "--uninstall"],
         [TEXTCONV, *old, "a.yml"],
         [WITH, "view", *old, "a.yml"],
         [EDIT, *old, "a.yml"],

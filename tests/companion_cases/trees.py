@@ -1,7 +1,14 @@
 """Which files are found below a path, by ansible-vault-rotate and ansible-vault-check alike."""
 
 import os
+from pathlib import Path
 
+import pytest
+from hypothesis import given, settings
+from hypothesis import strategies as st
+
+from ansible_vault_companions.files import reading, searching
+from ansible_vault_companions.files.envelopes import MAGIC
 from companion_cases import AWKWARD, CHECK, ROTATE, TEXT, Place, block, decrypted, ended, sealed
 from companion_cases.rotating import summary, to_new
 
@@ -134,3 +141,25 @@ def test_what_has_no_end(place: Place) -> None:
         unread = "it has more than 100,671,488 bytes, which no vault has, and is not read"
         whys = {"image": searched, "long.yml": unread, "pages.yml": searched, "vault.yml": unread}
         assert done.stderr.splitlines() == [f"{companion}: ./{name}: {why}" for name, why in whys.items()]
+
+
+def test_pieces(tmp_path: Path, monkeypatch: pytest.MonkeyPatch) -> None:
+    """A file is read in pieces, and what an envelope begins with may lie in two of them."""
+    path = tmp_path / "a.yml"
+    in_two = set()
+
+    @settings(max_examples=400, deadline=None, database=None)
+    @given(st.integers(32, 40), st.integers(1, 90), st.sampled_from(("ascii", "utf-16-le", "utf-16-be")))
+    def check(size: int, before: int, encoding: str) -> None:
+        monkeypatch.setattr(reading, "CHUNK_SIZE", size)
+        monkeypatch.setattr(searching, "CHUNK_SIZE", size)
+        start = MAGIC.decode().encode(encoding)
+        path.write_bytes(b"x" * before + start + b";1.1")
+        assert searching.contents(str(path)) == path.read_bytes()
+        path.write_bytes(b"x" * before + start[:-1])
+        assert searching.contents(str(path)) == b"", "a part of it is none"
+        if before % size + len(start) > size:
+            in_two.add((encoding, size - before % size))
+
+    check()
+    assert len(in_two) > 30, "in many places, for each encoding"

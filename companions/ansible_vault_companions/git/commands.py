@@ -50,9 +50,9 @@ def git(
     return done.stdout
 
 
-def answer(*words: str) -> bytes:
+def answer(*words: str, folder: str | None = None) -> bytes:
     """What git answers; nothing if it has no answer."""
     try:
-        return git(*words, is_quiet=True)
+        return git(*words, folder=folder, is_quiet=True)
     except Refused:
         return b""

@@ -8,7 +8,7 @@ from contextlib import contextmanager
 from typing import Iterator, NamedTuple
 
 from ansible_vault_companions.git.commands import answer, git
-from ansible_vault_companions.git.contents import FILE_MODES, LINK_MODE, PARTIAL
+from ansible_vault_companions.git.contents import FILE_MODES, LINK_MODE, PARTIAL, entries
 from ansible_vault_companions.program import Refused, shown
 
 RAW = ("--raw", "-z", "--no-abbrev")
@@ -42,17 +42,10 @@ class Change(NamedTuple):
     files: list[File]
     # The files that have gone: their blobs by their names.
     gone: dict[bytes, str]
-    # What git made it with.
-    command: tuple[str, ...]
-
-    def renames(self) -> Iterator[tuple[bytes, bytes]]:
-        """The names before and after of the files that git finds to be renamed."""
-        fields = git(*self.command, *RAW, "--find-renames", "--diff-filter=R").split(b"\0")
-        yield from zip(fields[1::3], fields[2::3])
 
 
 def _change(since: str, *command: str) -> Change:
-    change = Change(since, [], {}, command)
+    change = Change(since, [], {})
     fields = git(*command, *RAW, "--no-renames").split(b"\0")
     for about, name in zip(fields[::2], fields[1::2]):
         old_mode, mode, old_blob, blob, status = about.decode().removeprefix(":").split()
@@ -138,7 +131,14 @@ def of_history(name: str, text: str) -> Change:
         old_mode, mode, old_blob, blob, _ = about.decode().removeprefix(":").split()
         befores = [each for each_mode, each in ((old_mode, old_blob), (mode, blob)) if each_mode in FILE_MODES]
         found.update(now[path]._replace(before=each) for each in befores if path in now and each != now[path].blob)
-    return Change(EARLIER, sorted(found), {}, ())
+    return Change(EARLIER, sorted(found), {})
+
+
+def files_named(paths: list[str]) -> list[File]:
+    """Those of the index at these paths, or below them; git refuses a path at which there is none."""
+    found = entries(*map(os.fsencode, paths), options=("--full-name", "--error-unmatch"))
+    modes = {*FILE_MODES, LINK_MODE}
+    return [File(name, blob, None, mode == LINK_MODE) for name, (mode, blob) in found.items() if mode in modes]
 
 
 def files_of(name: str) -> list[File]:

@@ -17,12 +17,17 @@ RECENT = 4
 PARTIAL = "this clone is partial, so contents are missing, and none is fetched here; clone without --filter"
 
 
-def staged(path: bytes, index: str | None = None) -> dict[bytes, tuple[str, str]]:
-    """What is in an index at a path, or below it: modes and blobs by their names."""
-    words = ["ls-files", "-s", "-z", "--", os.fsdecode(path) or "."]
+def entries(*paths: bytes, index: str | None = None, options: tuple[str, ...] = ()) -> dict[bytes, tuple[str, str]]:
+    """What is in an index at some paths, or below them: modes and blobs by their names."""
+    words = ["ls-files", "-s", "-z", *options, "--", *(os.fsdecode(path) or "." for path in paths)]
     lines = git(*words, index=index).split(b"\0")[:-1]
-    entries = [(about.decode().split(), name) for about, _, name in (line.partition(b"\t") for line in lines)]
-    return {name: (about[0], about[1]) for about, name in entries}
+    found = [(about.decode().split(), name) for about, _, name in (line.partition(b"\t") for line in lines)]
+    return {name: (about[0], about[1]) for about, name in found}
+
+
+def entry(name: bytes, index: str | None = None) -> tuple[str, str]:
+    """The mode and the blob of a file or link in an index; nothing if there is none."""
+    return entries(name, index=index).get(name, ("", ""))
 
 
 class Blobs:

@@ -1,110 +1,47 @@
-"""Finds plaintext where there has to be an envelope. This takes no secret."""
+"""The rule by which something was encrypted and is plaintext now. It takes no secret, and would rather refuse.
+
+A change is all that differs between the files of a commit, or of the index, and those of one parent.
+
+A *vault* that was a file has to be a vault still, or empty, or gone. A link counts as the file that it leads to.
+If it has gone, and no file is the same vault, a new file is refused that is no vault, and
+  - has its name in another folder, or is in a folder that now has its path; or
+  - is in its folder, or in one to which another file of that folder has gone, and has its suffix, or its name but for
+    the suffix. One that may be a plaintext of the same name that has gone, too, is not refused.
+A plaintext that only moves is never refused.
+
+A *value* that was an envelope within a file may go, move, or be encrypted anew. A file is refused in which a plaintext
+is that it did not have there, if
+  1. it had an envelope at the same keys, above or below them, which is not there any longer;
+  2. of its envelopes fewer have the same name than before; or
+  3. another file had an envelope at these keys or above them, which is nowhere in the change any longer.
+The keys are those of YAML, and all items of a list are at the same ones, so that their order does not matter. A file
+that moves brings its plaintexts along: for 3, what a file that has gone had at the same keys is not new. A name is
+what a line, or an item within braces, has before its colon. PyYAML finds the keys; without it, and in a file that it
+cannot read, there is 2 alone. The manual page lists what is not seen.
+"""
 
 from __future__ import annotations
 
-import binascii
-import re
-import shlex
-from collections import Counter
+import os
+from collections import Counter, defaultdict
+from functools import cached_property
+from typing import Callable, Iterable, Iterator
 
-from ansible_vault_companions.files.envelopes import MAGIC, START, Envelope, envelopes
-from ansible_vault_companions.git import plain_values
-from ansible_vault_companions.git.attributes import VAULT_ALONE
+from ansible_vault_companions.files.envelopes import MAGIC, START
+from ansible_vault_companions.git import places
+from ansible_vault_companions.git.commits import Change, File
+from ansible_vault_companions.git.damage import is_whole
 from ansible_vault_companions.program import shown
+from ansible_vault_companions.yaml.paths import Path
 
-NOT_ENCRYPTED = "is not encrypted"
-DAMAGED = "is a damaged vault"
-UNMERGED = "has git's conflict markers"
-TORN = "has git's conflict markers within an envelope, since it was merged without ansible-vault-merge"
-MERGE_AGAIN = "set up the merge driver as `ansible-vault-merge --help` says, and run `git checkout --merge {}`"
 WAS_VAULT = "is not a vault, but was one"
-WITHOUT_THEIRS = "is not merged: the merge driver failed, and the file has nothing of theirs"
 
-HEADER = re.compile(rb"\$ANSIBLE_VAULT;1\.(?:1;AES256|2;AES256;[^;\r\n]{1,128})[ \t]*(?=[\r\n]|\Z)")
-# Lengths in bytes.
-TAG_LENGTH = 32
-CIPHER_BLOCK = 16
-# Of an envelope, whose digits spell digits: two of 32 bytes and their ends of lines come before the ciphertext.
-DIGITS_BEFORE_CIPHERTEXT = 2 * (2 * (2 * 32 + 1))
-DIGITS_PER_BYTE = 4
-CONFLICT_MARKER = re.compile(rb"^(?:<<<<<<<|>>>>>>>|\|\|\|\|\|\|\|)(?:[ \t][^\r\n]*)?\r?$", re.MULTILINE)
-# No line of a value stands directly below a marker where the merge driver has merged it.
-MARKER_IN_ENVELOPE = re.compile(
-    rb"^(?:<{7}|\|{7}|={7}|>{7})(?:[ \t][^\r\n]*)?\r?\n[ \t]*(?:[0-9a-fA-F]{32}|\$ANSIBLE_VAULT;)", re.MULTILINE
-)
-# What follows a block, up to its first character.
-NEXT_LINE = re.compile(rb"(?:\r?\n[ \t]*(?=[\r\n]))*\r?\n(?P<spaces> *)\S")
-# A variable of YAML and what it has in its line.
-VARIABLE = re.compile(
-    rb"^[ \t]*(?:-[ \t]+)*(?P<name>\"[^\"\r\n]*\"|'[^'\r\n]*'|[^\s\"'#-][^\s:#]*)[ \t]*:(?=[ \t\r\n]|\Z)", re.MULTILINE
-)
-ITEM = re.compile(rb"^[ \t]*-[ \t]", re.MULTILINE)
-
-
-def is_whole(text: bytes) -> bool:
-    """Whether an envelope has a header, and after it nothing but the digits of salt, tag and ciphertext."""
-    header = HEADER.match(text)
-    if not header:
-        return False
-    try:
-        inner = binascii.unhexlify(text[header.end() :].translate(None, b"\r\n"))
-        salt, tag, ciphertext = map(binascii.unhexlify, inner.split(b"\n", 2))
-    except ValueError:
-        return False
-    return bool(salt and ciphertext) and len(tag) == TAG_LENGTH and len(ciphertext) % CIPHER_BLOCK == 0
-
-
-def is_unmerged(text: bytes) -> bool:
-    """Whether git has left conflict markers in it."""
-    return CONFLICT_MARKER.search(text) is not None
-
-
-def has_unmerged_envelopes(text: bytes) -> bool:
-    """Whether it has conflict markers beside envelopes, and is no vault."""
-    return not text.startswith(MAGIC) and is_unmerged(text) and bool(envelopes(text))
-
-
-def is_torn(text: bytes) -> bool:
-    """Whether conflict markers are within an envelope, where git leaves them without the merge driver."""
-    return START in text and is_unmerged(text) and bool(text.startswith(MAGIC) or MARKER_IN_ENVELOPE.search(text))
-
-
-def merge_again(name: str) -> str:
-    """What to do about a file in which an envelope is torn."""
-    return MERGE_AGAIN.format(shlex.quote(shown(name)))
-
-
-def fault_of_marked(content: bytes, marks: set[str]) -> str | None:
-    """Why a file with these attributes is refused."""
-    if is_whole(content):
-        return None
-    if content.startswith(MAGIC):
-        return DAMAGED
-    found = envelopes(content)
-    if not found or VAULT_ALONE in marks:
-        return NOT_ENCRYPTED
-    if is_unmerged(content):
-        return UNMERGED
-    damaged = next((each for each in found if not _is_whole_block(content, each)), None)
-    return f"has a damaged block in line {damaged.line}" if damaged else None
-
-
-def _is_whole_block(content: bytes, block: Envelope) -> bool:
-    """Whether its lines are those of an envelope, and no line of the same text follows them."""
-    following = NEXT_LINE.match(content, block.end)
-    is_longer = block.spaces and following and len(following["spaces"]) >= len(block.spaces)
-    return not block.obstacle and is_whole(block.text) and not is_longer
-
-
-def plaintext_length(vault: bytes) -> int:
-    """How many bytes its plaintext has, or up to a block fewer."""
-    digits = sum(len(line) for line in vault.split()[1:])
-    return (digits - DIGITS_BEFORE_CIPHERTEXT) // DIGITS_PER_BYTE - 1
+Read = Callable[[str], bytes]
 
 
 def decrypted(before: bytes, after: bytes) -> str | None:
-    """What was encrypted in a file and is not any longer. A variable that has gone is none. The message ends where the
-    name of the other commit follows."""
+    """What was encrypted in a file and is plaintext in it. The message ends where the name of the other commit
+    follows, as do all of these."""
     if before.startswith(MAGIC):
         was_damaged = not is_whole(before)
         is_encrypted = is_whole(after) or (was_damaged and after.startswith(MAGIC))
@@ -114,32 +51,142 @@ def decrypted(before: bytes, after: bytes) -> str | None:
 
 
 def now_plain(before: bytes, after: bytes) -> list[str]:
-    """The values that were encrypted and are not, by their keys or else by the names of their variables."""
-    if START not in before or not plain_values.differ(before, after):
+    """The values of a file that are refused by 1 and 2: their keys or their names."""
+    if START not in before or not places.differ(before, after):
         return []
-    paths = plain_values.now_plain(before, after)
-    last_keys = {path.last for path in paths}
-    names = [name for name in _plain_names(before, after) if (name or plain_values.ITEM) not in last_keys]
-    return [*map(plain_values.shown_path, paths), *(shown(name) if name else "an item of a list" for name in names)]
+    paths = _at_their_keys(before, after)
+    known = {path.last for path in paths}
+    names = [name for name in _under_their_names(before, after) if name not in known]
+    return [*map(places.shown_path, paths), *map(places.shown_name, names)]
 
 
-def _plain_names(before: bytes, after: bytes) -> list[str | None]:
-    """The variables of which fewer are encrypted than before, and more are not."""
-    encrypted, still, lines, lines_before = _encrypted(before), _encrypted(after), _lines(after), _lines(before)
-    return [
-        name
-        for name, count in encrypted.items()
-        if still[name] < count and lines[name] - still[name] > lines_before[name] - count
-    ]
+def _at_their_keys(before: bytes, after: bytes) -> list[Path]:
+    old, new = places.by_keys(before), places.by_keys(after)
+    if old is None or new is None:
+        return []
+    came = places.came(old, new)
+    plain, branches = set(came), places.with_those_above(came)
+    return [path for path in places.lost(old, new) if path in branches or not plain.isdisjoint(path.upwards())]
 
 
-def _encrypted(content: bytes) -> Counter[str | None]:
-    """How many envelopes each variable has; those of lists have no name."""
-    return Counter(each.name for each in envelopes(content) if each.name or not each.obstacle)
+def _under_their_names(before: bytes, after: bytes) -> list[str]:
+    old, new = places.by_names(before), places.by_names(after)
+    came = {name for name, _ in new.plain - old.plain}
+    return [name for name in old.encrypted - new.encrypted if name in came]
 
 
-def _lines(content: bytes) -> Counter[str | None]:
-    """How many lines each variable has, and how many items of lists have no name."""
-    names = [found["name"].strip(b"\"'").decode(errors="backslashreplace") for found in VARIABLE.finditer(content)]
-    unnamed = sum(1 for found in ITEM.finditer(content) if not VARIABLE.match(content, found.start()))
-    return Counter(names) + Counter({None: unnamed})
+class Moves:
+    """What has gone in a change: vaults, and by 3 the values of other files."""
+
+    def __init__(self, change: Change, read: Read) -> None:
+        self.change = change
+        self.read = read
+        self.vaults: list[bytes] = []
+        self.plain_names: set[bytes] = set()
+        # The files that had values, the keys there, and their envelopes.
+        self.values: dict[tuple[bytes, Path], Counter[str]] = {}
+        there = {file.blob for file in change.files}
+        for name, blob in change.gone.items():
+            if not there or blob in there:
+                continue
+            content = read(blob)
+            if content.startswith(MAGIC):
+                self.vaults.append(name)
+            else:
+                self.plain_names.add(os.path.basename(name))
+                self._note_values(name, content, b"")
+
+    def note_values(self, file: File) -> None:
+        """The values of a file that are not there any longer."""
+        if file.before and not file.is_link:
+            self._note_values(file.name, self.read(file.before), self.read(file.blob))
+
+    def _note_values(self, name: bytes, before: bytes, after: bytes) -> None:
+        if START in before and not before.startswith(MAGIC) and places.differ(before, after):
+            old, new = places.by_keys(before), places.by_keys(after)
+            if old and new:
+                self.values.update(((name, path), old.encrypted[path]) for path in places.lost(old, new))
+
+    def faults(self, files: list[File]) -> Iterator[tuple[File, str]]:
+        """What may be in plaintext in these files."""
+        self._forget_moved_values()
+        for file in files if self.values or self.vaults else []:
+            content = self.read(file.blob)
+            if not (file.is_link or is_whole(content)) and content.strip():
+                why = self._fault_of_vault(file) or self._fault_of_values(file, content)
+                if why:
+                    yield file, why
+
+    def _forget_moved_values(self) -> None:
+        """Those whose envelopes are as often in the files as before."""
+        if not self.values:
+            return
+        balance: Counter[str] = Counter()
+        for file in self.change.files:
+            balance.update(places.envelope_texts(self.read(file.blob)))
+        for blob in [*self.change.gone.values(), *(file.before for file in self.change.files if file.before)]:
+            balance.subtract(places.envelope_texts(self.read(blob)))
+        self.values = {where: found for where, found in self.values.items() if any(balance[each] < 0 for each in found)}
+
+    def _fault_of_vault(self, file: File) -> str | None:
+        is_new = file.before is None and file.blob not in self.change.gone.values()
+        vault = next((name for name in self.vaults if is_new and self._may_be(file.name, name)), None)
+        return f"is not encrypted, and {_shown(vault)} is gone, which was a vault" if vault is not None else None
+
+    def _may_be(self, name: bytes, vault: bytes) -> bool:
+        """Whether it is where the vault may have gone to."""
+        (folder, base), (vault_folder, vault_base) = os.path.split(name), os.path.split(vault)
+        if base == vault_base or name.startswith(vault + b"/"):
+            return True
+        is_alike = any(one == two for one, two in zip(os.path.splitext(base), os.path.splitext(vault_base)))
+        is_near = folder == vault_folder or not self._went[vault_folder].isdisjoint(self._came[folder])
+        return is_alike and is_near and base not in self.plain_names
+
+    @cached_property
+    def _went(self) -> dict[bytes, set[bytes]]:
+        """The names that have gone from each folder."""
+        return _by_folders(self.change.gone)
+
+    @cached_property
+    def _came(self) -> dict[bytes, set[bytes]]:
+        return _by_folders(file.name for file in self.change.files if file.before is None)
+
+    def _fault_of_values(self, file: File, content: bytes) -> str | None:
+        """The values that this file has in plaintext, and had not, where other files had them encrypted."""
+        lost = [(name, path) for name, path in self.values if name != file.name and _last_key(path) in content]
+        before = self.read(file.before) if file.before else b""
+        if not (lost and places.differ(before, content)):
+            return None
+        old, new = places.by_keys(before), places.by_keys(content)
+        came = places.came(old, new, self._plain_in_gone_files) if old and new else []
+        branches = places.with_those_above(came)
+        found = [(name, path) for name, path in lost if path in branches]
+        names = [f"{places.shown_path(path)} of {_shown(name)}" for name, path in found]
+        return f"has {', '.join(names)} in plaintext, encrypted" if names else None
+
+    @cached_property
+    def _plain_in_gone_files(self) -> dict[Path, Counter[str]]:
+        """The plaintexts at each path in the files that have gone: in another file they are not new."""
+        found: dict[Path, Counter[str]] = defaultdict(Counter)
+        for blob in self.change.gone.values():
+            old = places.by_keys(self.read(blob))
+            for path, texts in old.plain.items() if old else ():
+                found[path] += texts
+        return found
+
+
+def _by_folders(names: Iterable[bytes]) -> dict[bytes, set[bytes]]:
+    found: dict[bytes, set[bytes]] = defaultdict(set)
+    for name in names:
+        folder, base = os.path.split(name)
+        found[folder].add(base)
+    return found
+
+
+def _last_key(path: Path) -> bytes:
+    key = next(each.last for each in path.upwards() if each.last != places.ITEM)
+    return key.encode(errors="surrogateescape")
+
+
+def _shown(name: bytes) -> str:
+    return shown(os.fsdecode(name))

@@ -7,17 +7,17 @@ import os
 from typing import NamedTuple
 
 from ansible_vault_companions.files import reading
-from ansible_vault_companions.git.commands import git
-from ansible_vault_companions.git.contents import staged
+from ansible_vault_companions.git.commands import answer, git
+from ansible_vault_companions.git.contents import entry
 from ansible_vault_companions.git.repositories import by_repository
 from ansible_vault_companions.program import Refused
 
 # Where it is noted what is still to be merged, which neither git nor the hook can see without a secret. A line of one
-# word is the blob of a content with conflict markers. A line of three is a file that the merge driver could not
-# merge: its blobs in ours and in theirs, and its name in hexadecimal digits.
+# word is the blob of a content with conflict markers. A longer one is a file that the merge driver could not merge: its
+# blobs in ours and in theirs, its name in hexadecimal digits, and the commit that was checked out.
 CONFLICTS = "ansible-vault-conflicts"
-# What git calls the commits whose changes it merges.
-THEIRS = ("MERGE_HEAD", "CHERRY_PICK_HEAD", "REBASE_HEAD", "REVERT_HEAD^@")
+# Of an entry of the index that is theirs in a conflict.
+THEIRS = b"3"
 
 
 class Unmerged(NamedTuple):
@@ -56,24 +56,27 @@ def note_unmerged(name: str, ours: str, theirs: str) -> None:
     if notes:
         blobs = git("hash-object", "--no-filters", "--", ours, theirs).decode().split()
         with open(notes, "a", encoding="ascii") as file:
-            file.write(f"{' '.join(blobs)} {os.fsencode(name).hex()}\n")
+            file.write(f"{' '.join(blobs)} {os.fsencode(name).hex()} {_head()}\n")
 
 
 def forget_unmerged(name: str) -> None:
     """Takes that note back, since the file is merged."""
     notes = _notes()
     lines = _lines(notes)
-    kept = [words for words in lines if words[2:] != [os.fsencode(name).hex()]]
+    kept = [words for words in lines if words[2:3] != [os.fsencode(name).hex()]]
     if notes and len(kept) < len(lines):
         with open(notes, "w", encoding="ascii") as file:
             file.writelines(f"{' '.join(words)}\n" for words in kept)
 
 
 def unmerged(folder: str | None = None) -> list[Unmerged]:
-    """The files that the merge driver could not merge, as long as git has not finished that merge."""
-    noted = {Unmerged(bytes.fromhex(words[2]), *words[:2]) for words in _lines(_notes(folder)) if len(words) == 3}
-    merged = _blobs_of_theirs(folder) if noted else set()
-    return sorted(each for each in noted if each.theirs in merged)
+    """The files that the merge driver could not merge, as long as nothing is committed and the index has the conflict,
+    which it has until the merge is given up, whatever git was doing."""
+    lines = [words for words in _lines(_notes(folder)) if len(words) > 2]
+    head = _head(folder) if lines else ""
+    noted = {Unmerged(bytes.fromhex(words[2]), *words[:2]) for words in lines if words[3:] in ([], [head])}
+    theirs = _theirs(folder) if noted else set()
+    return sorted(each for each in noted if (each.name, each.theirs) in theirs)
 
 
 def unmerged_of(paths: list[str]) -> set[str]:
@@ -90,7 +93,7 @@ def unmerged_of(paths: list[str]) -> set[str]:
 def unmerged_in_index() -> list[tuple[bytes, str]]:
     """The files whose staged content is still that of ours: their names and blobs."""
     noted = [(each.name, each.ours) for each in unmerged()]
-    return [(name, blob) for name, blob in noted if staged(name).get(name, ("", ""))[1] == blob]
+    return [(name, blob) for name, blob in noted if entry(name)[1] == blob]
 
 
 def _blobs_of(path: str, like: str) -> list[str]:
@@ -104,17 +107,15 @@ def _blobs_of(path: str, like: str) -> list[str]:
     return [new(b"blob %d\0%b" % (len(each), each)).hexdigest() for each in as_stored(content)]
 
 
-def _blobs_of_theirs(folder: str | None) -> set[str]:
-    blobs: set[str] = set()
-    for name in THEIRS:
-        try:
-            commits = git("rev-parse", name, folder=folder, is_quiet=True).decode().split()
-        except Refused:
-            continue
-        for each in commits:
-            lines = git("ls-tree", "-r", "-z", "--full-tree", each, folder=folder).split(b"\0")[:-1]
-            blobs.update(line.partition(b"\t")[0].split()[2].decode() for line in lines)
-    return blobs
+def _theirs(folder: str | None) -> set[tuple[bytes, str]]:
+    """The names and blobs that theirs has in the conflicts of an index, also in those that are staged as resolved."""
+    lines = git("ls-files", "-z", "--unmerged", "--resolve-undo", folder=folder).split(b"\0")[:-1]
+    entries = [(about.split(), name) for about, _, name in (line.partition(b"\t") for line in lines)]
+    return {(name, blob.decode()) for (_, blob, stage), name in entries if stage == THEIRS}
+
+
+def _head(folder: str | None = None) -> str:
+    return answer("rev-parse", "--verify", "HEAD", folder=folder).decode().strip()
 
 
 def _notes(folder: str | None = None) -> str | None:

@@ -11,7 +11,8 @@ from typing import NamedTuple
 
 from ansible_vault_companions.files.envelopes import MAGIC, TAG_NAME, label_of
 from ansible_vault_companions.merging.lines import BASE, OURS, THEIRS, Merged, merged_lines
-from ansible_vault_companions.merging.values import Values, check_envelopes, encrypted
+from ansible_vault_companions.merging.checks import check_envelopes, encrypted
+from ansible_vault_companions.merging.values import Values
 from ansible_vault_companions.program import Refused, shown
 from ansible_vault_companions.secrets import labels
 from ansible_vault_companions.secrets.sources import Secret

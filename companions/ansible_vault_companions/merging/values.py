@@ -11,39 +11,17 @@ import secrets as randomness
 from collections import Counter
 from typing import Hashable
 
-from ansible_vault_companions.files.envelopes import envelopes, label_of
+from ansible_vault_companions.merging import checks
 from ansible_vault_companions.merging.lines import OURS, THEIRS, Merged, merged_lines
-from ansible_vault_companions.merging.versions import Opened, Place, Version, opened, scanned
+from ansible_vault_companions.merging.versions import Place, Version, opened, scanned
 from ansible_vault_companions.program import Refused
-from ansible_vault_companions.secrets import labels
-from ansible_vault_companions.secrets.sources import Secret
 from ansible_vault_companions.tool.keys import Decrypt
 from ansible_vault_companions.tool.tool import Tool
 from ansible_vault_companions.yaml import blocks
-from ansible_vault_companions.yaml.blocks import Block, Change, named
-from ansible_vault_companions.yaml.nodes import LITERAL, NotYaml
-from ansible_vault_companions.yaml.values import Scan
+from ansible_vault_companions.yaml.blocks import Block, Change
 
 # What a block has between its spaces and ends of lines.
 INK = re.compile(rb"\S+")
-
-NOT_ENCRYPTED = "what was encrypted does not decrypt to the text that was meant"
-NO_YAML = "git can merge its lines, but the result would be no YAML ({})"
-TORN = "git can merge its lines, but a value of the result would be none of either side"
-
-
-def encrypted(tool: Tool, text: bytes, secret: Secret, label: str) -> bytes:
-    """A new envelope, which is decrypted again before it takes the place of any other."""
-    envelope = tool.encrypt(text, secret, label)
-    if label_of(envelope) != label or tool.view(envelope, secret) != text:
-        raise Refused(NOT_ENCRYPTED)
-    return envelope
-
-
-def check_envelopes(content: bytes, known: list[bytes]) -> None:
-    """Refuses a result with an envelope that is in none of its versions."""
-    if not _readable(content).issubset({text for each in known for text in _readable(each)}):
-        raise Refused(TORN)
 
 
 class Values:
@@ -57,7 +35,7 @@ class Values:
         self.versions = [scanned(each) for each in (ours, base, theirs)]
         self.ours, self.base, self.theirs = self.versions
         self.opened = opened(decrypt, self.versions)
-        _check_labels(self.opened, self.base, {OURS: self.ours, THEIRS: self.theirs})
+        checks.check_labels(self.opened, self.base, {OURS: self.ours, THEIRS: self.theirs})
         for each in self.versions:
             self._give_tokens(each)
         self._keep_rekeyed(self.ours, self.theirs)
@@ -74,6 +52,7 @@ class Values:
             place = Place(block, self.opened.get(block.envelope))
             what = _known_by(place)
             version.places[self._token((what, equal[what]))] = place
+            version.by_path[block.value.path].append(place)
             equal[what] += 1
 
     def _token(self, what: Hashable) -> bytes:
@@ -113,7 +92,12 @@ class Values:
             % (mark, below % (mark, b"last"), below % (mark, b"alone"))
         )
         content = line.sub(lambda found: self._restored(tool, found), text)
-        self._check(content, is_whole=not conflicts)
+        known = [*(each.data for each in self.versions), *self.made.values()]
+        checks.check_envelopes(content, known)
+        if self.mark in content:
+            raise Refused(checks.TORN)
+        if not conflicts and self.ours.is_yaml and self.theirs.is_yaml:
+            checks.check_values(content, self.restored, self.ours.values + self.theirs.values)
         return Merged(content, conflicts)
 
     def _restored(self, tool: Tool, found: re.Match[bytes]) -> bytes:
@@ -150,36 +134,8 @@ class Values:
         if not (is_rekeyed and mine.is_under_same(before) and mine.is_of_same_label(before)):
             return None
         if token not in self.made:
-            self.made[token] = encrypted(tool, mine.opened.plaintext, new.opened.secret, mine.block.label)
+            self.made[token] = checks.encrypted(tool, mine.opened.plaintext, new.opened.secret, mine.block.label)
         return self.made[token]
-
-    def _check(self, content: bytes, is_whole: bool) -> None:
-        """Refuses a result with a value that was not meant, or which is no YAML although both sides are."""
-        check_envelopes(content, [*(each.data for each in self.versions), *self.made.values()])
-        if self.mark in content:
-            raise Refused(TORN)
-        if not (is_whole and self.ours.is_yaml and self.theirs.is_yaml):
-            return
-        try:
-            values = [value for value in Scan(content).values if blocks.is_envelope(value)]
-        except NotYaml as fault:
-            raise Refused(NO_YAML.format(fault)) from None
-        found = [value.content.strip() for value in values if value.style == LITERAL]
-        others = {value.content for value in self.ours.values + self.theirs.values}
-        are_others_known = all(value.content in others for value in values if value.style != LITERAL)
-        if found != [each.strip() for each in self.restored] or not are_others_known:
-            raise Refused(TORN)
-
-
-def _check_labels(opened: dict[bytes, Opened], base: Version, sides: dict[str, Version]) -> None:
-    """Refuses what a side has brought in under a label whose secret it is not under."""
-    known = {each.envelope for each in base.blocks}
-    for side, version in sides.items():
-        for block in version.blocks:
-            found = opened.get(block.envelope)
-            fault = labels.fault(found.secret, block.envelope) if found else ""
-            if fault and block.envelope not in known:
-                raise Refused(f"{side}: line {block.value.line}: {named(block.value)}: {fault}")
 
 
 def _known_by(place: Place) -> Hashable:
@@ -201,8 +157,3 @@ def _is_newer(ours: Place, base: Place, theirs: Place) -> bool:
     if ours.opened and theirs.opened and not ours.is_under_same(theirs):
         return ours.is_under_same(base)
     return ours.block.envelope == base.block.envelope
-
-
-def _readable(data: bytes) -> set[bytes]:
-    """The envelopes in a file that the tool can read."""
-    return {each.text.replace(b"\r\n", b"\n") for each in envelopes(data) if each.text}

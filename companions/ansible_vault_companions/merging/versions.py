@@ -4,7 +4,7 @@ from __future__ import annotations
 
 from collections import defaultdict
 from dataclasses import dataclass, field
-from typing import Hashable, NamedTuple
+from typing import NamedTuple
 
 from ansible_vault_companions import parallel
 from ansible_vault_companions.program import Refused
@@ -14,6 +14,7 @@ from ansible_vault_companions.tool.keys import Decrypt
 from ansible_vault_companions.yaml import blocks
 from ansible_vault_companions.yaml.blocks import Block
 from ansible_vault_companions.yaml.nodes import LITERAL, NotYaml
+from ansible_vault_companions.yaml.paths import Path
 from ansible_vault_companions.yaml.values import Scan, Value
 
 
@@ -51,15 +52,17 @@ class Version:
     # The text with tokens, and what these stand for.
     text: bytes = b""
     places: dict[bytes, Place] = field(default_factory=dict)
+    # The values by the keys that lead to them.
+    by_path: dict[Path, list[Place]] = field(default_factory=lambda: defaultdict(list))
 
-    def at(self, path: Hashable) -> Place | None:
+    def at(self, path: Path) -> Place | None:
         """The only value that these keys lead to."""
-        found = [each for each in self.places.values() if each.block.value.path == path]
+        found = self.by_path.get(path, [])
         return found[0] if len(found) == 1 else None
 
-    def envelopes_at(self) -> dict[Hashable, list[bytes]]:
+    def envelopes_at(self) -> dict[Path, list[bytes]]:
         """The envelopes by the keys that lead to them."""
-        found: dict[Hashable, list[bytes]] = defaultdict(list)
+        found: dict[Path, list[bytes]] = defaultdict(list)
         for each in self.blocks:
             found[each.value.path].append(each.envelope)
         return found

@@ -1,12 +1,13 @@
-"""Which values of YAML were encrypted and are not any longer, by the keys that lead to them."""
+"""Where a file of YAML has envelopes and plaintexts: by the keys that lead to them, or by the names in its lines."""
 
 from __future__ import annotations
 
+import re
 from collections import Counter, defaultdict
 from functools import lru_cache
 from typing import Iterable, NamedTuple
 
-from ansible_vault_companions.files.envelopes import MAGIC, envelopes
+from ansible_vault_companions.files.envelopes import MAGIC, START, TAG_NAME, envelopes
 from ansible_vault_companions.program import Refused, shown
 from ansible_vault_companions.yaml.nodes import ALIAS, PLAIN, nodes
 from ansible_vault_companions.yaml.paths import Path, Step
@@ -19,17 +20,35 @@ MERGE = "<<"
 NOTHING = ("", "~", "null")
 NOWHERE: Counter[str] = Counter()
 
+# A name at the beginning of a line, or within braces, and what follows it there.
+IN_LINE = re.compile(
+    rb"^[ \t]*(?:-[ \t]+)*(?P<name>\"[^\"\r\n]*\"|'[^'\r\n]*'|[^\s\"'#{-][^\s:#]*(?:[ \t]+[^\s:#]+)*)[ \t]*:"
+    rb"(?P<text>[ \t][^\r\n]*|(?=[\r\n]|\Z))",
+    re.MULTILINE,
+)
+IN_BRACES = re.compile(
+    rb"[{,][ \t]*(?P<name>\"[^\"\r\n]*\"|'[^'\r\n]*'|[^\s\"'#{},:-][^\s#{},:]*)[ \t]*:(?P<text>[^\r\n,}]*)"
+)
+ITEM_IN_LINE = re.compile(rb"^[ \t]*-(?P<text>[ \t][^\r\n]*)", re.MULTILINE)
 
-class Values(NamedTuple):
+
+class Texts(NamedTuple):
     """The texts at each path, and how often each is there."""
 
     encrypted: dict[Path, Counter[str]]
     plain: dict[Path, Counter[str]]
 
 
+class Names(NamedTuple):
+    """How many envelopes a name has, and which plaintexts. An item of a list may have none, and counts as ITEM."""
+
+    encrypted: Counter[str]
+    plain: Counter[tuple[str, bytes]]
+
+
 # Two for the two versions of a file.
 @lru_cache(maxsize=2)
-def values(content: bytes) -> Values | None:
+def by_keys(content: bytes) -> Texts | None:
     """None if it cannot be read as YAML, or PyYAML is not installed."""
     encrypted: dict[Path, Counter[str]] = defaultdict(Counter)
     plain: dict[Path, Counter[str]] = defaultdict(Counter)
@@ -42,7 +61,7 @@ def values(content: bytes) -> Values | None:
                 plain[node.path][ALIAS + text if node.style == ALIAS else text] += 1
     except Refused:
         return None
-    return Values(encrypted, plain)
+    return Texts(encrypted, plain)
 
 
 def _extend(path: Path, last: Step, step: Step) -> Path:
@@ -51,9 +70,29 @@ def _extend(path: Path, last: Step, step: Step) -> Path:
     return Path(path, ITEM if isinstance(step, int) else step)
 
 
+def by_names(content: bytes) -> Names:
+    """What its lines say, whether it is YAML or not."""
+    encrypted = Counter(each.name or ITEM for each in envelopes(content) if each.name or not each.obstacle)
+    named = [each for pattern in (IN_LINE, IN_BRACES) for each in pattern.finditer(content)]
+    items = [each for each in ITEM_IN_LINE.finditer(content) if not IN_LINE.match(content, each.start())]
+    found = [*((_name(each["name"]), each["text"]) for each in named), *((ITEM, each["text"]) for each in items)]
+    plain = Counter((name, TAG_NAME if TAG_NAME in text else text.strip()) for name, text in found)
+    # A tag that has an envelope is no plaintext.
+    plain.subtract({(name, TAG_NAME): count for name, count in encrypted.items()})
+    return Names(encrypted, +plain)
+
+
+def _name(written: bytes) -> str:
+    return written.strip(b"\"'").decode(errors="backslashreplace")
+
+
 def shown_path(path: Path) -> str:
     """It as jq writes it."""
     return shown(".".join(path).replace(f".{ITEM}", ITEM))
+
+
+def shown_name(name: str) -> str:
+    return "an item of a list" if name == ITEM else shown(name)
 
 
 @lru_cache(maxsize=1)
@@ -70,18 +109,10 @@ def _around_envelopes(content: bytes) -> list[bytes]:
     return [*pieces, content[place:]]
 
 
-def now_plain(before: bytes, after: bytes) -> list[Path]:
-    """The paths from which an envelope has gone, if a plaintext has come at, above or below them. Of others the last
-    key, if fewer envelopes have it than before, and a plaintext has come that has it."""
-    old, new = values(before), values(after)
-    if old is None or new is None:
-        return []
-    gone, came = lost(old, new), added(old, new)
-    plain, branches = set(came), with_those_above(came)
-    found = [path for path in gone if path in branches or not plain.isdisjoint(path.upwards())]
-    fewer = _by_last_key(old.encrypted) - _by_last_key(new.encrypted)
-    named = fewer.keys() & {path.last for path in came} - {path.last for path in found}
-    return [*found, *(Path(Path(), key) for key in sorted(named))]
+def envelope_texts(content: bytes) -> list[str]:
+    """The texts of the envelopes within a file."""
+    found = envelopes(content) if START in content and not content.startswith(MAGIC) else []
+    return [each.text.decode(errors="replace").strip() for each in found if each.text]
 
 
 def with_those_above(paths: Iterable[Path]) -> set[Path]:
@@ -94,22 +125,13 @@ def with_those_above(paths: Iterable[Path]) -> set[Path]:
     return found
 
 
-def lost(old: Values, new: Values) -> list[Path]:
+def lost(old: Texts, new: Texts) -> list[Path]:
     """Where an envelope is no longer."""
     return [path for path, found in old.encrypted.items() if found - new.encrypted.get(path, NOWHERE)]
 
 
-def added(old: Values, new: Values, elsewhere: dict[Path, Counter[str]] | None = None) -> list[Path]:
+def came(old: Texts, new: Texts, elsewhere: dict[Path, Counter[str]] | None = None) -> list[Path]:
     """Where a plaintext is that was not there, nor at these keys elsewhere."""
     other = elsewhere or {}
     was = {path: old.plain.get(path, NOWHERE) + other.get(path, NOWHERE) for path in new.plain}
     return [path for path, found in new.plain.items() if found - was[path]]
-
-
-def _by_last_key(found: dict[Path, Counter[str]]) -> Counter[str]:
-    """How many texts there are, but for items of lists."""
-    counts: Counter[str] = Counter()
-    for path, texts in found.items():
-        if path.last != ITEM:
-            counts[path.last] += sum(texts.values())
-    return counts

@@ -1,0 +1,85 @@
+"""What is wrong with a file by itself: conflict markers, and plaintext where there has to be an envelope."""
+
+from __future__ import annotations
+
+import binascii
+import re
+import shlex
+
+from ansible_vault_companions.files.envelopes import MAGIC, START, Envelope, envelopes
+from ansible_vault_companions.git.attributes import VAULT_ALONE
+from ansible_vault_companions.program import shown
+
+NOT_ENCRYPTED = "is not encrypted"
+DAMAGED = "is a damaged vault"
+UNMERGED = "has git's conflict markers"
+TORN = "has git's conflict markers within an envelope, since it was merged without ansible-vault-merge"
+MERGE_AGAIN = "set up the merge driver as `ansible-vault-merge --help` says, and run `git checkout --merge {}`"
+WITHOUT_THEIRS = "is not merged: the merge driver failed, and the file has nothing of theirs"
+
+HEADER = re.compile(rb"\$ANSIBLE_VAULT;1\.(?:1;AES256|2;AES256;[^;\r\n]{1,128})[ \t]*(?=[\r\n]|\Z)")
+# Lengths in bytes.
+TAG_LENGTH = 32
+CIPHER_BLOCK = 16
+CONFLICT_MARKER = re.compile(rb"^(?:<<<<<<<|>>>>>>>|\|\|\|\|\|\|\|)(?:[ \t][^\r\n]*)?\r?$", re.MULTILINE)
+# No line of a value stands directly below a marker where the merge driver has merged it.
+MARKER_IN_ENVELOPE = re.compile(
+    rb"^(?:<{7}|\|{7}|={7}|>{7})(?:[ \t][^\r\n]*)?\r?\n[ \t]*(?:[0-9a-fA-F]{32}|\$ANSIBLE_VAULT;)", re.MULTILINE
+)
+# What follows a block, up to its first character.
+NEXT_LINE = re.compile(rb"(?:\r?\n[ \t]*(?=[\r\n]))*\r?\n(?P<spaces> *)\S")
+
+
+def is_whole(text: bytes) -> bool:
+    """Whether an envelope has a header, and after it nothing but the digits of salt, tag and ciphertext."""
+    header = HEADER.match(text)
+    if not header:
+        return False
+    try:
+        inner = binascii.unhexlify(text[header.end() :].translate(None, b"\r\n"))
+        salt, tag, ciphertext = map(binascii.unhexlify, inner.split(b"\n", 2))
+    except ValueError:
+        return False
+    return bool(salt and ciphertext) and len(tag) == TAG_LENGTH and len(ciphertext) % CIPHER_BLOCK == 0
+
+
+def is_unmerged(text: bytes) -> bool:
+    """Whether git has left conflict markers in it."""
+    return CONFLICT_MARKER.search(text) is not None
+
+
+def has_unmerged_envelopes(text: bytes) -> bool:
+    """Whether it has conflict markers beside envelopes, and is no vault."""
+    return not text.startswith(MAGIC) and is_unmerged(text) and bool(envelopes(text))
+
+
+def is_torn(text: bytes) -> bool:
+    """Whether conflict markers are within an envelope, where git leaves them without the merge driver."""
+    return START in text and is_unmerged(text) and bool(text.startswith(MAGIC) or MARKER_IN_ENVELOPE.search(text))
+
+
+def merge_again(name: str) -> str:
+    """What to do about a file in which an envelope is torn."""
+    return MERGE_AGAIN.format(shlex.quote(shown(name)))
+
+
+def fault_of_marked(content: bytes, marks: set[str]) -> str | None:
+    """Why a file with these attributes is refused."""
+    if is_whole(content):
+        return None
+    if content.startswith(MAGIC):
+        return DAMAGED
+    found = envelopes(content)
+    if not found or VAULT_ALONE in marks:
+        return NOT_ENCRYPTED
+    if is_unmerged(content):
+        return UNMERGED
+    damaged = next((each for each in found if not _is_whole_block(content, each)), None)
+    return f"has a damaged block in line {damaged.line}" if damaged else None
+
+
+def _is_whole_block(content: bytes, block: Envelope) -> bool:
+    """Whether its lines are those of an envelope, and no line of the same text follows them."""
+    following = NEXT_LINE.match(content, block.end)
+    is_longer = block.spaces and following and len(following["spaces"]) >= len(block.spaces)
+    return not block.obstacle and is_whole(block.text) and not is_longer

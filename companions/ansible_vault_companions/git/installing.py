@@ -1,0 +1,140 @@
+"""Sets up a clone, and undoes it: the hooks, and the settings of git that name the other companions."""
+
+from __future__ import annotations
+
+import os
+import shlex
+import shutil
+from typing import NamedTuple
+
+from ansible_vault_companions.files.searching import is_prose
+from ansible_vault_companions.git import attributes, commands, repositories
+from ansible_vault_companions.program import Refused, shown, write_line
+
+HOOKS = ("pre-commit", "pre-merge-commit")
+# The settings of git, the companions that they name, and what these are given.
+SETTINGS = {
+    "diff.ansible-vault.textconv": ("ansible-vault-textconv", ""),
+    "merge.ansible-vault.driver": ("ansible-vault-merge", " %O %A %B %P"),
+}
+# Beside a setting, the value that it was given here.
+INSTALLED = "installed"
+# The scope of a setting of git.
+REPOSITORIES = {
+    "local": "this repository and its worktrees",
+    "worktree": "this worktree",
+    "global": "every repository of this user",
+    "system": "every repository on this machine",
+}
+MARKS = "diff=ansible-vault merge=ansible-vault"
+NO_SECRETS = "git diff and git merge are not set up; they need secrets: --install --vault-id prod@~/.vault/prod.pass"
+UNMARKED = "git diff and git merge know vaults by .gitattributes; add to it, for all of the team:"
+MOST_LINES = 10
+# The line in which a vault or a block begins, for git grep.
+ENVELOPE = r"^ *\$ANSIBLE_VAULT;1\.[12];AES256"
+
+
+class Hooks(NamedTuple):
+    """Where git looks for hooks, and the program that they lead to."""
+
+    folder: str
+    program: str
+
+    def paths(self) -> list[str]:
+        return [os.path.join(self.folder, name) for name in HOOKS]
+
+
+def hooks(program: str) -> Hooks:
+    """Those of this repository. A relative core.hooksPath begins at its top."""
+    os.chdir(repositories.top())
+    folder = os.fsdecode(commands.git("rev-parse", "--git-path", "hooks").removesuffix(b"\n"))
+    return Hooks(os.path.abspath(folder), program)
+
+
+def install_hook(hook: str, program: str) -> str:
+    """What was done. A link to a program of this name is one that an earlier run has made."""
+    try:
+        os.symlink(program, hook)
+        return "installed"
+    except FileExistsError:
+        old = os.readlink(hook) if os.path.islink(hook) else ""
+    if os.path.realpath(hook) == os.path.realpath(program):
+        return "already installed"
+    if _is_ours(old, program):
+        os.unlink(hook)
+        os.symlink(program, hook)
+        return f"installed in the place of a link to {shown(old)}"
+    if not os.path.exists(hook):
+        raise Refused(f"leads to {shown(old)}, which is not there; remove it and run this again")
+    raise Refused(f"is there already; add this line to it: {os.path.basename(program)} || exit 1")
+
+
+def uninstall_hook(hook: str, program: str) -> str:
+    old = os.readlink(hook) if os.path.islink(hook) else ""
+    if _is_ours(old, program):
+        os.unlink(hook)
+        return "removed"
+    return "left, since --install has not made it" if os.path.lexists(hook) else "not installed"
+
+
+def _is_ours(target: str, program: str) -> bool:
+    return os.path.basename(target) == os.path.basename(program)
+
+
+def for_which_repositories() -> str:
+    setting = commands.answer("config", "--show-scope", "--show-origin", "--get", "core.hooksPath")
+    if not setting:
+        return "for this repository and its worktrees"
+    scope, origin, _ = os.fsdecode(setting).split("\t", 2)
+    where = f"core.hooksPath is set by {shown(origin.removeprefix('file:'))}"
+    return f"for {REPOSITORIES.get(scope, 'every repository with this setting')}: {where}"
+
+
+def wanted(setting: str, program: str, secrets: list[str]) -> str:
+    """The command of a setting. A companion that is not on PATH is the one beside this program."""
+    name, rest = SETTINGS[setting]
+    path = name if shutil.which(name) else os.path.join(os.path.dirname(program), name)
+    return shlex.join([path, *secrets]) + rest
+
+
+def install_setting(setting: str, value: str) -> str:
+    old = _value(setting)
+    if old == value:
+        return f"is already {shown(value)}"
+    if old and old != _value(_beside(setting)):
+        raise Refused(f"is `{shown(old)}`, and stays so; to change it, unset it by git config, and run this again")
+    commands.git("config", "--local", setting, value)
+    commands.git("config", "--local", _beside(setting), value)
+    return f"set to {shown(value)}"
+
+
+def uninstall_setting(setting: str) -> str:
+    value, installed = _value(setting), _value(_beside(setting))
+    if installed:
+        commands.git("config", "--local", "--unset-all", _beside(setting))
+    if value and value == installed:
+        commands.git("config", "--local", "--unset-all", setting)
+        return "removed"
+    return f"left, since --install has not set it: {shown(value)}" if value else "not set"
+
+
+def _value(setting: str) -> str:
+    return os.fsdecode(commands.answer("config", "--get", setting).removesuffix(b"\n"))
+
+
+def _beside(setting: str) -> str:
+    return f"{setting.rpartition('.')[0]}.{INSTALLED}"
+
+
+def say_what_is_unmarked() -> None:
+    """The lines that .gitattributes lacks, for the files of the index that have envelopes."""
+    found = commands.answer("grep", "--cached", "-z", "-l", "-I", "-E", "-e", ENVELOPE).split(b"\0")[:-1]
+    names = [name for name in found if not is_prose(os.fsdecode(name))]
+    attributes_of = attributes.drivers(names or [b"vault.yml"])
+    lacking = [name for name, drivers in attributes_of.items() if drivers != {"diff", "merge"}]
+    if lacking:
+        write_line(UNMARKED)
+    for name in lacking[:MOST_LINES]:
+        write_line(f"  {attributes.pattern(name) if names else 'vault.yml'} {MARKS}")
+    if len(lacking) > MOST_LINES:
+        write_line(f"  and {len(lacking) - MOST_LINES} more")

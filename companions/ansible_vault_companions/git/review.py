@@ -1,0 +1,148 @@
+"""Looks at what the index or a commit changes, and reports each file that is refused, with what to do about it."""
+
+from __future__ import annotations
+
+import os
+import shlex
+from functools import partial
+from typing import NamedTuple
+
+from ansible_vault_companions.files import replacing
+from ansible_vault_companions.files.envelopes import MAGIC
+from ansible_vault_companions.git import attributes, commits, contents, damage, leaks, links, unmerged
+from ansible_vault_companions.git.commits import Change, File
+from ansible_vault_companions.git.contents import Blobs
+from ansible_vault_companions.program import shown, write_error
+
+TO_MERGE = "  resolve the conflict with ansible-vault-edit"
+TO_MERGE_AGAIN = "  `git checkout --merge {}` merges it, or says why not; to keep ours, commit with --no-verify"
+MEANT = "  if that is meant, commit with --no-verify, or add to .gitattributes: {} -ansible-vault"
+UNMARK = "  encrypt it, or unmark it by a last line of .gitattributes: {} !diff !ansible-vault"
+LEFTOVER = "has the name of a leftover of a companion, which may be plaintext"
+TO_REMOVE = "  look into it, and remove it by `git rm --cached {0}` and `rm {0}`"
+
+
+class Fault(NamedTuple):
+    """Why a file is refused, and what to do."""
+
+    why: str
+    hint: str = ""
+    # The commit in which it was otherwise.
+    since: str = ""
+
+
+class Review:
+    """Looks at files, and reports those that are refused, each once."""
+
+    def __init__(self, program: str, blobs: Blobs) -> None:
+        self.program = program
+        self.blobs = blobs
+        self.reported: set[tuple[bytes, str, str]] = set()
+        self.conflicts = unmerged.conflicts()
+
+    def look_at(self, change: Change, index: str | None = None, where: str = "") -> None:
+        """The files of an index."""
+        marks = attributes.marks([file.name for file in change.files], index)
+        moves = leaks.Moves(change, self.blobs.read)
+        rest = []
+        for file in change.files:
+            fault = self.present_fault(file, marks[file.name], index) or self.fault_since(file, change, index)
+            if fault:
+                self.report(file, fault, where)
+            else:
+                rest.append(file)
+            moves.note_values(file)
+        for file, why in moves.faults(rest):
+            if not attributes.is_meant_plain(file.name, index):
+                self.report(file, Fault(why, MEANT.format(attributes.pattern(file.name)), change.since), where)
+
+    def report(self, file: File, fault: Fault, where: str = "") -> None:
+        if (file.name, file.blob, fault.why) in self.reported:
+            return
+        self.reported.add((file.name, file.blob, fault.why))
+        since = f" in {fault.since}" if fault.since else ""
+        write_error(f"{self.program}: {where}{_shown(file.name)} {fault.why}{since}")
+        if fault.hint:
+            write_error(fault.hint)
+
+    def present_fault(self, file: File, marks: set[str], index: str | None) -> Fault | None:
+        """Why a file is refused whatever it was before."""
+        pattern = attributes.pattern(file.name)
+        is_leftover = replacing.is_leftover(os.path.basename(os.fsdecode(file.name)))
+        if is_leftover and not attributes.is_meant_plain(file.name, index):
+            return Fault(LEFTOVER, "\n".join([TO_REMOVE.format(_shown(file.name)), MEANT.format(pattern)]))
+        if file.blob in self.conflicts:
+            return Fault(damage.UNMERGED, TO_MERGE)
+        if file.is_link or not (marks or file.before):
+            return None
+        content = self.blobs.read(file.blob)
+        if damage.is_torn(content):
+            return Fault(damage.TORN, f"  {damage.merge_again(os.fsdecode(file.name))}")
+        why = damage.fault_of_marked(content, marks) if marks else None
+        if why:
+            is_hinted = why == damage.NOT_ENCRYPTED and self.is_beside_vault(file.name, index)
+            return Fault(why, UNMARK.format(pattern) if is_hinted else "")
+        return Fault(damage.UNMERGED, TO_MERGE) if damage.has_unmerged_envelopes(content) else None
+
+    def fault_since(self, file: File, change: Change, index: str | None) -> Fault | None:
+        """Why a file is refused for what was encrypted in it before."""
+        why = self.decrypted(file, index) if file.before else None
+        if not why or attributes.is_meant_plain(file.name, index):
+            return None
+        return Fault(why, MEANT.format(attributes.pattern(file.name)), change.since)
+
+    def decrypted(self, file: File, index: str | None) -> str | None:
+        before = self.blobs.read(file.before or "")
+        if not file.is_link:
+            return leaks.decrypted(before, self.blobs.read(file.blob))
+        target, blob = links.target(file.name, os.getcwdb(), partial(contents.entry, index=index), self.blobs.read)
+        why = leaks.decrypted(before, self.blobs.read(blob)) if target else None
+        return f"leads to {_shown(target)}, and {why}" if why else None
+
+    def is_beside_vault(self, name: bytes, index: str | None) -> bool:
+        """Whether there is a vault in the same folder."""
+        folder = os.path.dirname(name)
+        staged = [(name, *about) for name, about in contents.entries(folder, index=index).items()]
+        files = ((name, blob) for name, mode, blob in staged if mode in contents.FILE_MODES)
+        blobs = [blob for name, blob in files if os.path.dirname(name) == folder]
+        return any(damage.is_whole(self.blobs.read(blob)) for blob in blobs)
+
+
+def _shown(name: bytes) -> str:
+    return shown(os.fsdecode(name))
+
+
+def review_staged(review: Review, files: list[File]) -> None:
+    """What the index changes, and these files of it, changed or not."""
+    for change in [*commits.staged(), Change("", files, {})]:
+        review.look_at(change)
+    for name, blob in unmerged.unmerged_in_index():
+        review.report(File(name, blob), Fault(damage.WITHOUT_THEIRS, TO_MERGE_AGAIN.format(shlex.quote(_shown(name)))))
+
+
+def review_since(review: Review, name: str) -> None:
+    """What each commit changed, and what all of them did together."""
+    first, last = commits.commit(name), commits.commit("HEAD")
+    names = commits.commits_since(first)
+    for each in names:
+        _review_changes(review, each, commits.of_commit(each), f"{each[:10]}: ")
+    if len(names) > 1:
+        _review_changes(review, last, commits.of_range(first, last), f"{last[:10]}: ")
+
+
+def _review_changes(review: Review, name: str, changes: list[Change], where: str = "") -> None:
+    """The changes that led to a commit, by the marks that it has."""
+    if any(change.files for change in changes):
+        with commits.index_of(name) as index:
+            for change in changes:
+                review.look_at(change, index, where)
+
+
+def review_all(review: Review) -> None:
+    """All files, what the last commit changed, and what was a vault in any commit before it."""
+    name = commits.commit("HEAD")
+    files = Change("", commits.files_of(name), {})
+    earlier = commits.of_history(name, MAGIC.decode())
+    blobs = review.blobs
+    vaults = [file for file in earlier.files if file.before and blobs.read(file.before).startswith(MAGIC)]
+    _review_changes(review, name, [files, *commits.of_commit(name), earlier._replace(files=vaults)])

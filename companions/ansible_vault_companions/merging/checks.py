@@ -1,0 +1,61 @@
+"""What a merge must not make: it is refused, and the file stays as it is in ours."""
+
+from __future__ import annotations
+
+from ansible_vault_companions.files.envelopes import envelopes, label_of
+from ansible_vault_companions.merging.versions import Opened, Version
+from ansible_vault_companions.program import Refused
+from ansible_vault_companions.secrets import labels
+from ansible_vault_companions.secrets.sources import Secret
+from ansible_vault_companions.tool.tool import Tool
+from ansible_vault_companions.yaml import blocks
+from ansible_vault_companions.yaml.nodes import LITERAL, NotYaml
+from ansible_vault_companions.yaml.values import Scan, Value
+
+NOT_ENCRYPTED = "what was encrypted does not decrypt to the text that was meant"
+NO_YAML = "git can merge its lines, but the result would be no YAML ({})"
+TORN = "git can merge its lines, but a value of the result would be none of either side"
+
+
+def encrypted(tool: Tool, text: bytes, secret: Secret, label: str) -> bytes:
+    """A new envelope, which is decrypted again before it takes the place of any other."""
+    envelope = tool.encrypt(text, secret, label)
+    if label_of(envelope) != label or tool.view(envelope, secret) != text:
+        raise Refused(NOT_ENCRYPTED)
+    return envelope
+
+
+def check_envelopes(content: bytes, known: list[bytes]) -> None:
+    """Refuses a result with an envelope that is in none of its versions."""
+    if not _readable(content).issubset({text for each in known for text in _readable(each)}):
+        raise Refused(TORN)
+
+
+def check_values(content: bytes, restored: list[bytes], known: list[Value]) -> None:
+    """Refuses a result that is no YAML, or with a value that was not meant: the envelopes of blocks are the restored
+    ones, and all others are in one of the sides."""
+    try:
+        values = [value for value in Scan(content).values if blocks.is_envelope(value)]
+    except NotYaml as fault:
+        raise Refused(NO_YAML.format(fault)) from None
+    found = [value.content.strip() for value in values if value.style == LITERAL]
+    others = {value.content for value in known}
+    are_others_known = all(value.content in others for value in values if value.style != LITERAL)
+    if found != [each.strip() for each in restored] or not are_others_known:
+        raise Refused(TORN)
+
+
+def check_labels(opened: dict[bytes, Opened], base: Version, sides: dict[str, Version]) -> None:
+    """Refuses what a side has brought in under a label whose secret it is not under."""
+    known = {each.envelope for each in base.blocks}
+    for side, version in sides.items():
+        for block in version.blocks:
+            found = opened.get(block.envelope)
+            fault = labels.fault(found.secret, block.envelope) if found else ""
+            if fault and block.envelope not in known:
+                raise Refused(f"{side}: line {block.value.line}: {blocks.named(block.value)}: {fault}")
+
+
+def _readable(data: bytes) -> set[bytes]:
+    """The envelopes in a file that the tool can read."""
+    return {each.text.replace(b"\r\n", b"\n") for each in envelopes(data) if each.text}

@@ -1,0 +1,130 @@
+"""Files in every kind of clone, and what git does there: the check and the hook look at each as at any other."""
+
+import os
+from pathlib import Path
+
+import pytest
+
+from companion_cases import CHECK, HOOK, MERGE, TEXT, Place, ended, sealed
+from companion_cases.hook import refused, unmarking
+from companion_cases.leaks import WHOLE
+from companion_cases.repository import under_git
+from ansible_vault_companions.git import repositories
+
+pytestmark = pytest.mark.usefixtures("git")
+
+MARKS = "*.vault.yml diff=ansible-vault\n*.yml merge=ansible-vault\n"
+# How each kind of clone comes to be at `clone`, from the repository beside it.
+CLONES = {
+    "a repository": "git clone -q . ../clone",
+    "a worktree": "git worktree add -q --detach ../clone",
+    "a moved worktree": "git worktree add -q --detach ../moved && git worktree move ../moved ../clone",
+    "a separate folder for git": "git clone -q --separate-git-dir=../kept . ../clone",
+    "a submodule": "git init -q ../outer && cd ../outer && "
+    "git -c protocol.file.allow=always submodule --quiet add {tree} inner && ln -s outer/inner ../clone",
+    "a worktree of a bare clone": "git clone -q --bare . ../bare && git -C ../bare worktree add -q --detach ../clone",
+}
+
+
+@pytest.fixture
+def clone(place: Place, request: pytest.FixtureRequest) -> Path:
+    under_git(place, MARKS)
+    place.put("deep/a.vault.yml", sealed("old"))
+    place.put("deep/b.vault.yml", TEXT)
+    place.shell("git add -A && git commit -qm one")
+    done = place.shell(CLONES[request.param].format(tree=place.tree))
+    assert done.returncode == 0, done.stderr
+    return Path(os.path.realpath(place.path / "clone"))
+
+
+@pytest.mark.parametrize("clone", CLONES, indirect=True)
+def test_kinds(place: Place, clone: Path) -> None:
+    paths = [str(clone / name) for name in ("x.yml", "deep/b.vault.yml")]
+    wanted = place.shell("git rev-parse --show-toplevel", folder=str(clone / "deep")).stdout.strip()
+    assert list(repositories.by_repository(paths)) == [wanted], "as git sees it"
+    why = f"{CHECK}: ./deep/b.vault.yml: is not encrypted\n"
+    done = place.shell(f"{CHECK} {' '.join(place.by_file('old'))} .", folder=str(clone))
+    ended("the check finds plaintext that is marked", done, 1, why)
+    (clone / "deep/c.vault.yml").write_bytes(TEXT)
+    done = place.shell(f"git add -A && {HOOK}", folder=str(clone))
+    refused("and the hook", done, "deep/c.vault.yml", hint=unmarking("deep/c.vault.yml"))
+    (clone / "deep/a.vault.yml").write_bytes(TEXT)
+    ended("in place of a vault", place.shell(f"git add -A && {HOOK}", folder=str(clone)), 1, "a.vault.yml is not encr")
+    (clone / ".gitattributes").write_bytes(b"")
+    ended("unmarked", place.shell(f"git add -A && {HOOK}", folder=str(clone)), 1, f"deep/a.vault.yml {WHOLE}")
+
+
+# Changes that the driver cannot merge, since it does not know the secret, and what git does with them.
+FORK = """
+seal() { cp ../$1.yml a.yml && git add -A && git commit -qm change; }
+seal base && git branch base && git checkout -qb ours
+seal unknown1 && git checkout -qb side && seal undone && git checkout -q ours && git merge -q --no-ff --no-edit side
+git tag undone && seal ours && git checkout -qb theirs base && echo b: 1 > b.yml && git add -A && git commit -qm b
+seal unknown2 && git checkout -qb merged base && git merge -q --no-ff --no-edit theirs && git checkout -q ours
+"""
+OPERATIONS = {
+    "merge": "git merge theirs",
+    "merge --no-commit": "git merge --no-ff --no-commit theirs",
+    "merge --squash": "git merge --squash theirs",
+    "pull": "git pull -q --no-rebase . theirs",
+    "cherry-pick": "git cherry-pick theirs",
+    "cherry-pick -n": "git cherry-pick --no-commit theirs",
+    "cherry-pick of two": "git cherry-pick theirs~1 theirs",
+    "cherry-pick of a merge": "git cherry-pick -m 1 merged",
+    "revert": "git revert --no-edit undone^2",
+    "revert -n": "git revert --no-commit undone^2",
+    "revert of a merge": "git revert --no-edit -m 1 undone",
+    "rebase": "git checkout -q theirs && git rebase -q ours",
+    "rebase -i": "git checkout -q theirs && git -c sequence.editor=true rebase -q -i ours",
+    "rebase --apply": "git checkout -q theirs && git rebase -q --apply ours",
+    "pull --rebase": "git checkout -q theirs && git pull -q --rebase . ours",
+    "am": "git format-patch -q -1 --output-directory .. theirs && git am -q -3 ../0001*",
+    "stash": "git checkout -q base && cp ../unknown2.yml a.yml && git stash -q && git checkout -q ours; git stash pop",
+}
+NOT_MERGED = "is not merged: the merge driver failed, and the file has nothing of theirs"
+
+
+@pytest.mark.parametrize("what", OPERATIONS)
+def test_failed_drivers(place: Place, what: str) -> None:
+    """What git would commit as ours is refused, whatever it does, until that is given up or is meant."""
+    under_git(place, MARKS)
+    place.run("git", "config", "merge.ansible-vault.driver", f"{MERGE} {' '.join(place.by_file('old'))} %O %A %B %P")
+    for name in ("base", "undone", "ours", "unknown1", "unknown2"):
+        secret = "new" if name.startswith("unknown") else "old"
+        (place.path / f"{name}.yml").write_bytes(sealed(secret, name.encode()))
+    done = place.shell(FORK)
+    assert done.returncode == 0, done
+    done = place.shell(OPERATIONS[what])
+    assert "a.yml: not merged, ours is left as it was" in done.stderr, (what, done)
+    check = [CHECK, *place.by_file("old"), *place.by_file("new"), "a.yml"]
+    ended(f"{what}: the check", place.run(*check), 1, f"{CHECK}: a.yml: {NOT_MERGED}\n")
+    ended(f"{what}: the hook", place.shell(f"git add -A; {HOOK}"), 1, f"{HOOK}: a.yml {NOT_MERGED}\n")
+    ended(f"{what}: the check again", place.run(*check), 1, f"{CHECK}: a.yml: {NOT_MERGED}\n")
+    place.shell("cp -r . ../given-up && cd ../given-up && git reset -q --hard")
+    place.shell("git commit -qm meant --no-verify --allow-empty")
+    for folder in (".", "../given-up"):
+        done = place.shell(f"echo c: 1 > c.yml; git add -A; {HOOK} && {' '.join(check)}", folder=folder)
+        assert (done.returncode, done.stderr) == (0, ""), f"{what}: afterwards in {folder}"
+
+
+def test_two_merge_bases(place: Place) -> None:
+    """--since compares with each of them: what only one has encrypted may be in plaintext since."""
+    under_git(place, "")
+
+    def add(name: str, content: bytes) -> str:
+        place.put(name, content)
+        place.shell("git add -A && git commit -qm change")
+        return place.shell("git rev-parse HEAD").stdout.strip()
+
+    root = add("x.txt", b"1\n")
+    one = add("one.yml", sealed("old"))
+    place.shell(f"git checkout -q {root}")
+    two = add("two.yml", sealed("new"))
+    place.shell(f"git merge -q --no-edit {one} && git branch first && git checkout -q {one}")
+    place.shell(f"git merge -q --no-edit {two} && git rm -q one.yml two.yml && git commit -qm removed")
+    assert len(place.shell("git merge-base --all first HEAD").stdout.split()) == 2
+    add("one.yml", TEXT)
+    add("two.yml", TEXT)
+    done = place.run(HOOK, "--since", "first")
+    for name, base in (("one.yml", one), ("two.yml", two)):
+        ended(name, done, 1, f"{name} is not a vault, but was one in {base[:10]}\n")

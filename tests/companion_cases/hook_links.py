@@ -1,0 +1,136 @@
+"""Where ansible-vault-hook follows a link to, beside where the system does."""
+
+import os
+import stat
+from collections import Counter
+from pathlib import Path
+
+import pytest
+from hypothesis import given, settings
+from hypothesis import strategies as st
+
+from ansible_vault_companions.git.contents import LINK_MODE
+from ansible_vault_companions.git.links import target
+from companion_cases import TEXT, Place, sealed, silent
+from companion_cases.hook import refused
+from companion_cases.leaks import WHOLE, meant, with_hooks
+from companion_cases.repository import add_and_commit
+
+FILES = ["plain.yml", "..data/plain.yml", ".../..plain", "deep/er/plain.yml", "deep/.x"]
+TO_FOLDERS = {"across": "deep/er", "..data/back": ".."}
+FOLDERS = ["", "..data", "...", "deep", "deep/er"]
+LINKS = ["one", "..two", "three.yml", "four"]
+# What a target is made of: names that lead anywhere, or where it leads from the top folder by detours.
+NAMES = ["..", "..", ".", "", "top", *LINKS, "plain.yml", "..data", "...", "..plain", "deep", "er", ".x", "nowhere"]
+ANYWHERE = st.lists(st.sampled_from(NAMES), min_size=1, max_size=6).map("/".join)
+DETOURS = [".", "", "deep/..", "..data/..", "deep/er/../..", "../top", "across/..", "..data/back", ".../."]
+DETOURS += ["nowhere/..", "one/..", "four/.."]
+ENDS = [*FILES, *FILES, *LINKS, "er/plain.yml", "../plain.yml", "../topmost/plain.yml", "nowhere", "..", "deep"]
+THERE = st.tuples(st.lists(st.sampled_from(DETOURS), max_size=3), st.sampled_from(ENDS)).map(
+    lambda each: "/".join([*each[0], each[1]])
+)
+# Where a target begins: at the link, at the top folder as seen from there, or at the root.
+STARTS = ["", "{above}", "{above}", "{above}", "{top}/", "{top}/", "/"]
+TARGETS = st.tuples(st.sampled_from(STARTS), st.one_of(ANYWHERE, THERE, THERE))
+TREES = st.dictionaries(st.sampled_from(LINKS), st.tuples(st.sampled_from(FOLDERS), TARGETS), min_size=1)
+
+
+@pytest.fixture(scope="module")
+def top(tmp_path_factory: pytest.TempPathFactory) -> Path:
+    """A folder with files and links to folders, beside others."""
+    found = tmp_path_factory.mktemp("links").resolve() / "top"
+    for name in FILES:
+        (found / name).parent.mkdir(parents=True, exist_ok=True)
+        (found / name).write_bytes(TEXT)
+    (found.parent / "topmost").mkdir()
+    for name in ("plain.yml", "topmost/plain.yml"):
+        (found.parent / name).write_bytes(TEXT)
+    for name, text in TO_FOLDERS.items():
+        (found / name).symlink_to(text)
+    return found
+
+
+def by_system(top: Path, name: str) -> str:
+    """The file below the folder that a link leads to; nothing if it leads elsewhere, and `nowhere` if to nothing."""
+    try:
+        os.stat(top / name)
+    except OSError:
+        return "nowhere"
+    path = os.path.realpath(top / name)
+    return os.path.relpath(path, top) if os.path.isfile(path) and path.startswith(f"{top}/") else ""
+
+
+def by_hook(top: Path, name: str) -> str:
+    def entry(name: bytes) -> tuple[str, str]:
+        """As git has it: folders are no entries."""
+        path = top / os.fsdecode(name)
+        if path.is_symlink():
+            return LINK_MODE, os.readlink(path)
+        return ("100644", "plain") if name and path.is_file() else ("", "")
+
+    found, blob = target(os.fsencode(name), os.fsencode(top), entry, os.fsencode)
+    assert bool(found) == (blob == "plain")
+    return os.fsdecode(found)
+
+
+def check_links(top: Path, links: dict[str, str], counts: Counter[str]) -> None:
+    for name, text in links.items():
+        (top / name).symlink_to(text)
+    try:
+        for name in links:
+            found, known = by_hook(top, name), by_system(top, name)
+            # What is nowhere today may be there in another clone.
+            assert found == known or known == "nowhere", (links, name)
+            counts["nowhere" if known == "nowhere" else "below" if known else "elsewhere"] += 1
+    finally:
+        for name in links:
+            (top / name).unlink()
+
+
+def test_as_the_system(top: Path) -> None:
+    counts: Counter[str] = Counter()
+
+    @settings(max_examples=600, deadline=None, database=None)
+    @given(tree=TREES)
+    def check(tree: dict[str, tuple[str, tuple[str, str]]]) -> None:
+        links = {}
+        for name, (folder, (start, names)) in tree.items():
+            above = "../" * len(Path(folder).parts)
+            links[os.path.join(folder, name)] = start.format(top=top, above=above) + names or "."
+        check_links(top, links, counts)
+
+    check()
+    assert min(counts["below"], counts["elsewhere"], counts["nowhere"]) > 100, counts
+
+
+def test_loops(top: Path) -> None:
+    check_links(top, {"one": "..two", "..two": "one", "four": "four"}, Counter())
+    # As many as the system follows, and one more.
+    for count, wanted in ((40, "plain.yml"), (41, "")):
+        links = {f"link{number}": f"link{number + 1}" for number in range(count)}
+        links[f"link{count - 1}"] = "plain.yml"
+        for name, text in links.items():
+            (top / name).symlink_to(text)
+        try:
+            assert (by_hook(top, "link0"), by_system(top, "link0")) == (wanted, wanted or "nowhere")
+        finally:
+            for name in links:
+                (top / name).unlink()
+
+
+@pytest.mark.usefixtures("git")
+@pytest.mark.parametrize("path", ["..data", "folder/plain.yml", "folder/../deep/plain.yml", "{tree}/deep/plain.yml"])
+def test_commits(place: Place, path: str) -> None:
+    """A link in the place of a vault is refused, however it leads to plaintext."""
+    with_hooks(place)
+    place.put("deep/plain.yml", TEXT)
+    place.put("..data", TEXT)
+    (place.tree / "folder").symlink_to("deep")
+    place.put("vault.yml", sealed("old"))
+    silent("at first", add_and_commit(place))
+    os.unlink(place.tree / "vault.yml")
+    (place.tree / "vault.yml").symlink_to(path.format(tree=place.tree))
+    assert stat.S_ISREG((place.tree / "vault.yml").stat().st_mode)
+    name = "..data" if path == "..data" else "deep/plain.yml"
+    why = f"leads to {name}, and {WHOLE}"
+    refused("plaintext", add_and_commit(place), "vault.yml", why=why, hint=meant("vault.yml"))
