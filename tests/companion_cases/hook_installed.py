@@ -6,7 +6,7 @@ from pathlib import Path
 import pytest
 from pytest_subtests import SubTests
 
-from companion_cases import HOOK, MERGE, TEXT, TEXTCONV, Companions, Place, block, ended, sealed, silent
+from companion_cases import HOOK, MERGE, TEXT, TEXTCONV, Companions, Done, Place, block, ended, sealed, silent
 from companion_cases.hook import refused, unmarking
 from companion_cases.hook_commits import ATTRIBUTES, committed
 from companion_cases.leaks import again
