@@ -10,10 +10,10 @@ from collections.abc import Iterator
 
 import pytest
 
+from ansible_vault_companions.files.changes import Change, changed
 from ansible_vault_companions.program import Refused
 from ansible_vault_companions.secrets.sources import Secret, Source
 from ansible_vault_companions.yaml import nodes, inline
-from ansible_vault_companions.yaml.blocks import Change, changed
 from ansible_vault_companions.yaml.matching import Choice
 from ansible_vault_companions.yaml.values import Scan, Value
 from lib.needs import needs_pyyaml

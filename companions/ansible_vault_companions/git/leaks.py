@@ -7,7 +7,8 @@ import re
 import shlex
 from collections import Counter
 
-from ansible_vault_companions.files.envelopes import MAGIC, START, Envelope, envelopes
+from ansible_vault_companions.files.envelopes import MAGIC, START, Envelope
+from ansible_vault_companions.files.finding import envelopes
 from ansible_vault_companions.git import plain_values
 from ansible_vault_companions.git.attributes import VAULT_ALONE
 from ansible_vault_companions.program import shown

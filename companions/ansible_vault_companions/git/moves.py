@@ -7,7 +7,8 @@ from collections import Counter, defaultdict
 from functools import cached_property
 from typing import Callable, Iterator
 
-from ansible_vault_companions.files.envelopes import MAGIC, START, envelopes
+from ansible_vault_companions.files.envelopes import MAGIC, START
+from ansible_vault_companions.files.finding import envelopes
 from ansible_vault_companions.git import leaks, plain_values
 from ansible_vault_companions.git.commits import Change, File
 from ansible_vault_companions.git.plain_values import values

@@ -6,7 +6,8 @@ from collections import Counter, defaultdict
 from functools import lru_cache
 from typing import Iterable, NamedTuple
 
-from ansible_vault_companions.files.envelopes import MAGIC, envelopes
+from ansible_vault_companions.files.envelopes import MAGIC
+from ansible_vault_companions.files.finding import envelopes
 from ansible_vault_companions.program import Refused, shown
 from ansible_vault_companions.yaml.nodes import ALIAS, PLAIN, nodes
 from ansible_vault_companions.yaml.paths import Path, Step

@@ -12,12 +12,13 @@ from dataclasses import dataclass, field
 from typing import NamedTuple
 
 from ansible_vault_companions import parallel
+from ansible_vault_companions.files.changes import Change, changed
 from ansible_vault_companions.files.envelopes import BYTE_ORDER_MARK, matched
 from ansible_vault_companions.program import Refused
 from ansible_vault_companions.tool.keys import Decrypt
 from ansible_vault_companions.tool.tool import Tool
 from ansible_vault_companions.yaml import blocks, literals, matching
-from ansible_vault_companions.yaml.blocks import Change, Decrypted, named
+from ansible_vault_companions.yaml.blocks import Decrypted, named
 from ansible_vault_companions.yaml.matching import Choice, Typed
 from ansible_vault_companions.yaml.nodes import TAGS, NotYaml, decoded
 from ansible_vault_companions.yaml.values import LINE_END, Scan, Value
@@ -62,7 +63,7 @@ class Showing:
     still_encrypted: list[StillEncrypted] = field(default_factory=list)
 
     def text(self) -> bytes:
-        return blocks.changed(self.data, self.changes)
+        return changed(self.data, self.changes)
 
     def show(self, each: Decrypted) -> None:
         """Shows a plaintext as a literal, whose lines no comment and no empty line below can join."""
@@ -152,7 +153,7 @@ def encrypted(shown: Showing, text: bytes, tool: Tool, choice: Choice) -> bytes:
         elif old:
             envelopes[value] = old.block.envelope
             changes += old.block.in_place_of(value)
-    after = blocks.changed(text, changes)
+    after = changed(text, changes)
     if any(map(shown.needs_final_newline, shown.decrypted)):
         after = LAST_LINE_END.sub(b"", after)
     wanted = [envelopes.get(value, value.content).strip() for value in found.values]
