@@ -109,6 +109,10 @@ complete -c ansible-vault-rotate -l dry-run -d 'Write nothing, and report what w
 complete -c ansible-vault-rotate -l skip-documents -d 'Do not look for envelopes in documents'
 complete -c ansible-vault-rotate -l jobs -x -d 'How many vaults and blocks at once'
 complete -c ansible-vault-check -l label -x -d 'Decrypt only what has this label, and just count the rest'
+for name in check rotate
+    complete -c ansible-vault-$name -l tracked -d 'Look only at files that git tracks'
+    complete -c ansible-vault-$name -l exclude -x -d 'Leave out files and folders of this name or path'
+end
 complete -c ansible-vault-hook -l all -d 'Look at every file of the commit that is checked out'
 complete -c ansible-vault-hook -l since -x -d 'Look at each commit since this one, which is left out'
 complete -c ansible-vault-hook -l install -d 'Install the hooks of this clone'
