@@ -12,7 +12,7 @@ from lib.needs import needs
 
 FILES = ["a.yml", "b.txt", "tests/a.yml", "tests/fixtures/c.yml", "roles/tests/d.yml", "[x]/e.yml"]
 # What is left out by patterns, and what is found then.
-PATTERNS = {
+PATTERNS: dict[tuple[str, ...], list[str]] = {
     ("a.yml",): ["b.txt", "tests/fixtures/c.yml", "roles/tests/d.yml", "[x]/e.yml"],
     ("tests",): ["a.yml", "b.txt", "[x]/e.yml"],
     ("tests/",): ["a.yml", "b.txt", "[x]/e.yml"],
@@ -39,7 +39,8 @@ def test_named(place: Place) -> None:
     """A file that is a PATH is left out, too."""
     for name in FILES:
         place.put(name, sealed("old"))
-    assert found(place, "--exclude", "tests/*", "--exclude", "b.txt", *FILES) == ["[x]/e.yml", "a.yml", "roles/tests/d.yml"]
+    left = found(place, "--exclude", "tests/*", "--exclude", "b.txt", *FILES)
+    assert left == ["[x]/e.yml", "a.yml", "roles/tests/d.yml"]
 
 
 def test_rotated(place: Place) -> None:

@@ -1,5 +1,5 @@
-"""How many keys each companion derives, which is what its runs cost: one for each envelope and secret that is tried, and
-one for each envelope that is made, however often an envelope stands in the files.
+"""How many keys each companion derives, which is what its runs cost: one for each envelope and secret that is tried,
+and one for each envelope that is made, however often an envelope stands in the files.
 
 Each run of the program over something derives one key, so these runs are counted.
 """

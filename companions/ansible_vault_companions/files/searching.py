@@ -86,14 +86,15 @@ def _candidates(
     for folder, folders, names in os.walk(path, onerror=lambda fault: refuse(fault.filename, fault)):
         stopping.check()
         below = os.path.relpath(folder, path)
-        left = lambda name: not _is_excluded(os.path.normpath(os.path.join(below, name)), excluded)
-        folders[:] = sorted(name for name in folders if name != ".git" and left(name))
-        yield from ((os.path.join(folder, name), False) for name in sorted(filter(left, names)))
+        paths = {name: os.path.normpath(os.path.join(below, name)) for name in [*folders, *names]}
+        left = {name for name, each in paths.items() if not _is_excluded(each, excluded)}
+        folders[:] = sorted(name for name in folders if name in left and name != ".git")
+        yield from ((os.path.join(folder, name), False) for name in sorted(left.intersection(names)))
 
 
 def _is_excluded(path: str, patterns: Collection[str]) -> bool:
     """Whether the name of a file or folder below the one that is searched is like a pattern, or its path is."""
-    normal = map(os.path.normpath, patterns)
+    normal = [os.path.normpath(pattern) for pattern in patterns]
     return any(fnmatchcase(path if "/" in pattern else os.path.basename(path), pattern) for pattern in normal)
 
 

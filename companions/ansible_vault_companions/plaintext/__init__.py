@@ -1,6 +1,6 @@
 """Shows the plaintext of files, and encrypts it again.
 
-`loading` decrypts a vault, or YAML with values that are vaults, and says how its text is encrypted again. `edits` runs an
-editor over that text, and puts it back or keeps it in an encrypted copy.
+`loading` decrypts a vault, or YAML with values that are vaults, and says how its text is encrypted again. `edits` runs
+an editor over that text, and puts it back or keeps it in an encrypted copy.
 May import files, secrets, tool, yaml, git.
 """

@@ -1,4 +1,4 @@
-"""Runs ansible-vault no more often than it takes, since each run derives a key: an envelope may stand in several places."""
+"""Runs ansible-vault no more often than it takes: each run derives a key, and an envelope may be anywhere twice."""
 
 from __future__ import annotations
 
