@@ -87,6 +87,7 @@ _ansible_vault_arguments() {
         '--jobs=[how many vaults and blocks at once]:number: '
     )
 
+    local -a to_set=('--value=[set this value of YAML from standard input]:path: ')
     # Of what is searched.
     local -a left_out=(
         '--tracked[look only at files that git tracks]'
@@ -99,10 +100,10 @@ _ansible_vault_arguments() {
         view) _arguments -s -S $help $secrets $label_match $file ;;
         rekey) _arguments -s -S $help $secrets $rekey_options $rekey_id $label_match $salt $output $file ;;
         encrypt_string) _arguments -s -S $help $secrets $encrypt_id $salt $names $output $typed '1:text: ' ;;
-        create|edit) _arguments -s -S $common $all_secrets $encrypt_id $file ;;
+        create|edit) _arguments -s -S $common $all_secrets $encrypt_id $to_set $file ;;
         rotate) _arguments -s -S $common $all_secrets $new_secrets $rotation $left_out '*:path:_ansible_vault_files' ;;
         check) _arguments -s -S $common $all_secrets $labels $left_out '*:path:_ansible_vault_files' ;;
-        textconv) _arguments -s -S $common $all_secrets $file ;;
+        textconv) _arguments -s -S $common $all_secrets '--value=[write this value alone]:path: ' $file ;;
         merge) _arguments -s -S $common $all_secrets '*:file:_ansible_vault_files' ;;
         hook) _arguments -s -S $common $commits ;;
     esac

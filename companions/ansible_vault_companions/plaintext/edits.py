@@ -15,6 +15,7 @@ from ansible_vault_companions.files.last_save import LastSave
 from ansible_vault_companions.files.private_folder import PrivateFolder
 from ansible_vault_companions.git import leaks
 from ansible_vault_companions.plaintext.loading import Values, Vault
+from ansible_vault_companions.plaintext.single import SingleValue
 from ansible_vault_companions.program import Refused, write_error
 from ansible_vault_companions.secrets import options
 from ansible_vault_companions.tool import layers
@@ -23,6 +24,7 @@ from ansible_vault_companions.tool.tool import Tool
 NAME = "ansible-vault-edit"
 SHOWS = "ansible-vault-textconv"
 ITSELF_A_VAULT = "what you saved is itself a vault, which is not encrypted once more"
+GIVEN_A_VAULT = "standard input is itself a vault, which is not encrypted once more"
 # A first line for a text that only begins like a vault.
 BELOW = b"# What was saved begins below.\n"
 # What ends the name of a copy of the save before the last.
@@ -34,7 +36,7 @@ class Edit:
     """An edit of a plaintext, which is in a folder, under the name of the vault."""
 
     tool: Tool
-    vault: Vault | Values
+    vault: Vault | Values | SingleValue
     folder: PrivateFolder
     # Of the file, as the command line has it.
     path: str
@@ -126,8 +128,12 @@ class Edit:
 
     def mending_steps(self, copy: str) -> list[str]:
         """The commands that edit a copy, which is a vault, and then save its text in an edit of the file."""
-        shows = f"VISUAL={shlex.quote(f'{shlex.join([SHOWS, *self.options(), copy])} >')}"
+        show = shlex.join([SHOWS, *self.options(), copy])
         label = ["--encrypt-vault-id", self.args.encrypt_vault_id] if self.args.encrypt_vault_id else []
+        if isinstance(self.vault, SingleValue):
+            sets = shlex.join([NAME, *self.options(), *label, "--value", self.vault.path, "--", self.path])
+            return [f"To put it into {self.path}:", f"  {show} | {sets} && rm {shlex.quote(copy)}"]
+        shows = f"VISUAL={shlex.quote(f'{show} >')}"
         return [
             f"To mend it, and to put it into {self.path}:",
             f"  {shlex.join([NAME, *self.options(), copy])}",
@@ -170,3 +176,25 @@ def edit(tool: Tool, vault: Vault | Values, path: str, args: argparse.Namespace)
         if fault:
             raise Refused(f"{fault}; nothing was changed")
     return None
+
+
+def set_value(tool: Tool, value: SingleValue, path: str, args: argparse.Namespace) -> None:
+    """Puts standard input in the place of a value."""
+    with PrivateFolder() as folder:
+        this = Edit(tool, value, folder, path, args)
+        text = standard_input()
+        if text.startswith(MAGIC):
+            raise Refused(GIVEN_A_VAULT)
+        with stopping.postponed():
+            if not value.is_as_it_was(text):
+                this.put_back(text, "")
+
+
+def standard_input() -> bytes:
+    if os.isatty(0):
+        raise Refused("the value is read from standard input, which is a terminal; give it by a pipe or from a file")
+    with stopping.interruptible(), open(0, "rb", closefd=False) as file:
+        text = file.read(reading.LIMIT + 1)
+    if len(text) > reading.LIMIT:
+        raise Refused("standard input is longer than any vault")
+    return text

@@ -25,6 +25,7 @@ NO_VAULT = (
     "it is not a vault, and no value in it has the tag `!vault`; encrypt it with `ansible-vault-with encrypt`, or "
     "write `NAME: !vault TEXT` in it for a single value and run this again"
 )
+NO_OPTION = "no option can give the label {}, which has an @"
 TO_ADD = "; or to add values without seeing the others, choose their secret with --encrypt-vault-id"
 
 
@@ -119,7 +120,7 @@ def load(tool: Tool, secrets: list[Secret], path: str, new_label: str | None) ->
     keys, plaintext = layers.decrypted(lambda vault: tool.decrypt(vault, secrets), content)
     for _, label in keys:
         if "@" in label:
-            raise Refused(f"no option can give the label {label}, which has an @")
+            raise Refused(NO_OPTION.format(label))
     return Vault(target, keys, plaintext, envelope)
 
 

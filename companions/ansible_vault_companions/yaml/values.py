@@ -15,7 +15,7 @@ from ansible_vault_companions.files.envelopes import matched
 from ansible_vault_companions.yaml import nodes
 from ansible_vault_companions.yaml.lookalikes import lookalikes
 from ansible_vault_companions.yaml.nodes import Node
-from ansible_vault_companions.yaml.paths import Path
+from ansible_vault_companions.yaml.paths import Extend, Path, by_keys
 
 # How a line ends in YAML 1.1.
 LINE_END = re.compile(rb"(?:\r\n?|\n|\xc2\x85|\xe2\x80[\xa8\xa9])")
@@ -62,9 +62,10 @@ class Value(NamedTuple):
 class Scan:
     """What a file contains."""
 
-    def __init__(self, data: bytes) -> None:
+    def __init__(self, data: bytes, extend: Extend = by_keys) -> None:
         self.data = data
         self.text = nodes.decoded(data)
+        self.extend = extend
         self.tagged = _Places(node for node in self._nodes(nodes.TAGS) if node.style != nodes.ALIAS)
         self.values = list(self._values())
 
@@ -93,8 +94,8 @@ class Scan:
     def _nodes(self, tags: Collection[str] = ()) -> Iterable[Node]:
         sides = _sides(self.text) if CONFLICT in self.text else []
         if not sides:
-            return nodes.nodes(self.data, tags)
-        found = {(node.start, node.end): node for side in sides for node in nodes.nodes(side, tags)}
+            return nodes.nodes(self.data, tags, self.extend)
+        found = {(node.start, node.end): node for side in sides for node in nodes.nodes(side, tags, self.extend)}
         return [found[place] for place in sorted(found)]
 
     @cached_property
