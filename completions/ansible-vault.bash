@@ -158,7 +158,7 @@ _ansible_vault_with_options() {
 _ansible_vault_companion_options() {
     local common="--vault-id --vault-password-file $_ansible_vault_asking --help -h --version -V"
     case $1 in
-    ansible-vault-edit) echo "$common --encrypt-vault-id --value" ;;
+    ansible-vault-edit) echo "$common --encrypt-vault-id --value --resume" ;;
     ansible-vault-textconv) echo "$common --value" ;;
     ansible-vault-rotate)
         echo "$common --new-vault-id --new-vault-password-file --dry-run --skip-documents --tracked --exclude --jobs"

@@ -78,6 +78,7 @@ complete -c ansible-vault-with -n "$none" -a edit -d 'An encrypted file in an ed
 complete -c ansible-vault-with -n "$given create edit rekey" -l encrypt-vault-id -x \
     -d 'The label of the secret to encrypt with'
 complete -c ansible-vault-with -n "$given create edit" -l value -x -d 'Set this value of YAML from standard input'
+complete -c ansible-vault-with -n "$given create edit" -l resume -d 'Begin with what an earlier edit kept'
 complete -c ansible-vault-with -n "$given encrypt_string" -s p -l prompt -d 'Ask for a string'
 complete -c ansible-vault-with -n "$given encrypt_string" -l show-input -d 'Show the string while it is typed'
 complete -c ansible-vault-with -n "$given create edit" -F
@@ -103,6 +104,7 @@ end
 complete -c ansible-vault-edit -l encrypt-vault-id -x \
     -d 'The label of the secret for what is new'
 complete -c ansible-vault-edit -l value -x -d 'Set this value of YAML from standard input'
+complete -c ansible-vault-edit -l resume -d 'Begin with what an earlier edit kept'
 complete -c ansible-vault-textconv -l value -x -d 'Write this value alone'
 complete -c ansible-vault-rotate -l new-vault-id -x -a '(__ansible_vault_ids)' \
     -d 'The password file of a new secret, with its label'

@@ -87,7 +87,10 @@ _ansible_vault_arguments() {
         '--jobs=[how many vaults and blocks at once]:number: '
     )
 
-    local -a to_set=('--value=[set this value of YAML from standard input]:path: ')
+    local -a edits=(
+        '(--resume)--value=[set this value of YAML from standard input]:path: '
+        '(--value)--resume[begin with what an earlier edit kept]'
+    )
     # Of what is searched.
     local -a left_out=(
         '--tracked[look only at files that git tracks]'
@@ -100,7 +103,7 @@ _ansible_vault_arguments() {
         view) _arguments -s -S $help $secrets $label_match $file ;;
         rekey) _arguments -s -S $help $secrets $rekey_options $rekey_id $label_match $salt $output $file ;;
         encrypt_string) _arguments -s -S $help $secrets $encrypt_id $salt $names $output $typed '1:text: ' ;;
-        create|edit) _arguments -s -S $common $all_secrets $encrypt_id $to_set $file ;;
+        create|edit) _arguments -s -S $common $all_secrets $encrypt_id $edits $file ;;
         rotate) _arguments -s -S $common $all_secrets $new_secrets $rotation $left_out '*:path:_ansible_vault_files' ;;
         check) _arguments -s -S $common $all_secrets $labels $left_out '*:path:_ansible_vault_files' ;;
         textconv) _arguments -s -S $common $all_secrets '--value=[write this value alone]:path: ' $file ;;

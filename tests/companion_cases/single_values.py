@@ -117,10 +117,11 @@ def test_set(place: Place, both: list[str], path: str, text: bytes) -> None:
     """It keeps label and secret, and all else every byte."""
     silent("it is set", set_to(place, text, *both, "--value", path, "vars.yml"))
     assert shown(place, *both, "--value", path, "vars.yml") == (0, text, "")
-    after, others = place.get("vars.yml"), [each for each in VALUES if VALUES[each] != VALUES[path]]
-    assert [shown(place, *both, "--value", each, "vars.yml")[1] for each in others] == [VALUES[each] for each in others]
+    others = {each: value for each, value in VALUES.items() if value != VALUES[path]}
+    assert {each: shown(place, *both, "--value", each, "vars.yml")[1] for each in others} == others, "the others stay"
     around = lambda content: [line for line in content.splitlines() if not line.strip().isalnum()]
-    assert (around(after), place.mode("vars.yml")) == (around(FILE), "0o640"), "the labels, the layout and the mode stay"
+    after = around(place.get("vars.yml")), place.mode("vars.yml")
+    assert after == (around(FILE), "0o640"), "the labels, the layout and the mode stay"
 
 
 def test_as_it_was(place: Place, both: list[str]) -> None:
@@ -139,7 +140,8 @@ def test_moved(place: Place, both: list[str]) -> None:
     silent("by the new secret alone", set_to(place, b"new", *both[2:], *words))
     assert texts(place.get("vars.yml"), "prod")[0] == b"new"
     place.put("vars.yml", FILE)
-    ended("no such label", set_to(place, b"x", *both, "--encrypt-vault-id", "x", *words[2:]), 1, "no secret has the label")
+    done = set_to(place, b"x", *both, "--encrypt-vault-id", "x", *words[2:])
+    ended("no such label", done, 1, "no secret has the label")
     done = place.run("sh", "-c", 'ANSIBLE_VAULT_ENCRYPT_IDENTITY=prod "$@" < ../given', "sh", EDIT, *both, *words[2:])
     silent("a setting", done)
     assert place.get("vars.yml").count(b";prod\n") == 1, "does not move it"

@@ -1,7 +1,7 @@
 """Paths as somebody types them: keys with dots between them, and the numbers of items of lists, as in `users[0].name`.
 
-A key with a dot, a bracket or a quote is in double quotes, with the escapes of JSON. Messages write an item of a list as
-`[]`, which is understood where no other value has that path.
+A key with a dot, a bracket or a quote is in double quotes, with the escapes of JSON. Messages write an item of a list
+as `[]`, which is understood where no other value has that path.
 """
 
 from __future__ import annotations
