@@ -160,7 +160,7 @@ def test_under_another_password(cases: Companions) -> None:
     needs_pyyaml()
     files = {
         "a vault": (sealed("prod", label="prod"), sealed("dev", label="prod"), sealed("dev", label="dev")),
-        "values": tuple(block(each, label=label) for each, label in (("prod", "prod"), ("dev", "prod"), ("dev", "dev"))),
+        "values": (block("prod", label="prod"), block("dev", label="prod"), block("dev", label="dev")),
         "a value of two": (
             block("prod", label="prod") + block("dev", label="dev", name="b"),
             block("dev", label="prod") + block("dev", label="dev", name="b"),

@@ -10,7 +10,8 @@ from pathlib import Path
 
 import pytest
 
-from ansible_vault_companions.plaintext.single import SingleValue, value_of
+from ansible_vault_companions.plaintext.setting import SingleValue
+from ansible_vault_companions.plaintext.single import value_of
 from ansible_vault_companions.program import Refused
 from ansible_vault_companions.yaml.matching import Choice
 from ansible_vault_companions.yaml.nodes import nodes

@@ -14,7 +14,7 @@ from ansible_vault_companions.files.envelopes import MAGIC
 from ansible_vault_companions.files.private_folder import PrivateFolder
 from ansible_vault_companions.git import leaks
 from ansible_vault_companions.plaintext.loading import Values, Vault
-from ansible_vault_companions.plaintext.single import SingleValue
+from ansible_vault_companions.plaintext.setting import SingleValue
 from ansible_vault_companions.program import Refused
 from ansible_vault_companions.secrets import options
 from ansible_vault_companions.tool import layers
@@ -129,8 +129,8 @@ def newest(target: str) -> str:
 
 
 def taken_up(copy: str, vault: Vault | Values, decrypt: Decrypt) -> bytes:
-    """The text of a copy, which is a vault or, where the text was finished, YAML with values that are. Somebody may have
-    put the file, or a value of it, under another password meanwhile, which the text must not get."""
+    """The text of a copy, which is a vault or, where the text was finished, YAML with values that are. Somebody may
+    have put the file, or a value of it, under another password meanwhile, which the text must not get."""
     content = reading.named(copy)
     if content.startswith(MAGIC):
         keys, text = layers.decrypted(decrypt, content)

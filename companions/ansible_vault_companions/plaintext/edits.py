@@ -14,7 +14,7 @@ from ansible_vault_companions.files.private_folder import PrivateFolder
 from ansible_vault_companions.git import leaks
 from ansible_vault_companions.plaintext.copies import NAME, Copies
 from ansible_vault_companions.plaintext.loading import Values, Vault
-from ansible_vault_companions.plaintext.single import SingleValue
+from ansible_vault_companions.plaintext.setting import SingleValue
 from ansible_vault_companions.program import Refused, write_error
 from ansible_vault_companions.secrets import prompts
 from ansible_vault_companions.tool.tool import Tool

@@ -1,12 +1,11 @@
 """Paths as somebody types them: keys with dots between them, and the numbers of items of lists, as in `users[0].name`.
 
-A key with a dot, a bracket or a quote is in double quotes, with the escapes of JSON. Messages write an item of a list
-as `[]`, which is understood where no other value has that path.
+A key with a dot, a bracket or a double quote is in double quotes, and there a backslash precedes a double quote or a
+backslash. Messages write an item of a list as `[]`, which is understood where no other value has that path.
 """
 
 from __future__ import annotations
 
-import json
 import re
 from typing import TypeVar
 
@@ -29,8 +28,12 @@ def typed(path: Path, _last: Step, step: Step) -> Path:
     """How a path goes on that has in each step what is typed for it."""
     if isinstance(step, int):
         return Path(path, f"[{step}]")
-    key = step if KEY.fullmatch(step) else json.dumps(step, ensure_ascii=False)
+    key = step if KEY.fullmatch(step) else quoted(step)
     return Path(path, key if path.above is None else f".{key}")
+
+
+def quoted(key: str) -> str:
+    return '"%s"' % re.sub(r'(["\\])', r"\\\1", key)
 
 
 def is_at(path: str, found: Path) -> bool:
