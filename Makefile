@@ -130,7 +130,7 @@ mutants: all
 
 # All of them, file by file. A part with fewer tests than its floor fails, and the last line counts the tests.
 test: packages all $(if $(shell command -v rt),bin/vault_allocation_failures)
-	$(TESTING) -m 'not attacks' --dist=loadfile --floors --runs=6000 --seconds=120 --share=20
+	$(TESTING) -m '' --dist=loadfile --floors --runs=6000 --seconds=120 --share=20
 
 # No part of the gate: plants faults in copies of the repository, and runs the test that is to catch each.
 planted: all

@@ -43,8 +43,9 @@ OFFERED = {
 
 @pytest.fixture(params=SHELLS)
 def shell(request: pytest.FixtureRequest) -> str:
-    needs_shell(request.param)
-    return request.param
+    name: str = request.param
+    needs_shell(name)
+    return name
 
 
 @pytest.fixture
@@ -177,7 +178,7 @@ def test_alias_that_zsh_does_not_expand(folder: pathlib.Path) -> None:
 
 
 @pytest.mark.parametrize("line, wanted", {"cre": ["create"], "-J edit one.y": ["-J", "edit", "one.yml"]}.items())
-def test_alias_typed_in_bash(folder: pathlib.Path, line, wanted) -> None:
+def test_alias_typed_in_bash(folder: pathlib.Path, line: str, wanted: list[str]) -> None:
     needs_shell("bash")
     assert typed_in_bash(line, folder, SHORT) == wanted
 
@@ -201,7 +202,9 @@ HOME_PATHS = {
 
 @pytest.mark.parametrize("words, is_expanded", HOME_PATHS.items())
 @pytest.mark.parametrize("name", ("ansible-vault", "ansible-vault-with"))
-def test_home(shell: str, folder: pathlib.Path, monkeypatch: pytest.MonkeyPatch, name, words, is_expanded) -> None:
+def test_home(
+    shell: str, folder: pathlib.Path, monkeypatch: pytest.MonkeyPatch, name: str, words: str, is_expanded: bool
+) -> None:
     """`~` is offered where the shell expands it; elsewhere the path of the folder, and in fish nothing."""
     monkeypatch.setenv("HOME", str(folder))
     (folder / "work").mkdir()
@@ -247,7 +250,7 @@ QUOTED = {
 
 @pytest.mark.parametrize("option", ("--vault-id ", "--vault-id="))
 @pytest.mark.parametrize("value, wanted", QUOTED.items())
-def test_quoted_in_fish(folder: pathlib.Path, value, wanted, option) -> None:
+def test_quoted_in_fish(folder: pathlib.Path, value: str, wanted: str, option: str) -> None:
     needs_shell("fish")
     start = option if option.endswith("=") else ""
     assert SHELLS["fish"](f"ansible-vault view {option}{value}", folder) == {start + wanted}

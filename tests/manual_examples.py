@@ -22,18 +22,17 @@ def examples(page: pathlib.Path = PAGE) -> dict[str, str]:
     """The shell of each of the EXAMPLES of a manual page, by the first three words of the text before it."""
     display = r"(?:\A|^\.Pp)\n((?:(?!\.Pp$).+\n)+?)\.Bd .*\n((?:.*\n)+?)\.Ed$"
     found = re.findall(display, sections(page.read_text())["EXAMPLES"], re.MULTILINE)
-    lines = lambda text: [line.removeprefix("$ ") for line in shown(text).splitlines()]
-    return {" ".join(words.split()[:3]): "\n".join(lines(text)) + "\n" for words, text in found}
+    return {" ".join(words.split()[:3]): shown(text) for words, text in found}
 
 
 def shown(text: str) -> str:
-    """What a display of the page shows."""
+    """What a display of the page shows, without the prompts."""
     for spelling, character in ((r"\(aq", "'"), (r"\(ha", "^"), (r"\e", "\\")):
         text = text.replace(spelling, character)
-    return text
+    return re.sub(r"^\$ ", "", text, flags=re.MULTILINE)
 
 
-def check_encrypt(repository: Repository, shell: str):
+def check_encrypt(repository: Repository, shell: str) -> None:
     repository.put("plain.yml", b"plain: text\n")
     repository.put("group_vars/all/.keep", b"")
     ran = repository.shell(shell)
@@ -43,7 +42,7 @@ def check_encrypt(repository: Repository, shell: str):
     assert repository.get("other.yml") == b"plain: text\n", "the other is its plaintext"
 
 
-def check_string(repository: Repository, shell: str):
+def check_string(repository: Repository, shell: str) -> None:
     repository.put("vars.yml", b"first: 1\n")
     ran = repository.shell(shell, secret="correct horse")
     assert (ran.returncode, ran.stderr) == (0, ""), "a block is made"
@@ -54,7 +53,7 @@ def check_string(repository: Repository, shell: str):
     assert shown == "correct horse", "of the secret"
 
 
-def check_typed(repository: Repository, shell: str):
+def check_typed(repository: Repository, shell: str) -> None:
     needs("bash", "zsh")
     repository.put("vault.yml", seal(PASSWORDS["old.pass"], b"shown\n"))
     rows = [(interpreter, password) for interpreter in ("bash", "zsh") for password in ("the old one", "another")]
@@ -116,7 +115,10 @@ EXAMPLES = [(name, title) for name in COMPANIONS for title in examples(PAGE.with
 
 def example_repository(repository: Repository, password: str) -> str:
     """What the examples of the companions' pages work on; and the editor."""
-    vault = lambda text: seal(PASSWORDS[password], text, b"prod")
+
+    def vault(text: bytes) -> bytes:
+        return seal(PASSWORDS[password], text, b"prod")
+
     repository.put("ansible.cfg", SETTINGS.encode())
     repository.put(".gitattributes", MARKS.encode())
     for name in ("group_vars/all/vault.yml", "one.vault.yml", "a.yml", "b.yml"):

@@ -8,6 +8,7 @@ import re
 import subprocess
 import sys
 from collections.abc import Iterable
+from operator import attrgetter
 from pathlib import Path
 
 import pytest
@@ -123,7 +124,7 @@ VALUES = {
 
 @pytest.mark.parametrize("entry", table_options())
 @pytest.mark.parametrize("shell", SHELLS)
-def test_completed_values(shell: str, tmp_path: Path, entry) -> None:
+def test_completed_values(shell: str, tmp_path: Path, entry: Entry) -> None:
     """After an option a shell offers files where its value is a path, and none elsewhere."""
     needs_shell(shell)
     (tmp_path / "one.pass").touch()
@@ -161,7 +162,7 @@ def is_helped(entry: Entry, text: str) -> bool:
 
 
 @pytest.mark.parametrize("command, options", OPTIONS.items())
-def test_model(command, options) -> None:
+def test_model(command: str, options: set[str]) -> None:
     assert options | COMMON == long(page_sets()[command]) - {"--help"}
 
 
@@ -174,6 +175,10 @@ def flat(sets: list[set[str]]) -> list[str]:
     return sorted(set().union(*sets))
 
 
+def in_order(sets: list[set[str]]) -> list[list[str]]:
+    return sorted(sorted(each) for each in sets)
+
+
 @pytest.mark.parametrize("name", COMPANIONS)
 def test_companion(name: str) -> None:
     """The page of a companion beside its help."""
@@ -181,7 +186,6 @@ def test_companion(name: str) -> None:
     titles = [title for title in page if title not in FURTHER]
     assert titles == SECTIONS, "its page has the sections of every companion's"
     described, in_help = spellings(page["OPTIONS"]), companion_options(name)
-    in_order = lambda options: sorted(map(sorted, options))
     assert in_order(described) == in_order(in_help), "its page describes the options of its help"
     named = options_in(page["SYNOPSIS"])
     assert [each for each in described if not each & named] == [], "the synopsis names each option"
@@ -207,15 +211,15 @@ def test_variables() -> None:
 def test_references() -> None:
     """The page of the program lists the companions, by the words of their pages, and each page that is referred
     to is there."""
-    listed = dict(re.findall(r"^\.It Xr (\S+) 1 Ta (.+)$", sections(PAGE.read_text())["COMPANIONS"], re.MULTILINE))
-    described = {name: re.search(r"^\.Nd (.+)$", companion_page(name)["NAME"], re.MULTILINE)[1] for name in COMPANIONS}
-    assert listed == described, "the page lists the companions"
+    items = re.findall(r"^\.It Xr (\S+) 1 Ta (.+)$", sections(PAGE.read_text())["COMPANIONS"], re.MULTILINE)
+    described = {name: re.findall(r"^\.Nd (.+)$", companion_page(name)["NAME"], re.MULTILINE) for name in COMPANIONS}
+    assert {name: [words] for name, words in items} == described, "the page lists the companions"
     assert {page.stem for page in PAGES} == {"ansible-vault", *COMPANIONS}, "each companion has a page"
     references = set().union(*(re.findall(r"\bXr (ansible-vault\S*) 1", page.read_text()) for page in PAGES))
     assert sorted(references - {page.stem for page in PAGES}) == [], "each page that is referred to is there"
 
 
-@pytest.mark.parametrize("page", PAGES, ids=lambda page: page.stem)
+@pytest.mark.parametrize("page", PAGES, ids=attrgetter("stem"))
 @pytest.mark.parametrize("tool", CHECKERS)
 def test_page_as_it_is_shown(tool: str, page: Path) -> None:
     needs(tool)
@@ -238,20 +242,29 @@ def shell_of(text: str) -> str:
     return re.sub(r" (?:\\e|\\)\n +", " ", text)
 
 
-def test_abbreviations() -> None:
-    """ansible-vault-with abbreviates the long options of each command."""
-    program = f"import sys; sys.path.insert(0, {str(ROOT / 'companions')!r})\n" + (
-        "from ansible_vault_companions.alias.words import HELP, OPTIONS, SECRETS\n"
-        "import json; print(json.dumps({name: [*HELP, *SECRETS, *each] for name, each in OPTIONS.items()}))"
+# What Ansible's tool has for each command, beside what the program has.
+OF_SECRETS = {"--vault-pass-file", "-J", "--ask-vault-password", "--ask-vault-pass", "--verbose"}
+
+
+def test_alias(program: str) -> None:
+    """The table of ansible-vault-with has the options of each command's help, those with a value among them, and the
+    options of Ansible's tool."""
+    code = f"import sys; sys.path.insert(0, {str(ROOT / 'companions')!r})\n" + (
+        "from ansible_vault_companions.alias.table import FLAG, OPTIONS, VALUE; import json\n"
+        "print(json.dumps([(name, kind in (FLAG, 'asks'), commands) for name, (kind, commands) in OPTIONS.items()]))"
     )
-    done = subprocess.run([sys.executable, "-B", "-c", program], capture_output=True, check=True)
-    known, sets = json.loads(done.stdout), page_sets()
-    of_ansible = {"--vault-pass-file", "--ask-vault-password", "--ask-vault-pass"}
-    wanted = {name: long(sets[name] | of_ansible | OF_ANSIBLE.get(name, set())) for name in sets if name}
-    assert {name: long(known[name]) for name in wanted} == wanted
+    done = subprocess.run([sys.executable, "-B", "-c", code], capture_output=True, check=True)
+    table = json.loads(done.stdout)
+    for command in help_commands(help_text(program, None)):
+        text, of_ansible = help_text(program, command), OF_SECRETS | OF_ANSIBLE.get(command, set())
+        known = {name for name, _, commands in table if command in commands}
+        assert known == help_options(text) - {"-h", "-n"} | of_ansible - {"-p"}, command
+        values = set(re.findall(r"(--[\w-]+) <", text))
+        assert {name for name, is_alone, _ in table if name in known & help_options(text) and not is_alone} == values
+    assert {command for _, _, commands in table for command in commands} >= {"create", "edit"}
 
 
-@pytest.mark.parametrize("document", DOCUMENTS, ids=lambda path: path.name)
+@pytest.mark.parametrize("document", DOCUMENTS, ids=attrgetter("name"))
 def test_commands(document: Path) -> None:
     """The options that a document gives to a companion are some of it, or of a command of the tool."""
     sets, unknown = page_sets(), []

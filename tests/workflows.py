@@ -46,17 +46,18 @@ def recipes() -> dict[str, str]:
     """The shell below each heading of the document."""
     document = (ROOT / "docs" / "workflows.md").read_text()
     _, *parts = re.split(r"^## (.+)$", document, flags=re.MULTILINE)
-    lines = lambda text: [line[4:] for line in text.splitlines() if line.startswith("    ")]
-    return {title: "\n".join(lines(text)) + "\n" for title, text in zip(parts[::2], parts[1::2])}
+    lines = {title: re.findall(r"^    (.*)$", text, re.MULTILINE) for title, text in zip(parts[::2], parts[1::2])}
+    return {title: "\n".join(of_title) + "\n" for title, of_title in lines.items()}
 
 
 def shown_settings() -> str:
     """The `ansible.cfg` of the document."""
     document = (ROOT / "docs" / "workflows.md").read_text()
-    return re.search(r"^```ini\n(.*?)^```$", document, re.MULTILINE | re.DOTALL)[1]
+    [found] = re.finditer(r"^```ini\n(.*?)^```$", document, re.MULTILINE | re.DOTALL)
+    return found[1]
 
 
-def check_differences(repository: Repository, shell: str):
+def check_differences(repository: Repository, shell: str) -> None:
     """A file that is at first not encrypted, then under the old password, then under the new one."""
     name = "group_vars/all/vault.yml"
     repository.put(".gitattributes", MARKS.encode())
@@ -71,8 +72,8 @@ def check_differences(repository: Repository, shell: str):
     assert ran.stdout.splitlines() == shown, "git shows and finds the plaintext"
     changes = [("-", "second"), ("+", "third"), ("-", "first"), ("+", "second"), ("+", "first")]
     wanted = [f"{sign}db_password: {text}" for sign, text in changes]
-    ran = [repository.shell("git log -p --format=", folder) for folder in (".", "group_vars")]
-    found = [(each.returncode, re.findall(r"^[-+]db_password.*$", each.stdout, re.MULTILINE)) for each in ran]
+    logs = [repository.shell("git log -p --format=", folder) for folder in (".", "group_vars")]
+    found = [(each.returncode, re.findall(r"^[-+]db_password.*$", each.stdout, re.MULTILINE)) for each in logs]
     assert found == [(0, wanted)] * 2, "git shows the plaintext of each commit, in each folder"
 
 
@@ -81,7 +82,7 @@ def played(shown: str) -> list[str]:
     return re.findall(r'"msg": "(.*)"', shown)
 
 
-def check_settings(repository: Repository, shell: str):
+def check_settings(repository: Repository, shell: str) -> None:
     repository.put("host_vars/web1/secrets.yml", b"port: 1\n")
     repository.put("group_vars/all/vault.yml", b"shared: battery staple\n")
     repository.put("inventory", INVENTORY.encode())
@@ -97,7 +98,7 @@ def check_settings(repository: Repository, shell: str):
     assert first_lines == [b"$ANSIBLE_VAULT;1.2;AES256;prod"] * 2, "both are vaults of the label"
 
 
-def check_playbook(repository: Repository, shell: str):
+def check_playbook(repository: Repository, shell: str) -> None:
     repository.put("plain.yml", b"shared: battery staple\n")
     repository.put("group_vars/all/.keep", b"")
     repository.put("host_vars/web1.yml", b"port: 5432\n")
@@ -109,7 +110,7 @@ def check_playbook(repository: Repository, shell: str):
     assert repository.get("plain.yml") == b"shared: battery staple\n", "the plaintext is still there"
 
 
-def check_edit(repository: Repository, shell: str):
+def check_edit(repository: Repository, shell: str) -> None:
     name = "group_vars/all/vault.yml"
     repository.put(name, seal(PASSWORDS["prod.pass"], b"password: first\n", b"prod"))
     (repository.folder / name).chmod(0o640)
@@ -120,7 +121,7 @@ def check_edit(repository: Repository, shell: str):
     assert repository.mode(name) == "0o640", "it keeps its mode"
 
 
-def check_asked(repository: Repository, shell: str):
+def check_asked(repository: Repository, shell: str) -> None:
     repository.put("group_vars/all/vault.yml", seal(PASSWORDS["old.pass"], b"shown\n"))
     passwords = ("the old one", "another")
     shown = [repository.pasted(f"{shell.rstrip()}; exit\n", password) for password in passwords]
@@ -128,7 +129,7 @@ def check_asked(repository: Repository, shell: str):
     assert [each for each, password in zip(shown, passwords) if password in each] == [], "and none is shown"
 
 
-def check_rotation(repository: Repository, shell: str):
+def check_rotation(repository: Repository, shell: str) -> None:
     repository.put("vars/a.yml", seal(PASSWORDS["old.pass"], b"a"))
     repository.put("b.yml", block("secret", "b", "old.pass", "").encode())
     kept = seal(PASSWORDS["prod.pass"], b"c", b"prod")
@@ -143,7 +144,7 @@ def check_rotation(repository: Repository, shell: str):
     assert output == "600\n32\n", "which has 32 bytes, and is readable by its owner only"
 
 
-def check_check(repository: Repository, shell: str):
+def check_check(repository: Repository, shell: str) -> None:
     repository.put("vars/a.yml", seal(PASSWORDS["new.pass"], b"a"))
     repository.put("b.yml", block("secret", "b", "prod.pass", "prod").encode())
     ran = repository.shell(shell)
@@ -158,7 +159,7 @@ def check_check(repository: Repository, shell: str):
     assert repository.shell(shell).returncode == 1, "a stray vault"
 
 
-def check_hook(repository: Repository, shell: str):
+def check_hook(repository: Repository, shell: str) -> None:
     repository.put(".gitattributes", MARKS.encode())
     ran = repository.shell(shell)
     assert (ran.returncode, ran.stderr) == (0, ""), "the hook is put in its place"
@@ -170,7 +171,7 @@ def check_hook(repository: Repository, shell: str):
     assert (ran.returncode, ran.stderr.splitlines(True)[0]) == (1, message), "it refuses plaintext"
 
 
-def check_first_day(repository: Repository, shell: str):
+def check_first_day(repository: Repository, shell: str) -> None:
     repository.put(".gitattributes", MARKS.encode())
     repository.put("vault.yml", seal(PASSWORDS["prod.pass"], b"password: shown\n", b"prod"))
     repository.put("other.yml", seal(PASSWORDS["new.pass"], b"a: 1\n"))
@@ -194,7 +195,7 @@ def check_first_day(repository: Repository, shell: str):
     assert ran.returncode == 1, "and refuses plaintext"
 
 
-def merge_changes(repository: Repository, name: str, base: bytes, theirs: bytes, ours: bytes):
+def merge_changes(repository: Repository, name: str, base: bytes, theirs: bytes, ours: bytes) -> None:
     """Commits a vault in three versions, one of them in `branch`."""
     theirs_after = "git checkout -q -"
     for text, before, after in ((base, ":", ":"), (theirs, "git checkout -qb branch", theirs_after), (ours, ":", ":")):
@@ -203,7 +204,7 @@ def merge_changes(repository: Repository, name: str, base: bytes, theirs: bytes,
         repository.shell(f"git add -A && git commit -qm change && {after}")
 
 
-def check_merge(repository: Repository, shell: str):
+def check_merge(repository: Repository, shell: str) -> None:
     name = "group_vars/all/vault.yml"
     repository.put(".gitattributes", MARKS.encode())
     merge_changes(repository, name, b"a: 1\nb: 2\nc: 3\n", b"a: 1\nb: 2\nc: 4\n", b"a: 0\nb: 2\nc: 3\n")
@@ -227,7 +228,7 @@ def check_merge(repository: Repository, shell: str):
     assert repository.shell("git status --porcelain").stdout == "", "and committed"
 
 
-def check_manager(repository: Repository, shell: str):
+def check_manager(repository: Repository, shell: str) -> None:
     repository.put(".gitattributes", MARKS.encode())
     repository.put("vault.yml", seal(PASSWORDS["prod.pass"], b"password: shown\n", b"prod"))
     repository.script(PASS, "pass")
@@ -238,7 +239,7 @@ def check_manager(repository: Repository, shell: str):
     assert shown == ["+password: shown", "password: shown"], "git and the tool show the plaintext"
 
 
-def check_one_secret(repository: Repository, shell: str):
+def check_one_secret(repository: Repository, shell: str) -> None:
     name = "host_vars/web1.yml"
     kept, old = block("other", "kept", "prod.pass", "prod"), block("db_password", "correct horse", "prod.pass", "prod")
     repository.put("ansible.cfg", SETTINGS.encode())
@@ -257,7 +258,7 @@ def check_one_secret(repository: Repository, shell: str):
     assert re.fullmatch(r"[A-Za-z0-9+/]{32}", values[0]), "and one is random"
 
 
-def check_marks(repository: Repository, shell: str):
+def check_marks(repository: Repository, shell: str) -> None:
     ran = repository.shell(shell)
     lines = [
         "group_vars/all/vault.yml: diff: ansible-vault",
@@ -273,7 +274,7 @@ def check_marks(repository: Repository, shell: str):
     assert output.count("diff: ansible-vault\n") == len(names), "of other names"
 
 
-def check_pipeline(repository: Repository, shell: str):
+def check_pipeline(repository: Repository, shell: str) -> None:
     repository.put(".gitattributes", MARKS.encode())
     repository.put("group_vars/all/vault.yml", seal(PASSWORDS["ci.pass"], b"shared: battery staple\n", b"ci"))
     repository.put("prod.vault.yml", seal(PASSWORDS["prod.pass"], b"a: 1\n", b"prod"))
@@ -287,7 +288,10 @@ def check_pipeline(repository: Repository, shell: str):
     assert counts in ran.stdout.splitlines(), "and counted"
     assert played(ran.stdout) == ["battery staple"], "the playbook is run with the same password"
     checks = shell.splitlines()[:4]
-    statuses = lambda: [repository.shell(line, **password).returncode for line in checks]
+
+    def statuses() -> list[int]:
+        return [repository.shell(line, **password).returncode for line in checks]
+
     repository.put("vault.yml", b"a: 1\n")
     repository.shell("git add -A && git commit -qm two --no-verify")
     assert statuses() == [1, 1, 0, 1], "plaintext"

@@ -6,23 +6,9 @@ import io
 import os
 import resource
 import sys
+from _collections_abc import Callable
 
-from ansible_vault_companions import VERSION
-
-# True only for type checkers. A short run of a companion is mostly imports, so what takes long to import is imported
-# where it is needed.
-TYPE_CHECKING = False
-if TYPE_CHECKING:
-    import argparse
-    import signal as _signal
-    from typing import Any, Callable, TextIO
-else:
-    # The module `signal` imports `enum`, which takes half as long as Python's own start.
-    import _signal
-
-BY_TOOL = """\
-it calls ansible-vault for all encryption
-and decryption"""
+from ansible_vault_companions import stopping
 
 
 class Refused(Exception):
@@ -35,25 +21,6 @@ class Refused(Exception):
 
 class NotWritten(Refused):
     """Standard output cannot be written."""
-
-
-def parser(
-    name: str, summary: str, statuses: str, example: str = "", ciphers: str = BY_TOOL, **options: Any
-) -> argparse.ArgumentParser:
-    """A command line whose faults end the program with status 2. Its help says what encrypts and decrypts."""
-    import argparse
-
-    shown_example = f"Example:\n  {example}\n\n" if example else ""
-    made = argparse.ArgumentParser(
-        prog=name,
-        description=summary,
-        epilog=f"{shown_example}Exit status: {statuses}\n\nThis program is tested, not proved; {ciphers}.",
-        formatter_class=argparse.RawDescriptionHelpFormatter,
-        allow_abbrev=False,
-        **options,
-    )
-    made.add_argument("-V", "--version", action="version", version=f"{name} {VERSION}")
-    return made
 
 
 def shown(name: str) -> str:
@@ -69,14 +36,12 @@ def counted_labels(counts: dict[str, int]) -> str:
 
 def write(data: bytes) -> None:
     """Writes to standard output; a signal ends the wait for who reads it."""
-    from ansible_vault_companions import stopping
-
     try:
         with stopping.interruptible():
             sys.stdout.buffer.write(data)
             sys.stdout.flush()
     except OSError as fault:
-        _discard(sys.stdout)
+        _discard(sys.stdout.fileno())
         raise NotWritten(f"standard output cannot be written: {reason(fault)}") from None
 
 
@@ -103,29 +68,21 @@ def refusal(path: str, fault: Exception) -> str:
 def run(name: str, main: Callable[[list[str]], int]) -> None:
     """Runs a companion over its words, and ends with its status or by a signal."""
     _prepare_streams()
-    _prepare_signals()
+    stopping.prepare()
     # A core dump would hold plaintext and passwords.
     resource.setrlimit(resource.RLIMIT_CORE, (0, resource.getrlimit(resource.RLIMIT_CORE)[1]))
     try:
         status = _status_of(main)
     except Exception as fault:
         status = _status_of_fault(name, fault)
-    from ansible_vault_companions import stopping
-
     stopping.end_by_signal()
     for stream in (sys.stdout, sys.stderr):
         try:
             stream.flush()
         except OSError:
-            _discard(stream)
+            _discard(stream.fileno())
             status = status or 1
     sys.exit(status)
-
-
-def restore_signals() -> None:
-    """Signals are those of the program that takes the place of this one; Python ignores some."""
-    for number in (_signal.SIGPIPE, _signal.SIGXFSZ):
-        _signal.signal(number, _signal.SIG_DFL)
 
 
 def _status_of(main: Callable[[list[str]], int]) -> int:
@@ -139,8 +96,6 @@ def _status_of(main: Callable[[list[str]], int]) -> int:
 
 
 def _status_of_fault(name: str, fault: Exception) -> int:
-    from ansible_vault_companions import stopping
-
     if isinstance(fault, stopping.Stopped):
         return 1
     if not isinstance(fault, (Refused, OSError)):
@@ -168,15 +123,8 @@ def _prepare_streams() -> None:
             stream.reconfigure(errors="backslashreplace")
 
 
-def _prepare_signals() -> None:
-    # Where it is ignored the system keeps no status of what was started.
-    _signal.signal(_signal.SIGCHLD, _signal.SIG_DFL)
-    if _signal.getsignal(_signal.SIGINT) == _signal.default_int_handler:
-        _signal.signal(_signal.SIGINT, _signal.SIG_DFL)
-
-
-def _discard(stream: TextIO) -> None:
+def _discard(descriptor: int) -> None:
     """What could not be written is not tried again when Python ends."""
     null = os.open(os.devnull, os.O_WRONLY)
-    os.dup2(null, stream.fileno())
+    os.dup2(null, descriptor)
     os.close(null)

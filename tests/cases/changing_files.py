@@ -8,22 +8,25 @@ import io
 import os
 import signal
 import subprocess
+from collections.abc import Callable
 from pathlib import Path
 
 import pytest
 
-from cases import SECONDS, Cases
+from cases import Cases
 from cases.samples import sample_of
+from lib.limits import SECONDS
 from lib.needs import needs
 from lib.preloaded import build_library
 from lib.processes import started
 from model.answers import HostFiles, answer
 
+Change = Callable[[bytes, int], bytes]
 TEXT = b"key: value\n" * 200_000
 # How much of the file is read, at least, before the program is stopped.
 STOPPED_AT = 1_000_000
 # What the file holds after the change, by what it held, and the place up to which it was read.
-CHANGES = {
+CHANGES: dict[str, Change] = {
     "cut before": lambda content, place: content[: place // 2],
     "cut after": lambda content, place: content[: place + 1],
     "grown": lambda content, place: content + b"more\n" * 1_000,
@@ -51,8 +54,10 @@ def change(path: str, content: bytes, later: bytes) -> None:
         file.write(later[len(content) :])
 
 
-def changed_run(cases: Cases, library: str, words: list[str], content: bytes, is_named: bool, changed) -> tuple:
-    """What a run gave whose input was changed, and what was read."""
+def changed_run(
+    cases: Cases, library: str, words: list[str], content: bytes, is_named: bool, changed: Change
+) -> tuple[tuple[int, bytes, bytes], bytes | None]:
+    """What a run gave whose input was changed, and what was read; None if it was not stopped."""
     path = os.path.realpath(cases.file(content))
     given = [path, *([] if words[0] == "view" else ["--output", "-"])] if is_named else []
     environment = {"LD_PRELOAD": library, "STOPPED_AT": str(STOPPED_AT)}

@@ -8,8 +8,9 @@ import resource
 import signal
 import subprocess
 import tempfile
+from collections.abc import Sequence
 from pathlib import Path
-from typing import NamedTuple
+from typing import Any, NamedTuple
 
 import pytest
 from pytest_subtests import SubTests
@@ -24,10 +25,8 @@ from model.faults import Fault
 
 WORKERS = 4
 COMBINATIONS = [set(each) for count in range(4) for each in itertools.combinations(range(3), count)]
-closings = lambda closed: "".join(f"{stream}>&-" for stream in sorted(closed)) or "all open"
-each_closing = pytest.mark.parametrize("closed", COMBINATIONS, ids=closings)
 # The stream that each name of `--output` stands for; without the option it is standard output.
-STREAMS = {None: 1, "/dev/stdin": 0, "/dev/stdout": 1, "/dev/stderr": 2, "/dev/fd/1": 1, "/proc/self/fd/1": 1}
+STREAMS = {"/dev/stdin": 0, "/dev/stdout": 1, "/dev/stderr": 2, "/dev/fd/1": 1, "/proc/self/fd/1": 1}
 OLD = b"what stood here before\n"
 NEW_FILE, OLD_FILE = "new", "old"
 SIZE_LIMIT = 100
@@ -35,6 +34,13 @@ SIZE_LIMIT = 100
 FAILING_WRITE = 1
 # What takes the number of a closed stream: the first that can be opened.
 DIRECTORIES = ["/", "/proc", "/dev", "."]
+
+
+def closings(closed: set[int]) -> str:
+    return "".join(f"{stream}>&-" for stream in sorted(closed)) or "all open"
+
+
+each_closing = pytest.mark.parametrize("closed", COMBINATIONS, ids=closings)
 
 
 class Left(NamedTuple):
@@ -74,12 +80,14 @@ def to_output(output: str | None, command: str) -> list[str]:
     return [] if output is None else ["--output", output]
 
 
-def run_closed(words: list[str], closed: set[int], folder: str, under=(), **others) -> subprocess.CompletedProcess:
+def run_closed(
+    words: list[str], closed: set[int], folder: str, under: Sequence[str] = (), **others: Any
+) -> subprocess.CompletedProcess[bytes]:
     """In the folder, whose file `stdin` is standard input, under the words of a tool; both other streams
     are pipes where nothing else is given."""
     redirections = " ".join(f"{stream}>&-" for stream in closed)
     command = [*under, "sh", "-c", f'exec "$@" {redirections}', "sh", *words]
-    given = {"stdout": subprocess.PIPE, "stderr": subprocess.PIPE, **others}
+    given: dict[str, Any] = {"stdout": subprocess.PIPE, "stderr": subprocess.PIPE, **others}
     with open(Path(folder) / "stdin", "rb") as stdin:
         return subprocess.run(command, stdin=stdin, cwd=folder, timeout=SECONDS, **given)
 
@@ -90,7 +98,7 @@ def changed(before: dict[str, bytes], folder: str) -> dict[str, bytes | None]:
     return {path: after.get(path) for path in before | after if before.get(path) != after.get(path)}
 
 
-def run_sample(cases: Cases, setting: Setting, *words: str, text: bytes = TEXT, **others) -> tuple[Sample, Left]:
+def run_sample(cases: Cases, setting: Setting, *words: str, text: bytes = TEXT, **others: Any) -> tuple[Sample, Left]:
     """The sample of a command, with these words besides and its files in a folder of its own, and what it leaves."""
     with tempfile.TemporaryDirectory() as folder:
         sample = sample_of(Cases(cases.program, Path(folder)), setting.command, text)
@@ -109,7 +117,8 @@ def failed(fault: Fault, closed: set[int]) -> Left:
 
 def wanted(setting: Setting, sample: Sample) -> Left:
     """What the run has to leave."""
-    stream = STREAMS.get(setting.output)
+    path = setting.output or "/dev/stdout"
+    stream = STREAMS.get(path)
     if 0 in setting.closed and not setting.by_name:
         return failed(Fault.INPUT_NOT_READ, setting.closed)
     if stream in setting.closed:
@@ -118,7 +127,7 @@ def wanted(setting: Setting, sample: Sample) -> Left:
         return Left(0, sample.output, b"")
     if stream == 2:
         return Left(0, b"", sample.output)
-    return Left(0, b"", b"", {"stdin" if stream == 0 else setting.output: sample.output})
+    return Left(0, b"", b"", {"stdin" if stream == 0 else path: sample.output})
 
 
 def compared(cases: Cases, setting: Setting) -> tuple[Left, Left]:
@@ -128,7 +137,7 @@ def compared(cases: Cases, setting: Setting) -> tuple[Left, Left]:
 
 
 def settings(command: str) -> list[Setting]:
-    outputs = [None] if command == "view" else [*STREAMS, NEW_FILE, OLD_FILE]
+    outputs: list[str | None] = [None] if command == "view" else [None, *STREAMS, NEW_FILE, OLD_FILE]
     return [Setting(command, *each) for each in itertools.product(COMBINATIONS, outputs, (True, False))]
 
 
@@ -170,7 +179,7 @@ def limited() -> None:
     resource.setrlimit(resource.RLIMIT_FSIZE, (SIZE_LIMIT, SIZE_LIMIT))
 
 
-def check_write_fault(cases: Cases, command: str, closed: set[int], path: str, **others) -> None:
+def check_write_fault(cases: Cases, command: str, closed: set[int], path: str, **others: Any) -> None:
     """A run whose output's write fails: the file holds a prefix, and nothing else changes."""
     sample, left = run_sample(cases, Setting(command, closed, path, True), text=TEXT * 400, **others)
     found = left.changed.pop(path, None) or (Path(path).read_bytes() if Path(path).is_file() else b"")

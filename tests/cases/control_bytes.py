@@ -83,12 +83,10 @@ def test_forged_lines(cases: Cases, word: str, shown: str) -> None:
 
 
 @pytest.mark.parametrize("byte", (b"\x80", b"\xff", b"\xc3", b"\xed\xa0\x80", b"\x1b\xff"))
-@pytest.mark.parametrize(
-    "words", ([b""], [b"view", b"--"], [b"view", b"x", b""], [b"view", b"--vault-id", b""]), ids=repr
-)
-def test_in_bytes(cases: Cases, byte: bytes, words: list[bytes]) -> None:
+@pytest.mark.parametrize("words", ([""], ["view", "--"], ["view", "x", ""], ["view", "--vault-id", ""]), ids=repr)
+def test_in_bytes(cases: Cases, byte: bytes, words: list[str]) -> None:
     """Words that are not UTF-8, and words too many of them."""
-    check_text(cases, [*words[:-1], words[-1] + byte])
+    check_text(cases, [*words[:-1], words[-1] + os.fsdecode(byte)])
 
 
 @each_control

@@ -7,7 +7,7 @@ from pathlib import Path
 import pytest
 from pytest_subtests import SubTests
 
-from cases import NOBODY, SECONDS, TEXT, Cases, answer_of, by_file, refusal, run_captured
+from cases import NOBODY, TEXT, Cases, answer_of, by_file, refusal, run_captured
 from cases.modes import OLD, mode, wanted_mode
 from cases.samples import (
     OF_FILE,
@@ -20,6 +20,7 @@ from cases.samples import (
     each_to_output,
     sample_of,
 )
+from lib.limits import SECONDS
 from lib.processes import open_to_read, open_to_write, read_to_end, started
 from model.faults import Fault
 from model.vaults import ENVELOPE_LIMIT, MAGIC, seal
@@ -84,8 +85,10 @@ def test_output_needed(cases: Cases, subtests: SubTests, command: str) -> None:
     sample = sample_of(cases, command)
     path, plain = cases.file(sample.stdin), sample.words[:3]
     new = ["--new-vault-id", *(word for word in sample.words if "prod@" in word)] if command == "rekey" else []
-    salts = [["--salt", ""], ["--salt", "a", "--salt-file", "b"]] if SALT_WORDS[0] in sample.words else []
-    needed = {str(words): [*plain, path, *new, *words] for words in [[], *salts]}
+    salts: list[list[str]] = [[]]
+    if SALT_WORDS[0] in sample.words:
+        salts += [["--salt", ""], ["--salt", "a", "--salt-file", "b"]]
+    needed = {str(words): [*plain, path, *new, *words] for words in salts}
     needed["a missing password"] = [command, *by_file(cases.path()), path, *new]
     for name, words in needed.items():
         with subtests.test(name):
@@ -166,7 +169,7 @@ def test_refused_leaves_outputs(cases: Cases, subtests: SubTests, command: str) 
     """A refusal neither makes nor cuts the output, and leaves an output that is the input."""
     sample = sample_of(cases, command)
     inputs = [MAGIC, b"\n" * (ENVELOPE_LIMIT + 1)] if command != "decrypt" else [TEXT, seal(b"other", TEXT)]
-    runs = [(f"input {stdin!r:.20}", [], stdin) for stdin in inputs]
+    runs: list[tuple[str, list[str], bytes]] = [(f"input {stdin!r:.20}", [], stdin) for stdin in inputs]
     passwords = {"an empty password": cases.file(b""), "a missing password": cases.path(), "a prompt": "prompt"}
     runs += [(name, by_file(path), sample.stdin) for name, path in passwords.items()]
     runs.append(("an unknown option", ["--loud"], sample.stdin))
@@ -184,20 +187,20 @@ def test_order(cases: Cases, subtests: SubTests, command: str) -> None:
     empty, missing = cases.file(b""), cases.path()
     sample = sample_of(cases, command)
     out = [] if command == "view" else ["--output", missing + "/x"]
-    password, salt = (lambda path: [*sample.words, *by_file(path)]), ["--salt-file"]
-    bare = [word for word in sample.words if word not in SALT_WORDS]
+    usual, no_password, empty_password = sample.words, by_file(missing), by_file(empty)
+    bare, salt = [word for word in usual if word not in SALT_WORDS], "--salt-file"
     runs = [
-        ("a missing password, then a missing input", [*password(missing), missing], Fault.SECRET_NOT_OPENED),
-        ("a folder as a password, then a missing one", [*password("/"), *by_file(missing)], Fault.SECRET_NOT_READ),
-        ("a missing input, then an empty password", [*password(empty), missing], Fault.INPUT_NOT_OPENED),
-        ("an empty password, then a folder", [*password(empty), "/"], Fault.SECRET_EMPTY),
-        ("a folder, then an output in no folder", [*sample.words, "/"], Fault.INPUT_NOT_READ),
+        ("a missing password, then a missing input", [*usual, *no_password, missing], Fault.SECRET_NOT_OPENED),
+        ("a folder as a password, then a missing one", [*usual, *by_file("/"), *no_password], Fault.SECRET_NOT_READ),
+        ("a missing input, then an empty password", [*usual, *empty_password, missing], Fault.INPUT_NOT_OPENED),
+        ("an empty password, then a folder", [*usual, *empty_password, "/"], Fault.SECRET_EMPTY),
+        ("a folder, then an output in no folder", [*usual, "/"], Fault.INPUT_NOT_READ),
     ]
-    if bare != sample.words:
+    if bare != usual:
         runs += [
-            ("a missing salt, then a missing input", [*bare, *salt, missing, missing], Fault.SALT_NOT_OPENED),
-            ("a missing input, then a short salt", [*bare, *salt, empty, missing], Fault.INPUT_NOT_OPENED),
-            ("a short salt, then a folder", [*bare, *salt, empty, "/"], Fault.SALT_SHORT),
+            ("a missing salt, then a missing input", [*bare, salt, missing, missing], Fault.SALT_NOT_OPENED),
+            ("a missing input, then a short salt", [*bare, salt, empty, missing], Fault.INPUT_NOT_OPENED),
+            ("a short salt, then a folder", [*bare, salt, empty, "/"], Fault.SALT_SHORT),
         ]
     for name, words, fault in runs:
         with subtests.test(name):

@@ -16,7 +16,7 @@ from cases.files import NOT_ASKED, to_output
 from cases.modes import OLD, mode
 from cases.samples import OF_FILE, SALT_TEXT, SALT_WORDS, TO_OUTPUT, Sample, each_command, sample_of
 from lib.mounts import PAGE, remount_read_only, tmpfs
-from lib.needs import needs_mounts
+from lib.needs import needs_mounts, needs_tool
 from lib.processes import started
 from model.faults import Fault
 from model.vaults import SALT, seal
@@ -104,7 +104,7 @@ def test_loops_of_links(cases: Cases, subtests: SubTests, command: str) -> None:
 def test_running_program(cases: Cases, subtests: SubTests) -> None:
     """It is read as any file; the system lets nobody write onto it."""
     path = cases.path()
-    shutil.copy(shutil.which("sleep"), path)
+    shutil.copy(needs_tool("sleep"), path)
     content = Path(path).read_bytes()
     with started([path, "600"]):
         if opens_to_write(path):

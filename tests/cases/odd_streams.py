@@ -7,16 +7,21 @@ import socket
 import subprocess
 import termios
 from pathlib import Path
+from typing import Any
 
 import pytest
 from pytest_subtests import SubTests
 
-from cases import SECONDS, Cases, answer_of, by_file
+from cases import Cases, answer_of, by_file
 from cases.modes import OLD
 from cases.samples import COMMANDS, Sample, each_command, sample_of
+from lib.limits import SECONDS
 from lib.processes import started
 from model.faults import Fault
+from shells import all_shown
 
+# The status, and what comes through each output; None for one that is not captured.
+Found = tuple[int, bytes | None, bytes | None]
 LARGE = 1 << 20
 REFUSED = Fault.NO_SECRET_FITS
 # What ends the input on a terminal, at the start of a line.
@@ -33,14 +38,13 @@ def refused_sample(cases: Cases) -> Sample:
     return Sample(["view", *by_file(cases.file(b"wrong\n"))], sample_of(cases, "view").stdin, b"")
 
 
-def check_run(cases: Cases, words: list[str], wanted: tuple, **streams) -> None:
-    """The status, and what came through each output that is captured."""
-    given = {"stdout": subprocess.PIPE, "stderr": subprocess.PIPE, **streams}
+def check_run(cases: Cases, words: list[str], wanted: Found, **streams: Any) -> None:
+    given: dict[str, Any] = {"stdout": subprocess.PIPE, "stderr": subprocess.PIPE, **streams}
     done = subprocess.run([cases.program, *words], timeout=SECONDS, **given)
     assert answer_of(done) == wanted
 
 
-def failed(fault: Fault, output=b"") -> tuple:
+def failed(fault: Fault, output: bytes | None = b"") -> Found:
     return fault.status, output, fault.line
 
 
@@ -162,20 +166,9 @@ def test_terminal(cases: Cases, command: str | None) -> None:
     with started([cases.program, *sample.words], **streams) as child:
         os.close(terminal)
         shown = all_shown(controller)
+        os.close(controller)
         status, text = (0, sample.output) if command else REFUSED_LINE
         assert (child.wait(SECONDS), shown) == (status, text.replace(b"\n", b"\r\n"))
-
-
-def all_shown(terminal: int) -> bytes:
-    """All that is read until the other side is closed."""
-    chunks = []
-    with open(terminal, "rb", buffering=0) as stream:
-        try:
-            while chunk := stream.read(LARGE):
-                chunks.append(chunk)
-        except OSError:
-            pass
-    return b"".join(chunks)
 
 
 @each_or_refused

@@ -8,9 +8,12 @@ from model.faults import Fault
 from model.vaults import MAGIC, seal, yaml_block
 
 
+def block(text: str, name: str = "") -> bytes:
+    return yaml_block(seal(RIGHT, text.encode(), salt=b"abc"), name.encode())
+
+
 def test_strings(cases: Cases, subtests: SubTests) -> None:
     words = ["encrypt_string", *by_file(cases.file(b"right\n")), "--salt", "abc"]
-    block = lambda text, name="": yaml_block(seal(RIGHT, text.encode(), salt=b"abc"), name.encode())
     texts = "secret", "a", "two\nlines\n", "ünïcode →", "x" * 5_000
     names = [("-n", "k"), *(("--name", name) for name in ("k", "a key", "schlüssel", "", "x" * 500))]
     of_string = [([option, name, text], block(text, name)) for text in texts for option, name in names]
@@ -20,7 +23,8 @@ def test_strings(cases: Cases, subtests: SubTests) -> None:
     for given, wanted in of_string:
         with subtests.test(f"{given[-1]!r:.20} by {given[:-1]!r:.40}"):
             cases.run([*words, *given], b"not asked", 0, wanted)
-    of_stdin = [], ["-"], ["--", "-"], ["--stdin-name", "k"], ["--stdin-name", "k", "-"], ["--stdin-name", ""]
+    of_stdin: list[list[str]] = [[], ["-"], ["--", "-"]]
+    of_stdin += [["--stdin-name", "k"], ["--stdin-name", "k", "-"], ["--stdin-name", ""]]
     for given in of_stdin:
         with subtests.test(f"standard input {given}"):
             cases.run([*words, *given], b"secret\n", 0, block("secret\n", "k" if "k" in given else ""))
@@ -33,7 +37,7 @@ def test_worked(cases: Cases) -> None:
 
 def test_refused_strings(cases: Cases, subtests: SubTests) -> None:
     right = [*by_file(cases.file(b"right\n")), "--salt", "abc"]
-    refused = [
+    refused: list[tuple[str, list[str], Fault]] = [
         ("an empty STRING", [""], Fault.EMPTY_STRING),
         ("an empty STRING with a name", ["-n", "k", ""], Fault.EMPTY_STRING),
         ("empty input", [], Fault.EMPTY_STRING),

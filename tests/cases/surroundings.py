@@ -10,13 +10,16 @@ from pathlib import Path
 import pytest
 from pytest_subtests import SubTests
 
-from cases import SECONDS, TEXT, Cases, answer_of, by_file, by_id, refusal, run_captured
+from cases import TEXT, Cases, answer_of, by_file, by_id, refusal, run_captured
 from cases.files import to_output
 from cases.samples import OF_FILE, TO_OUTPUT, each_command, each_of_file, sample_of, samples
+from lib.limits import SECONDS
 from lib.needs import needs
 from model.faults import Fault
 from model.vaults import seal, yaml_block
 
+# The words and standard input of a run, and its status with both outputs.
+Run = tuple[list[str], bytes, tuple[int, bytes, bytes]]
 KIB = 1 << 10
 NOT_UTF8 = b"error: an argument is not UTF-8\n"
 LOCALES = ["", "C", "POSIX", "C.UTF-8", "tr_TR.UTF-8", "xx_YY.no-such", "/", "\udcff", "a" * 5_000]
@@ -76,16 +79,16 @@ def test_program_names(cases: Cases, name: str, command: str) -> None:
 def test_program_name_that_is_not_utf8(cases: Cases, command: str) -> None:
     """It is refused as any argument is."""
     sample = sample_of(cases, command)
-    done = run_captured([b"\xff", *sample.words], sample.stdin, executable=cases.program)
+    done = run_captured(["\udcff", *sample.words], sample.stdin, executable=cases.program)
     assert answer_of(done) == (2, b"", NOT_UTF8)
 
 
 @each_command
 def test_names_of_files(cases: Cases, subtests: SubTests, command: str) -> None:
     """A path that is not UTF-8 is refused, where it is that of a file, too."""
-    sample, path = sample_of(cases, command), os.fsencode(cases.path()) + b"\xff"
-    place = Path(os.fsdecode(path))
-    roles = {"a password file": by_file(path), "a label": ["--vault-id", b"\xff@" + path]}
+    sample, path = sample_of(cases, command), cases.path() + "\udcff"
+    place = Path(path)
+    roles = {"a password file": by_file(path), "a label": by_id(path, "\udcff")}
     if command in OF_FILE:
         roles["FILE"] = [path, *to_output(sample)]
     for role, words in roles.items():
@@ -105,7 +108,7 @@ def variables_of_ansible(cases: Cases) -> dict[str, str]:
     return {name: value.format(right=right, config=config) for name, value in OF_ANSIBLE.items()}
 
 
-def runs_that_lack_something(cases: Cases) -> list[tuple]:
+def runs_that_lack_something(cases: Cases) -> list[Run]:
     """Runs for which Ansible's tool would take a secret, a choice or a setting from its variables."""
     right, vault = cases.file(b"right\n"), seal(b"right", TEXT, b"dev")
     no_new = ["rekey", *by_file(right)]
@@ -125,10 +128,10 @@ def test_environments(cases: Cases, subtests: SubTests) -> None:
     """No variable is read."""
     settings = [{}, dict.fromkeys(LOCALE_NAMES, ""), NOT_READ | variables_of_ansible(cases)]
     settings += [dict.fromkeys(LOCALE_NAMES, locale) for locale in LOCALES]
-    runs = [(sample.words, sample.stdin, (0, sample.output, b"")) for sample in samples(cases)]
+    runs: list[Run] = [(sample.words, sample.stdin, (0, sample.output, b"")) for sample in samples(cases)]
     runs.append((["view", *by_file(cases.file(b"wrong\n"))], seal(b"right", TEXT), refusal(Fault.NO_SECRET_FITS)))
     runs += runs_that_lack_something(cases)
-    for words in (["--help"], ["rekey", "--help"], ["view", "--loud"], ["größe"], []):
+    for words in map(str.split, ("--help", "rekey --help", "view --loud", "größe", "")):
         runs.append((words, b"", answer_of(cases.done(words))))
     for given, (words, stdin, wanted) in itertools.product(settings, runs):
         with subtests.test(f"{words!r:.100} with {given!r:.100}"):
@@ -158,9 +161,8 @@ def test_calls_that_read_variables(cases: Cases) -> None:
     assert names & READERS == set()
 
 
-def run_under(cases: Cases, limit: int, amount: int, words: list[str], stdin: bytes) -> tuple:
-    restrict = lambda: resource.setrlimit(limit, (amount, amount))
-    return answer_of(cases.done(words, stdin, preexec_fn=restrict))
+def run_under(cases: Cases, limit: int, amount: int, words: list[str], stdin: bytes) -> tuple[int, bytes, bytes]:
+    return answer_of(cases.done(words, stdin, preexec_fn=lambda: resource.setrlimit(limit, (amount, amount))))
 
 
 @pytest.mark.parametrize("amount", range(STARTS, ENOUGH + 2))
@@ -181,7 +183,7 @@ def test_few_files(cases: Cases, command: str, amount: int) -> None:
     assert Path(given).read_bytes() == sample.stdin, "FILE stays"
 
 
-def run_on_stack(cases: Cases, words: list[str], stdin: bytes) -> tuple:
+def run_on_stack(cases: Cases, words: list[str], stdin: bytes) -> tuple[int, bytes, bytes]:
     """In the stack that a run needs."""
     texts = [*words, *(f"{name}={value}" for name, value in os.environ.items())]
     besides = sum(len(os.fsencode(text)) + 1 + POINTER for text in texts)
@@ -201,10 +203,8 @@ def test_small_stack_with_sixteen_secrets(cases: Cases) -> None:
     assert run_on_stack(cases, words, seal(b"right", TEXT, b"other")) == (0, TEXT, b"")
 
 
-LONG_TEXTS = (["--help"], 0), (["rekey", "--help"], 0), (["view", "--loud"], 2), ([], 2)
-
-
-@pytest.mark.parametrize("words, status", LONG_TEXTS)
-def test_small_stack_with_long_texts(cases: Cases, words: list[str], status: int) -> None:
+@pytest.mark.parametrize("line, status", (("--help", 0), ("rekey --help", 0), ("view --loud", 2), ("", 2)))
+def test_small_stack_with_long_texts(cases: Cases, line: str, status: int) -> None:
+    words = line.split()
     usual = cases.done(words)
     assert run_on_stack(cases, words, b"") == (status, usual.stdout, usual.stderr)

@@ -21,6 +21,8 @@ COMPANIONS = ROOT / "companions"
 EDIT, ROTATE, CHECK, TEXTCONV, HOOK, WITH, MERGE = (
     f"ansible-vault-{name}" for name in ("edit", "rotate", "check", "textconv", "hook", "with", "merge")
 )
+# A run of a companion.
+Done = subprocess.CompletedProcess[str]
 NOBODY = 65_534
 TEXT = b"db_password: correct horse\n"
 # Passwords by the names of their files.
@@ -131,7 +133,7 @@ class Place:
         path.write_text(f'#!/bin/sh\n{text}\nexec {program} "$@"\n')
         path.chmod(0o755)
 
-    def run(self, *words: str, **variables: str) -> subprocess.CompletedProcess[str]:
+    def run(self, *words: str, **variables: str) -> Done:
         return subprocess.run(
             [*words],
             cwd=self.tree,
@@ -143,9 +145,7 @@ class Place:
             timeout=SECONDS,
         )
 
-    def shell(
-        self, text: str, interpreter: str = "sh", folder: str = ".", **variables: str
-    ) -> subprocess.CompletedProcess[str]:
+    def shell(self, text: str, interpreter: str = "sh", folder: str = ".", **variables: str) -> Done:
         return subprocess.run(
             [interpreter, "-c", text],
             cwd=self.tree / folder,
@@ -156,7 +156,7 @@ class Place:
             timeout=SECONDS,
         )
 
-    def as_nobody(self, *words: str) -> subprocess.CompletedProcess[str]:
+    def as_nobody(self, *words: str) -> Done:
         """As somebody who owns nothing, where root runs the tests; root may read and write everything."""
         if os.geteuid() == 0:
             words = ("setpriv", f"--reuid={NOBODY}", f"--regid={NOBODY}", "--clear-groups", *words)
@@ -188,13 +188,13 @@ class Companions:
         return Place(path, self.program, self.companions)
 
 
-def ended(what: str, done: subprocess.CompletedProcess[str], status: int, *parts: str) -> None:
+def ended(what: str, done: Done, status: int, *parts: str) -> None:
     """The status, and that each part is printed, on either stream."""
     output = done.stdout + done.stderr
     missing = [part for part in parts if part not in output]
     assert (done.returncode, missing) == (status, []), (what, output)
 
 
-def silent(what: str, done: subprocess.CompletedProcess[str]) -> None:
+def silent(what: str, done: Done) -> None:
     """It ends well and prints nothing."""
     assert (done.returncode, done.stdout, done.stderr) == (0, "", ""), what

@@ -2,14 +2,13 @@
 it printed before.
 """
 
-import os
 import re
-import subprocess
 from pathlib import Path
 
 from pytest_subtests import SubTests
 
-from companion_cases import CHECK, ROTATE, SECONDS, Place, ended
+from companion_cases import CHECK, ROTATE, Place, ended
+from companion_cases.both import written_by_theirs
 from companion_cases.rotating import summary
 from lib.needs import needs, needs_ansible
 
@@ -34,18 +33,11 @@ def secrets(place: Place, which: int, prefix: str = "") -> list[str]:
     return [word for label, names in LABELS.items() for word in place.by_id(label, names[which], prefix)]
 
 
-def theirs(place: Place, ansible: str, *words: str) -> subprocess.CompletedProcess:
-    environment = place.environment | {"PATH": os.environ["PATH"], "LC_ALL": "C.UTF-8"}
-    done = subprocess.run([ansible, *words], cwd=place.tree, env=environment, capture_output=True, timeout=SECONDS)
-    assert done.returncode == 0, f"{ansible} {words[0]}: {done.stderr.decode()}"
-    return done
-
-
 def encrypted_strings(place: Place, ansible: str, label: str, texts: dict[str, str]) -> list[str]:
     """The block of each variable, as Ansible's tool makes it."""
     choice = [*place.by_id(label, LABELS[label][0]), "--encrypt-vault-id", label]
     names = [word for name in texts for word in ("-n", name)]
-    made = theirs(place, ansible, "encrypt_string", *choice, *names, *texts.values()).stdout.decode()
+    made = written_by_theirs(place, ansible, "encrypt_string", *choice, *names, *texts.values())
     return [f"{each.strip()}\n" for each in re.split(r"(?m)^(?=\w+:)", made)[1:]]
 
 
@@ -68,7 +60,7 @@ def make_repository(place: Place, ansible: str) -> tuple[list[str], list[str]]:
         for number, name in enumerate(vaults):
             place.put(name, f"{label}{number}: text {number} of {label}\n".encode())
         vaults += [f"group_vars/all/{label}_nested.yml", *(["files/whole.txt"] if label == "prod" else [])]
-        theirs(place, ansible, "encrypt", *place.by_id(label, old), "--encrypt-vault-id", label, *vaults)
+        written_by_theirs(place, ansible, "encrypt", *place.by_id(label, old), "--encrypt-vault-id", label, *vaults)
         names += [f"{label}{number}" for number in range(FILES_OF_A_LABEL)]
         files += vaults
     return files, names
@@ -76,8 +68,8 @@ def make_repository(place: Place, ansible: str) -> tuple[list[str], list[str]]:
 
 def played(place: Place, playbook: str, which: int) -> list[str]:
     (place.path / "copied").unlink(missing_ok=True)
-    done = theirs(place, playbook, *secrets(place, which), "-i", "localhost,", "-c", "local", "play.yml")
-    [message] = re.findall(r'"msg": "(.*)"', done.stdout.decode())
+    words = [*secrets(place, which), "-i", "localhost,", "-c", "local", "play.yml"]
+    [message] = re.findall(r'"msg": "(.*)"', written_by_theirs(place, playbook, *words))
     return [*message.split(";"), (place.path / "copied").read_text()]
 
 
@@ -105,6 +97,6 @@ def test_a_repository(place: Place, subtests: SubTests) -> None:
             header = "1.1;AES256" if label == "default" else f"1.2;AES256;{label}"
             first_lines = {place.get(name).partition(b"\n")[0] for name in vaults}
             assert first_lines == {f"$ANSIBLE_VAULT;{header}".encode()}, "the label"
-            shown = theirs(place, ansible, "view", *place.by_id(label, new), *vaults).stdout.decode()
+            shown = written_by_theirs(place, ansible, "view", *place.by_id(label, new), *vaults)
             wanted = [f"{label}{number}: text {number} of {label}" for number in range(FILES_OF_A_LABEL)]
             assert shown.split("\n")[:-1] == wanted, "Ansible's tool decrypts each"

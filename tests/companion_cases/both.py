@@ -1,21 +1,27 @@
 """The same command line by Ansible's tool and by ansible-vault-with, where no terminal is to be asked."""
 
 import os
-import subprocess
 from contextlib import contextmanager
 from typing import Iterator
 
-from companion_cases import WITH, Place
+from companion_cases import WITH, Done, Place
 from companion_cases.terminal import Session, at_terminal
 
 
-def ours(place: Place, *words: str, **variables: str) -> subprocess.CompletedProcess[str]:
+def ours(place: Place, *words: str, **variables: str) -> Done:
     return place.run("setsid", "--wait", WITH, *words, **variables)
 
 
-def theirs(place: Place, ansible: str, *words: str, **variables: str) -> subprocess.CompletedProcess[str]:
+def theirs(place: Place, ansible: str, *words: str, **variables: str) -> Done:
     with for_ansible(place):
         return place.run("setsid", "--wait", ansible, *words, **variables)
+
+
+def written_by_theirs(place: Place, ansible: str, *words: str) -> str:
+    """The output of a run that ends well."""
+    done = theirs(place, ansible, *words)
+    assert done.returncode == 0, f"{ansible} {words[0]}: {done.stderr}"
+    return done.stdout
 
 
 def theirs_at_terminal(place: Place, ansible: str, words: list[str], *answers: tuple[str, bytes]) -> Session:

@@ -6,7 +6,7 @@ from pathlib import Path
 import pytest
 from pytest_subtests import SubTests
 
-from companion_cases import AWKWARD, EDIT, HOOK, NOBODY, TEXT, Companions, Place
+from companion_cases import AWKWARD, EDIT, HOOK, NOBODY, TEXT, Companions, Done, Place
 from companion_cases import block, decrypted, ended, sealed, silent
 from companion_cases.repository import AUTHOR
 from lib.needs import needs
@@ -18,13 +18,13 @@ ABOVE_EDITOR = "$(cut -d ' ' -f 4 /proc/$PPID/stat)"
 NOT_MADE = ("new.yml", "nothing was changed")
 
 
-def edit(place: Place, editor: str, *words: str, **variables: str):
+def edit(place: Place, editor: str, *words: str, **variables: str) -> Done:
     """Edits by a script with this text."""
     return place.run(EDIT, *words, EDITOR=place.script(editor, "editor"), **variables)
 
 
 @pytest.mark.parametrize("label, secrets", (("", "old"), ("prod", "prod")))
-def test_what_changes(cases: Companions, label, secrets) -> None:
+def test_what_changes(cases: Companions, label: str, secrets: str) -> None:
     place = cases.place()
     place.put("all.yml", sealed(secrets, label=label), 0o640)
     if os.geteuid() == 0:
@@ -217,7 +217,7 @@ def test_new_vaults(place: Place) -> None:
 
 
 @pytest.mark.parametrize("name", ("repository/all.yml", "repository/deep/er/all.yml"))
-def test_conflict_markers(cases: Companions, name) -> None:
+def test_conflict_markers(cases: Companions, name: str) -> None:
     """A vault that is saved with git's conflict markers is noted, and the hook refuses it until they are gone."""
     needs("git")
     marked = "printf '<<<<<<< ours\\nx: 1\\n=======\\nx: 2\\n>>>>>>> theirs\\n'"
@@ -229,26 +229,24 @@ def test_conflict_markers(cases: Companions, name) -> None:
     ended("in no repository", edit(place, f'{marked} > "$1"', *old, name), 0, still)
     assert place.run(EDIT, *old, name, EDITOR="true").stderr.count("fatal") == 0, "git says nothing of it"
     place.put(name, sealed("old"))
-    at = lambda *words: place.run("git", "-C", "repository", *words)
-    at("init", "-q")
-    at("add", "-A")
-    at("commit", "-qm", "change")
-    hook = lambda: place.shell(f"git add -A && {HOOK}", folder="repository")
+    place.shell("git init -q && git add -A && git commit -qm change", folder="repository")
+    hook = f"git add -A && {HOOK}"
     ended("markers that were typed", edit(place, f'{marked} > "$1"', *old, name), 0, still)
-    ended("are refused", hook(), 1, refused)
+    ended("are refused", place.shell(hook, folder="repository"), 1, refused)
     ended("other markers", edit(place, f'{marked} >> "$1"', *old, name), 0, still)
-    ended("are refused, too", hook(), 1, refused)
+    ended("are refused, too", place.shell(hook, folder="repository"), 1, refused)
     (place.tree / "repository/.git/ansible-vault-conflicts").unlink()
     ended("an edit without a change", edit(place, "true", *old, name), 0, "nothing was changed")
-    ended("notes them again", hook(), 1, refused)
+    ended("notes them again", place.shell(hook, folder="repository"), 1, refused)
     ended("no markers", edit(place, 'echo "x: 1" > "$1"', *old, name), 0)
-    silent("are not refused", hook())
+    silent("are not refused", place.shell(hook, folder="repository"))
 
 
 def test_command_line(place: Place, subtests: SubTests) -> None:
     secret = place.by_file("old")
-    options = ["--new-vault-id", "x@y"], ["--loud"], ["--vault-i", "x"]
-    for words in ([], ["all.yml"], secret, *([*secret, *each, "a"] for each in options)):
+    lines: list[list[str]] = [[], ["all.yml"], secret]
+    lines += [[*secret, *each, "a"] for each in (["--new-vault-id", "x@y"], ["--loud"], ["--vault-i", "x"])]
+    for words in lines:
         with subtests.test(f"{words}"):
             ended("the words", place.run(EDIT, *words), 2, "usage: ansible-vault-edit")
 

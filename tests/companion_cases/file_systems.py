@@ -7,7 +7,7 @@ import os
 
 import pytest
 
-from companion_cases import EDIT, NOBODY, ROTATE, TEXT, WITH, Place, decrypted, sealed
+from companion_cases import EDIT, NOBODY, ROTATE, TEXT, WITH, Done, Place, decrypted, sealed
 from companion_cases.keeping import run_changed
 from companion_cases.rotating import summary, to_new
 from lib.needs import needs
@@ -16,7 +16,7 @@ NO_LINKS = ("EPERM", "EOPNOTSUPP", "ENOSYS", "EMLINK")
 MOUNT = "36 35 98:0 / {} rw,noatime master:1 - ext3 /dev/root rw,errors=continue\n"
 
 
-def injected(place: Place, fault: str, *words: str, **variables: str):
+def injected(place: Place, fault: str, *words: str, **variables: str) -> Done:
     """Runs a companion for which strace makes calls of the system fail."""
     needs("strace")
     tracer = ["strace", "-f", "-qq", "-o", str(place.path / "trace"), "-e", f"inject={fault}"]
@@ -48,9 +48,9 @@ def test_folder_that_cannot_be_read(place: Place) -> None:
     done = place.as_nobody(*tracer, str(place.tools / ROTATE), *to_new(place), "folder/a.yml")
     (place.tree / "folder").chmod(0o755)
     assert (done.returncode, done.stdout.splitlines()[-1]) == (0, summary(1))
-    calls = (place.path / "traces/trace").read_text().splitlines()
-    done = [line.split()[1].partition("(")[0] for line in calls if line.endswith("= 0")]
-    assert done == ["rename", "sync"]
+    lines = (place.path / "traces/trace").read_text().splitlines()
+    calls = [line.split()[1].partition("(")[0] for line in lines if line.endswith("= 0")]
+    assert calls == ["rename", "sync"]
 
 
 @pytest.mark.parametrize("fault", NO_LINKS)

@@ -1,12 +1,13 @@
 """In which forms an envelope may stand in a file, and that none is passed over in silence."""
 
 import time
+from collections.abc import Callable
 
 import pytest
 
 from ansible_vault_companions.files.finding import envelopes
 from ansible_vault_companions.git import leaks
-from companion_cases import CHECK, ROTATE, TEXT, Place, block, decrypted, ended, sealed
+from companion_cases import CHECK, ROTATE, TEXT, Done, Place, block, decrypted, ended, sealed
 from companion_cases.blocks import BODY, lines_of, texts
 from companion_cases.rotating import summary, to_new
 
@@ -35,7 +36,7 @@ REPORTED = {
 }
 
 
-def unreported(done) -> list[str]:
+def unreported(done: Done) -> list[str]:
     """The files for which no line has the reason."""
     lines = done.stderr.splitlines()
     found = {name: [line for line in lines if f"./{name}:" in line] for name in REPORTED}
@@ -125,7 +126,10 @@ TIMES = 8
 MOST = 24
 
 
-def seconds(work, data: bytes) -> float:
+Work = Callable[[bytes], object]
+
+
+def seconds(work: Work, data: bytes) -> float:
     """Of the processor, so that others on the machine count for little."""
     taken = []
     for _ in range(2):
@@ -136,7 +140,7 @@ def seconds(work, data: bytes) -> float:
 
 
 START = b"x: !vault |\n  $ANSIBLE_VAULT;1.1;AES256\n  61\n"
-WORKS = {
+WORKS: dict[str, Work] = {
     "the envelopes": envelopes,
     "after a first line": lambda data: envelopes(b"x: 1\n" + data),
     "a marked file": lambda data: leaks.fault_of_marked(b"x: 1\n" + data, {"diff"}),
@@ -148,7 +152,7 @@ WORKS = {
 
 @pytest.mark.parametrize("piece", PIECES, ids=lambda piece: repr(piece[:40]))
 @pytest.mark.parametrize("work", WORKS.values(), ids=WORKS)
-def test_linear_time(work, piece) -> None:
+def test_linear_time(work: Work, piece: bytes) -> None:
     """Eight times as long a file takes eight times as long, whatever it holds."""
     small = (piece * (SMALL // len(piece) + 1))[:SMALL]
     times = [seconds(work, small), seconds(work, small * TIMES)]

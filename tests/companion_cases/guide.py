@@ -10,7 +10,7 @@ import pytest
 
 from companion_cases import PASSWORDS, TEXT, WITH, Companions, Place, sealed
 from companion_cases.both import for_ansible
-from companion_cases.running import described
+from companion_cases.running import Described, described
 from companion_cases.terminal import Session, at_terminal
 from lib.needs import needs, needs_ansible
 
@@ -145,13 +145,17 @@ def run(place: Place, tool: str, row: Row) -> Session:
     return at_terminal(place, ["bash", "-c", text], *answers, EDITOR=editor)
 
 
-def outcome(place: Place, session: Session) -> tuple:
+# The first line of a block with what it has; of other text an empty line.
+Block = tuple[bytes, Described]
+
+
+def outcome(place: Place, session: Session) -> tuple[bool, list[Block], dict[str, list[Block]]]:
     """Success, what is written by its blocks, and each file that is no password file."""
     files = {name: blocks(data) for name, data in place.files().items() if not (name in FILES or "client" in name)}
     return session.returncode == 0, blocks(session.stdout.strip().encode()), files
 
 
-def blocks(data: bytes) -> list[tuple]:
+def blocks(data: bytes) -> list[Block]:
     """The first line and the plaintext of each block; of other text all of it."""
     parts = re.split(rb"(?m)^(?=[^ \n]*:? ?!vault)", data) if b"!vault" in data else [data]
     return [(part.partition(b"\n")[0] if b"!vault" in part else b"", described(part)) for part in parts if part]

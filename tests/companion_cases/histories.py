@@ -1,6 +1,7 @@
 """Random histories of a repository, by operations that leak a secret and others that do not.
 
-A secret is a text that no other place has; it is a whole file, or a value of YAML.
+A secret is a text that no other place has; it is a whole file, or a value of YAML. hook_histories.py says what only these
+histories find.
 """
 
 from __future__ import annotations

@@ -5,7 +5,7 @@ import os
 import pytest
 from pytest_subtests import SubTests
 
-from companion_cases import AWKWARD, HOOK, TEXT, WITH, Place, block, ended, sealed, silent
+from companion_cases import AWKWARD, HOOK, TEXT, WITH, Done, Place, block, ended, sealed, silent
 from companion_cases.editing import CHANGE, edit
 from companion_cases.repository import add_and_commit, commit, under_git
 
@@ -20,7 +20,7 @@ def with_hook(place: Place) -> None:
     (place.tree / ".git/hooks/pre-commit").symlink_to(place.tools / HOOK)
 
 
-def refused(what: str, done, *names: str, why: str = "is not encrypted", hint: str = "") -> None:
+def refused(what: str, done: Done, *names: str, why: str = "is not encrypted", hint: str = "") -> None:
     """Each name with the reason, and with the hint below it."""
     lines = [line for name in names for line in (f"ansible-vault-hook: {name} {why}", hint) if line]
     assert (done.returncode, done.stderr.splitlines()) == (1, lines), what

@@ -8,11 +8,12 @@ from pathlib import Path
 import pytest
 from pytest_subtests import SubTests
 
-from companion_cases import HOOK, SECONDS, TEXT, Companions, Place, block, ended, sealed, silent
+from companion_cases import HOOK, TEXT, Companions, Done, Place, block, ended, sealed, silent
 from companion_cases.hook import refused, unmarking
 from companion_cases.leaks import IN_PART, WHOLE, again, meant
 from companion_cases.repository import add_and_commit, commit, under_git
 from companion_cases.signals import wait_until
+from lib.limits import SECONDS
 
 pytestmark = pytest.mark.usefixtures("git")
 
@@ -154,7 +155,7 @@ def test_ended(place: Place, command: str, number: int) -> None:
 THIS_ONE = "git runs what is in this folder for this repository and its worktrees"
 
 
-def installs(what: str, done, hooks: Path, told: str = "installed", which: str = THIS_ONE) -> None:
+def installs(what: str, done: Done, hooks: Path, told: str = "installed", which: str = THIS_ONE) -> None:
     """It prints what it installed where, and for which repositories."""
     lines = [*(f"{hooks}/{name}: {told}" for name in ("pre-commit", "pre-merge-commit")), which]
     assert (done.returncode, done.stdout.splitlines(), done.stderr) == (0, lines, ""), what
@@ -229,7 +230,7 @@ def test_moved_programs(place: Place) -> None:
 
 
 @pytest.mark.parametrize("variable, whose", (("GLOBAL", "of this user"), ("SYSTEM", "on this machine")))
-def test_for_every_repository(place: Place, variable, whose) -> None:
+def test_for_every_repository(place: Place, variable: str, whose: str) -> None:
     under_git(place, ATTRIBUTES)
     hooks = place.path / "hooks"
     settings = place.path / "settings"

@@ -1,6 +1,7 @@
 """ansible-vault-hook over random histories, beside an oracle that knows every plaintext.
 
-A secret leaks in a commit if the commit has it in plaintext, and no parent has, and a parent has it encrypted.
+A secret leaks in a commit if the commit has it in plaintext, and no parent has, and a parent has it encrypted. Only this
+test finds a hook that passes over the merge commits of a range; attacked.py runs no hook.
 HISTORIES=200 in the environment runs as many; by default these are few.
 """
 

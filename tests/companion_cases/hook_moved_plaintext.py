@@ -4,7 +4,7 @@ import os
 
 import pytest
 
-from companion_cases import HOOK, Place, block, silent
+from companion_cases import HOOK, Done, Place, block, silent
 from companion_cases.leaks import with_hooks
 from companion_cases.repository import add_and_commit
 from lib.needs import needs_pyyaml
@@ -14,7 +14,7 @@ pytestmark = pytest.mark.usefixtures("git")
 PASSWORD = block("old", name="password")
 
 
-def moved(place: Place, plain: bytes):
+def moved(place: Place, plain: bytes) -> Done:
     """A commit in which a file of plaintext moves and has this text, and an encrypted value goes elsewhere."""
     needs_pyyaml()
     place.put("a.yml", PASSWORD + b"x: 1\n")

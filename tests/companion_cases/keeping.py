@@ -9,7 +9,7 @@ from pathlib import Path
 import pytest
 from pytest_subtests import SubTests
 
-from companion_cases import EDIT, TEXT, Companions, Place, decrypted, ended, sealed, silent
+from companion_cases import EDIT, TEXT, Companions, Done, Place, decrypted, ended, sealed, silent
 from companion_cases.editing import ABOVE_EDITOR, CHANGE, CHANGED, edit
 from lib.needs import needs_mounts
 
@@ -17,7 +17,7 @@ ENCRYPTED = re.compile(r"; what you saved is encrypted in (.+)\n")
 PLAIN = re.compile(r"; what you saved is left in plaintext in (.+)\n\Z")
 
 
-def check_encrypted(what: str, place: Place, done, why: str, folder: Path) -> None:
+def check_encrypted(what: str, place: Place, done: Done, why: str, folder: Path) -> None:
     """The vault stays, and what was saved is in the file that the message names."""
     ended(what, done, 1, why)
     found = ENCRYPTED.search(done.stderr)
@@ -31,7 +31,7 @@ def check_encrypted(what: str, place: Place, done, why: str, folder: Path) -> No
     path.unlink()
 
 
-def check_plain(what: str, place: Place, done, why: str, text: bytes) -> None:
+def check_plain(what: str, place: Place, done: Done, why: str, text: bytes) -> None:
     """It is left in $TMPDIR, which stays when the user logs out, and not in the folder that goes then."""
     ended(what, done, 1, why)
     found = PLAIN.search(done.stderr)
@@ -89,7 +89,7 @@ reading.read = late
     assert place.get("new.yml") == b"theirs", "it stays"
 
 
-def run_changed(place: Place, companion: str, change: str, words: list[str], **variables: str):
+def run_changed(place: Place, companion: str, change: str, words: list[str], **variables: str) -> Done:
     """Runs a companion whose modules `files` and `replacing` are changed by this text."""
     text = f"""
 import os, runpy, sys
@@ -200,7 +200,7 @@ def test_what_the_editor_left(cases: Companions, subtests: SubTests) -> None:
             found = re.search(told, done.stderr)
             assert found is not None, ("the message says where", done.stderr)
             names = [name for name in place.names() if name != "all.yml"]
-            texts = sorted(decrypted("old", place.get(name)) for name in names)
+            texts = sorted(decrypted("old", place.get(name)) or b"" for name in names)
             assert texts == ([b"typed"] if text == TEXT else [CHANGED, b"typed"]), "the copies"
             of_swap = re.compile(r"\.ansible-vault-saved-all\.yml-\w{8}-\.all\.yml\.swp")
             [swap] = filter(of_swap.fullmatch, names)
@@ -214,7 +214,7 @@ def test_what_the_editor_left(cases: Companions, subtests: SubTests) -> None:
 
 
 @pytest.mark.parametrize("name, editor", {"at once": ":", "after a while": f"{CHANGE}; sleep 3"}.items())
-def test_folders_that_go(cases: Companions, name, editor) -> None:
+def test_folders_that_go(cases: Companions, name: str, editor: str) -> None:
     """What was saved before the folder of the plaintext went, as logging out may remove it, is not lost."""
     place = cases.place()
     place.put("all.yml", sealed("old"))
@@ -273,7 +273,7 @@ shutil.copytree = full
     editor = place.script(CHANGE, "editor")
     done = run_changed(place, EDIT, full, [*place.by_file("old"), "all.yml"], EDITOR=editor)
     ended("no place", done, 1, "No space left on device; what you saved is left in plaintext in ")
-    folder = Path(PLAIN.search(done.stderr)[1])
+    [folder] = map(Path, PLAIN.findall(done.stderr))
     assert (folder.parent, (folder / "all.yml").read_bytes()) == (place.runtime, CHANGED), "it is in its folder"
     assert place.get("all.yml") == sealed("old"), "the vault stays"
 
@@ -317,7 +317,7 @@ def test_lost_passwords(place: Place) -> None:
 
 
 @pytest.mark.parametrize("attempt", range(3))
-def test_busy_helpers(cases: Companions, attempt) -> None:
+def test_busy_helpers(cases: Companions, attempt: int) -> None:
     """What the editor leaves running may write while the folder is removed."""
     helper = '(while [ "$n" != 100 ] && mkdir "${1%/*}/$((n += 1))"; do :; done) > /dev/null 2>&1 &'
     place = cases.place()

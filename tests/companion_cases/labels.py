@@ -37,7 +37,9 @@ class Made(NamedTuple):
     def texts(self, content: bytes, passwords: list[str]) -> list[bytes | None]:
         """What each password makes of the envelope."""
         inner = decrypted(AROUND[1], content) if self.form == "within" else content
+        assert inner is not None
         envelope = inner if self.form == "file" else envelope_of(inner.removeprefix(b"a: 1\n"))
+        assert envelope is not None
         return [decrypted(each, envelope) for each in passwords]
 
 

@@ -39,7 +39,7 @@ def copy_of(what: str, place: Place, line: str) -> str:
 
 
 @pytest.mark.parametrize("what, line", UNFINISHED.items())
-def test_under_each(cases: Companions, what, line) -> None:
+def test_under_each(cases: Companions, what: str, line: str) -> None:
     place = cases.place()
     copy = place.get(copy_of(what, place, line))
     assert copy.startswith(b"$ANSIBLE_VAULT;1.2;AES256;dev\n"), f"{what}: the outer label"

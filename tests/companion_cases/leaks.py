@@ -5,7 +5,7 @@ import re
 import pytest
 from pytest_subtests import SubTests
 
-from companion_cases import AWKWARD, HOOK, TEXT, Companions, Place, block, ended, sealed, silent
+from companion_cases import AWKWARD, HOOK, TEXT, Companions, Done, Place, block, ended, sealed, silent
 from companion_cases.hook import refused, unmarking
 from companion_cases.repository import add_and_commit, commit, under_git
 from ansible_vault_companions.git.leaks import TORN, merge_again
@@ -27,12 +27,12 @@ def with_hooks(place: Place, attributes: str = "") -> None:
     assert done.returncode == 0, done.stderr
 
 
-def again(place: Place, name: str, content: bytes):
+def again(place: Place, name: str, content: bytes) -> Done:
     place.put(name, content)
     return add_and_commit(place)
 
 
-def staged(place: Place, name: str, content: bytes):
+def staged(place: Place, name: str, content: bytes) -> Done:
     """What the hook says of this; nothing is committed."""
     place.put(name, content)
     place.shell("git add -A")
@@ -190,12 +190,12 @@ def test_modes_and_renames(place: Place) -> None:
 
 
 def test_outside_of_git(place: Place, subtests: SubTests) -> None:
-    for words in (["--all"], ["--since", "HEAD"], ["--install"], []):
-        with subtests.test(f"{words}"):
-            ended("no repository", place.run(HOOK, *words), 1, "ansible-vault-hook: git rev-parse failed")
-    for words in (["--all", "--install"], ["--since"]):
-        with subtests.test(f"{words}"):
-            ended("the words", place.run(HOOK, *words), 2, "usage: ansible-vault-hook")
+    for line in ("--all", "--since HEAD", "--install", ""):
+        with subtests.test(f"{HOOK} {line}"):
+            ended("no repository", place.run(HOOK, *line.split()), 1, "ansible-vault-hook: git rev-parse failed")
+    for line in ("--all --install", "--since"):
+        with subtests.test(f"{HOOK} {line}"):
+            ended("the words", place.run(HOOK, *line.split()), 2, "usage: ansible-vault-hook")
 
 
 def test_awkward_names(place: Place) -> None:

@@ -136,12 +136,12 @@ def test_starts_of_the_tool(place: Place, subtests: SubTests) -> None:
 
 
 @pytest.mark.parametrize("name", ("a.yml", "--", "-h.yml", "--version"))
-def test_files_behind_dashes(place: Place, name) -> None:
+def test_files_behind_dashes(place: Place, name: str) -> None:
     place.put(name, sealed("old"))
-    command = [TEXTCONV, *place.by_file("old")]
-    where = {"cwd": place.tree, "env": place.environment}
-    runs = [subprocess.run([*command, *words], capture_output=True, **where) for words in (["--", name], [name])]
-    assert [(done.returncode, done.stdout, done.stderr) for done in runs] == [(0, TEXT, b"")] * 2
+    for words in (["--", name], [name]):
+        command = [TEXTCONV, *place.by_file("old"), *words]
+        done = subprocess.run(command, cwd=place.tree, env=place.environment, capture_output=True)
+        assert (done.returncode, done.stdout, done.stderr) == (0, TEXT, b""), words
 
 
 @pytest.mark.usefixtures("git")

@@ -133,15 +133,18 @@ def test_of_values(place: Place, subtests: SubTests) -> None:
 
 def test_labels_of_values(place: Place, subtests: SubTests) -> None:
     """One side gives a value another label, and both do."""
-    block = lambda label: yaml_block(seal(PASSWORDS["old"], b"text", label), b"a") + b"z: 1\n"
+
+    def value(label: bytes) -> bytes:
+        return yaml_block(seal(PASSWORDS["old"], b"text", label), b"a") + b"z: 1\n"
+
     under_git(place, "")
     secrets = [*place.by_file("old"), *place.by_id("dev", "old"), *place.by_id("prod", "old")]
     for base, ours, other in ((b"", b"", b"dev"), (b"", b"dev", b""), (b"", b"dev", b"dev")):
         with subtests.test(f"{ours!r} and {other!r}"):
-            merge = versions(place, "a.yml", block(base), block(ours), block(other))
+            merge = versions(place, "a.yml", value(base), value(ours), value(other))
             silent("the merge", place.run(MERGE, *secrets, *merge))
-            assert place.get("a.yml") == block(b"dev"), "the label"
-    merge = versions(place, "a.yml", block(b""), block(b"dev"), block(b"prod"))
+            assert place.get("a.yml") == value(b"dev"), "the label"
+    merge = versions(place, "a.yml", value(b""), value(b"dev"), value(b"prod"))
     ended("two labels", place.run(MERGE, *secrets, *merge), 1, "a.yml: 1 conflict")
     found = place.get("a.yml")
     assert texts(found, "old") == [b"text", b"text"], "both are there"

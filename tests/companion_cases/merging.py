@@ -7,9 +7,9 @@ import pytest
 from pytest_subtests import SubTests
 
 from companion_cases import CHECK, EDIT, HOOK, MERGE, PASSWORDS, TEXT
-from companion_cases import Companions, Place, block, decrypted, ended, sealed, silent
-from companion_cases.beside_ansible import theirs
+from companion_cases import Companions, Done, Place, block, decrypted, ended, sealed, silent
 from companion_cases.blocks import lines_of, texts
+from companion_cases.both import written_by_theirs
 from companion_cases.editing import edit
 from companion_cases.repository import add_and_commit, commit, under_git
 from lib.ansible import ansible_vault
@@ -21,7 +21,9 @@ OURS, THEIRS = BASE.replace(b"one: 1", b"one: I"), BASE.replace(b"four: 4", b"fo
 TAKE_THEIRS = "sed -i '/^<<<</,/^====/d; /^>>>>/d' \"$1\""
 
 
-def branches(place: Place, base: dict[str, bytes], ours: dict[str, bytes], other: dict[str, bytes], *words: str):
+def branches(
+    place: Place, base: dict[str, bytes], ours: dict[str, bytes], other: dict[str, bytes], *words: str
+) -> Done:
     """The merge of two branches, where the driver is configured."""
     under_git(place, "*.yml merge=ansible-vault\n")
     secrets = " ".join(words or place.by_file("old"))
@@ -53,8 +55,8 @@ def test_without_conflict(place: Place) -> None:
     wanted = block("old", b"A", name="a") + block("old", b"B", name="b") + b"z: 1\n"
     assert place.get("vars.yml") == wanted, "values keep the envelopes of their sides"
     if ansible := ansible_vault():
-        shown = theirs(place, ansible, "view", *place.by_file("old"), "whole.yml").stdout
-        assert shown.strip() == both.strip(), "Ansible's tool reads it"
+        shown = written_by_theirs(place, ansible, "view", *place.by_file("old"), "whole.yml")
+        assert shown.strip() == both.decode().strip(), "Ansible's tool reads it"
 
 
 def test_with_conflict(place: Place) -> None:
@@ -241,7 +243,7 @@ def test_equal_values(place: Place) -> None:
     done = branches(place, {"a.yml": contents[0]}, {"a.yml": ours}, {"a.yml": theirs})
     ended("the merge", done, 0)
     assert place.get("a.yml") == first + second + b"d: 2\ne: 1\nf: 2\n", "each is as it was"
-    list(yaml.parse(place.get("a.yml")))
+    assert [*yaml.load(place.get("a.yml"), yaml.BaseLoader)] == [*"abdef"], "it is YAML"
 
 
 def test_what_is_decrypted(place: Place) -> None:
@@ -294,14 +296,14 @@ def failed_merge(cases: Companions, *words: str, tool: str = "") -> Iterator[Pla
     yield place
 
 
-def refused_by_hook(what: str, done) -> None:
+def refused_by_hook(what: str, done: Done) -> None:
     assert (done.returncode, done.stderr.splitlines()) == (1, [f"{HOOK}: a.yml {NOT_MERGED}", AGAIN]), what
 
 
 @pytest.mark.parametrize(
     "what, name, tool", (("no secret", "old", ""), ("no file", "missing", ""), ("killed", "old", "kill -9 $PPID"))
 )
-def test_not_merged(cases: Companions, what, name, tool) -> None:
+def test_not_merged(cases: Companions, what: str, name: str, tool: str) -> None:
     """The hook and the check refuse what the driver could not merge, which git commits as ours, without theirs."""
     secrets = ["--vault-password-file", f"../secrets/{name}"]
     with failed_merge(cases, *secrets, tool=tool) as place:

@@ -6,6 +6,7 @@ import codecs
 import encodings.aliases
 import re
 from collections import Counter
+from collections.abc import Callable
 
 import pytest
 from hypothesis import example, given, settings
@@ -94,7 +95,8 @@ def misspelt(draw: st.DrawFn) -> str:
         new = kinds[draw(st.sampled_from([*kinds]))]
         letters[place : place + len(new)] = new
     tag = "".join(letters)
-    tag = draw(st.sampled_from([str.lower, str.upper, str.title, str]))(tag)
+    spellings: list[Callable[[str], str]] = [str.lower, str.upper, str.title, str]
+    tag = draw(st.sampled_from(spellings))(tag)
     mark = draw(st.sampled_from(["!", "! ", "!!", "!<", '!"', "!-", "!:"]))
     return mark + tag + draw(st.sampled_from(["", "", ":", ">", '"', "-encrypted"]))
 

@@ -7,13 +7,14 @@ import signal
 import subprocess
 import time
 from collections import Counter
-from pathlib import Path
+from collections.abc import Callable
 
 from pytest_subtests import SubTests
 
-from companion_cases import EDIT, ROTATE, SECONDS, Companions, Place, block, decrypted, sealed
+from companion_cases import EDIT, ROTATE, Companions, Place, block, decrypted, sealed
 from companion_cases.blocks import texts
 from companion_cases.signals import check_whole, runs_of, tree, wait_until
+from lib.limits import SECONDS
 
 SEED = 1
 # How many moments of each run.
@@ -32,15 +33,23 @@ SAVED = re.compile(rb"saved (\d)")
 SAVING, SECOND = 0.4, 0.5
 
 
-def signalled(place: Place, words: list[str], chance: random.Random, seconds: float, after: Path | None = None) -> int:
-    """The status of a run that is signalled within a time, or that long after a file is there."""
-    streams = {"stdin": subprocess.DEVNULL, "stdout": subprocess.DEVNULL, "stderr": subprocess.DEVNULL}
-    process = subprocess.Popen(words, cwd=place.tree, env=place.environment, start_new_session=True, **streams)
+def signalled(
+    place: Place, words: list[str], chance: random.Random, seconds: float, begins: Callable[[], bool] = lambda: True
+) -> int:
+    """The status of a run that is signalled within a time, which begins at once or later."""
+    process = subprocess.Popen(
+        words,
+        cwd=place.tree,
+        env=place.environment,
+        stdin=subprocess.DEVNULL,
+        stdout=subprocess.DEVNULL,
+        stderr=subprocess.DEVNULL,
+        start_new_session=True,
+    )
     number = chance.choice([signal.SIGTERM, signal.SIGHUP])
     send = chance.choice([os.kill, os.killpg])
     delays = [chance.uniform(0, seconds), *([chance.uniform(0, SECOND)] if chance.random() < 0.5 else [])]
-    if after:
-        wait_until(lambda: after.exists() or process.poll() is not None, "the first save")
+    wait_until(lambda: begins() or process.poll() is not None, "the first save")
     for delay in delays:
         try:
             process.wait(delay)
@@ -102,21 +111,24 @@ def check_edit(place: Place, status: int) -> str:
 
 
 def test_edits(cases: Companions, subtests: SubTests) -> None:
-    chance, ends = random.Random(SEED), Counter()
+    chance = random.Random(SEED)
+    ends: Counter[str] = Counter()
     for is_vault in (True, False):
         seconds = time_of(*to_edit(cases, is_vault))
         for number in range(OF_EDITS):
             with subtests.test(f"{'a vault' if is_vault else 'values'}, moment {number}"):
                 place, words = to_edit(cases, is_vault)
-                is_late = number % 2 == 1
-                moment = (SAVING, place.path / "saved") if is_late else (seconds, None)
-                status = signalled(place, words, chance, *moment)
+                if number % 2 == 1:
+                    status = signalled(place, words, chance, SAVING, (place.path / "saved").exists)
+                else:
+                    status = signalled(place, words, chance, seconds)
                 ends[check_edit(place, status)] += 1
     assert ends["a copy"] > 0, "some were ended after a save"
 
 
 def test_others(cases: Companions, subtests: SubTests) -> None:
-    chance, ends = random.Random(SEED), Counter()
+    chance = random.Random(SEED)
+    ends: Counter[int] = Counter()
     for name in (ROTATE, "merge", "rekey", "decrypt"):
         seconds = time_of(*to_run(cases, name))
         for number in range(OF_OTHERS):

@@ -2,6 +2,7 @@
 
 import gc
 import tracemalloc
+from collections.abc import Callable
 
 import pytest
 from hypothesis import given, settings
@@ -49,11 +50,11 @@ BLOCKS = st.lists(st.sampled_from(["- ", "? "]), min_size=1, max_size=3)
 FLOWS = st.lists(st.sampled_from([each for each, end in LAYERS.items() if end]), min_size=1, max_size=3)
 
 
-def peak(work, *words) -> int:
+def peak(work: Callable[[], object]) -> int:
     gc.collect()
     tracemalloc.start()
     try:
-        work(*words)
+        work()
         return tracemalloc.get_traced_memory()[1]
     finally:
         tracemalloc.stop()
@@ -73,7 +74,8 @@ def test_memory(layers: list[str]) -> None:
     assert len(text) > SIZE / 2, "it is as long as is said"
     assert Scan(text).values[0].name == "secret", "it can be read"
     assert peak(lambda: Scan(text).values) < BYTES_PER_BYTE * len(text), "its values"
-    assert peak(now_plain, text, b"secret: x\n" + deep) < BYTES_PER_BYTE * len(text), "what is in plaintext now"
+    now = b"secret: x\n" + deep
+    assert peak(lambda: now_plain(text, now)) < BYTES_PER_BYTE * len(text), "what is in plaintext now"
 
 
 def megabytes(place: Place) -> float:

@@ -26,7 +26,7 @@ sys.argv[:] = [{path!r}, "--version"]
 runpy.run_path(sys.argv[0], run_name="__main__")"""
 
 
-def run_as(version: tuple[int, ...], path: Path) -> subprocess.CompletedProcess:
+def run_as(version: tuple[int, ...], path: Path) -> subprocess.CompletedProcess[str]:
     name = ".".join(map(str, version))
     text = AS_OTHER.format(version=(*version, "final", 0), name=name, folder=str(path.parent), path=str(path))
     return subprocess.run([sys.executable, "-ESBc", text], capture_output=True, text=True)
@@ -37,8 +37,9 @@ def test_what_it_reads(path: Path) -> None:
     """It can read as much as it needs for that line."""
     tree = ast.parse(path.read_text(), feature_version=ANCIENT)
     assert "__future__" not in {each.module for each in ast.walk(tree) if isinstance(each, ast.ImportFrom)}
-    names = [each for each in tree.body if isinstance(each, ast.ImportFrom) and each.module.startswith("ansible_")]
-    assert path.name == "__init__.py" or names, "the program imports the package"
+    modules = [each.module or "" for each in tree.body if isinstance(each, ast.ImportFrom)]
+    imports = any(module.startswith("ansible_") for module in modules)
+    assert path.name == "__init__.py" or imports, "the program imports the package"
 
 
 @pytest.mark.parametrize("path", PROGRAMS, ids=NAME)

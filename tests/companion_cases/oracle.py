@@ -4,10 +4,8 @@ from __future__ import annotations
 
 import os
 import re
-import stat
-import zlib
 from collections import Counter
-from collections.abc import Iterator
+from collections.abc import Iterable, Iterator, Sequence
 from functools import lru_cache
 from pathlib import Path
 from typing import Any, NamedTuple
@@ -20,9 +18,9 @@ DEV, PROD = "dev", "prod"
 NAMES = {DEV: ("dev", "dev2"), PROD: ("prod", "prod2")}
 LABEL_OF = {name: label for label, names in NAMES.items() for name in names}
 # Few, since a key is derived for each, and several, so that the same text has several envelopes.
-SALTS = [SALT[n:] + SALT[:n] for n in range(4)]
-# What texts are made of. Each of prod's is there once.
-TOKEN = re.compile(rb"(?:private|public)-\d{4}")
+SALTS = [SALT[n:] + SALT[:n] for n in range(5)]
+# What texts are made of.
+TOKEN = re.compile(rb"text-\d{4}")
 ENVELOPE = re.compile(rb"\$ANSIBLE_VAULT;1\.[12];AES256(?:;(?P<label>[\w-]+))?[ \r]*(?:\n[ \t]*[0-9a-f]+\r?(?=\n|\Z))+")
 # An envelope in YAML as the owner and the stranger write it.
 BLOCK = re.compile(
@@ -31,7 +29,7 @@ BLOCK = re.compile(
 # What each file holds, or LINK and where a link leads.
 Tree = dict[str, bytes]
 LINK = b"link to "
-# The tag and the text of each value, by its keys.
+# The tag and the text of each value, by its keys. A vault has the lines of its text.
 Value = tuple[str, str]
 Values = dict[tuple[str, ...], Value]
 
@@ -47,30 +45,20 @@ class Opened(NamedTuple):
         return LABEL_OF[self.name]
 
 
-class Place(NamedTuple):
-    """Of an envelope: a whole file, or a value, which is one of several that have its key, numbered from 1."""
+class Spot(NamedTuple):
+    """Where an envelope stands: a whole file, or a value, which is one of several that have its key, from 1."""
 
     file: str
-    key: bytes = b""
-    number: int = 0
-
-
-class Spot(NamedTuple):
-    """Where an envelope stands."""
-
-    place: Place
+    key: bytes
+    number: int
     start: int
     end: int
     spaces: bytes
     envelope: bytes
 
     @property
-    def file(self) -> str:
-        return self.place.file
-
-    @property
-    def key(self) -> bytes:
-        return self.place.key
+    def place(self) -> tuple[str, bytes, int]:
+        return self[:3]
 
 
 def make(name: str, text: bytes, label: str, number: int) -> bytes:
@@ -89,6 +77,7 @@ def label_of(envelope: bytes) -> str:
     return (found["label"] or b"").decode() if found else ""
 
 
+@lru_cache(maxsize=4096)
 def envelopes(content: bytes) -> list[bytes]:
     """All of them, without their indentation."""
     return [re.sub(rb"[ \t\r]", b"", found[0]) + b"\n" for found in ENVELOPE.finditer(content)]
@@ -113,33 +102,29 @@ def is_false(envelope: bytes) -> bool:
 
 
 def visible(content: bytes) -> set[bytes]:
-    """The tokens that somebody finds in it who knows the passwords of dev, in whatever encoding."""
-    found = set(TOKEN.findall(content.replace(b"\0", b"")))
-    for envelope in envelopes(content):
-        inner = opened(envelope)
+    """The tokens that somebody finds in it who knows the passwords of dev."""
+    found = set(TOKEN.findall(content))
+    for inner in map(opened, envelopes(content)):
         if inner and inner.label == DEV:
             found |= visible(inner.text)
     return found
 
 
-def spots(tree: Tree) -> list[Spot]:
+@lru_cache(maxsize=4096)
+def spots_of(file: str, content: bytes) -> list[Spot]:
+    if content.startswith(MAGIC):
+        return [Spot(file, b"", 1, 0, len(content), b"", content)]
     found = []
-    for name, content in sorted(tree.items()):
-        if content.startswith(MAGIC):
-            found.append(Spot(Place(name), 0, len(content), b"", content))
-        numbers: Counter[bytes] = Counter()
-        for each in BLOCK.finditer(content):
-            numbers[each["key"]] += 1
-            [envelope] = envelopes(each["body"]) or [b""]
-            place = Place(name, each["key"], numbers[each["key"]])
-            found.append(Spot(place, each.start(), each.end(), each["spaces"], envelope))
-    return [each for each in found if envelopes(each.envelope)]
+    numbers: Counter[bytes] = Counter()
+    for each in BLOCK.finditer(content):
+        numbers[each["key"]] += 1
+        [envelope] = envelopes(each["body"])
+        found.append(Spot(file, each["key"], numbers[each["key"]], *each.span(), each["spaces"], envelope))
+    return found
 
 
-def tokens(spot: Spot) -> list[bytes]:
-    """Those of its text, if it can be decrypted."""
-    found = opened(spot.envelope)
-    return TOKEN.findall(found.text) if found else []
+def spots(tree: Tree) -> list[Spot]:
+    return [spot for name, content in sorted(tree.items()) for spot in spots_of(name, content)]
 
 
 def block(key: bytes, envelope: bytes, spaces: bytes = b"", tag: bytes = b"!vault") -> bytes:
@@ -147,16 +132,16 @@ def block(key: bytes, envelope: bytes, spaces: bytes = b"", tag: bytes = b"!vaul
     return spaces + key + b": " + tag + b" |\n" + lines
 
 
+@lru_cache(maxsize=4096)
 def values(content: bytes) -> Values | None:
-    """None where it is no YAML. A vault has the lines of its text."""
+    """None where it is no YAML."""
     if content.startswith(MAGIC):
         found = opened(content)
-        lines = found.text.decode().splitlines() if found else []
-        return {tuple(line.split(": ")[:1]): ("", line) for line in lines}
+        return {tuple(line.split(": ")[:1]): ("", line) for line in (found.text.decode().splitlines() if found else [])}
     import yaml
 
     try:
-        documents = list(yaml.compose_all(content, Loader=yaml.CSafeLoader))
+        documents = list(yaml.compose_all(content, Loader=yaml.CSafeLoader))  # type: ignore[no-untyped-call]
     except (yaml.YAMLError, UnicodeDecodeError):
         return None
     return {path: value for document in documents for path, value in _below(document, ())}
@@ -173,65 +158,17 @@ def _below(node: Any, path: tuple[str, ...]) -> Iterator[tuple[tuple[str, ...], 
         yield path, (node.tag, node.value.strip())
 
 
+def is_merged(*versions: Value | None) -> bool:
+    """Whether a tag or a text that one side alone has changed is as that side has it. The versions are base, ours,
+    theirs and what was found."""
+    there = [each for each in versions if each]
+    parts: Iterable[Sequence[object]] = zip(*there) if len(there) == len(versions) else [versions]
+    return all(
+        found == (theirs if ours == base else ours) for base, ours, theirs, found in parts if base in (ours, theirs)
+    )
+
+
 def read_tree(folder: Path) -> Tree:
-    """The files below a folder, without links and without what is git's."""
-    paths = [path for path in folder.rglob("*") if path.is_file() and not path.is_symlink()]
-    names = {str(path.relative_to(folder)): path for path in paths}
-    return {name: path.read_bytes() for name, path in sorted(names.items()) if name.split("/")[0] != ".git"}
-
-
-def put_tree(folder: Path, before: Tree, after: Tree) -> None:
-    """Changes what differs below a folder."""
-    for name in [each for each, content in before.items() if after.get(each) != content]:
-        (folder / name).unlink()
-    for name, content in after.items():
-        if before.get(name) != content:
-            path = folder / name
-            path.parent.mkdir(parents=True, exist_ok=True)
-            if content.startswith(LINK):
-                path.symlink_to(os.fsdecode(content.removeprefix(LINK)))
-            else:
-                path.write_bytes(content)
-
-
-class Watch:
-    """Looks at whatever is written below some folders, once."""
-
-    def __init__(self, *folders: Path) -> None:
-        self.folders = folders
-        self.seen: dict[str, tuple[int, int, int]] = {}
-
-    def written(self) -> Iterator[tuple[str, int, bytes]]:
-        """Paths, modes and contents. Those of git's objects are inflated."""
-        for folder, _, names in (each for root in self.folders for each in os.walk(root)):
-            for path in (os.path.join(folder, name) for name in names):
-                about = os.lstat(path)
-                key = (about.st_ino, about.st_mtime_ns, about.st_size)
-                if stat.S_ISREG(about.st_mode) and self.seen.get(path) != key:
-                    self.seen[path] = key
-                    content = Path(path).read_bytes()
-                    yield path, about.st_mode, zlib.decompress(content) if "/objects/" in path else content
-
-
-def is_merged(base: Value | None, ours: Value | None, theirs: Value | None, found: Value | None) -> bool:
-    """Whether it is what one side has changed. Where both have, that goes for its tag and its envelope each, and where
-    both have changed the envelope, for its text."""
-    if theirs in (base, ours) or ours == base:
-        return found == (theirs if ours == base else ours)
-    if not (base and ours and theirs and found):
-        return False
-    tags, envelopes_ = zip(base, ours, theirs, found)
-    texts = tuple(text_of(each) or each for each in envelopes_)
-    return is_of_one(*tags) and (is_of_one(*envelopes_) or found[1] not in envelopes_[:1] and is_of_one(*texts))
-
-
-def is_of_one(base: object, ours: object, theirs: object, found: object) -> bool:
-    """Whether it is that of the side that has changed it."""
-    if ours in (base, theirs) or theirs == base:
-        return found == (theirs if ours == base else ours)
-    return False
-
-
-def text_of(envelope: str) -> bytes:
-    found = opened(envelope.encode() + b"\n") if envelope.startswith(MAGIC.decode()) else None
-    return found.text if found else b""
+    """The files of a folder, without links."""
+    names = sorted(each.name for each in os.scandir(folder) if each.is_file(follow_symlinks=False))
+    return {name: (folder / name).read_bytes() for name in names if name != ".git"}

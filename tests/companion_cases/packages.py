@@ -21,7 +21,7 @@ def permitted(package: str) -> set[str]:
 
 def imported(file: Path) -> set[str]:
     """The packages whose modules a module imports, also within its functions."""
-    found = set()
+    found: set[str] = set()
     for node in ast.walk(ast.parse(file.read_text())):
         if isinstance(node, ast.ImportFrom) and (node.module or "").startswith(SHARED):
             found.update((node.module or "").split(".")[1:2] or (each.name for each in node.names))

@@ -34,10 +34,16 @@ STRINGS = ["word", "größe", " two\nlines ", "last\n", "# no comment", "a: b", 
 Variables = dict[str, str]
 
 
+def vault(text: bytes) -> bytes:
+    return sealed("dev", text, "dev")
+
+
+def value(name: str, text: bytes) -> bytes:
+    return block("dev", text, "dev", name)
+
+
 def merged(place: Place) -> Variables:
     """Two branches of a vault and of values in YAML, with a conflict in each that is solved."""
-    vault = lambda text: sealed("dev", text, "dev")
-    value = lambda name, text: block("dev", text, "dev", name)
     base = {
         "merged.yml": vault(b"merged_one: 1\nx: 0\ny: 0\nmerged_two: 2\n"),
         "merged_values.yml": value("merged_a", b"a") + value("merged_b", b"b") + b"plain: 1\n",
@@ -103,7 +109,7 @@ def edited(place: Place) -> Variables:
 
 def strings(place: Place) -> Variables:
     """Of encrypt_string, as an argument and by standard input."""
-    texts = {}
+    texts: Variables = {}
     for number, text in enumerate(STRINGS):
         words = [DEV, CI, OLD][number % 3]
         name = f"string{number}"

@@ -15,14 +15,14 @@ NEW, AGAIN = "New Vault password: ", "Confirm New Vault password: "
 OF_DEV = "Vault password (dev): "
 NEW_OF_DEV, AGAIN_OF_DEV = "New vault password (dev): ", "Confirm new vault password (dev): "
 # Options after a command, and the prompts for decrypting and for encrypting.
-FORMS = {
+FORMS: dict[str, tuple[list[str], list[str]]] = {
     "--ask-vault-password": ([ASKED], [NEW, AGAIN]),
     "--ask-vault-pass": ([ASKED], [NEW, AGAIN]),
     "-J": ([ASKED], [NEW, AGAIN]),
     "": ([ASKED], [NEW, AGAIN]),
     "--vault-id=dev@prompt": ([OF_DEV], [NEW_OF_DEV, AGAIN_OF_DEV]),
-    "--vault-id=prompt": (["Vault password (default): "], None),
-    "--vault-id=dev@prompt_ask_vault_pass": ([ASKED], None),
+    "--vault-id=prompt": (["Vault password (default): "], []),
+    "--vault-id=dev@prompt_ask_vault_pass": ([ASKED], []),
 }
 
 
@@ -149,9 +149,8 @@ def test_asked_by_settings(place: Place, subtests: SubTests) -> None:
 
 def test_what_is_typed(place: Place, subtests: SubTests) -> None:
     """What is no password is refused by the name of the secret, and nothing is changed."""
-    pair = lambda first, second: [(NEW_OF_DEV, first), (AGAIN_OF_DEV, second)]
     refused = {
-        "others": (pair(b"word\n", b"world\n"), "the passwords that were typed differ"),
+        "others": ([(NEW_OF_DEV, b"word\n"), (AGAIN_OF_DEV, b"world\n")], "the passwords that were typed differ"),
         "nothing": ([(NEW_OF_DEV, b"\n")], "an empty password was typed"),
         "white space": ([(NEW_OF_DEV, b" \t\n")], "an empty password was typed"),
         "an end": ([(NEW_OF_DEV, b"\x04")], "nothing was typed"),
@@ -263,15 +262,15 @@ def test_labels(place: Place) -> None:
 
 @pytest.mark.parametrize("words", ([WITH, "view", "-J", "a.yml"], [CHECK, "-J", "."], [EDIT, "-J", "a.yml"]))
 @pytest.mark.parametrize("key, status", ((b"\x03", 130), (b"\x1c", 131)))
-def test_keys(place: Place, key, status, words) -> None:
+def test_keys(place: Place, key: bytes, status: int, words: list[str]) -> None:
     """The key for an interrupt ends the question, and the terminal is as it was."""
     needs("stty")
     place.put("a.yml", sealed("dev"))
     session = ask(place, *words, answers=[(ASKED, key)])
     # The shell at the terminal prints `Quit` for SIGQUIT.
     output = session.stdout + session.stderr.removesuffix("Quit\n")
-    assert (session.returncode, output) == (status, ""), f"{words} {key}"
-    assert session.echoes is True, f"{words} {key}: the terminal echoes"
+    assert (session.returncode, output) == (status, ""), f"{words} {key!r}"
+    assert session.echoes is True, f"{words} {key!r}: the terminal echoes"
 
 
 def test_suspended(place: Place) -> None:

@@ -10,6 +10,7 @@ import os
 import re
 import subprocess
 from collections import Counter
+from collections.abc import Callable
 from pathlib import Path
 from typing import NamedTuple
 
@@ -22,6 +23,7 @@ from ansible_vault_companions.merging import texts
 from ansible_vault_companions.program import Refused
 from ansible_vault_companions.secrets import labels
 from ansible_vault_companions.secrets.sources import Secret, Source
+from ansible_vault_companions.tool.tool import Tool
 from companion_cases import PASSWORDS, decrypted
 from lib.needs import needs, needs_pyyaml
 from model.vaults import SALT, seal
@@ -80,7 +82,7 @@ class Merge(NamedTuple):
         return [document(values, Value.block) for values in self]
 
 
-def document(values: list[Value], shown) -> bytes:
+def document(values: list[Value], shown: Callable[[Value], bytes]) -> bytes:
     keyed = [shown(value) for value in values if value.key]
     items = [shown(value) for value in values if not value.key]
     return b"".join([b"start: 1\n", *keyed, b"list:\n", *items, b"end: 1\n"])
@@ -106,7 +108,7 @@ def secret_of(name: str) -> Secret:
     return found
 
 
-class Tool:
+class Model(Tool):
     """In the place of the program, by the model of the tests."""
 
     def __init__(self) -> None:
@@ -119,7 +121,7 @@ class Tool:
             raise Refused("no secret decrypts this vault")
         return text
 
-    def decrypt(self, envelope: bytes) -> tuple[Secret, bytes]:
+    def opened(self, envelope: bytes) -> tuple[Secret, bytes]:
         for secret in labels.in_order([*map(secret_of, LABELS)], label_of(envelope)):
             text = decrypted(secret.path, envelope)
             if text is not None:
@@ -144,7 +146,7 @@ def by_git(folder: Path, contents: list[bytes]) -> tuple[bytes, int]:
 
 
 @st.composite
-def random_value(draw, key: str) -> Value:
+def random_value(draw: st.DrawFn, key: str) -> Value:
     password = draw(st.sampled_from(["dev", "prod", "prod", "prod2", "old", "new", UNNAMED]))
     label = draw(st.sampled_from([LABELS.get(password, "dev"), LABELS.get(password, "dev"), ""]))
     text, salt = draw(st.sampled_from(TEXTS)), draw(st.sampled_from(range(len(SALTS))))
@@ -161,7 +163,7 @@ def changed(kind: str, value: Value, other: Value, new: Value) -> list[Value]:
     """What takes the place of a value."""
     anew = value._replace(salt=(value.salt + 1) % len(SALTS))
     added = new._replace(key=value.key and f"{value.key}{new.text[:1].decode()}", text=value.text)
-    return {
+    ways: dict[str, list[Value]] = {
         "": [value],
         "text": [anew._replace(text=new.text)],
         "encrypted anew": [anew],
@@ -173,11 +175,12 @@ def changed(kind: str, value: Value, other: Value, new: Value) -> list[Value]:
         "relabelled": [value._replace(label=new.label)],
         "copied": [other._replace(key=value.key)],
         "guessed": [added._replace(label=value.label, password="dev"), value],
-    }[kind]
+    }
+    return ways[kind]
 
 
 @st.composite
-def random_merge(draw, counts: Counter[str]) -> Merge:
+def random_merge(draw: st.DrawFn, counts: Counter[str]) -> Merge:
     keys = ["a", "b", "c", ITEM, ITEM][draw(st.integers(0, 3)) :][: draw(st.integers(1, 5))]
     base = [draw(random_value(key)) for key in keys]
     sides: list[list[Value]] = []
@@ -205,14 +208,14 @@ def blocks_of(content: bytes) -> list[Found]:
     return found
 
 
-def in_plaintext(content: bytes, tool: Tool, known: dict[bytes, Value]) -> bytes:
+def in_plaintext(content: bytes, tool: Model, known: dict[bytes, Value]) -> bytes:
     """A result with what each block is known by."""
 
     def shown(found: re.Match[bytes]) -> bytes:
         [each] = blocks_of(found[0])
         value = known.get(each.envelope)
         if not value:
-            secret, text = tool.decrypt(each.envelope)
+            secret, text = tool.opened(each.envelope)
             label = label_of(each.envelope) or ""
             value = Value("", text, "" if label == "default" else label, secret.path, 0, 0)
         indentation = len(found[2]) - len(found[2].lstrip(b" "))
@@ -221,10 +224,10 @@ def in_plaintext(content: bytes, tool: Tool, known: dict[bytes, Value]) -> bytes
     return BLOCK.sub(shown, content)
 
 
-def check_new(merge: Merge, tool: Tool, found: Found) -> None:
+def check_new(merge: Merge, tool: Model, found: Found) -> None:
     """A text is encrypted under another password if the other side has put the value under it, by its label."""
     assert found.envelope in tool.made, "an envelope that no side has"
-    secret, text = tool.decrypt(found.envelope)
+    secret, text = tool.opened(found.envelope)
     before, ours, theirs = ([value for value in values if value.key == found.key] for values in merge)
     for [mine], [other] in ((ours, theirs), (theirs, ours)):
         is_of_side = (mine.text, mine.password) == (text, before[0].password)
@@ -249,6 +252,10 @@ def check_places(merge: Merge, found: list[Found]) -> None:
         assert [each.block for each in found if not each.key] == items[0], "a list that nobody changed"
 
 
+def _has_digits_of(value: Value, before: Value) -> bool:
+    return value._replace(key=before.key, label=before.label, indentation=before.indentation) == before
+
+
 def could_take_back(merge: Merge) -> bool:
     """Whether a side has put a value under another secret, whose old digits the other has under another label or key,
     or in a list: without a conflict, these would be all that is left of it."""
@@ -256,8 +263,7 @@ def could_take_back(merge: Merge) -> bool:
         for value, before in itertools.product(side, merge.base):
             is_rekeyed = value.key == before.key and value.password != before.password
             is_there = [each.envelope() for each in other if each.key == before.key] == [before.envelope()]
-            looks = {"key": before.key, "label": before.label, "indentation": before.indentation}
-            has_digits = any(each._replace(**looks) == before for each in other)
+            has_digits = any(_has_digits_of(each, before) for each in other)
             if is_rekeyed and has_digits and not is_there:
                 return True
     return False
@@ -267,13 +273,13 @@ def check_merge(folder: Path, merge: Merge) -> list[str]:
     """What kinds of merges it was."""
     import yaml
 
-    tool = Tool()
+    tool = Model()
     wanted, conflicts = by_git(folder, [plain(values) for values in merge])
     known = {value.envelope(): value for values in merge for value in values}
     before = [value.envelope() for value in merge.base]
     foreign = [each for each in merge.ours + merge.theirs if each.is_mislabelled() and each.envelope() not in before]
     try:
-        result = texts.merged(tool, tool.decrypt, *merge.documents())
+        result = texts.merged(tool, tool.opened, *merge.documents())
     except Refused as fault:
         assert foreign and "its label is" in str(fault), fault
         return ["refused"]
@@ -289,7 +295,7 @@ def check_merge(folder: Path, merge: Merge) -> list[str]:
     assert in_plaintext(result.content, tool, known) == re.sub(rb"(?m)(?<=') \d+$", b"", wanted), "the merge by git"
     assert result.conflicts == conflicts
     if not conflicts:
-        list(yaml.parse(result.content))
+        yaml.load(result.content, Loader=yaml.BaseLoader)
         check_places(merge, [each for each in found if each not in new])
     return kinds
 
@@ -330,18 +336,18 @@ def test_of_vaults(tmp_path: Path, monkeypatch: pytest.MonkeyPatch) -> None:
     for vaults in itertools.product(VAULTS, repeat=3):
         values = [Value("", text, *vault, 0, 0) for text, vault in zip(plaintexts, vaults)]
         before, ours, theirs = values
-        tool = Tool()
+        tool = Model()
         is_kept = ours.password == theirs.password and ours.label == theirs.label
         is_rekeyed = before.password in (ours.password, theirs.password)
         is_one_label = len({(each.label, LABELS[each.password]) for each in values}) == 1
         try:
-            result = texts.merged(tool, tool.decrypt, *(each.envelope() for each in values)).content
+            result = texts.merged(tool, tool.opened, *(each.envelope() for each in values)).content
         except Refused:
             is_foreign = ours.is_mislabelled() or theirs.is_mislabelled()
             assert is_foreign or not (is_kept or is_rekeyed and is_one_label), vaults
             continue
         assert not ours.is_mislabelled() and not theirs.is_mislabelled(), vaults
-        secret, text = tool.decrypt(result)
+        secret, text = tool.opened(result)
         for each in (each for each in values if each.text in text):
             is_same_label = (each.label, LABELS[each.password]) == (ours.label, LABELS[secret.path])
             assert each.password == secret.path or is_same_label and not each.is_mislabelled(), (vaults, each)
@@ -360,9 +366,9 @@ def test_of_one_value() -> None:
     for vaults in itertools.product(VAULTS, repeat=3):
         rows = zip((b"text", b"our text", b"text"), vaults, range(3))
         before, ours, theirs = ([Value("a", text, *vault, salt, 10)] for text, vault, salt in rows)
-        merge, tool = Merge(before, ours, theirs), Tool()
+        merge, tool = Merge(before, ours, theirs), Model()
         try:
-            content = texts.merged(tool, tool.decrypt, *merge.documents()).content
+            content = texts.merged(tool, tool.opened, *merge.documents()).content
         except Refused:
             assert ours[0].is_mislabelled() or theirs[0].is_mislabelled(), vaults
             continue

@@ -13,9 +13,10 @@ from typing import NamedTuple
 import pytest
 from pytest_subtests import SubTests
 
-from companion_cases import PASSWORDS, SECONDS, TEXT, WITH, Place, decrypted, sealed
-from companion_cases.running import envelope_of
+from companion_cases import PASSWORDS, TEXT, WITH, Place, sealed
+from companion_cases.running import Described, described
 from lib.ansible_runs import AnsibleRuns
+from lib.limits import SECONDS
 
 SEED = 62
 # How long command lines are compared, in seconds, where their number is not given.
@@ -106,8 +107,7 @@ class Line(NamedTuple):
             *(("--vault-password-file", each.path()) for each in self.paths),
             *([("--encrypt-vault-id", self.label)] if self.label else []),
         ]
-        short = lambda name: ABBREVIATED[name] if abbreviate else name
-        options = [word for name, value in pairs for word in (short(name), value)]
+        options = [word for name, value in pairs for word in (ABBREVIATED[name] if abbreviate else name, value)]
         return [self.command.split()[0], *options, *self.new, *self.arguments]
 
 
@@ -145,9 +145,10 @@ def random_settings(random: Random, secrets: Path) -> Settings:
 
 def random_line(random: Random, secrets: Path) -> Line:
     command = random.choice(COMMANDS)
-    some = lambda counts: [random_secret(random, secrets, False) for _ in range(random.choice(counts))]
-    ids, paths = some([0, 0, 1, 1, 2]), some([0, 0, 0, 1])
-    new, new_label, label = [], "", ""
+    ids = [random_secret(random, secrets, False) for _ in range(random.choice([0, 0, 1, 1, 2]))]
+    paths = [random_secret(random, secrets, False) for _ in range(random.choice([0, 0, 0, 1]))]
+    new: list[str] = []
+    new_label, label = "", ""
     if command == "rekey" and random.random() < 0.8:
         new_label = random.choice(LABELS)
         by_id = ["--new-vault-id", f"{new_label}@{secrets}/new"]
@@ -220,8 +221,8 @@ def what_counts(case: Case) -> Case | None:
     if line.label not in ("", line.new_label):
         return None
     # The new secret of the options counts before the label of the settings.
-    remove = lambda settings: settings._replace(encrypt="")
-    return case._replace(line=line._replace(label=""), variables=remove(case.variables), file=remove(case.file))
+    variables, file = (settings._replace(encrypt="") for settings in (case.variables, case.file))
+    return case._replace(line=line._replace(label=""), variables=variables, file=file)
 
 
 def without_folder(case: Case) -> Settings:
@@ -230,6 +231,10 @@ def without_folder(case: Case) -> Settings:
     if "folder" in case.place:
         return NOTHING
     return case.file.without_relative_paths()._replace(password_file=case.file.password_file)
+
+
+# Whether a run succeeds, what it writes, and the files that are not as they were.
+Outcome = tuple[bool, Described | None, dict[str, Described]]
 
 
 class Both:
@@ -244,20 +249,26 @@ class Both:
         (place.secrets / "empty").write_bytes(b"\n")
         (place.secrets / "wrong").write_bytes(b"no password\n")
 
-    def outcome(self, case: Case) -> tuple[tuple, tuple | None, str]:
+    def outcome(self, case: Case) -> tuple[Outcome, Outcome | None, str]:
         """What ours did, what theirs did if it is to be the same, and the messages."""
         counted = what_counts(case)
         if counted:
             variables = self.prepare(counted, self.other)
             self.ansible.begin(counted.line.words(case.abbreviate), self.other, self.place.environment | variables)
             status, output, errors = self.ansible.end()
-            theirs = self.described(counted, self.other, status, output)
+            theirs = outcome_of(counted, self.other, status, output)
         variables = self.prepare(case, self.place.tree)
         words = [WITH, *case.line.words(case.abbreviate)]
-        environment = self.place.environment | variables
-        options = {"cwd": self.place.tree, "env": environment, "stdin": subprocess.DEVNULL, "capture_output": True}
-        done = subprocess.run(words, start_new_session=True, timeout=SECONDS, **options)
-        ours = self.described(case, self.place.tree, done.returncode, done.stdout)
+        done = subprocess.run(
+            words,
+            cwd=self.place.tree,
+            env=self.place.environment | variables,
+            stdin=subprocess.DEVNULL,
+            capture_output=True,
+            start_new_session=True,
+            timeout=SECONDS,
+        )
+        ours = outcome_of(case, self.place.tree, done.returncode, done.stdout)
         if counted:
             return ours, theirs, f"{done.stderr.decode()}\n{errors}"
         return ours, None, done.stderr.decode()
@@ -271,23 +282,14 @@ class Both:
         (tree / "more.yml").write_bytes(TEXT)
         return with_settings(case, self.place.path, tree)
 
-    def described(self, case: Case, tree: Path, status: int, output: bytes) -> tuple:
-        """Whether it succeeds, what it writes, and the files that are not as they were."""
-        before = {"a.yml": case.vault, "plain.yml": TEXT, "more.yml": TEXT}
-        files = {path.name: path.read_bytes() for path in tree.iterdir() if path.name != "ansible.cfg"}
-        named = [each.name for each in (*case.line.ids, *case.file.identities, *case.variables.identities)]
-        likely = sorted(PASSWORDS, key=lambda name: (name != "new" or not case.line.new, name not in named))
-        changed = {name: opened(data, likely) for name, data in files.items() if before.get(name) != data}
-        return status == 0, opened(output, likely) if status == 0 else None, changed
 
-
-def opened(content: bytes, passwords: list[str]) -> tuple:
-    """The header of an envelope, the password that decrypts it and the plaintext; other content as it is."""
-    envelope = envelope_of(content)
-    if envelope is None:
-        return (content,)
-    texts = ((name, decrypted(name, envelope)) for name in passwords)
-    return envelope.partition(b"\n")[0], next(((name, text) for name, text in texts if text is not None), None)
+def outcome_of(case: Case, tree: Path, status: int, output: bytes) -> Outcome:
+    before = {"a.yml": case.vault, "plain.yml": TEXT, "more.yml": TEXT}
+    files = {path.name: path.read_bytes() for path in tree.iterdir() if path.name != "ansible.cfg"}
+    named = [each.name for each in (*case.line.ids, *case.file.identities, *case.variables.identities)]
+    likely = sorted(PASSWORDS, key=lambda name: (name != "new" or not case.line.new, name not in named))
+    changed = {name: described(data, likely) for name, data in files.items() if before.get(name) != data}
+    return status == 0, described(output, likely) if status == 0 else None, changed
 
 
 def test_command_lines(

@@ -1,8 +1,6 @@
 """A tree under git."""
 
-import subprocess
-
-from companion_cases import Place
+from companion_cases import Done, Place
 
 AUTHOR = {f"GIT_{who}_{what}": "a@b" for who in ("AUTHOR", "COMMITTER") for what in ("NAME", "EMAIL")}
 
@@ -13,10 +11,10 @@ def under_git(place: Place, attributes: str) -> None:
     place.put(".gitattributes", attributes.encode())
 
 
-def commit(place: Place, *words: str, folder: str = ".") -> subprocess.CompletedProcess[str]:
+def commit(place: Place, *words: str, folder: str = ".") -> Done:
     return place.shell(f"git commit -qm change {' '.join(words)}", folder=folder)
 
 
-def add_and_commit(place: Place) -> subprocess.CompletedProcess[str]:
+def add_and_commit(place: Place) -> Done:
     place.shell("git add -A")
     return commit(place)

@@ -249,7 +249,7 @@ def test_closed_output(place: Place) -> None:
 
 def test_command_line(place: Place, subtests: SubTests) -> None:
     old, new = place.by_file("old"), place.by_file("new", "new-")
-    lines = [
+    lines: list[list[str]] = [
         [],
         [*old, "."],
         [*new, "."],

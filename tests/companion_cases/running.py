@@ -2,14 +2,16 @@
 
 import os
 import subprocess
+from collections.abc import Iterable
 from contextlib import nullcontext
 
 import pytest
 from pytest_subtests import SubTests
 
-from companion_cases import AWKWARD, EDIT, NOBODY, PASSWORDS, SECONDS, TEXT, WITH
+from companion_cases import AWKWARD, EDIT, NOBODY, PASSWORDS, TEXT, WITH
 from companion_cases import Companions, Place, decrypted, ended, sealed, silent
 from companion_cases.both import for_ansible, ours, theirs
+from lib.limits import SECONDS
 from lib.needs import needs, needs_ansible
 from lib.option_sets import OF_ANSIBLE, help_options, page_sets
 
@@ -56,11 +58,11 @@ def prepare(place: Place) -> None:
     place.put("plain.yml", TEXT)
 
 
-def run(place: Place, words: list[str], data: bytes) -> tuple:
+def run(place: Place, words: list[str], data: bytes) -> tuple[int, bytes, bytes, dict[str, bytes]]:
     """Status, output, message, and the files that are there then."""
     prepare(place)
-    options = {"cwd": place.tree, "env": place.environment, "input": data, "capture_output": True}
-    done = subprocess.run(words, timeout=SECONDS, **options)
+    where = place.environment
+    done = subprocess.run(words, cwd=place.tree, env=where, input=data, capture_output=True, timeout=SECONDS)
     files = place.files()
     for name in files:
         (place.tree / name).unlink()
@@ -142,7 +144,10 @@ def test_in_place(place: Place) -> None:
         place.put(name, TEXT * number, 0o640 if number % 2 else 0o600)
         if os.geteuid() == 0:
             os.chown(place.tree / name, NOBODY, NOBODY)
-    about = lambda: [(place.mode(name), (place.tree / name).stat().st_uid) for name in names]
+
+    def about() -> list[tuple[str, int]]:
+        return [(place.mode(name), (place.tree / name).stat().st_uid) for name in names]
+
     before = about()
     steps = [
         ("encrypt", place.by_id("dev", "dev"), "dev", "dev"),
@@ -291,7 +296,7 @@ def test_several_strings(place: Place, subtests: SubTests) -> None:
     assert place.mode("blocks.yml") == "0o600", "the mode of the file"
     blocks = place.get("blocks.yml").split(b"!vault |\n")[1:]
     texts = [described(each.removesuffix(b"x: "))[1] for each in blocks]
-    assert texts == [[("dev", b"a word")], [("dev", b"another")]], "the strings"
+    assert texts == [("dev", b"a word"), ("dev", b"another")], "the strings"
     seen = (place.path / "seen").read_text()
     assert ("word" in seen, "encrypt_string" in seen) == (False, True), "strings are no arguments of the tool"
 
@@ -373,25 +378,27 @@ def test_habits(cases: Companions) -> None:
     """What Ansible's users type does what Ansible's tool does, by an alias."""
     ansible = needs_ansible()
     needs("bash")
-    results = {}
-    for tool in (WITH, ansible):
+    results: dict[str, dict[str, tuple[bool | str, dict[str, Described]]]] = {WITH: {}, ansible: {}}
+    for tool, of_tool in results.items():
         place = cases.place()
         place.environment["EDITOR"] = place.script('echo more >> "$1"', "editor")
         place.put("a.yml", TEXT)
         place.put("b.yml", TEXT * 2)
-        results[tool] = {}
         for line in HABITS:
             text = f"shopt -s expand_aliases\nalias ansible-vault={tool}\nansible-vault {line}\n"
             with for_ansible(place) if tool == ansible else nullcontext():
                 done = place.shell(text, "bash")
             assert done.returncode == 0, f"{tool} {line} ({done.stderr})"
             # Ansible's tool prints more with -v.
-            results[tool][line] = line.endswith("-v") or done.stdout.strip(), contents(place)
+            of_tool[line] = line.endswith("-v") or done.stdout.strip(), contents(place)
     assert results[WITH] == results[ansible]
 
 
-def contents(place: Place) -> dict[str, tuple]:
-    """For each file the header, the password that decrypts it and the plaintext."""
+# The first line of an envelope, with the password that decrypts it and the plaintext, or other content as it is.
+Described = tuple[bytes, tuple[str, bytes] | None]
+
+
+def contents(place: Place) -> dict[str, Described]:
     return {name: described(content) for name, content in place.files().items()}
 
 
@@ -401,12 +408,13 @@ def envelope_of(content: bytes) -> bytes | None:
     return envelope if envelope.startswith(b"$ANSIBLE_VAULT") else None
 
 
-def described(content: bytes) -> tuple:
+def described(content: bytes, passwords: Iterable[str] = PASSWORDS) -> Described:
+    """By the first of the passwords that decrypts it."""
     envelope = envelope_of(content)
     if envelope is None:
-        return (content,)
-    texts = {name: decrypted(name, envelope) for name in PASSWORDS}
-    return (envelope.partition(b"\n")[0], [(name, text) for name, text in texts.items() if text is not None])
+        return content, None
+    texts = ((name, decrypted(name, envelope)) for name in passwords)
+    return envelope.partition(b"\n")[0], next(((name, text) for name, text in texts if text is not None), None)
 
 
 def test_ansible_reads_it(place: Place) -> None:
@@ -431,7 +439,7 @@ LINES = [
 
 
 @pytest.mark.parametrize("line", LINES)
-def test_streams(place: Place, line) -> None:
+def test_streams(place: Place, line: str) -> None:
     """The tool has the streams and the place of the companion: its endings are the same."""
     needs("bash")
     prepare(place)

@@ -132,8 +132,8 @@ def test_standard_input(place: Place, subtests: SubTests) -> None:
     place.put("a.yml", sealed("dev"))
     place.script("printf 'Which? ' > /dev/tty; read -r word; echo \"$word\"", "asking")
     words = ["sh", "-c", 'exec "$@" < /dev/tty', "sh", WITH, "view", "--vault-password-file", "../asking", "a.yml"]
-    done = at_terminal(place, words, ("Which? ", PASSWORDS["dev"] + b"\n"))
-    assert (done.returncode, done.stdout, done.stderr) == (0, TEXT.decode(), ""), "a terminal"
+    session = at_terminal(place, words, ("Which? ", PASSWORDS["dev"] + b"\n"))
+    assert (session.returncode, session.stdout, session.stderr) == (0, TEXT.decode(), ""), "a terminal"
     for name in ("asking", "asking-client"):
         place.script("cat > ../swallowed; cat ../secrets/dev", name)
         with subtests.test(name):

@@ -3,7 +3,6 @@
 import os
 import re
 import resource
-import shutil
 import sys
 
 import pytest
@@ -13,7 +12,7 @@ from companion_cases import CHECK, EDIT, MERGE, PASSWORDS, ROTATE, TEXT, TEXTCON
 from companion_cases import Place, block, decrypted, ended, sealed
 from companion_cases.merging import versions
 from companion_cases.rotating import to_new
-from lib.needs import needs
+from lib.needs import needs, needs_tool
 
 # Notes what a run of the program can be seen to be.
 NOTE = "{ tr '\\0' '\\n' < /proc/$$/cmdline; tr '\\0' '\\n' < /proc/$$/environ; } >> ../seen; ulimit -c >> ../cores"
@@ -63,9 +62,9 @@ def test_written_files(place: Place, subtests: SubTests) -> None:
 
 
 # Texts of three versions, which merge without a conflict and with one.
-MERGED = (b"one: horse\nx: 1\ny: 2\ntwo: horse\n", b"one: staple\nx: 1\ny: 2\ntwo: horse\n")
-MERGED += (b"one: horse\nx: 1\ny: 2\ntwo: battery\n",)
-CONFLICT = (b"one: horse\n", b"one: staple\n", b"one: battery\n")
+MERGED = [b"one: horse\nx: 1\ny: 2\ntwo: horse\n", b"one: staple\nx: 1\ny: 2\ntwo: horse\n"]
+MERGED += [b"one: horse\nx: 1\ny: 2\ntwo: battery\n"]
+CONFLICT = [b"one: horse\n", b"one: staple\n", b"one: battery\n"]
 HIDDEN = ["horse", "staple", "battery"]
 # Calls by which a program is started, or something is written or created.
 STARTED = "execve"
@@ -77,8 +76,13 @@ IN_MEMORY = {"pipe:[]", "/memfd:version"}
 
 def runs_over_plaintext(place: Place) -> dict[str, tuple[list[str], int]]:
     """Merges, and files in place; with the status of each."""
-    vaults = lambda name, texts: versions(place, name, *(sealed("old", text) for text in texts))
-    values = lambda name, texts: versions(place, name, *(block("old", text) + b"z: 1\n" for text in texts))
+
+    def vaults(name: str, texts: list[bytes]) -> list[str]:
+        return versions(place, name, *(sealed("old", text) for text in texts))
+
+    def values(name: str, texts: list[bytes]) -> list[str]:
+        return versions(place, name, *(block("old", text) + b"z: 1\n" for text in texts))
+
     old, new = place.by_file("old"), place.by_file("new", "new-")
     for name in ("decrypted", "rekeyed"):
         place.put(f"{name}.yml", sealed("old", MERGED[0]), 0o644)
@@ -86,7 +90,7 @@ def runs_over_plaintext(place: Place) -> dict[str, tuple[list[str], int]]:
     return {
         "a merge": ([MERGE, *old, *vaults("merged.yml", MERGED)], 0),
         "a merge with a conflict": ([MERGE, *old, *vaults("conflict.yml", CONFLICT)], 1),
-        "a merge of values": ([MERGE, *old, *values("values.yml", (*CONFLICT[:1] * 2, CONFLICT[2]))], 0),
+        "a merge of values": ([MERGE, *old, *values("values.yml", [*CONFLICT[:1] * 2, CONFLICT[2]])], 0),
         "a merge of values with a conflict": ([MERGE, *old, *values("values2.yml", CONFLICT)], 1),
         "encrypt": ([WITH, "encrypt", *old, "encrypted.yml"], 0),
         "rekey": ([WITH, "rekey", *old, *new, "rekeyed.yml"], 0),
@@ -147,7 +151,7 @@ def test_other_tools(place: Place) -> None:
     folders = os.pathsep.join(["/usr/sbin", str(place.tools)])
     place.environment["PATH"] = f"{place.path / 'interpreter'}{os.pathsep}{folders}"
     (place.path / "interpreter").mkdir()
-    for name, path in (("python3", sys.executable), ("env", shutil.which("env"))):
+    for name, path in (("python3", sys.executable), ("env", needs_tool("env"))):
         (place.path / "interpreter" / name).symlink_to(os.path.realpath(path))
     done = place.run(CHECK, *place.by_file("old"), ".")
     ended("no tool", done, 1, "there is no ansible-vault")

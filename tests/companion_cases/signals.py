@@ -7,17 +7,20 @@ import signal
 import subprocess
 import termios
 import time
+from collections.abc import Callable
 from contextlib import suppress
 from pathlib import Path
 
 import pytest
 from pytest_subtests import SubTests
 
-from companion_cases import CHECK, EDIT, MERGE, ROTATE, SECONDS, TEXT, TEXTCONV, WITH
+from companion_cases import CHECK, EDIT, MERGE, ROTATE, TEXT, TEXTCONV, WITH
 from companion_cases import Companions, Place, block, decrypted, ended, sealed
 from companion_cases.editing import ABOVE_EDITOR, CHANGE, CHANGED
 from companion_cases.merging import versions
 from companion_cases.rotating import summary, to_new
+from companion_cases.terminal import at_terminal
+from lib.limits import SECONDS
 
 # The copy of what was saved, and the message that names it.
 COPY = ".ansible-vault-saved-a.yml-"
@@ -196,6 +199,27 @@ def test_while_the_editor_runs(place: Place, name: str, status: int | None) -> N
     check_whole(name, place)
 
 
+# An interactive shell at the terminal, with control of jobs.
+SHELL = "PS1='ready> ' exec bash --norc --noediting -i < /dev/tty > /dev/tty 2>&1"
+
+
+def test_stopped_editors(place: Place) -> None:
+    """Ctrl-Z stops the editor and the companion as one job, and `fg` continues both, with the terminal."""
+    tree(place)
+    place.environment["EDITOR"] = place.script('printf "type: "; read text; printf %s "$text" > "$1"', "editor")
+    line = " ".join([EDIT, *place.by_file("old"), "a.yml"])
+    answers = [
+        ("ready> ", f"{line}\n".encode()),
+        ("type: ", b"\x1a"),
+        ("ready> ", b"fg\n"),
+        ("a.yml\r\n", b"typed\n"),
+        ("ready> ", b"exit\n"),
+    ]
+    session = at_terminal(place, ["sh", "-c", SHELL], *answers)
+    assert "Stopped" in session.shown, session.shown
+    assert decrypted("old", place.get("a.yml")) == b"typed", session.shown
+
+
 LAST = "trap 'sleep 0.3; printf last > \"$1\"; touch ../saved; exit' TERM"
 READY = "until [ -e ../ready ]; do sleep 0.02; done"
 WRITERS = {"itself": LAST, "a child": f"({LAST}; sleep {SECONDS} & touch ../ready; wait) & {READY}; trap exit TERM"}
@@ -216,17 +240,52 @@ def test_last_words(place: Place, who: str) -> None:
     check_whole(who, place)
 
 
+# Runs a program from a thread, and signals the companion.
+OF_THREAD = """
+import os, subprocess, sys, threading, time
+words = ["sh", "-c", "echo $$ > ../new; mv ../new ../child; exec sleep 600 > /dev/null 2>&1"]
+threading.Thread(target=lambda: subprocess.run(words)).start()
+while not os.path.exists("../child"):
+    time.sleep(0.02)
+os.kill(int(sys.argv[1]), 15)
+time.sleep(600)
+"""
+
+
+def test_children_of_threads(place: Place) -> None:
+    tree(place)
+    (place.path / "thread.py").write_text(OF_THREAD)
+    place.environment["EDITOR"] = place.script(f"exec python3 ../thread.py {ABOVE_EDITOR}", "editor")
+    done = place.run(EDIT, *place.by_file("old"), "a.yml")
+    assert done.returncode == -signal.SIGTERM, "the status"
+    state = Path("/proc", (place.path / "child").read_text().strip(), "stat")
+    assert not state.exists() or state.read_text().rpartition(")")[2].split()[0] == "Z", "the child ends, too"
+    check_whole("a thread", place)
+
+
+def begun_edit(place: Place) -> subprocess.Popen[str]:
+    """An edit in a session of its own, whose messages are to be read."""
+    return subprocess.Popen(
+        [EDIT, *place.by_file("old"), "a.yml"],
+        cwd=place.tree,
+        env=place.environment,
+        stdin=subprocess.DEVNULL,
+        stdout=subprocess.DEVNULL,
+        stderr=subprocess.PIPE,
+        start_new_session=True,
+        text=True,
+    )
+
+
 @pytest.mark.parametrize("send", (os.kill, os.killpg))
-def test_half_a_save(place: Place, send) -> None:
+def test_half_a_save(place: Place, send: Callable[[int, int], None]) -> None:
     """If the editor is ended while it saves, the save before is kept, too."""
     words = "text = open(sys.argv[1], 'w'); text.write('{}'); text.flush(); "
     first = f'import sys, time; {words.format("the first of two")}'
     second = f"time.sleep(3); {words.format('half')}open('../saved', 'w'); time.sleep({SECONDS})"
     tree(place)
     place.environment["EDITOR"] = place.script(f"{first}\n{second}", "editor", "/usr/bin/env python3")
-    streams = {"stdin": subprocess.DEVNULL, "stdout": subprocess.DEVNULL, "stderr": subprocess.PIPE}
-    options = {"cwd": place.tree, "env": place.environment, "start_new_session": True, "text": True}
-    with subprocess.Popen([EDIT, *place.by_file("old"), "a.yml"], **streams, **options) as process:
+    with begun_edit(place) as process:
         wait_until((place.path / "saved").exists, "the second save")
         send(process.pid, signal.SIGTERM)
         errors = process.communicate(timeout=SECONDS)[1]
@@ -253,7 +312,7 @@ def test_signals_to_all(place: Place, when: str) -> None:
     check_whole(when, place)
 
 
-def wait_until(condition, what: str) -> None:
+def wait_until(condition: Callable[[], object], what: str) -> None:
     end = time.monotonic() + SECONDS
     while not condition():
         if time.monotonic() > end:
@@ -261,22 +320,27 @@ def wait_until(condition, what: str) -> None:
         time.sleep(0.02)
 
 
-LEADERS = {"the companion leads the session": [], "a shell does": ["sh", "-c", '"$@"; exit', "sh"]}
+LEADERS = {"the companion leads the session": (), "a shell does": ("sh", "-c", '"$@"; exit', "sh")}
 
 
 @pytest.mark.parametrize("what, leader", LEADERS.items())
-def test_closed_terminals(place: Place, what: str, leader: list[str]) -> None:
+def test_closed_terminals(place: Place, what: str, leader: tuple[str, ...]) -> None:
     """The message can reach nobody, and the name of the copy says whose it is."""
     tree(place)
     os.mkfifo(place.path / "never")
     editor = f"{CHANGE}; echo {ABOVE_EDITOR} > ../companion; touch ../saved; : < ../never"
     place.environment["EDITOR"] = place.script(editor, "editor")
     controller, terminal = os.openpty()
-    begin = lambda: fcntl.ioctl(0, termios.TIOCSCTTY, 0)
-    options = {"cwd": place.tree, "env": place.environment, "start_new_session": True, "preexec_fn": begin}
-    streams = {"stdin": terminal, "stdout": terminal, "stderr": terminal}
-    words = [*leader, EDIT, *place.by_file("old"), "a.yml"]
-    with subprocess.Popen(words, **streams, **options) as process:
+    with subprocess.Popen(
+        [*leader, EDIT, *place.by_file("old"), "a.yml"],
+        cwd=place.tree,
+        env=place.environment,
+        stdin=terminal,
+        stdout=terminal,
+        stderr=terminal,
+        start_new_session=True,
+        preexec_fn=lambda: fcntl.ioctl(0, termios.TIOCSCTTY, 0),
+    ) as process:
         os.close(terminal)
         wait_until((place.path / "saved").exists, "the editor")
         companion = (place.path / "companion").read_text().strip()
@@ -295,9 +359,7 @@ def test_stubborn_programs(place: Place, what: str, pause: float) -> None:
     tree(place)
     stubborn = f"{CHANGE}; touch ../saved; trap '' TERM; echo $$ > ../started; exec sleep {2 * SECONDS}"
     place.environment["EDITOR"] = place.script(stubborn, "editor")
-    words = [EDIT, *place.by_file("old"), "a.yml"]
-    streams = {"stdin": subprocess.DEVNULL, "stdout": subprocess.DEVNULL, "stderr": subprocess.PIPE}
-    process = subprocess.Popen(words, cwd=place.tree, env=place.environment, text=True, **streams)
+    process = begun_edit(place)
     started = place.path / "started"
     wait_until(lambda: started.exists() and started.read_text(), "the editor")
     begun = time.monotonic()
@@ -310,8 +372,7 @@ def test_stubborn_programs(place: Place, what: str, pause: float) -> None:
     assert process.wait(SECONDS) == -signal.SIGTERM
     editor = Path("/proc", started.read_text().strip(), "cmdline")
     assert (editor.read_text() if editor.exists() else "") == "", "the editor is gone"
-    check_saved(what, place, process.stderr.read())
-    process.stderr.close()
+    check_saved(what, place, process.communicate()[1])
     check_whole(what, place)
 
 

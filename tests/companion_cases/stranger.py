@@ -2,26 +2,25 @@
 
 from __future__ import annotations
 
-from collections.abc import Callable
+from collections.abc import Iterator
 from typing import TypeVar
 
 from hypothesis import strategies as st
 
 from companion_cases.oracle import DEV, LINK, NAMES, PROD, TOKEN, Spot, Tree
-from companion_cases.oracle import block, label_of, make, opened, spots, with_label
+from companion_cases.oracle import block, label_of, make, opened, spots, spots_of, with_label
 
 T = TypeVar("T")
-ATTRIBUTES = ["*.yml -merge", "*.yml merge=union", "*.yml !merge !diff", "*.yml filter=canary diff=canary"]
-TAGS = [b"!Vault", b"!vault-encrypted", b"!vaul"]
-OUTSIDE = "../outside.yml"
+ATTRIBUTES = [b"*.yml -merge", b"*.yml merge=union", b"*.yml !merge !diff", b"*.yml filter=canary diff=canary"]
+LABELS = [DEV, PROD, ""]
 
 
 class Stranger:
     """Changes a tree."""
 
-    def __init__(self, tree: Tree, number: Callable[[], int], data: st.DataObject) -> None:
+    def __init__(self, tree: Tree, numbers: Iterator[int], data: st.DataObject) -> None:
         self.tree = tree
-        self.number = number
+        self.numbers = numbers
         self.data = data
         # What is no secret any longer.
         self.guessed: set[bytes] = set()
@@ -30,25 +29,25 @@ class Stranger:
         return self.data.draw(st.sampled_from(several), what)
 
     def spot(self, where: str = "where") -> Spot:
-        return self.choose(where, spots(self.tree))
+        """Those of a file that has several are not chosen more often for that."""
+        file = self.choose("file", sorted({spot.file for spot in spots(self.tree)}))
+        return self.choose(where, spots_of(file, self.tree[file]))
 
     def new_name(self, what: str) -> str:
-        return f"{what}{self.number()}"
-
-    def put(self, spot: Spot, text: bytes) -> None:
-        content = self.tree[spot.file]
-        self.tree[spot.file] = content[: spot.start] + text + content[spot.end :]
+        return f"{what}{next(self.numbers)}.yml"
 
     def change(self, spot: Spot, envelope: bytes, tag: bytes = b"!vault") -> None:
-        self.put(spot, block(spot.key, envelope, spot.spaces, tag) if spot.key else envelope)
+        content = self.tree[spot.file]
+        text = block(spot.key, envelope, spot.spaces, tag) if spot.key else envelope
+        self.tree[spot.file] = content[: spot.start] + text + content[spot.end :]
 
     def add(self, envelope: bytes) -> None:
         """As a file, or beside a value: above or below it, and in its column or another one."""
         beside = self.spot("beside")
         if not beside.key:
-            self.tree[self.new_name("note") + ".yml"] = envelope
+            self.tree[self.new_name("note")] = envelope
             return
-        key = self.new_name("s").encode()
+        key = b"s%d" % next(self.numbers)
         text = block(key, envelope, beside.spaces)
         if self.choose("deeper", [False, True]):
             text = beside.spaces + b"n" + key + b":\n" + block(key, envelope, beside.spaces + b"  ")
@@ -56,29 +55,26 @@ class Stranger:
         place = self.choose("above or below", [beside.start, beside.end])
         self.tree[beside.file] = content[:place] + text + content[place:]
 
-    def text(self, spot: Spot, is_guess: bool) -> bytes:
-        """That of an envelope, if it can be guessed, or another one."""
-        found = opened(spot.envelope)
-        if not (is_guess and found):
-            return b"public-%04d" % self.number()
-        self.guessed |= set(TOKEN.findall(found.text))
-        return found.text
+    def relabelled(self, spot: Spot) -> bytes:
+        return with_label(spot.envelope, self.choose("label", LABELS))
 
     def own(self, spot: Spot, is_guess: bool) -> bytes:
-        """An envelope that the stranger can make, and most often a false label."""
-        label = self.choose("label", [*[label_of(spot.envelope)] * 3, PROD, DEV, ""])
-        return make(self.choose("password", [*NAMES[DEV]]), self.text(spot, is_guess), label, self.number())
+        """An envelope that the stranger can make, of a text that is guessed or another one, most often with the label
+        of what is there."""
+        found = opened(spot.envelope)
+        text = found.text if is_guess and found else b"text-%04d" % next(self.numbers)
+        self.guessed |= set(TOKEN.findall(text))
+        label = self.choose("label", [*[label_of(spot.envelope)] * 3, *LABELS])
+        return make(self.choose("password", [*NAMES[DEV]]), text, label, next(self.numbers))
 
     # The moves.
 
     def relabel(self) -> None:
         spot = self.spot()
-        self.change(spot, with_label(spot.envelope, self.choose("label", [*others_than(label_of(spot.envelope)), ""])))
+        self.change(spot, self.relabelled(spot))
 
     def copy(self) -> None:
-        envelope = self.spot("what").envelope
-        label = label_of(envelope)
-        self.add(with_label(envelope, self.choose("label", [*others_than(label), label, ""])))
+        self.add(self.relabelled(self.spot("what")))
 
     def replace(self) -> None:
         spot = self.spot()
@@ -92,42 +88,32 @@ class Stranger:
 
     def retag(self) -> None:
         spot = self.spot()
-        self.change(spot, spot.envelope, self.choose("tag", TAGS))
+        self.change(spot, spot.envelope, self.choose("tag", [b"!Vault", b"!vault-encrypted", b"!vaul"]))
 
     def rename(self) -> None:
-        name = self.choose("file", sorted({spot.file for spot in spots(self.tree)}))
-        self.tree[self.new_name("moved") + ".yml"] = self.tree.pop(name)
+        self.tree[self.new_name("moved")] = self.tree.pop(self.spot().file)
 
     def link(self) -> None:
-        targets = [OUTSIDE, "nowhere", ".", *sorted({spot.file for spot in spots(self.tree)})]
-        self.tree[self.new_name("link") + ".yml"] = LINK + self.choose("target", targets).encode()
+        target = self.choose("target", [*["../outside.yml"] * 3, "nowhere", ".", self.spot().file])
+        self.tree[self.new_name("link")] = LINK + target.encode()
 
     def attributes(self) -> None:
-        line = self.choose("attributes", ATTRIBUTES)
-        self.tree[".gitattributes"] = self.tree.get(".gitattributes", b"") + line.encode() + b"\n"
+        self.tree[".gitattributes"] += self.choose("attributes", ATTRIBUTES) + b"\n"
 
     def nest(self) -> None:
         """Within a text of YAML, or within the text of a vault."""
-        spot = self.spot("what")
-        inner = block(b"x", with_label(spot.envelope, self.choose("label", [DEV, PROD])))
-        if self.choose("in a vault", [False, True]):
-            self.tree[self.new_name("nested") + ".yml"] = make(DEV, inner, DEV, self.number())
-        else:
-            lines = b"".join(b"  " + line for line in inner.splitlines(keepends=True))
-            self.tree[self.new_name("text") + ".yml"] = b"script: |\n" + lines
+        inner = block(b"x", self.relabelled(self.spot("what")), b"  ")
+        vault = make(DEV, inner, DEV, next(self.numbers))
+        self.tree[self.new_name("nested")] = self.choose("within", [b"x: |\n" + inner, vault])
 
     def settings(self) -> None:
         """Whatever a companion might run, if it believed them."""
-        self.tree["ansible.cfg"] = b"[defaults]\nvault_identity_list = dev@./canary, prod@./canary\n"
-
-
-def others_than(label: str) -> list[str]:
-    return [each for each in NAMES if each != label]
+        self.tree["ansible.cfg"] = b"[defaults]\nvault_identity_list = dev@../canary, prod@../canary\n"
 
 
 # Those that matter more are there more often.
 MOVES = [
-    *["relabel", "copy", "guess"] * 3,
+    *["relabel", "copy", "guess", "link"] * 3,
     *["replace"] * 5,
-    *["duplicate", "nest", "retag", "rename", "link", "attributes", "settings"],
+    *["duplicate", "nest", "retag", "rename", "attributes", "settings"],
 ]

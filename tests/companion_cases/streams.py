@@ -7,7 +7,7 @@ import subprocess
 from pytest_subtests import SubTests
 
 from companion_cases import CHECK, EDIT, HOOK, MERGE, ROTATE, TEXT, TEXTCONV, WITH
-from companion_cases import Companions, Place, decrypted, ended, sealed, silent
+from companion_cases import Companions, Done, Place, decrypted, ended, sealed, silent
 from companion_cases.editing import CHANGE, CHANGED
 from companion_cases.merging import versions
 from companion_cases.repository import under_git
@@ -28,7 +28,7 @@ def tree(place: Place) -> dict[str, str]:
     }
 
 
-def words_of_python(done: subprocess.CompletedProcess) -> list[str]:
+def words_of_python(done: Done) -> list[str]:
     return [each for each in ("Traceback", "Exception") if each in done.stderr]
 
 
@@ -88,7 +88,10 @@ def test_closed_inputs(place: Place, subtests: SubTests) -> None:
 def test_ignored_children(place: Place) -> None:
     """Whoever starts a companion may ignore SIGCHLD; a status is not taken for 0 then."""
     tree(place)
-    ignoring = lambda *words: place.run("env", "--ignore-signal=CHLD", *words)
+
+    def ignoring(*words: str) -> Done:
+        return place.run("env", "--ignore-signal=CHLD", *words)
+
     wrong = place.by_file("dev")
     done = ignoring(CHECK, *wrong, "a.yml")
     ended("a wrong password", done, 1, "no secret decrypts this vault", "0 decrypted, 1 not")
@@ -147,10 +150,10 @@ def test_all_ending_signals(cases: Companions, subtests: SubTests) -> None:
         with subtests.test(f"signal {int(number)}"):
             done = place.run(EDIT, *place.by_file("old"), "a.yml", EDITOR=editor)
             assert done.returncode == -number, "the status"
-            copy, *others = place.names()
+            copy, *left = place.names()
             assert copy.startswith(".ansible-vault-saved-a.yml-"), "what was saved is kept"
             assert decrypted("old", place.get(copy)) == CHANGED, "in a vault"
-            assert (others, place.left()) == (["a.yml"], []), "nothing else is left"
+            assert (left, place.left()) == (["a.yml"], []), "nothing else is left"
 
 
 def merges_with(path: str) -> list[list[str]]:
@@ -164,7 +167,8 @@ def test_waiting_pipes(place: Place, subtests: SubTests) -> None:
     old = place.by_file("old")
     place.put("a.yml", sealed("old"))
     runs = [[EDIT, *old, "pipe"], [TEXTCONV, *old, "pipe"], [WITH, "decrypt", *old, "pipe"]]
-    options = {"cwd": place.tree, "env": place.environment, "capture_output": True, "text": True, "timeout": 20}
+    where = place.environment
     for words in [*runs, *([MERGE, *old, *merge] for merge in merges_with("pipe"))]:
         with subtests.test(" ".join(words)):
-            ended("it does not wait", subprocess.run(words, **options), 1, "it is not a regular file")
+            done = subprocess.run(words, cwd=place.tree, env=where, capture_output=True, text=True, timeout=20)
+            ended("it does not wait", done, 1, "it is not a regular file")

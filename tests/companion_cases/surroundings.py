@@ -1,12 +1,13 @@
 """What each example of attacked.py begins with: secrets, a repository, and a file and a folder of somebody else."""
 
 import shutil
-from pathlib import Path
+import subprocess
 
-from companion_cases import MERGE, TEXTCONV, Place
-from companion_cases.oracle import DEV, NAMES, make
+from companion_cases import MERGE, Place
+from companion_cases.oracle import DEV, LINK, NAMES, Tree, make
 from companion_cases.repository import AUTHOR
 
+ATTRIBUTES = b"*.yml merge=ansible-vault\n"
 # Makes a folder in which whatever git starts leaves a mark, and in which a file seems to be still to be merged.
 PLANT = """
 git add -A && git commit -qm plain && git rev-parse HEAD > .git/MERGE_HEAD
@@ -18,38 +19,40 @@ mkdir hooks && cp "$CANARY" hooks/post-index-change && git config core.hooksPath
 
 
 class Surroundings:
-    """What all examples share: secrets, tools, a file and a folder of somebody else, and a repository to begin with."""
+    """What all examples share."""
 
     def __init__(self, place: Place) -> None:
         self.place = place
-        place.environment |= AUTHOR | {"GIT_EDITOR": "true"}
-        self.owner, self.stranger, self.outside, self.unpacked, self.template, self.ran = (
-            place.path / each for each in ("tree", "stranger", "outside.yml", "unpacked", "template", "ran")
+        place.environment |= AUTHOR | {"GIT_EDITOR": "true", "STEP": "0"}
+        self.outside, self.unpacked, self.template, self.ran = (
+            place.path / each for each in ("outside.yml", "unpacked", "template", "ran")
         )
         self.canary = place.script(f"echo \"$0 $*\" >> '{self.ran}'", "canary")
         self.secrets = [word for label, names in NAMES.items() for name in names for word in place.by_id(label, name)]
-        words = " ".join(self.secrets)
-        settings = {
-            "gc.auto": "0",
-            "rerere.enabled": "true",
-            "diff.ansible-vault.textconv": f"{TEXTCONV} {words}",
-            "merge.ansible-vault.driver": f"{MERGE} {words} %O %A %B %P",
-        }
-        self.git_init(self.template, settings)
-        self.git_init(self.unpacked, {})
-        (self.unpacked / "a.yml").write_bytes(make("dev", b"public-0000", DEV, 0))
+        for folder in (self.template, self.unpacked):
+            place.run("git", "init", "--quiet", "--template=", "--initial-branch=main", str(folder))
+        driver = f"[merge \"ansible-vault\"]\n\tdriver = {MERGE} {' '.join(self.secrets)} %O %A %B %P\n"
+        with (self.template / ".git" / "config").open("a") as file:
+            file.write(f"{driver}[gc]\n\tauto = 0\n")
+        (self.unpacked / "a.yml").write_bytes(make("dev", b"text-0000", DEV, 0))
         (self.unpacked / ".gitattributes").write_text("*.yml filter=x diff=ansible-vault ansible-vault\n")
         done = place.shell(PLANT, folder=str(self.unpacked), CANARY=self.canary)
         assert done.returncode == 0, done
 
-    def git_init(self, folder: Path, settings: dict[str, str]) -> None:
-        self.place.run("git", "init", "--quiet", "--template=", "--initial-branch=main", str(folder))
-        for name, value in settings.items():
-            self.place.run("git", "-C", str(folder), "config", name, value)
-
     def begin(self) -> None:
-        for folder in (self.owner, self.stranger):
-            shutil.rmtree(folder, ignore_errors=True)
+        shutil.rmtree(self.place.tree)
         self.ran.unlink(missing_ok=True)
-        shutil.copytree(self.template, self.owner)
-        self.outside.write_bytes(make("dev", b"public-0000", DEV, 0))
+        shutil.copytree(self.template, self.place.tree)
+        self.outside.write_bytes(make("dev", b"text-0000", DEV, 0))
+
+    def commit(self, branch: str, tree: Tree, *parents: str) -> None:
+        """Without a working tree."""
+        lines = [f"commit refs/heads/{branch}", "committer a <a@b> 1 +0000", "data 1", "x"]
+        lines += [f"from refs/heads/{parent}^0" for parent in parents]
+        stream = "\n".join([*lines, "deleteall", ""]).encode()
+        for name, content in tree.items():
+            mode = b"120000" if content.startswith(LINK) else b"100644"
+            data = content.removeprefix(LINK)
+            stream += b"M %s inline %s\ndata %d\n%s\n" % (mode, name.encode(), len(data), data)
+        command = ["git", "fast-import", "--quiet", "--force"]
+        subprocess.run(command, cwd=self.place.tree, env=self.place.environment, input=stream, check=True)

@@ -8,7 +8,6 @@ import subprocess
 import termios
 import time
 from dataclasses import dataclass
-from typing import Any
 
 from companion_cases import Place
 from lib.limits import SECONDS
@@ -34,12 +33,18 @@ class Session:
 def at_terminal(place: Place, words: list[str], *answers: tuple[str, bytes], **variables: str) -> Session:
     """Runs a program, waits for each question and types what answers it. The standard streams are no terminal."""
     controller, terminal = os.openpty()
-    pipes: dict[str, Any] = {"stdin": subprocess.DEVNULL, "stdout": subprocess.PIPE, "stderr": subprocess.PIPE}
-    begin = lambda: fcntl.ioctl(terminal, termios.TIOCSCTTY, 0)
     modes = place.path / "modes"
-    environment = place.environment | variables | {"MODES": str(modes)}
-    options: dict[str, Any] = {"cwd": place.tree, "env": environment, "start_new_session": True, "preexec_fn": begin}
-    with subprocess.Popen(["sh", "-c", LEADER, "sh", *words], pass_fds=[terminal], **pipes, **options) as program:
+    with subprocess.Popen(
+        ["sh", "-c", LEADER, "sh", *words],
+        cwd=place.tree,
+        env=place.environment | variables | {"MODES": str(modes)},
+        stdin=subprocess.DEVNULL,
+        stdout=subprocess.PIPE,
+        stderr=subprocess.PIPE,
+        pass_fds=[terminal],
+        start_new_session=True,
+        preexec_fn=lambda: fcntl.ioctl(terminal, termios.TIOCSCTTY, 0),
+    ) as program:
         os.close(terminal)
         shown = b""
         try:

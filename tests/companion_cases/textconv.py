@@ -67,9 +67,9 @@ def test_as_it_is(place: Place, subtests: SubTests) -> None:
         with subtests.test(name):
             done = place.run(TEXTCONV, *place.by_file("old"), name)
             assert (done.returncode, done.stdout, done.stderr) == (1, "", f"{TEXTCONV}: {name}: {why}\n")
-    for words in ([], ["a.yml"], ["--loud", "a.yml"], place.by_file("old")[:1] + ["a.yml"]):
-        with subtests.test(f"{words}"):
-            ended("it is refused", place.run(TEXTCONV, *words), 2, "usage: ansible-vault-textconv")
+    for line in ("", "a.yml", "--loud a.yml", "--vault-password-file a.yml"):
+        with subtests.test(f"{TEXTCONV} {line}"):
+            ended("it is refused", place.run(TEXTCONV, *line.split()), 2, "usage: ansible-vault-textconv")
 
 
 def test_differences(place: Place) -> None:
@@ -168,7 +168,9 @@ SETTINGS_OF_ALL_CLONES = [
 
 
 @pytest.mark.parametrize("words, variables, is_run", SETTINGS_OF_ALL_CLONES)
-def test_clones_of_others(place: Place, subtests: SubTests, words: str, variables: dict, is_run: bool) -> None:
+def test_clones_of_others(
+    place: Place, subtests: SubTests, words: str, variables: dict[str, str], is_run: bool
+) -> None:
     """A clone whose `ansible.cfg` names a script, and which has an executable file named as a password file: as the
     manual page says, neither `git diff` nor `git merge` runs them, where options or ANSIBLE_CONFIG name the secret by
     an absolute path."""

@@ -44,7 +44,7 @@ def test_links(place: Place) -> None:
     for name, target in targets.items():
         (place.tree / "tree" / name).symlink_to(target)
     shared = str(place.tree / "shared/vault.yml")
-    for words, part in (([], "1 rotated, 0 under"), (["--dry-run"], "0 to be rotated, 1 under")):
+    for words, part in (((), "1 rotated, 0 under"), (("--dry-run",), "0 to be rotated, 1 under")):
         done = place.run(ROTATE, *words, *to_new(place), "tree")
         why = f"tree/chain.yml: it leads to {shared}, outside of what is rotated; to rotate that, name it\n"
         ended("a link out of the folder", done, 1, why, part, "1 failed")

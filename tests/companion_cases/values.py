@@ -1,11 +1,10 @@
 """ansible-vault-edit on YAML with values that are vaults; PyYAML reads what the editor is shown."""
 
 import re
-import subprocess
 
 import pytest
 
-from companion_cases import EDIT, TEXTCONV, Place, block, decrypted, ended, sealed, silent
+from companion_cases import EDIT, TEXTCONV, Done, Place, block, decrypted, ended, sealed, silent
 from companion_cases.blocks import lines_of, texts
 from companion_cases.editing import edit
 from lib.needs import needs_pyyaml
@@ -58,11 +57,6 @@ def test_shown_literals(place: Place, end: bytes) -> None:
     needs_pyyaml()
     import yaml
 
-
-    class Loader(yaml.SafeLoader):
-        pass
-
-    Loader.add_constructor("!vault", Loader.construct_scalar)
     vaults = [lines_of(sealed("old", text.encode()), 4) for text in SHOWN]
     files = {f"{number}.yml": b"a: !vault |\n" + vault + end for number, vault in enumerate(vaults)}
     for name, content in files.items():
@@ -71,7 +65,7 @@ def test_shown_literals(place: Place, end: bytes) -> None:
     done = edit(place, COPY, *place.by_file("old"), *files)
     assert (done.returncode, done.stderr.count("nothing was changed")) == (0, len(files)), "they are shown"
     assert place.files() == files, "they stay"
-    found = [yaml.load((place.path / "shown" / name).read_text(), Loader)["a"] for name in files]
+    found = [yaml.load((place.path / "shown" / name).read_text(), yaml.BaseLoader)["a"] for name in files]
     # An empty text stays encrypted above a comment, which would become its text.
     wanted = ["$ANSIBLE_VAULT" if b"#" in end and not text.strip("\n") else text for text in SHOWN]
     assert [text[:14] if text.startswith("$ANSIBLE_VAULT") else text for text in found] == wanted, "by PyYAML"
@@ -103,7 +97,7 @@ def test_what_changes(place: Place) -> None:
     ended("a tag that is removed", done, 0, "no longer encrypted: c")
 
 
-def typed(place: Place, content: bytes, forms: list[str]) -> subprocess.CompletedProcess:
+def typed(place: Place, content: bytes, forms: list[str]) -> Done:
     """Each text is typed in a file of its own, which has this content and is named by its number."""
     for number, text in enumerate(forms):
         place.put(f"{number}.yml", content)

@@ -9,13 +9,13 @@ import termios
 from collections.abc import Iterator
 from contextlib import contextmanager, suppress
 from pathlib import Path
-from typing import Any
 
 import pytest
 
-from companion_cases import CHECK, HOOK, MERGE, ROTATE, SECONDS, TEXT, TEXTCONV, WITH, Place, sealed
+from companion_cases import CHECK, HOOK, MERGE, ROTATE, TEXT, TEXTCONV, WITH, Place, sealed
 from companion_cases.rotating import to_new
 from companion_cases.signals import merge_of, tree, wait_until
+from lib.limits import SECONDS
 
 # Runs a companion for which each folder has another one below it, and that signals itself there.
 ENDLESS_FOLDERS = """
@@ -35,16 +35,25 @@ PIPE_SIZE = 4096
 
 
 @contextmanager
-def started(place: Place, words: list[str], **streams: Any) -> Iterator[subprocess.Popen]:
-    streams = {"stdin": subprocess.DEVNULL, "stdout": subprocess.PIPE, "stderr": subprocess.PIPE} | streams
-    with subprocess.Popen(words, cwd=place.tree, env=place.environment, text=True, **streams) as process:
+def started(
+    place: Place, words: list[str], stdin: int = subprocess.DEVNULL, stdout: int = subprocess.PIPE
+) -> Iterator[subprocess.Popen[str]]:
+    with subprocess.Popen(
+        words,
+        cwd=place.tree,
+        env=place.environment,
+        stdin=stdin,
+        stdout=stdout,
+        stderr=subprocess.PIPE,
+        text=True,
+    ) as process:
         try:
             yield process
         finally:
             process.kill()
 
 
-def end(process: subprocess.Popen, number: int, never: Path | None = None) -> None:
+def end(process: subprocess.Popen[str], number: int, never: Path | None = None) -> None:
     """Ends it by a signal, and what survives it by what it reads."""
     process.send_signal(number)
     assert process.wait(SECONDS) == -number, "it ends by the signal"
@@ -73,7 +82,10 @@ def test_while_files_are_searched(place: Place, companion: str, number: int) -> 
     words = place.by_file("old") if companion == CHECK else to_new(place)
     with started(place, [companion, *words, "."]) as process:
         files = Path("/proc", str(process.pid), "fd")
-        names = lambda: [os.readlink(each) for each in files.iterdir() if each.is_symlink()]
+
+        def names() -> list[str]:
+            return [os.readlink(each) for each in files.iterdir() if each.is_symlink()]
+
         wait_until(lambda: any(name.endswith(".img") for name in names()), "the first file")
         end(process, number)
 
@@ -100,7 +112,7 @@ def test_while_input_is_awaited(place: Place, number: int) -> None:
         end(process, number)
 
 
-def reads_input(process: subprocess.Popen) -> bool:
+def reads_input(process: subprocess.Popen[str]) -> bool:
     """Whether it is in the call that reads standard input: the numbers of the call and of the descriptor."""
     return Path("/proc", str(process.pid), "syscall").read_text().split()[:2] == ["0", "0x0"]
 
@@ -138,6 +150,6 @@ def waiting(reader: int) -> int:
     return count[0]
 
 
-def is_asleep(process: subprocess.Popen) -> bool:
+def is_asleep(process: subprocess.Popen[str]) -> bool:
     """Whether it is in the call that writes standard output."""
     return Path("/proc", str(process.pid), "syscall").read_text().split()[:2] == ["1", "0x1"]

@@ -75,7 +75,10 @@ def test_unreadable_folders(place: Place) -> None:
 def test_access_control_lists(place: Place) -> None:
     """A file that is replaced keeps its ACL, and inherits no entry of the folder's default ACL."""
     needs("setfacl")
-    acl = lambda name: place.run("getfacl", "-c", name).stdout.split()
+
+    def acl(name: str) -> list[str]:
+        return place.run("getfacl", "-c", name).stdout.split()
+
     place.put("none.yml", sealed("old"), 0o640)
     place.put("own.yml", sealed("old"), 0o640)
     made = place.shell(f"setfacl -m u:{NOBODY}:r own.yml && setfacl -d -m u:{NOBODY}:rwx .")
@@ -113,7 +116,7 @@ def test_dry_runs(place: Place, subtests: SubTests) -> None:
     (place.tree / "closed").chmod(0o555)
     place.tree.chmod(0o777)
     parts = ["./a.yml: it has 2 names (hard links)", "./closed/b.yml: Permission denied", "2 failed"]
-    for words in (["--dry-run"], []):
+    for words in (("--dry-run",), ()):
         with subtests.test(f"with {words}"):
             ended("it is refused", place.as_nobody(ROTATE, *words, *to_new(place), "."), 1, *parts)
             assert place.names() == ["a.yml", "c.yml", "closed", "closed/b.yml"], "no other file is there"
@@ -148,9 +151,9 @@ def test_named_paths(cases: Companions, subtests: SubTests) -> None:
     place.put("closed/b.yml", sealed("old"))
     (place.tree / "tree/link.yml").symlink_to("../closed/b.yml")
     (place.tree / "tree/file.yml").symlink_to("a.yml/below")
-    for path in (place.tree / "tree", place.tree / "tree/a.yml"):
-        if os.geteuid() == 0:
-            os.chown(path, NOBODY, NOBODY)
+    if os.geteuid() == 0:
+        for name in ("tree", "tree/a.yml"):
+            os.chown(place.tree / name, NOBODY, NOBODY)
     (place.tree / "closed").chmod(0o000)
     done = place.as_nobody(ROTATE, *to_new(place), "tree")
     parts = ["tree/link.yml: Permission denied", "tree/file.yml: Not a directory", summary(1, failed=2)]
@@ -159,7 +162,7 @@ def test_named_paths(cases: Companions, subtests: SubTests) -> None:
 
 
 @pytest.mark.parametrize("words", (["--vault-password-file", "../long"], ["--vault-id", "dev@../long"]))
-def test_long_passwords(place: Place, words) -> None:
+def test_long_passwords(place: Place, words: list[str]) -> None:
     """A truncated password decrypts no vault."""
     long = b"p" * 4097
     (place.path / "long").write_bytes(long)

@@ -73,7 +73,7 @@ def loader(request: pytest.FixtureRequest, monkeypatch: pytest.MonkeyPatch) -> N
 
 
 @pytest.mark.parametrize("text, wanted", READ.items())
-def test_read(loader: None, text: str, wanted: list) -> None:
+def test_read(loader: None, text: str, wanted: list[tuple[tuple[str, ...], str]]) -> None:
     data = as_bytes(text)
     characters = nodes.decoded(data)
     found = [node for node in nodes.nodes(data) if node.is_value]

@@ -15,7 +15,8 @@ from ansible_vault_companions.files.changes import Change, changed
 from ansible_vault_companions.files.finding import envelopes
 from ansible_vault_companions.program import Refused
 from ansible_vault_companions.secrets.sources import Secret, Source
-from ansible_vault_companions.yaml import nodes, inline
+from ansible_vault_companions.tool.tool import Tool
+from ansible_vault_companions.yaml import inline, nodes
 from ansible_vault_companions.yaml.matching import Choice
 from ansible_vault_companions.yaml.values import Scan, Value
 from lib.needs import needs_pyyaml
@@ -62,8 +63,13 @@ def decrypt(text: bytes) -> tuple[Secret, bytes]:
         raise Refused("a comment below is part of its text") from None
 
 
-class Tool:
-    def encrypt(self, plaintext: bytes, _secret: Secret, _label: str) -> bytes:
+class Hexadecimal(Tool):
+    """Runs no program."""
+
+    def __init__(self) -> None:
+        pass
+
+    def encrypt(self, plaintext: bytes, secret: Secret, label: str) -> bytes:
         return envelope(plaintext)
 
 
@@ -119,9 +125,10 @@ def composed(text: str) -> list[tuple[tuple[str, ...], str]] | None:
     """The keys and the text of each value with the tag, as PyYAML composes them; None where it is no YAML."""
     import yaml
 
-    found, seen = [], set()
+    found: list[tuple[tuple[str, ...], str]] = []
+    seen: set[int] = set()
 
-    def walk(node, path: tuple[str, ...]) -> None:
+    def walk(node: yaml.Node, path: tuple[str, ...]) -> None:
         if id(node) in seen:
             return
         seen.add(id(node))
@@ -136,7 +143,8 @@ def composed(text: str) -> list[tuple[tuple[str, ...], str]] | None:
 
     try:
         # All at once, since the nodes of a later document could have the ids of those that are gone.
-        for document in [*yaml.compose_all(text, getattr(yaml, "CSafeLoader", yaml.SafeLoader))]:
+        loader = getattr(yaml, "CSafeLoader", yaml.SafeLoader)
+        for document in [*yaml.compose_all(text, loader)]:  # type: ignore[no-untyped-call]
             walk(document, ())
     except yaml.YAMLError:
         return None
@@ -199,8 +207,9 @@ def typed_anew(showing: inline.Showing, generator: random.Random, counts: Counte
     after = encrypted(showing, typed)
     if after != inline.NO_PLACE:
         counts["changed"] += 1
-        texts = [text for _, text in composed(typed.decode())]
-        wanted = [text if text.startswith("$") else envelope(text.encode()).decode() for text in texts]
+        read = composed(typed.decode())
+        assert read is not None, "it is still YAML"
+        wanted = [text if text.startswith("$") else envelope(text.encode()).decode() for _, text in read]
         found = [text.split() for _, text in composed(after.decode()) or []] if isinstance(after, bytes) else after
         yield "changed", typed.decode(), found, [text.split() for text in wanted]
 
@@ -223,13 +232,13 @@ def test_found_by_bytes() -> None:
 def encrypted(showing: inline.Showing, text: bytes) -> bytes | str:
     """The file, or why it is refused."""
     try:
-        return inline.encrypted(showing, text, Tool(), Choice([SECRET], None))
+        return inline.encrypted(showing, text, Hexadecimal(), Choice([SECRET], None))
     except Refused as fault:
         return str(fault)
 
 
 @pytest.mark.parametrize("text", (b"a: !vault new\n            # a comment\n", b"a: !vault new\xe2\x80\xa8b: 1"))
-def test_no_place(text) -> None:
+def test_no_place(text: bytes) -> None:
     """What would not be read as it is meant is not written."""
     needs_pyyaml()
     data = b"a: !vault |\n  " + envelope(b"old").replace(b"\n", b"\n  ") + b"\n"

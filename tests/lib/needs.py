@@ -28,6 +28,14 @@ def needs(*tools: str) -> None:
         pytest.skip(f"without {', '.join(missing)}")
 
 
+def needs_tool(name: str) -> str:
+    """The path of a program on PATH."""
+    path = shutil.which(name)
+    if path is None:
+        pytest.skip(f"without {name}")
+    return path
+
+
 def needs_checkout() -> None:
     """A checkout of git, where git is installed."""
     needs("git")

@@ -54,7 +54,7 @@ class Repository:
             self.put(name, password + b"\n")
             (path / ".vault" / name).write_bytes(password + b"\n")
 
-    def put(self, name: str, content: bytes):
+    def put(self, name: str, content: bytes) -> None:
         path = self.folder / name
         path.parent.mkdir(parents=True, exist_ok=True)
         path.write_bytes(content)
@@ -72,7 +72,9 @@ class Repository:
         path.chmod(0o755)
         return str(path)
 
-    def shell(self, text: str, folder: str = ".", stdin: str = "", interpreter: str = "sh", **variables: str):
+    def shell(
+        self, text: str, folder: str = ".", stdin: str = "", interpreter: str = "sh", **variables: str
+    ) -> subprocess.CompletedProcess[str]:
         where, environment = self.folder / folder, self.environment | variables
         return subprocess.run(
             [interpreter, "-c", text], cwd=where, env=environment, input=stdin, capture_output=True, text=True
@@ -81,10 +83,15 @@ class Repository:
     def pasted(self, shell: str, password: str) -> str:
         """What a terminal shows where the shell is pasted, and the password is typed when it is waited for."""
         controller, terminal = pty.openpty()
-        command = ["bash", "--norc", "--noprofile", "-i"]
-        environment = self.environment | {"PS1": "$ ", "TERM": "dumb"}
-        streams = {"stdin": terminal, "stdout": terminal, "stderr": terminal}
-        process = subprocess.Popen(command, cwd=self.folder, env=environment, start_new_session=True, **streams)
+        process = subprocess.Popen(
+            ["bash", "--norc", "--noprofile", "-i"],
+            cwd=self.folder,
+            env=self.environment | {"PS1": "$ ", "TERM": "dumb"},
+            stdin=terminal,
+            stdout=terminal,
+            stderr=terminal,
+            start_new_session=True,
+        )
         os.close(terminal)
         os.write(controller, shell.encode())
         wait_for_question(controller)
@@ -96,7 +103,7 @@ class Repository:
         return shown.decode()
 
 
-def wait_for_question(terminal: int):
+def wait_for_question(terminal: int) -> None:
     """Until the shell reads a line and shows nothing of it; a line that is edited comes key by key."""
     end = time.monotonic() + SECONDS
     while time.monotonic() < end:

@@ -1,25 +1,50 @@
-"""Secrets that a command line of ansible-vault-with need not name: what is asked for, and the new one of rekey."""
+"""Secrets of a command line of ansible-vault-with for which something is run, or that are asked for: also those that it
+need not name, and the new one of rekey."""
 
 from __future__ import annotations
 
-from ansible_vault_companions import program
+from ansible_vault_companions import program, stopping
 from ansible_vault_companions.alias.run import Run
-from ansible_vault_companions.alias.words import ENCRYPT_ID
+from ansible_vault_companions.alias.table import ENCRYPT_ID, ENCRYPTING, REKEY
 from ansible_vault_companions.program import Refused
-from ansible_vault_companions.secrets import options, prompts
-from ansible_vault_companions.secrets.sources import ASKED, Secret
+from ansible_vault_companions.secrets import options, sources
+from ansible_vault_companions.secrets.sources import ASKED, NoTerminal, Secret, Source
+from ansible_vault_companions.tool import finding
+from ansible_vault_companions.tool.tool import Tool
 
-
+WRONG_COMMAND_LINE = 2
+# What the tool refuses before it opens any file.
+REFUSED_SECRET = "--vault-id=prompt"
 NO_NEW = (
     "no new secret is given: name one by --new-vault-id or --new-vault-password-file, or run this at a terminal, where "
     "you are asked for it"
 )
 
 
+def obtained(
+    companion: str, tool: Tool, run: Run, named: list[Source], line: list[str]
+) -> tuple[list[Secret], list[Secret]]:
+    """All secrets, and the new ones. From now on signals are noted, and first the tool looks at the command line."""
+    stopping.listen()
+    _refuse_wrong(tool, run.words.command, line)
+    encrypts = run.words.command in ENCRYPTING
+    old = sources.load(companion, named, encrypts, options.password) or secrets(encrypts)
+    return old, new_secrets(run, old) if run.words.command == REKEY else []
+
+
+def _refuse_wrong(tool: Tool, command: str, line: list[str]) -> None:
+    """Lets the tool refuse the command line, if it does, before anything is asked or run."""
+    try:
+        tool.run([command, REFUSED_SECRET, *line], b"", [])
+    except Refused as fault:
+        if fault.status == WRONG_COMMAND_LINE:
+            finding.take_over(tool.path, [command, *line], [])
+
+
 def secrets(encrypts: bool, none: str = options.NONE) -> list[Secret]:
     """What is asked for where nothing names a secret, and what is said if that is not possible."""
     [secret] = options.of_options([ASKED], [], encrypts)
-    if secret.fault == prompts.NO_TERMINAL:
+    if isinstance(secret.fault, NoTerminal):
         raise Refused(none)
     return [secret]
 

@@ -2,7 +2,12 @@
 
 from __future__ import annotations
 
-from ansible_vault_companions.alias.run import REKEY
+from ansible_vault_companions import program
+from ansible_vault_companions.alias.table import DECRYPT, ENCRYPT, ENCRYPT_STRING, REKEY, VIEW
+from ansible_vault_companions.alias.words import Words
+from ansible_vault_companions.program import Refused
+from ansible_vault_companions.tool import finding
+from ansible_vault_companions.tool.tool import Tool
 
 # What is otherwise than in the help of the tool.
 SEVERAL_FILES = [("[FILE]", "[FILE]...")]
@@ -12,11 +17,11 @@ IN_PLACE = [
     ("- or nothing for standard output. It is required if FILE is given", "- for standard output; FILE by default"),
 ]
 OTHERWISE = {
-    "view": [*SEVERAL_FILES, ("The file to read; ", "Files to show, one after the other; ")],
-    "decrypt": IN_PLACE,
-    "encrypt": IN_PLACE,
+    VIEW: [*SEVERAL_FILES, ("The file to read; ", "Files to show, one after the other; ")],
+    DECRYPT: IN_PLACE,
+    ENCRYPT: IN_PLACE,
     REKEY: IN_PLACE,
-    "encrypt_string": [
+    ENCRYPT_STRING: [
         ("[STRING]", "[STRING]..."),
         ("The text to encrypt; ", "Texts to encrypt, each as a block; "),
         ("before STRING's block; none by default", "before STRING's block; repeated for several STRINGs"),
@@ -28,7 +33,7 @@ FOR_ALL = """\
       --vault-pass-file <PATH>    The same as --vault-password-file"""
 # The options that the tool does not have.
 ADDED = {
-    "encrypt_string": """
+    ENCRYPT_STRING: """
   -p, --prompt                    Ask at the terminal for one more text, and for its name
       --show-input                Show that text while it is typed""",
     REKEY: """
@@ -39,8 +44,16 @@ A PATH of a password may also be a program that writes it, or the word prompt. A
 if nothing does, you are asked. Long options may be abbreviated. `{name} --help` says more."""
 
 
-def of_command(name: str, command: str, text: str) -> str:
-    """The help, from that of the tool."""
-    for old, new in [(f"Usage: ansible-vault {command}", f"Usage: {name} {command}"), *OTHERWISE[command]]:
+def show(companion: str, tool: Tool, words: Words) -> int:
+    """The help, from that of the tool, unless the tool refuses the command line."""
+    line = [words.command, *words.secret_options(), *words.others]
+    try:
+        text = tool.run(line, b"", []).decode()
+    except Refused:
+        return finding.take_over(tool.path, line, [])
+    usage = [(f"Usage: ansible-vault {words.command}", f"Usage: {companion} {words.command}")]
+    for old, new in [*usage, *OTHERWISE[words.command]]:
         text = text.replace(old, new)
-    return "\n".join([text, f"Added by {name}:", FOR_ALL + ADDED.get(command, ""), END.format(name=name)])
+    added = FOR_ALL + ADDED.get(words.command, "")
+    program.write_line("\n".join([text, f"Added by {companion}:", added, END.format(name=companion)]))
+    return 0

@@ -2,25 +2,19 @@
 
 from __future__ import annotations
 
-from ansible_vault_companions.alias.words import ENCRYPT_ID, MATCH, Words
-from ansible_vault_companions.program import Refused
+from ansible_vault_companions.alias.table import DECRYPTING, ENCRYPT_ID, ENCRYPTING, MATCH, REKEY
+from ansible_vault_companions.alias.words import Words
 from ansible_vault_companions.secrets.settings import Settings
 from ansible_vault_companions.secrets.sources import Secret
-from ansible_vault_companions.tool.tool import NOT_DECRYPTED, Tool
 
-# Commands by what they do with the secrets.
-DECRYPTING = ("view", "decrypt")
-REKEY = "rekey"
-ENCRYPTING = ("encrypt", "encrypt_string")
 # How many secrets the tool takes.
 MOST = 16
 
 
 class Run:
-    """The tool, the words of the command line, and secrets in the order in which they are tried."""
+    """The words of the command line, and secrets in the order in which they are tried."""
 
-    def __init__(self, tool: Tool, words: Words, found: Settings) -> None:
-        self.tool = tool
+    def __init__(self, words: Words, found: Settings) -> None:
         self.words = words
         self.found = found
         self.secrets: list[Secret] = []
@@ -59,14 +53,3 @@ class Run:
         if self.words.command in ENCRYPTING:
             return [self.secrets[:MOST]]
         return [self.secrets[start : start + MOST] for start in range(0, len(self.secrets), MOST)]
-
-    def output(self, options: list[str], data: bytes) -> bytes:
-        """What the tool writes for some input; secrets that are too many for it are tried in several runs."""
-        *groups, last = self.groups()
-        for group in groups:
-            try:
-                return self.tool.run([*self.command(group), *options], data, [*group, *self.new])
-            except Refused as fault:
-                if str(fault) != NOT_DECRYPTED:
-                    raise
-        return self.tool.run([*self.command(last), *options], data, [*last, *self.new])

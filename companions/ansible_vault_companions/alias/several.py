@@ -3,20 +3,23 @@
 from __future__ import annotations
 
 import os
+from contextlib import suppress
+from typing import Callable
 
 from ansible_vault_companions import program, stopping
 from ansible_vault_companions.alias.run import Run
-from ansible_vault_companions.alias.words import OUTPUT, PROMPT, SHOW_INPUT, STANDARD_INPUT, STDIN_NAME, VARIABLE, Words
+from ansible_vault_companions.alias.table import DECRYPT, ENCRYPT_STRING, OUTPUT, PROMPT, SHOW_INPUT, STDIN_NAME
+from ansible_vault_companions.alias.table import VARIABLE, VIEW
+from ansible_vault_companions.alias.words import STANDARD_INPUT, Words
 from ansible_vault_companions.files import reading, replacing
 from ansible_vault_companions.program import Refused, write_error
 from ansible_vault_companions.secrets import prompts
-from ansible_vault_companions.tool.tool import NOT_DECRYPTED
+from ansible_vault_companions.secrets.sources import Secret
+from ansible_vault_companions.tool.faults import NotDecrypted
+from ansible_vault_companions.tool.tool import Tool
 
-TYPE_CHECKING = False
-if TYPE_CHECKING:
-    from typing import Callable
-
-    from ansible_vault_companions.secrets.sources import Secret
+# What only several strings or a typed one have, or each has for itself.
+OF_STRINGS = (VARIABLE, STDIN_NAME, PROMPT, SHOW_INPUT)
 
 
 class Text:
@@ -28,28 +31,34 @@ class Text:
         self.origin = origin
 
 
-def in_place(companion: str, run: Run) -> int:
-    """Replaces each file; the highest status of all."""
+def output(tool: Tool, run: Run, options: list[str], data: bytes) -> bytes:
+    """What the tool writes for some input; secrets that are too many for it are tried in several runs."""
+    *groups, last = run.groups()
+    for group in groups:
+        with suppress(NotDecrypted):
+            return tool.run([*run.command(group), *options], data, [*group, *run.new])
+    return tool.run([*run.command(last), *options], data, [*last, *run.new])
+
+
+def handle(companion: str, tool: Tool, run: Run) -> int:
+    """Replaces each file or shows it, or makes a block of each string."""
+    end = b""
 
     def replace(path: str) -> None:
         before = reading.named(path)
-        after = run.output(run.words.options, before)
-        replacing.replace(path, after, before, is_private=run.words.command == "decrypt")
-
-    return _each(companion, run.words.arguments, replace)
-
-
-def view(companion: str, run: Run) -> int:
-    """Shows each file; the next one begins on a line of its own."""
-    end = b""
+        after = output(tool, run, run.words.without(), before)
+        replacing.replace(path, after, before, is_private=run.words.command == DECRYPT)
 
     def show(path: str) -> None:
+        """The next one begins on a line of its own."""
         nonlocal end
-        text = run.output(run.words.options, reading.named(path))
+        text = output(tool, run, run.words.without(), reading.named(path))
         program.write(end + text)
         end = b"\n" if text and not text.endswith(b"\n") else b""
 
-    return _each(companion, run.words.arguments, show)
+    if run.words.command == ENCRYPT_STRING:
+        return _blocks(tool, run)
+    return _each(companion, run.words.arguments, show if run.words.command == VIEW else replace)
 
 
 def _each(companion: str, paths: list[str], work: Callable[[str], None]) -> int:
@@ -64,23 +73,23 @@ def _each(companion: str, paths: list[str], work: Callable[[str], None]) -> int:
     return max(statuses)
 
 
-def blocks(run: Run) -> int:
+def _blocks(tool: Tool, run: Run) -> int:
     """Writes a block of YAML for each string, in Ansible's order: what is typed, standard input, arguments."""
     words = run.words
     texts = [*_typed(words), *_read(words), *_given(words)]
-    output = words.value(OUTPUT)
-    words.leave_out(VARIABLE, "-n", STDIN_NAME, OUTPUT, PROMPT, SHOW_INPUT)
+    path = words.value(OUTPUT)
+    words.leave_out(*OF_STRINGS, OUTPUT)
     made = []
     for number, text in enumerate(texts, 1):
         named = [f"{STDIN_NAME}={text.name}"] if text.name else []
-        made.append(run.output([*words.options, *named], text.content))
+        made.append(output(tool, run, [*words.without(), *named], text.content))
         if len(texts) > 1:
             what = f"the variable {program.shown(text.name)}" if text.name else "a string without a name"
             write_error(f"# Block {number} is {what}, from {text.origin}.")
-    if output is None or output == STANDARD_INPUT:
+    if path is None or path == STANDARD_INPUT:
         program.write(b"".join(made))
     else:
-        replacing.replace(output, b"".join(made), reading.read(output))
+        replacing.replace(path, b"".join(made), reading.read(path))
     return 0
 
 
@@ -117,7 +126,7 @@ def _given(words: Words) -> list[Text]:
     return [Text(os.fsencode(string), name, "the command line") for string, name in pairs]
 
 
-def serving(run: Run) -> list[Secret]:
+def serving(tool: Tool, run: Run) -> list[Secret]:
     """No more secrets than the tool takes at once: those among which one decrypts the input, which is kept if it can
     be read only once."""
     path = next(iter(run.words.arguments), STANDARD_INPUT)
@@ -132,9 +141,10 @@ def serving(run: Run) -> list[Secret]:
         data = reading.named(path)
     for group in run.groups():
         try:
-            run.tool.run(["view", *run.matching(), *(secret.word() for secret in group)], data, group)
+            tool.run([VIEW, *run.matching(), *(secret.word() for secret in group)], data, group)
             break
-        except Refused as fault:
-            if str(fault) != NOT_DECRYPTED:
-                break
+        except NotDecrypted:
+            continue
+        except Refused:
+            break
     return group

@@ -2,36 +2,13 @@
 
 from __future__ import annotations
 
-from ansible_vault_companions.secrets.sources import ASKED, ASKING
+from ansible_vault_companions.alias.table import ASKS, ENCRYPT_STRING, FLAG, NAMING, OUTPUT, PROMPT, STDIN_NAME, VALUE
+from ansible_vault_companions.alias.table import VARIABLE, VERBOSE, VIEW, kind_of, known_to
+from ansible_vault_companions.secrets.sources import ASKED
 
 STANDARD_INPUT = "-"
 # What ends the options.
 END = "--"
-HELP = ("-h", "--help")
-VERSION = ("-V", "--version")
-# The option for verbosity of Ansible's tool, which ansible-vault does not have.
-VERBOSE = "--verbose"
-# Options that have a value, but for those that name secrets.
-ENCRYPT_ID, OUTPUT, SALT, VARIABLE, STDIN_NAME = "--encrypt-vault-id", "--output", "--salt", "--name", "--stdin-name"
-VALUED = (ENCRYPT_ID, OUTPUT, SALT, "--salt-file", VARIABLE, "-n", STDIN_NAME)
-# Options of Ansible's tool for a string that is typed.
-PROMPT, SHOW_INPUT = "--prompt", "--show-input"
-MATCH = "--require-id-match"
-SECRETS = ("--vault-id", "--vault-password-file", "--vault-pass-file", *ASKING[1:])
-NEW_SECRETS = ("--new-vault-id", "--new-vault-password-file")
-SALTS = (SALT, "--salt-file")
-# The options of each command that can be abbreviated.
-OPTIONS = {
-    "view": (MATCH,),
-    "decrypt": (MATCH, OUTPUT),
-    "encrypt": (ENCRYPT_ID, OUTPUT, *SALTS),
-    "encrypt_string": (ENCRYPT_ID, OUTPUT, *SALTS, VARIABLE, STDIN_NAME, PROMPT, SHOW_INPUT),
-    "rekey": (ENCRYPT_ID, OUTPUT, *SALTS, MATCH, *NEW_SECRETS),
-    "create": (ENCRYPT_ID,),
-    "edit": (ENCRYPT_ID,),
-}
-# Names of the same option.
-SAME = {"--vault-pass-file": "--vault-password-file", "--ask-vault-pass": "--ask-vault-password"}
 
 
 class Words:
@@ -56,17 +33,12 @@ class Words:
         """All that does not name secrets."""
         return [word for _, words in self.parts for word in words]
 
-    @property
-    def options(self) -> list[str]:
-        """The same without arguments."""
-        return self.without()
-
     def has(self, *names: str) -> bool:
         """Whether one of these options is given."""
         return any(name in names for name, _ in self.parts)
 
     def without(self, *names: str) -> list[str]:
-        """The options without some."""
+        """The options that do not name secrets, without some."""
         return [word for name, words in self.parts for word in words if name and name not in names]
 
     def value(self, name: str) -> str | None:
@@ -76,6 +48,14 @@ class Words:
     def has_files(self) -> bool:
         """Whether all arguments are files, and there are some."""
         return bool(self.arguments) and STANDARD_INPUT not in self.arguments
+
+    def are_several(self) -> bool:
+        """Whether they take more than one run of the tool, or one whose output replaces a file or whose string is
+        typed."""
+        is_more = len(self.arguments) > 1
+        if self.command == ENCRYPT_STRING:
+            return self.has(PROMPT) or is_more or bool(self.arguments and self.has(STDIN_NAME))
+        return self.has_files() and (is_more if self.command == VIEW else not self.has(OUTPUT))
 
     def names_secrets(self) -> bool:
         return bool(self.ids or self.paths)
@@ -99,15 +79,13 @@ class Words:
             self._argument(word)
             return
         name, equals, value = self._split(word)
-        named = self._secrets(name)
+        kind = kind_of(name)
         has_value = bool(following) and (following[0] == STANDARD_INPUT or not following[0].startswith("-"))
-        if name in ASKING:
+        if kind == ASKS:
             self.ids.append(ASKED)
-        elif named is not None and equals:
-            named.append(value)
-        elif named is not None and has_value:
-            named.append(following.pop(0))
-        elif name in VALUED and has_value and not equals:
+        elif kind in NAMING and (equals or has_value):
+            getattr(self, kind).append(value if equals else following.pop(0))
+        elif kind == VALUE and has_value and not equals:
             self._option(name, following[0], [name, following.pop(0)])
         elif name != VERBOSE:
             self._option(name, value, [f"{name}{equals}{value}"])
@@ -124,32 +102,22 @@ class Words:
             return self._whole(name), equals, value
         if {*word[1:]} <= {"v", "p"}:
             return PROMPT if "p" in word else VERBOSE, "", ""
-        if word.startswith("-n") and word != "-n":
-            return VARIABLE, "=", word[2:].removeprefix("=")
+        if word.startswith("-n"):
+            return VARIABLE, "=" if word[2:] else "", word[2:].removeprefix("=")
         return word, "", ""
 
     def _whole(self, name: str) -> str:
         """The name of an abbreviated option, where it is clear."""
-        known = (*HELP, VERBOSE, *SECRETS, *OPTIONS.get(self.command, (VERSION[1], *NEW_SECRETS)))
+        known = known_to(self.command)
         found = [option for option in known if option.startswith(name)]
         if name in known or not found:
             return name
-        if len({SAME.get(option, option) for option in found}) > 1:
+        if len({option if kind_of(option) in (FLAG, VALUE) else kind_of(option) for option in found}) > 1:
             self.fault = self.fault or f"ambiguous option: {name} could match {', '.join(found)}"
         return found[0]
 
-    def _secrets(self, name: str) -> list[str] | None:
-        """Those that an option names."""
-        return {
-            "--vault-id": self.ids,
-            "--vault-password-file": self.paths,
-            "--vault-pass-file": self.paths,
-            "--new-vault-id": self.new_ids,
-            "--new-vault-password-file": self.new_paths,
-        }.get(name)
-
     def _option(self, name: str, value: str, words: list[str]) -> None:
-        self.values.setdefault(VARIABLE if name == "-n" else name, []).append(value)
+        self.values.setdefault(name, []).append(value)
         self.parts.append((name, words))
 
     def _argument(self, word: str) -> None:

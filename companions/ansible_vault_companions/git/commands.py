@@ -6,7 +6,7 @@ import os
 import subprocess
 from typing import Any
 
-from ansible_vault_companions import stopping
+from ansible_vault_companions import running
 from ansible_vault_companions.program import Refused
 
 # A folder that somebody else made has settings, hooks and attributes of its own, which name programs. To read an index
@@ -36,7 +36,7 @@ def run(
     """Runs one of git's commands to its end, whatever its status is."""
     pipes = {"stdin": subprocess.PIPE, "stdout": subprocess.PIPE}
     try:
-        return stopping.run(command(words), data, env=environment(index), **pipes, **options)
+        return running.run(command(words), data, env=environment(index), **pipes, **options)
     except FileNotFoundError:
         raise Refused("git is not installed") from None
 

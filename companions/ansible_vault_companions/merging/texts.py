@@ -15,8 +15,9 @@ from ansible_vault_companions.merging.values import Values, check_envelopes, enc
 from ansible_vault_companions.program import Refused, shown
 from ansible_vault_companions.secrets import labels
 from ansible_vault_companions.secrets.sources import Secret
+from ansible_vault_companions.tool.faults import SecretRefused
 from ansible_vault_companions.tool.keys import Decrypt
-from ansible_vault_companions.tool.tool import SecretRefused, Tool
+from ansible_vault_companions.tool.tool import Tool
 
 KINDS_DIFFER = "one side is a vault and the other is not"
 LABELS_DIFFER = "the labels differ: {} in ours, {} in theirs"

@@ -6,7 +6,7 @@ import argparse
 import os
 from dataclasses import dataclass
 
-from ansible_vault_companions import program, stopping
+from ansible_vault_companions import program, running, stopping
 from ansible_vault_companions.files import reading, replacing
 from ansible_vault_companions.files.envelopes import MAGIC
 from ansible_vault_companions.files.last_save import LastSave
@@ -37,7 +37,7 @@ class Edit(Copies):
         path = os.path.join(self.folder.path, self.name)
         try:
             with LastSave(path) as last_save:
-                status = stopping.run_on_terminal(["sh", "-c", f'{editor} "$@"', editor, path])
+                status = running.run_on_terminal(["sh", "-c", f'{editor} "$@"', editor, path])
         except stopping.Stopped:
             # It has run before, and what was saved then is to be kept.
             if self.text is None:

@@ -15,8 +15,9 @@ from ansible_vault_companions.program import Refused
 from ansible_vault_companions.secrets import labels
 from ansible_vault_companions.secrets.sources import Secret
 from ansible_vault_companions.tool import layers
+from ansible_vault_companions.tool.faults import NotDecrypted
 from ansible_vault_companions.tool.keys import Key
-from ansible_vault_companions.tool.tool import NOT_DECRYPTED, Tool
+from ansible_vault_companions.tool.tool import Tool
 from ansible_vault_companions.yaml import blocks, inline
 from ansible_vault_companions.yaml.inline import Showing
 from ansible_vault_companions.yaml.matching import Choice
@@ -131,7 +132,7 @@ def _load_values(tool: Tool, target: str, content: bytes, choice: Choice) -> Val
     if not showing.found.values:
         raise Refused(NO_VAULT)
     all_encrypted = len(showing.still_encrypted) == len(showing.found.values)
-    are_locked = all(each.why.startswith(NOT_DECRYPTED) for each in showing.still_encrypted)
+    are_locked = all(isinstance(each.why, NotDecrypted) for each in showing.still_encrypted)
     if all_encrypted and choice.label is None and are_locked:
         value, why = showing.still_encrypted[0]
         raise Refused(f"line {value.line}: {blocks.named(value)}: {why}{TO_ADD}")

@@ -14,7 +14,8 @@ from ansible_vault_companions.program import Refused, write_error
 from ansible_vault_companions.secrets import labels
 from ansible_vault_companions.secrets.sources import Secret
 from ansible_vault_companions.tool import layers
-from ansible_vault_companions.tool.tool import NOT_DECRYPTED, NotDecrypted, SecretRefused, Tool
+from ansible_vault_companions.tool.faults import NotDecrypted, SecretRefused
+from ansible_vault_companions.tool.tool import Tool, not_decrypted
 from ansible_vault_companions.yaml import inline
 from ansible_vault_companions.yaml.nodes import LITERAL, NoPyYaml
 from ansible_vault_companions.yaml.values import Value
@@ -36,7 +37,7 @@ class Decrypter:
         fitting = labels.in_order(self.secrets, label_of(text))
         for secret in fitting:
             # For one that it will refuse, the tool is started by one thread, once.
-            with self.lock if secret.why_unusable() else nullcontext():
+            with nullcontext() if secret.is_plain() else self.lock:
                 if secret not in self.secrets:
                     continue
                 try:
@@ -46,7 +47,7 @@ class Decrypter:
                 except NotDecrypted:
                     pass
         tried = [secret for secret in fitting if secret in self.secrets]
-        raise NotDecrypted(f"{NOT_DECRYPTED} {labels.tried(text, tried)}")
+        raise not_decrypted(text, tried)
 
     def skip(self, secret: Secret, fault: SecretRefused) -> None:
         with self.lock:

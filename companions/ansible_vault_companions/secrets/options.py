@@ -4,9 +4,10 @@ from __future__ import annotations
 
 import argparse
 
-from ansible_vault_companions.secrets import sources
+from ansible_vault_companions.program import write_error
+from ansible_vault_companions.secrets import configuration, prompts, scripts, sources
 from ansible_vault_companions.secrets.settings import Settings
-from ansible_vault_companions.secrets.sources import ASKED, ASKING, Secret
+from ansible_vault_companions.secrets.sources import ASKED, ASKING, DEFAULT, READ_AT_MOST, Secret, Source
 
 SOURCES = """\
 A password file that is executable is run, and writes the password; one whose
@@ -60,9 +61,9 @@ def from_options(
 ) -> list[Secret]:
     """The secrets of a command line and of the settings, in Ansible's order. To encrypt, what is typed is asked for
     twice."""
-    found = sources.settings_beside(parser.prog, ids, paths)
+    found = Settings(bool(ids or paths), configuration.section, lambda text: write_error(f"{parser.prog}: {text}"))
     named = sources.named(ids, paths, found)
-    secrets = sources.load(parser.prog, named, encrypts)
+    secrets = sources.load(parser.prog, named, encrypts, password)
     if not secrets:
         parser.error(NONE)
     are_all_there = len(secrets) == len(named)
@@ -72,9 +73,18 @@ def from_options(
     return secrets
 
 
+def password(source: Source, encrypts: bool) -> bytes:
+    """What is typed, what a script writes, or what is in a file; to encrypt, it is typed twice."""
+    if source.is_prompt:
+        return prompts.password(source.place, source.label or DEFAULT, encrypts)
+    if source.is_script():
+        return scripts.password(source.place, source.label)[:READ_AT_MOST]
+    return sources.password_of_file(source, encrypts)
+
+
 def of_options(ids: list[str], paths: list[str], encrypts: bool = False) -> list[Secret]:
     named = [*map(sources.of_id, ids), *map(sources.of_path, paths)]
-    return [sources.obtain(source, encrypts) for source in named]
+    return [sources.obtain(source, encrypts, password) for source in named]
 
 
 def words(ids: list[str], paths: list[str]) -> list[str]:
@@ -85,4 +95,4 @@ def words(ids: list[str], paths: list[str]) -> list[str]:
 
 def encrypt_label(ids: list[str], paths: list[str]) -> str | None:
     """The label of the secret to encrypt with, by the settings that count beside these options."""
-    return Settings(bool(ids or paths)).encrypt_label()
+    return Settings(bool(ids or paths), configuration.section).encrypt_label()

@@ -11,11 +11,11 @@ from typing import Iterator
 from ansible_vault_companions import stopping
 from ansible_vault_companions.program import Refused, shown
 from ansible_vault_companions.secrets.settings import ASK, PROMPT
+from ansible_vault_companions.secrets.sources import NoTerminal
 
 TERMINAL = "/dev/tty"
 # What Ctrl-Z types where it is no key for a signal, and what stands for no key.
 SUSPEND, NO_KEY = b"\x1a", b"\0"
-NO_TERMINAL = "there is no terminal to ask for the password"
 # The prompts for decrypting, and those for encrypting.
 TO_DECRYPT = {PROMPT: ["Vault password ({}): "], ASK: ["Vault password: "]}
 TO_ENCRYPT = {
@@ -105,4 +105,4 @@ def _require_terminal() -> None:
     try:
         os.close(os.open(TERMINAL, os.O_RDWR | os.O_NOCTTY))
     except OSError:
-        raise Refused(NO_TERMINAL) from None
+        raise NoTerminal("there is no terminal to ask for the password") from None

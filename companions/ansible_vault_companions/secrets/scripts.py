@@ -5,7 +5,7 @@ from __future__ import annotations
 import os
 import subprocess
 
-from ansible_vault_companions import stopping
+from ansible_vault_companions import running
 from ansible_vault_companions.program import Refused, reason, shown
 
 # What the name of a script that is given the label ends with, before its suffix.
@@ -22,7 +22,7 @@ def password(path: str, label: str) -> bytes:
     # faults are shown.
     stdin = None if os.isatty(0) else subprocess.DEVNULL
     try:
-        done = stopping.run(words, stdin=stdin, stdout=subprocess.PIPE, stderr=subprocess.PIPE if is_client else None)
+        done = running.run(words, stdin=stdin, stdout=subprocess.PIPE, stderr=subprocess.PIPE if is_client else None)
     except OSError as fault:
         raise Refused(f"this script cannot be run: {reason(fault)}; if it is not a script, `chmod -x` it") from None
     if done.returncode != 0:

@@ -4,20 +4,13 @@ from __future__ import annotations
 
 import os
 import stat
+from _collections_abc import Callable
 
-from ansible_vault_companions.program import Refused, reason, shown
-
-TYPE_CHECKING = False
-if TYPE_CHECKING:
-    from typing import Callable
+from ansible_vault_companions.program import shown
 
 NAME = "ansible.cfg"
 HOME = "~/.ansible.cfg"
 SYSTEM = "/etc/ansible/ansible.cfg"
-SECTION = "defaults"
-SUFFIXES = (".cfg", ".ini")
-# How many bytes are read of one: a folder may have one that has no end.
-LONGEST = 1 << 20
 # Stands for the current folder in a path of the settings.
 CURRENT = "{{CWD}}"
 # The variable of the environment, and the key in the file.
@@ -37,17 +30,21 @@ def expanded(path: str, folder: str = "") -> str:
     return os.path.join(folder, os.path.expanduser(os.path.expandvars(path)))
 
 
+# Reads the section of a file: its keys and values.
+Section = Callable[[str], dict[str, str]]
+
+
 class Settings:
     """What they say. A variable counts before the file, also one that is empty.
 
     Beside options that name secrets nothing leads into the current folder, which may be a stranger's: neither its
     ansible.cfg nor a relative path. Only if ANSIBLE_CONFIG names a file by a relative path, that folder is trusted."""
 
-    def __init__(self, beside_options: bool = False, warn: Callable[[str], None] = lambda _: None) -> None:
+    def __init__(self, beside_options: bool, section: Section, warn: Callable[[str], None] = lambda _: None) -> None:
         named = _named_configuration()
         self.trusts_folder = not beside_options or (named is not None and not os.path.isabs(named))
         self.path = named or _configuration(self.trusts_folder, warn)
-        self.found = _section(self.path) if self.path else {}
+        self.found = section(self.path) if self.path else {}
 
     def identities(self) -> list[str]:
         """Each as [LABEL@]SOURCE, with paths from the current folder, as Ansible has them."""
@@ -119,55 +116,3 @@ def _is_world_writable(folder: str) -> bool:
         return os.stat(folder).st_mode & stat.S_IWOTH != 0
     except OSError:
         return True
-
-
-def _section(path: str) -> dict[str, str]:
-    """The keys and values of the section of a file."""
-    try:
-        if not path.endswith(SUFFIXES):
-            raise Refused("its name does not end in .cfg or .ini")
-        if not os.path.isfile(path):
-            raise Refused("it is not a regular file")
-        with open(path, "rb") as file:
-            content = file.read(LONGEST + 1)
-        if len(content) > LONGEST:
-            raise Refused(f"it has more than {LONGEST:,} bytes")
-        text = content.decode()
-        found = _simple_section(text)
-        return _parsed_section(text) if found is None else found
-    except UnicodeDecodeError:
-        raise Refused(f"{shown(path)}: it is not UTF-8") from None
-    except (Refused, OSError) as fault:
-        raise Refused(f"{shown(path)}: {' '.join(reason(fault).split())}") from None
-
-
-def _simple_section(text: str) -> dict[str, str] | None:
-    """What configparser reads in a text whose lines have the simplest forms; None for any other text. To import that
-    module takes longer than all else here."""
-    if not (text.isascii() and text.replace("\n", "").isprintable()):
-        return None
-    sections: dict[str, dict[str, str]] = {}
-    keys = None
-    for line in text.split("\n"):
-        key, equals, value = line.partition("=")
-        key = key.rstrip().lower()
-        if not line.strip(" ") or line.startswith(("#", ";")):
-            continue
-        if line.startswith("[") and line.find("]") == len(line) - 1 > 1 and line[1:-1] not in (*sections, "DEFAULT"):
-            keys = sections[line[1:-1]] = {}
-        elif keys is None or not key.replace("_", "").isalnum() or key in keys or not equals or ";" in value:
-            return None
-        else:
-            keys[key] = value.strip(" ")
-    return sections.get(SECTION, {})
-
-
-def _parsed_section(text: str) -> dict[str, str]:
-    import configparser
-
-    parser = configparser.ConfigParser(inline_comment_prefixes=(";",))
-    try:
-        parser.read_string(text)
-    except configparser.Error as fault:
-        raise Refused(str(fault)) from None
-    return dict(parser.items(SECTION, raw=True)) if SECTION in parser else {}

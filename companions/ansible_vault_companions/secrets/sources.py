@@ -4,14 +4,12 @@ from __future__ import annotations
 
 import os
 import stat
+from _collections_abc import Callable, Iterable, Iterator
 
+from ansible_vault_companions import stopping
 from ansible_vault_companions.program import Refused, shown, write_error
 from ansible_vault_companions.secrets import settings
 from ansible_vault_companions.secrets.settings import ASK, PROMPT, Settings
-
-TYPE_CHECKING = False
-if TYPE_CHECKING:
-    from typing import Iterable, Iterator
 
 # What a password file may have, in bytes.
 LIMIT = 4096
@@ -22,6 +20,12 @@ BY_PATH = "--vault-password-file"
 # What is asked for without a label.
 ASKING = ("-J", "--ask-vault-password", "--ask-vault-pass")
 ASKED = f"{DEFAULT}@{ASK}"
+# How a tool's password file begins that is none.
+NO_PASSWORD = (b"#!", b"$ANSIBLE_VAULT")
+
+
+class NoTerminal(Refused):
+    """Nobody can be asked for a password."""
 
 
 class Source:
@@ -40,7 +44,15 @@ class Source:
 
     def is_active(self) -> bool:
         """Whether a program is run, or somebody is asked."""
-        return self.is_prompt or _is_script(self.place)
+        return self.is_prompt or self.is_script()
+
+    def is_script(self) -> bool:
+        """Whether it is a file that anybody may execute."""
+        try:
+            mode = os.stat(self.place).st_mode
+        except OSError:
+            return False
+        return stat.S_ISREG(mode) and mode & 0o111 != 0
 
 
 class Secret:
@@ -58,7 +70,7 @@ class Secret:
         # Of the password, which is kept in memory; None where the file cannot be read.
         self.descriptor: int | None = None
         # Why there is no password.
-        self.fault = ""
+        self.fault: Refused | None = None
         # Whether it decrypts only what has its label.
         self.requires_match = False
         # Whether its password is the only one that is named.
@@ -85,28 +97,23 @@ class Secret:
         """Whether both have the same password."""
         return self.password() == other.password()
 
-    def why_unusable(self) -> str:
-        """Why the tool refuses the password; empty if nothing is known against it."""
+    def why_missing(self) -> str:
+        """Why there is no password; empty if there is one. Whether it may be one, the tool says."""
         if self.descriptor is None:
-            return self.fault or "this password file cannot be read"
-        content = os.pread(self.descriptor, READ_AT_MOST, 0)
-        if len(content) > LIMIT:
-            return f"this password file is longer than {LIMIT} bytes"
-        if content.startswith(b"#!"):
-            return "this password file is a script, but not executable"
-        if content.startswith(b"$ANSIBLE_VAULT"):
-            return "this password file is itself a vault"
-        return "" if content.strip() else "the password is empty"
+            return str(self.fault or "this password file cannot be read")
+        return "" if self.password() else "the password is empty"
 
     def is_plain(self) -> bool:
-        """Whether the tool has nothing to say against the password and the label."""
+        """Whether the tool has certainly nothing to say against the password and the label."""
         letters = self.label.replace("_", "").replace("-", "")
-        return letters.isalnum() and letters.isascii() and not self.why_unusable()
+        if not (letters.isalnum() and letters.isascii()) or self.descriptor is None:
+            return False
+        content = os.pread(self.descriptor, READ_AT_MOST, 0)
+        return 0 < len(content.strip()) and len(content) <= LIMIT and not content.startswith(NO_PASSWORD)
 
 
-def settings_beside(companion: str, ids: list[str], paths: list[str]) -> Settings:
-    """The settings that count beside the secrets of the options."""
-    return Settings(bool(ids or paths), lambda text: write_error(f"{companion}: {text}"))
+# Gets a password, to encrypt or not.
+Password = Callable[[Source, bool], bytes]
 
 
 def named(ids: list[str], paths: list[str], found: Settings) -> list[Source]:
@@ -122,25 +129,23 @@ def named(ids: list[str], paths: list[str], found: Settings) -> list[Source]:
     ]
 
 
-def load(companion: str, found: list[Source], encrypts: bool) -> list[Secret]:
+def load(companion: str, found: list[Source], encrypts: bool, password: Password) -> list[Secret]:
     """The secrets, without those that the settings name and that cannot be had, if there is another."""
-    secrets = [obtain(source, encrypts) for source in found]
+    secrets = [obtain(source, encrypts, password) for source in found]
     left_out = [secret for secret in secrets if _may_be_left_out(secret, encrypts)]
     if len(left_out) == len(secrets):
         return secrets
     for secret in left_out:
-        write_error(f"{companion}: {shown(secret.given)}: {secret.why_unusable()}; it is ignored")
+        write_error(f"{companion}: {shown(secret.given)}: {secret.why_missing()}; it is ignored")
     return [secret for secret in secrets if secret not in left_out]
 
 
 def _may_be_left_out(secret: Secret, encrypts: bool) -> bool:
     """Whether it is a secret of the settings that cannot be had. One that was typed wrongly ends the run, as with
     Ansible, and to encrypt so does a terminal that is missing: another secret would be chosen."""
-    if not (secret.is_setting and secret.why_unusable()):
+    if not (secret.is_setting and secret.why_missing()):
         return False
-    from ansible_vault_companions.secrets import prompts
-
-    return not secret.is_prompt or (secret.fault == prompts.NO_TERMINAL and not encrypts)
+    return not secret.is_prompt or (isinstance(secret.fault, NoTerminal) and not encrypts)
 
 
 def _by_setting(found: Iterable[Source]) -> Iterator[Source]:
@@ -164,50 +169,28 @@ def of_path(path: str) -> Source:
     return source
 
 
-def obtain(source: Source, encrypts: bool) -> Secret:
+def obtain(source: Source, encrypts: bool, password: Password) -> Secret:
     """Reads the password, which is kept in memory for all runs of the tool: a file such as `<(..)` can be read only
     once, or may be gone before the last run. If it cannot be read, the tool reports that."""
     secret = Secret(source)
     try:
-        password = _password(source, encrypts)
+        content = password(source, encrypts)
     except Refused as fault:
-        secret.fault = str(fault)
+        secret.fault = fault
         return secret
     except OSError:
         return secret
     secret.descriptor = os.memfd_create("password")
-    os.write(secret.descriptor, password)
+    os.write(secret.descriptor, content)
     secret.path = f"/dev/fd/{secret.descriptor}"
     return secret
 
 
-def _password(source: Source, encrypts: bool) -> bytes:
-    if source.is_prompt:
-        from ansible_vault_companions.secrets import prompts
-
-        return prompts.password(source.place, source.label or DEFAULT, encrypts)
-    if _is_script(source.place):
-        from ansible_vault_companions.secrets import scripts
-
-        return scripts.password(source.place, source.label)[:READ_AT_MOST]
-    return _content(source.place)
-
-
-def _is_script(path: str) -> bool:
-    """Whether it is a file that anybody may execute."""
-    try:
-        mode = os.stat(path).st_mode
-    except OSError:
-        return False
-    return stat.S_ISREG(mode) and mode & 0o111 != 0
-
-
-def _content(path: str) -> bytes:
-    if os.path.isfile(path):
-        with open(path, "rb") as file:
+def password_of_file(source: Source, encrypts: bool) -> bytes:
+    """That of a source that is not active."""
+    if os.path.isfile(source.place):
+        with open(source.place, "rb") as file:
             return file.read(READ_AT_MOST)
-    from ansible_vault_companions import stopping
-
     # What is written to a pipe is waited for.
-    with stopping.interruptible(), open(path, "rb") as file:
+    with stopping.interruptible(), open(source.place, "rb") as file:
         return file.read(READ_AT_MOST)

@@ -39,7 +39,7 @@ class StillEncrypted(NamedTuple):
     """A value that stays encrypted, and why."""
 
     value: Value
-    why: str
+    why: Refused
 
 
 @dataclass
@@ -75,12 +75,12 @@ class Showing:
         self.changes += blocks.replacement(value, header, body, value.content_end)
         self.decrypted.append(each)
 
-    def keep_encrypted(self, value: Value, why: str) -> None:
+    def keep_encrypted(self, value: Value, why: Refused) -> None:
         self.still_encrypted.append(StillEncrypted(value, why))
         if self.note and not value.in_flow:
             spaces = matched(SPACES, self.data, value.line_start)[0]
             end = blocks.line_end(self.data, value.line_end)
-            text = spaces + self.note + b"%s stays encrypted: %s" % (_named(value), why.encode()) + end
+            text = spaces + self.note + b"%s stays encrypted: %s" % (_named(value), str(why).encode()) + end
             self.changes.append(Change(value.line_start, value.line_start, text))
 
     def needs_final_newline(self, each: Decrypted) -> bool:
@@ -111,7 +111,7 @@ def showing(data: bytes, decrypt: Decrypt, with_notes: bool) -> Showing:
                 raise each
             made.show(each)
         except Refused as fault:
-            made.keep_encrypted(value, str(fault))
+            made.keep_encrypted(value, fault)
     if _contents(made.text()) != made.contents():
         raise Refused("its values cannot be shown as literals of YAML")
     return made

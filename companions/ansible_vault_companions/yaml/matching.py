@@ -10,6 +10,7 @@ import os
 from typing import NamedTuple
 
 from ansible_vault_companions.program import Refused
+from ansible_vault_companions.secrets import prompts
 from ansible_vault_companions.secrets.sources import Secret
 from ansible_vault_companions.tool.keys import Key
 from ansible_vault_companions.yaml.blocks import Decrypted, named
@@ -57,8 +58,6 @@ class Choice(NamedTuple):
         labels = [*dict.fromkeys(secret.label for secret in secrets)]
         if len(labels) == 1 or not os.isatty(0):
             raise unclear(value, NEW)
-        from ansible_vault_companions.secrets import prompts
-
         label = prompts.choice(f"Label to encrypt {named(value)} with", labels)
         return [secret for secret in secrets if secret.label == label]
 

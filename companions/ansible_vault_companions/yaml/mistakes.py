@@ -8,6 +8,7 @@ from collections import Counter
 
 from ansible_vault_companions.files.envelopes import BYTE_ORDER_MARK
 from ansible_vault_companions.program import Refused
+from ansible_vault_companions.secrets import prompts
 from ansible_vault_companions.yaml.nodes import TAGS, decoded
 from ansible_vault_companions.yaml.values import Scan
 
@@ -43,6 +44,4 @@ def check_lookalikes(before: Scan, found: Scan, note: str) -> None:
 def _is_meant(why: str) -> bool:
     if not os.isatty(0):
         return False
-    from ansible_vault_companions.secrets import prompts
-
     return prompts.choice(f"{why}. Is that meant?", ["yes", "no"]) == "yes"

@@ -1,0 +1,29 @@
+"""The command line of a companion, and its help."""
+
+from __future__ import annotations
+
+import argparse
+from typing import Any
+
+from ansible_vault_companions import VERSION
+
+BY_TOOL = """\
+it calls ansible-vault for all encryption
+and decryption"""
+
+
+def parser(
+    name: str, summary: str, statuses: str, example: str = "", ciphers: str = BY_TOOL, **options: Any
+) -> argparse.ArgumentParser:
+    """A command line whose faults end the program with status 2. Its help says what encrypts and decrypts."""
+    shown_example = f"Example:\n  {example}\n\n" if example else ""
+    made = argparse.ArgumentParser(
+        prog=name,
+        description=summary,
+        epilog=f"{shown_example}Exit status: {statuses}\n\nThis program is tested, not proved; {ciphers}.",
+        formatter_class=argparse.RawDescriptionHelpFormatter,
+        allow_abbrev=False,
+        **options,
+    )
+    made.add_argument("-V", "--version", action="version", version=f"{name} {VERSION}")
+    return made

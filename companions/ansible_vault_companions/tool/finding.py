@@ -1,0 +1,61 @@
+"""Finds ansible-vault, and lets it take the place of a companion."""
+
+from __future__ import annotations
+
+import os
+from _collections_abc import Iterable, Iterator
+
+from ansible_vault_companions import stopping
+from ansible_vault_companions.program import Refused
+from ansible_vault_companions.secrets.sources import Secret
+from ansible_vault_companions.tool.faults import NOT_DECRYPTED
+
+NAME = "ansible-vault"
+# The first bytes of a program that the system runs by itself, and so of no script.
+ELF = b"\x7fELF"
+
+
+def path_for(companion: str) -> str:
+    """The path of the ansible-vault beside a companion, else of the one on PATH."""
+    path = beside(companion, NAME) or _program(filter(None, os.get_exec_path()), NAME)
+    if path is None:
+        raise Refused(f"there is no {NAME} beside this program or on PATH")
+    return path
+
+
+def beside(companion: str, name: str) -> str | None:
+    """The path of another program beside a companion."""
+    return _program(_folders(companion), name)
+
+
+def has_messages(path: str) -> bool:
+    """Whether it is a program with a message of the tool in it, so that it need not be started to know it."""
+    try:
+        with open(path, "rb") as file:
+            program = file.read()
+    except OSError:
+        return False
+    return program.startswith(ELF) and NOT_DECRYPTED.encode() in program
+
+
+def take_over(path: str, words: list[str], secrets: list[Secret]) -> int:
+    """Replaces this process by the tool, which inherits its streams: this does not return."""
+    for secret in secrets:
+        if secret.descriptor is not None:
+            os.set_inheritable(secret.descriptor, True)
+    stopping.restore()
+    os.execv(path, [path, *words])
+
+
+def _program(folders: Iterable[str], name: str) -> str | None:
+    paths = (os.path.join(folder, name) for folder in folders)
+    return next((path for path in paths if os.access(path, os.X_OK) and not os.path.isdir(path)), None)
+
+
+def _folders(program: str) -> Iterator[str]:
+    """The folders that a program is in, from link to link."""
+    path = os.path.abspath(program)
+    yield os.path.dirname(path)
+    while os.path.islink(path):
+        path = os.path.normpath(os.path.join(os.path.dirname(path), os.readlink(path)))
+        yield os.path.dirname(path)
