@@ -222,11 +222,12 @@ def test_found_by_bytes() -> None:
     with_digits = lambda each: len(each) > 1
     by_yaml, by_bytes = [], []
     for data in found:
-        values = [value.content.split() for value in Scan(data).values if value.style == nodes.LITERAL]
-        by_yaml.append([*filter(with_digits, values)])
+        # An indented comment below is part of the text, which nothing decrypts then.
+        literals = [value.content.partition(b"#")[0] for value in Scan(data).values if value.style == nodes.LITERAL]
+        by_yaml.append([*filter(with_digits, map(bytes.split, literals))])
         by_bytes.append([*filter(with_digits, (each.text.split() for each in envelopes(data) if not each.obstacle))])
     assert by_yaml == by_bytes
-    assert sum(map(len, by_yaml)) > 500
+    assert sum(map(len, by_yaml)) > 300, by_yaml
 
 
 def encrypted(showing: inline.Showing, text: bytes) -> bytes | str:
