@@ -139,7 +139,7 @@ def test_newest(place: Place) -> None:
     done = edit(place, 'cp "$1" ../seen', *place.by_file("old"), "--resume", "all.yml")
     assert (done.returncode, (place.path / "seen").read_text()) == (0, "2\n"), done.stderr
     assert decrypted("old", place.get("all.yml")) == b"2\n"
-    assert sorted(kept(place)) == [b"0\n", b"1\n"]
+    assert {*kept(place)} == {b"0\n", b"1\n"}
 
 
 def test_nothing_to_resume(place: Place) -> None:

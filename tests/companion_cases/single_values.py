@@ -20,7 +20,7 @@ from companion_cases import EDIT, TEXTCONV, Place, block, ended, sealed, silent
 from companion_cases.blocks import texts
 from companion_cases.keeping import ENCRYPTED
 from companion_cases.prompts import ask
-from companion_cases.yaml_values import SECRET, Generator, Tool, decrypt
+from companion_cases.yaml_values import SECRET, Generator, Hexadecimal, decrypt
 from lib.needs import needs, needs_pyyaml
 
 ANY_BYTES = b"\x00\xff\r\n two \n\n"
@@ -120,9 +120,9 @@ def test_set(place: Place, both: list[str], path: str, text: bytes) -> None:
     assert shown(place, *both, "--value", path, "vars.yml") == (0, text, "")
     others = {each: value for each, value in VALUES.items() if value != VALUES[path]}
     assert {each: shown(place, *both, "--value", each, "vars.yml")[1] for each in others} == others, "the others stay"
-    around = lambda content: [line for line in content.splitlines() if not line.strip().isalnum()]
-    after = around(place.get("vars.yml")), place.mode("vars.yml")
-    assert after == (around(FILE), "0o640"), "the labels, the layout and the mode stay"
+    files = [each.splitlines() for each in (FILE, place.get("vars.yml"))]
+    before, after = ([line for line in lines if not line.strip().isalnum()] for lines in files)
+    assert (after, place.mode("vars.yml")) == (before, "0o640"), "the labels, the layout and the mode stay"
 
 
 def test_as_it_was(place: Place, both: list[str]) -> None:
@@ -193,7 +193,7 @@ def test_not_lost(place: Place, both: list[str]) -> None:
     place.wrap_tool('[ "$1" = encrypt ] && echo "# theirs" >> vars.yml')
     done = set_to(place, b"typed", *words)
     ended("changed meanwhile", done, 1, "it was changed meanwhile; what you saved is encrypted in ")
-    copy = ENCRYPTED.search(done.stderr)[1]
+    [copy] = ENCRYPTED.findall(done.stderr)
     assert texts(Path(copy).read_bytes(), "dev")[0] == b"typed"
     os.unlink(copy)
     place.put("vars.yml", FILE)
@@ -243,7 +243,7 @@ def test_anything() -> None:
             for label in (None, "default"):
                 try:
                     value = SingleValue("", data, path, decrypt, Choice([SECRET], label))
-                    after = value.encrypted(Tool(), b"neu")  # type: ignore[arg-type]
+                    after = value.encrypted(Hexadecimal(), b"neu")
                 except Refused:
                     counts["refused"] += 1
                     continue

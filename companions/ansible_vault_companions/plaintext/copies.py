@@ -1,4 +1,4 @@
-"""The encrypted copy of what was saved and cannot be put back; how it gets into its file, and how it is taken up again."""
+"""The encrypted copy of what was saved and cannot be put back, and how it gets into its file or is taken up again."""
 
 from __future__ import annotations
 
