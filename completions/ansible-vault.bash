@@ -106,7 +106,7 @@ _ansible_vault_value() {
     --vault-password-file | --vault-pass-file | --new-vault-password-file | --salt-file | --output)
         _ansible_vault_files "$word"
         ;;
-    --encrypt-vault-id | --salt | --name | -n | --stdin-name | --jobs | --label | --since) ;;
+    --encrypt-vault-id | --salt | --name | -n | --stdin-name | --jobs | --label | --since | --exclude | --value) ;;
     *) return 1 ;;
     esac
     return 0
@@ -158,11 +158,12 @@ _ansible_vault_with_options() {
 _ansible_vault_companion_options() {
     local common="--vault-id --vault-password-file $_ansible_vault_asking --help -h --version -V"
     case $1 in
-    ansible-vault-edit) echo "$common --encrypt-vault-id" ;;
+    ansible-vault-edit) echo "$common --encrypt-vault-id --value --resume" ;;
+    ansible-vault-textconv) echo "$common --value" ;;
     ansible-vault-rotate)
-        echo "$common --new-vault-id --new-vault-password-file --dry-run --skip-documents --jobs"
+        echo "$common --new-vault-id --new-vault-password-file --dry-run --skip-documents --tracked --exclude --jobs"
         ;;
-    ansible-vault-check) echo "$common --label" ;;
+    ansible-vault-check) echo "$common --label --tracked --exclude" ;;
     ansible-vault-hook)
         echo "--all --since --install --uninstall --vault-id --vault-password-file --help -h --version -V"
         ;;

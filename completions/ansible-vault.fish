@@ -77,6 +77,8 @@ complete -c ansible-vault-with -n "$none" -a create -d 'A new encrypted file in 
 complete -c ansible-vault-with -n "$none" -a edit -d 'An encrypted file in an editor'
 complete -c ansible-vault-with -n "$given create edit rekey" -l encrypt-vault-id -x \
     -d 'The label of the secret to encrypt with'
+complete -c ansible-vault-with -n "$given create edit" -l value -x -d 'Set this value of YAML from standard input'
+complete -c ansible-vault-with -n "$given create edit" -l resume -d 'Begin with what an earlier edit kept'
 complete -c ansible-vault-with -n "$given encrypt_string" -s p -l prompt -d 'Ask for a string'
 complete -c ansible-vault-with -n "$given encrypt_string" -l show-input -d 'Show the string while it is typed'
 complete -c ansible-vault-with -n "$given create edit" -F
@@ -103,6 +105,9 @@ for name in with edit rotate check textconv merge
 end
 complete -c ansible-vault-edit -l encrypt-vault-id -x \
     -d 'The label of the secret for what is new'
+complete -c ansible-vault-edit -l value -x -d 'Set this value of YAML from standard input'
+complete -c ansible-vault-edit -l resume -d 'Begin with what an earlier edit kept'
+complete -c ansible-vault-textconv -l value -x -d 'Write this value alone'
 complete -c ansible-vault-rotate -l new-vault-id -x -a '(__ansible_vault_ids)' \
     -d 'The password file of a new secret, with its label'
 complete -c ansible-vault-rotate -l new-vault-password-file -x -a '(__ansible_vault_files)' \
@@ -111,6 +116,10 @@ complete -c ansible-vault-rotate -l dry-run -d 'Write nothing, and report what w
 complete -c ansible-vault-rotate -l skip-documents -d 'Do not look for envelopes in documents'
 complete -c ansible-vault-rotate -l jobs -x -d 'How many vaults and blocks at once'
 complete -c ansible-vault-check -l label -x -d 'Decrypt only what has this label, and just count the rest'
+for name in check rotate
+    complete -c ansible-vault-$name -l tracked -d 'Look only at files that git tracks'
+    complete -c ansible-vault-$name -l exclude -x -d 'Leave out files and folders of this name or path'
+end
 complete -c ansible-vault-hook -l all -d 'Look at every file of the commit that is checked out'
 complete -c ansible-vault-hook -l since -x -d 'Look at each commit since this one, which is left out'
 complete -c ansible-vault-hook -l install -d 'Set up this clone'

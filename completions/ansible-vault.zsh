@@ -88,16 +88,26 @@ _ansible_vault_arguments() {
         '--jobs=[how many vaults and blocks at once]:number: '
     )
 
+    local -a edits=(
+        '(--resume)--value=[set this value of YAML from standard input]:path: '
+        '(--value)--resume[begin with what an earlier edit kept]'
+    )
+    # Of what is searched.
+    local -a left_out=(
+        '--tracked[look only at files that git tracks]'
+        '*--exclude=[leave out files and folders of this name or path]:pattern: '
+    )
+
     case $1 in
         encrypt) _arguments -s -S $help $secrets $encrypt_id $salt $output $file ;;
         decrypt) _arguments -s -S $help $secrets $label_match $output $file ;;
         view) _arguments -s -S $help $secrets $label_match $file ;;
         rekey) _arguments -s -S $help $secrets $rekey_options $rekey_id $label_match $salt $output $file ;;
         encrypt_string) _arguments -s -S $help $secrets $encrypt_id $salt $names $output $typed '1:text: ' ;;
-        create|edit) _arguments -s -S $common $all_secrets $encrypt_id $file ;;
-        rotate) _arguments -s -S $common $all_secrets $new_secrets $rotation '*:path:_ansible_vault_files' ;;
-        check) _arguments -s -S $common $all_secrets $labels '*:path:_ansible_vault_files' ;;
-        textconv) _arguments -s -S $common $all_secrets $file ;;
+        create|edit) _arguments -s -S $common $all_secrets $encrypt_id $edits $file ;;
+        rotate) _arguments -s -S $common $all_secrets $new_secrets $rotation $left_out '*:path:_ansible_vault_files' ;;
+        check) _arguments -s -S $common $all_secrets $labels $left_out '*:path:_ansible_vault_files' ;;
+        textconv) _arguments -s -S $common $all_secrets '--value=[write this value alone]:path: ' $file ;;
         merge) _arguments -s -S $common $all_secrets '*:file:_ansible_vault_files' ;;
         hook) _arguments -s -S $common $commits $secrets '*:file:_ansible_vault_files' ;;
     esac

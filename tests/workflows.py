@@ -248,13 +248,14 @@ def check_one_secret(repository: Repository, shell: str) -> None:
     ran = repository.shell(shell, EDITOR=editor)
     assert (ran.returncode, ran.stderr) == (0, ""), "the commands end well"
     shown = "port: 5432  # stays\ndb_password: !vault |-\n  correct horse\nother: !vault |-\n  kept\n"
-    assert ran.stdout == shown, "the secrets are shown"
+    assert ran.stdout == shown + "battery staple", "the secrets are shown, and one alone"
     text = repository.get(name).decode()
     assert text.startswith("port: 5432  # stays\n") and kept in text, "all else stays"
     assert old not in text, "and the old value is gone"
     shown = repository.shell(f"ansible-vault-textconv {name}").stdout
     values = re.findall(r"^  (.*)$", shown, re.MULTILINE)
-    assert values == ["battery staple", "kept", "a third"], "one secret is changed, and one is new"
+    assert values[1:] == ["kept", "a third"], "one secret is new"
+    assert re.fullmatch(r"[A-Za-z0-9+/]{32}", values[0]), "and one is random"
 
 
 def check_marks(repository: Repository, shell: str) -> None:

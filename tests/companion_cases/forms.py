@@ -5,7 +5,7 @@ from collections.abc import Callable
 
 import pytest
 
-from ansible_vault_companions.files import envelopes
+from ansible_vault_companions.files.finding import envelopes
 from ansible_vault_companions.git import damage, leaks
 from companion_cases import CHECK, ROTATE, TEXT, Done, Place, block, decrypted, ended, sealed
 from companion_cases.blocks import BODY, lines_of, texts
@@ -141,8 +141,8 @@ def seconds(work: Work, data: bytes) -> float:
 
 START = b"x: !vault |\n  $ANSIBLE_VAULT;1.1;AES256\n  61\n"
 WORKS: dict[str, Work] = {
-    "the envelopes": envelopes.envelopes,
-    "after a first line": lambda data: envelopes.envelopes(b"x: 1\n" + data),
+    "the envelopes": envelopes,
+    "after a first line": lambda data: envelopes(b"x: 1\n" + data),
     "a marked file": lambda data: damage.fault_of_marked(b"x: 1\n" + data, {"diff"}),
     "what is decrypted": lambda data: leaks.decrypted(START + data, b"x: 1\n" + data),
     "a whole vault": lambda data: damage.is_whole(b"$ANSIBLE_VAULT;1.1;AES256\n" + data),

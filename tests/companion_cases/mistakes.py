@@ -159,7 +159,8 @@ def test_asked_at_a_terminal(place: Place) -> None:
     words = ["sh", "-c", 'exec "$@" < /dev/tty', "sh", EDIT, *place.by_file("old"), "vars.yml"]
     question = "Is that meant? (yes, no): "
     place.put("vars.yml", block("old"))
-    session = ask(place, *words, answers=[(question, b"no\n")], EDITOR=editor)
+    again = "Open the editor again? (yes, no): "
+    session = ask(place, *words, answers=[(question, b"no\n"), (again, b"no\n")], EDITOR=editor)
     assert (session.returncode, place.get("vars.yml")) == (1, block("old")), "no: the file stays"
     assert "vars.yml: line 3: `!Vault` is not the tag `!vault`" in session.stderr, "no: it is named"
     assert "what you saved is encrypted in" in session.stderr, "no: it is kept"

@@ -253,7 +253,8 @@ def test_labels(place: Place) -> None:
     assert envelope.partition(b"\n")[0] == b"$ANSIBLE_VAULT;1.2;AES256;prod", "under its label"
     assert decrypted("prod", envelope) == b"word", "it is encrypted"
     place.put("vars.yml", before)
-    session = ask(place, *words, answers=[(question, b"\x04")], EDITOR=editor)
+    again = "Open the editor again? (yes, no): "
+    session = ask(place, *words, answers=[(question, b"\x04"), (again, b"\x04")], EDITOR=editor)
     assert session.returncode == 1, "no label: the status"
     assert "what you saved is encrypted in" in session.stderr, "no label: it is kept"
     assert place.get("vars.yml") == before, "no label: the file stays"

@@ -5,16 +5,18 @@ from __future__ import annotations
 
 import binascii
 import random
+import re
 from collections import Counter
 from collections.abc import Iterator
 
 import pytest
 
+from ansible_vault_companions.files.changes import Change, changed
+from ansible_vault_companions.files.finding import envelopes
 from ansible_vault_companions.program import Refused
 from ansible_vault_companions.secrets.sources import Secret, Source
 from ansible_vault_companions.tool.tool import Tool
 from ansible_vault_companions.yaml import inline, nodes
-from ansible_vault_companions.yaml.blocks import Change, changed
 from ansible_vault_companions.yaml.matching import Choice
 from ansible_vault_companions.yaml.values import Scan, Value
 from lib.needs import needs_pyyaml
@@ -210,6 +212,22 @@ def typed_anew(showing: inline.Showing, generator: random.Random, counts: Counte
         wanted = [text if text.startswith("$") else envelope(text.encode()).decode() for _, text in read]
         found = [text.split() for _, text in composed(after.decode()) or []] if isinstance(after, bytes) else after
         yield "changed", typed.decode(), found, [text.split() for text in wanted]
+
+
+def test_found_by_bytes() -> None:
+    """Without PyYAML the same blocks are found, where lines end as the tool reads them."""
+    needs_pyyaml()
+    texts = [Generator(number).text() for number in range(STRUCTURED)]
+    found = [text.encode() for text in texts if composed(text) is not None and not re.search("\r(?!\n)|\x85", text)]
+    with_digits = lambda each: len(each) > 1
+    by_yaml, by_bytes = [], []
+    for data in found:
+        # An indented comment below is part of the text, which nothing decrypts then.
+        literals = [value.content.partition(b"#")[0] for value in Scan(data).values if value.style == nodes.LITERAL]
+        by_yaml.append([*filter(with_digits, map(bytes.split, literals))])
+        by_bytes.append([*filter(with_digits, (each.text.split() for each in envelopes(data) if not each.obstacle))])
+    assert by_yaml == by_bytes
+    assert sum(map(len, by_yaml)) > 300, by_yaml
 
 
 def encrypted(showing: inline.Showing, text: bytes) -> bytes | str:

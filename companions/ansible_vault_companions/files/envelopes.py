@@ -1,60 +1,21 @@
-"""Envelopes in files: a vault is one, and a block of YAML is an indented one.
-
-They are found by their bytes, in one pass and with no parser of YAML: all else in a file keeps every
-byte. One in a form that cannot be put back as it stands is found, too, and says what to do about it.
-"""
+"""What an envelope in a file is: a vault is one, and a block of YAML is an indented one."""
 
 from __future__ import annotations
 
 import re
 import sys
 from dataclasses import dataclass
-from typing import Iterator
 
-from ansible_vault_companions import stopping
+from ansible_vault_companions.files.changes import indented
 from ansible_vault_companions.program import Refused, shown
 
 MAGIC = b"$ANSIBLE_VAULT"
 # What every envelope within a file begins with.
 START = MAGIC + b";"
 UTF_16 = tuple(MAGIC.decode().encode(codec) for codec in ("utf-16-le", "utf-16-be"))
-BYTE_ORDER_MARK = b"\xef\xbb\xbf"
-
-# Forms in which an envelope is not put back, with what to do.
-IN_A_LINE = (
-    "an envelope in quotes or within a line; write it as a block (`NAME: !vault |` and its lines below, "
-    "indented with spaces), or encrypt the whole file"
-)
-COMMENTED = "an envelope in a comment; remove it, or the comment's marks"
-BEHIND_TABS = "an envelope after tabs; indent with spaces"
-FOLDED = "an envelope in a folded scalar (`>`), which is not read; write `!vault |`"
-BEHIND_MARK = "an envelope after a byte order mark; remove the mark"
-BEHIND_SPACE = "an envelope after empty lines or spaces at the start of the file, which is no vault; remove them"
-IN_UTF_16 = "envelopes in UTF-16, which are not read; write the file in UTF-8"
-
-# The lines of a block, but for the end of the last one.
-BLOCK = re.compile(
-    rb"(?P<spaces> *)\$ANSIBLE_VAULT;[^\r\n]*(?P<digits>(?:\r?\n(?P=spaces)[0-9a-fA-F]+(?=\r?\n|\Z))*)"
-)
-# What the line before a block ends with: `!vault |`, with an anchor, a mark or a comment.
-TAG = re.compile(
-    rb"!vault(?:-encrypted)?[ \t]+(?:&\S+[ \t]+)?(?P<style>[|>])[0-9+-]*[ \t]*(?:[ \t]#[^\r\n]*)?\r?\n\Z"
-)
-# What stands before an envelope in the line of its tag.
-TAG_IN_LINE = re.compile(rb"!vault(?:-encrypted)?[ \t]+(?:&\S+[ \t]+)?[\"']?\Z")
 TAG_NAME = b"!vault"
-# How much of a line is searched before a tag, and before an envelope in the line of its tag.
-LONGEST_TAG = 4096
-LONGEST_TAG_IN_LINE = 128
+BYTE_ORDER_MARK = b"\xef\xbb\xbf"
 LINE = re.compile(rb"[^\r\n]*")
-# How a line begins: with spaces, other blanks, and the mark of a comment.
-LINE_HEAD = re.compile(rb"(?P<spaces> *)(?P<blanks>[ \t]*)(?P<comment>#?)")
-# The header of an envelope that is no line of its own, which ends at a quote or an escape.
-HEADER = re.compile(rb"[^\r\n\"'\\]{0,256}")
-KNOWN_HEADER = re.compile(rb"\$ANSIBLE_VAULT;1\.\d;AES")
-DIGITS = re.compile(rb"[0-9a-fA-F]{32}")
-# How far after the start of such an envelope its digits are searched.
-WINDOW = 512
 
 
 @dataclass(frozen=True)
@@ -87,7 +48,7 @@ class Envelope:
         """A text with the same indentation as this envelope."""
         if not self.line:
             return text
-        return self._end().join(self.spaces + line if line else b"" for line in text.split(b"\n"))
+        return indented(text, self.spaces, self._end())
 
     def with_layout(self, envelope: bytes) -> bytes:
         """Another envelope with the same indentation and line endings as this one."""
@@ -124,128 +85,3 @@ def written_label(text: bytes) -> str | None:
 
 def mentions_envelope(data: bytes) -> bool:
     return MAGIC in data or any(each in data for each in UTF_16)
-
-
-def envelopes(data: bytes) -> list[Envelope]:
-    """All that a file holds: itself, or those within it."""
-    if data.startswith(MAGIC):
-        return [Envelope(0, len(data), 0, b"", data, label_of(data))]
-    found = list(_within(data))
-    if any(each in data for each in UTF_16):
-        found.append(Envelope(len(data), len(data), 1, b"", b"", None, obstacle=IN_UTF_16))
-    return found
-
-
-class _Line:
-    """The line of a place in the data. Places come in their order, so that all of them take one pass."""
-
-    def __init__(self, data: bytes) -> None:
-        self.data = data
-        self.place = self.start = 0
-        # Of the first character that is no white space.
-        self.first = len(data) - len(data.lstrip())
-        self.number = 1
-        self.head = matched(LINE_HEAD, data)
-
-    def go_to(self, place: int) -> None:
-        self.number += self.data.count(b"\n", self.place, place)
-        end = self.data.rfind(b"\n", self.place, place)
-        if end >= 0:
-            self.start = end + 1
-            self.head = matched(LINE_HEAD, self.data, self.start)
-        self.place = place
-
-    def before(self) -> bytes:
-        """The line before this one, or the end of a long one."""
-        first = max(0, self.start - LONGEST_TAG)
-        return self.data[max(first, self.data.rfind(b"\n", first, max(0, self.start - 1)) + 1) : self.start]
-
-
-def _within(data: bytes) -> Iterator[Envelope]:
-    line = _Line(data)
-    place = data.find(START)
-    while place >= 0:
-        stopping.check()
-        line.go_to(place)
-        envelope = _block(line) or _elsewhere(line)
-        if envelope:
-            yield envelope
-        place = data.find(START, max(place + len(START), envelope.end if envelope else 0))
-
-
-def _block(line: _Line) -> Envelope | None:
-    """The block that begins in this line, at this place."""
-    if line.place != line.head.end("spaces"):
-        return None
-    tag_line = line.before()
-    tag = TAG.search(tag_line)
-    found = matched(BLOCK, line.data, line.start)
-    if not (tag or found["digits"]):
-        return None
-    text = re.sub(rb"^ +", b"", found[0], flags=re.MULTILINE) + b"\n"
-    obstacle = _obstacle_of_block(line, tag)
-    return Envelope(
-        found.start(),
-        found.end(),
-        line.number,
-        found["spaces"],
-        b"" if obstacle else text,
-        label_of(text),
-        _name(tag_line[: tag.start()]) if tag else None,
-        obstacle,
-    )
-
-
-def _obstacle_of_block(line: _Line, tag: re.Match[bytes] | None) -> str:
-    if tag:
-        return FOLDED if tag["style"] == b">" else ""
-    return BEHIND_SPACE if line.place == line.first else ""
-
-
-def _elsewhere(line: _Line) -> Envelope | None:
-    """The envelope at this place, where it has digits nearby or a tag before it."""
-    data, place = line.data, line.place
-    after = place + len(START)
-    following = data.find(START, after, after + WINDOW)
-    end = following if following >= 0 else after + WINDOW
-    digits = DIGITS.search(data, after, end) if KNOWN_HEADER.match(data, place) else None
-    first = max(line.start, place - LONGEST_TAG)
-    tag = TAG_IN_LINE.search(data, max(first, place - LONGEST_TAG_IN_LINE), place)
-    if not (digits or tag):
-        return None
-    header = matched(HEADER, data, place, digits.start() if digits else len(data))[0]
-    # Only what follows the last brace or comma.
-    name = _name(re.split(rb"[{,]", data[first : tag.start()])[-1]) if tag else None
-    return Envelope(place, after, line.number, b"", b"", label_of(header), name, _obstacle(line))
-
-
-def _obstacle(line: _Line) -> str:
-    """Why the envelope of this line is no block."""
-    if line.head["comment"]:
-        return COMMENTED
-    if line.place == line.head.end("blanks"):
-        return BEHIND_TABS if line.head["blanks"] else IN_A_LINE
-    if line.place == len(BYTE_ORDER_MARK) and line.data.startswith(BYTE_ORDER_MARK):
-        return BEHIND_MARK
-    return IN_A_LINE
-
-
-def _name(head: bytes) -> str | None:
-    """The name of the variable, from what precedes its tag."""
-    words = head[-LONGEST_TAG:].split()
-    if words and words[-1].startswith(b"&"):
-        words.pop()
-    key = b" ".join(words)
-    if not key.endswith(b":"):
-        return None
-    key = re.sub(rb"^(?:- )+", b"", key.removesuffix(b":").rstrip())
-    return key.strip(b"\"'").decode(errors="backslashreplace") or None
-
-
-def replaced(data: bytes, changes: list[tuple[Envelope, bytes]]) -> bytes:
-    """The data with other bytes in the places of envelopes, which come in their order."""
-    pieces, place = [], 0
-    for envelope, text in changes:
-        pieces += [data[place : envelope.start], text]
-        place = envelope.end
-    return b"".join([*pieces, data[place:]])

@@ -62,11 +62,12 @@ def save_copy(target: str, content: bytes, name: str = "") -> str:
         return _write_new(tempfile.gettempdir(), content, prefix=other_prefix, suffix=suffix)
 
 
-def copies(target: str) -> list[str]:
-    """The copies that there are."""
+def copies(target: str, is_last_save: bool = False) -> list[str]:
+    """The copies that there are, or those of last saves alone."""
     found = []
+    end = r"\Z" if is_last_save else r"(?:-|\Z)"
     for folder, prefix in _places_of_copies(target):
-        is_copy = re.compile(rf"{re.escape(prefix)}{RANDOM}(?:-|\Z)").match
+        is_copy = re.compile(f"{re.escape(prefix)}{RANDOM}{end}").match
         with suppress(OSError):
             found += [os.path.join(folder, name) for name in sorted(os.listdir(folder)) if is_copy(name)]
     return found

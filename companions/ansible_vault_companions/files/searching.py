@@ -2,10 +2,12 @@
 
 from __future__ import annotations
 
+import argparse
 import errno
 import os
 import stat
-from typing import BinaryIO, Callable, Iterator
+from fnmatch import fnmatchcase
+from typing import BinaryIO, Callable, Collection, Iterator
 
 from ansible_vault_companions import stopping
 from ansible_vault_companions.files.envelopes import MAGIC, UTF_16, mentions_envelope
@@ -32,11 +34,27 @@ class Unsearched(Refused):
     """A file has no envelope as far as it is read, and goes on."""
 
 
-def files_below(paths: list[str], refuse: Callable[[str, Exception], None]) -> Iterator[str]:
+def add_options(parser: argparse.ArgumentParser) -> None:
+    """The paths to search, and what is left out there."""
+    parser.add_argument("--tracked", action="store_true", help="look only at files that git tracks")
+    parser.add_argument(
+        "--exclude",
+        action="append",
+        default=[],
+        metavar="PATTERN",
+        help="leave out files and folders of this name, or with a slash of this path below PATH; * and ? stand for any "
+        "characters; may be repeated",
+    )
+    parser.add_argument("paths", metavar="PATH", nargs="+")
+
+
+def files_below(
+    paths: list[str], refuse: Callable[[str, Exception], None], excluded: Collection[str] = ()
+) -> Iterator[str]:
     """Each file once, whatever leads to it; what cannot be looked at is refused by its name. A signal ends it."""
     seen = set()
     for path in paths:
-        for file, is_named in _candidates(path, refuse):
+        for file, is_named in _candidates(path, refuse, excluded):
             stopping.check()
             try:
                 is_file = stat.S_ISREG(os.stat(file).st_mode)
@@ -57,15 +75,27 @@ def _leads_nowhere(file: str, fault: OSError) -> bool:
     return os.path.islink(file) and fault.errno in (errno.ENOENT, errno.ELOOP)
 
 
-def _candidates(path: str, refuse: Callable[[str, Exception], None]) -> Iterator[tuple[str, bool]]:
+def _candidates(
+    path: str, refuse: Callable[[str, Exception], None], excluded: Collection[str]
+) -> Iterator[tuple[str, bool]]:
     """The path itself where it is no folder, else all files below it; and whether it was named."""
     if not os.path.isdir(path):
-        yield path, True
+        if not _is_excluded(os.path.normpath(path), excluded):
+            yield path, True
         return
     for folder, folders, names in os.walk(path, onerror=lambda fault: refuse(fault.filename, fault)):
         stopping.check()
-        folders[:] = sorted(name for name in folders if name != ".git")
-        yield from ((os.path.join(folder, name), False) for name in sorted(names))
+        below = os.path.relpath(folder, path)
+        paths = {name: os.path.normpath(os.path.join(below, name)) for name in [*folders, *names]}
+        left = {name for name, each in paths.items() if not _is_excluded(each, excluded)}
+        folders[:] = sorted(name for name in folders if name in left and name != ".git")
+        yield from ((os.path.join(folder, name), False) for name in sorted(left.intersection(names)))
+
+
+def _is_excluded(path: str, patterns: Collection[str]) -> bool:
+    """Whether the name of a file or folder below the one that is searched is like a pattern, or its path is."""
+    normal = [os.path.normpath(pattern) for pattern in patterns]
+    return any(fnmatchcase(path if "/" in pattern else os.path.basename(path), pattern) for pattern in normal)
 
 
 def is_prose(path: str) -> bool:

@@ -6,7 +6,8 @@ import binascii
 import re
 import shlex
 
-from ansible_vault_companions.files.envelopes import MAGIC, START, Envelope, envelopes
+from ansible_vault_companions.files.envelopes import MAGIC, START, Envelope
+from ansible_vault_companions.files.finding import envelopes
 from ansible_vault_companions.git.attributes import VAULT_ALONE
 from ansible_vault_companions.program import shown
 

@@ -7,7 +7,8 @@ from collections import Counter, defaultdict
 from functools import lru_cache
 from typing import Iterable, NamedTuple
 
-from ansible_vault_companions.files.envelopes import MAGIC, START, TAG_NAME, envelopes
+from ansible_vault_companions.files.envelopes import MAGIC, START, TAG_NAME
+from ansible_vault_companions.files.finding import envelopes
 from ansible_vault_companions.program import Refused, shown
 from ansible_vault_companions.yaml.nodes import ALIAS, PLAIN, nodes
 from ansible_vault_companions.yaml.paths import Path, Step

@@ -6,6 +6,7 @@ import os
 from functools import lru_cache
 
 from ansible_vault_companions.git.commands import git
+from ansible_vault_companions.program import Refused
 
 
 def top() -> str:
@@ -22,6 +23,18 @@ def by_repository(paths: list[str]) -> dict[str, dict[bytes, str]]:
             name = os.fsencode(os.path.relpath(target, repository))
             repositories.setdefault(repository, {})[name] = path
     return repositories
+
+
+def tracked(paths: list[str]) -> list[str]:
+    """Those of these paths that git tracks, each in the repository that it is in; a link is what it leads to."""
+    found: set[str] = set()
+    repositories = by_repository(paths)
+    if paths and not repositories:
+        raise Refused("git tracks no file here, which is in no repository")
+    for repository, names in repositories.items():
+        known = git("ls-files", "-z", folder=repository).split(b"\0")
+        found.update(names[name] for name in known if name in names)
+    return [path for path in paths if path in found]
 
 
 @lru_cache(maxsize=None)

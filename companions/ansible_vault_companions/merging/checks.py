@@ -2,7 +2,8 @@
 
 from __future__ import annotations
 
-from ansible_vault_companions.files.envelopes import envelopes, label_of
+from ansible_vault_companions.files.envelopes import label_of
+from ansible_vault_companions.files.finding import envelopes
 from ansible_vault_companions.merging.versions import Opened, Version
 from ansible_vault_companions.program import Refused
 from ansible_vault_companions.secrets import labels

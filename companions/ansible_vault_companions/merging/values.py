@@ -11,6 +11,7 @@ import secrets as randomness
 from collections import Counter
 from typing import Hashable
 
+from ansible_vault_companions.files.changes import Change, changed
 from ansible_vault_companions.merging import checks
 from ansible_vault_companions.merging.lines import OURS, THEIRS, Merged, merged_lines
 from ansible_vault_companions.merging.versions import Place, Version, opened, scanned
@@ -18,7 +19,7 @@ from ansible_vault_companions.program import Refused
 from ansible_vault_companions.tool.keys import Decrypt
 from ansible_vault_companions.tool.tool import Tool
 from ansible_vault_companions.yaml import blocks
-from ansible_vault_companions.yaml.blocks import Block, Change
+from ansible_vault_companions.yaml.blocks import Block
 
 # What a block has between its spaces and ends of lines.
 INK = re.compile(rb"\S+")
@@ -74,7 +75,7 @@ class Values:
     def _put_tokens(self, version: Version) -> None:
         tokens = version.places.items()
         changes = [each for token, place in tokens for each in self._tokenized(version.data, place.block, token)]
-        version.text = blocks.changed(version.data, changes)
+        version.text = changed(version.data, changes)
 
     def _tokenized(self, data: bytes, block: Block, token: bytes) -> list[Change]:
         """A token in the line of the tag, and a line below that keeps the lines of two values apart."""

@@ -4,9 +4,11 @@ from __future__ import annotations
 
 import re
 from dataclasses import dataclass
-from typing import Iterable, NamedTuple
+from typing import NamedTuple
 
-from ansible_vault_companions.files.envelopes import FOLDED, IN_A_LINE, label_of, matched
+from ansible_vault_companions.files.changes import Change
+from ansible_vault_companions.files.envelopes import label_of, matched
+from ansible_vault_companions.files.finding import FOLDED, IN_A_LINE
 from ansible_vault_companions.program import Refused, shown
 from ansible_vault_companions.secrets.sources import Secret
 from ansible_vault_companions.yaml import literals, nodes
@@ -18,22 +20,6 @@ INDENTATION = 10
 # How the first line of a body that is not empty is indented.
 INDENTED = re.compile(rb"(?: *%s)+(?P<spaces> *)" % LINE_END.pattern)
 SIMPLE_END = re.compile(rb"\r\n?|\xc2\x85|")
-
-
-class Change(NamedTuple):
-    """Bytes that take the place of others."""
-
-    start: int
-    end: int
-    text: bytes
-
-
-def changed(data: bytes, changes: Iterable[Change]) -> bytes:
-    pieces, place = [], 0
-    for change in sorted(changes):
-        pieces += [data[place : change.start], change.text]
-        place = change.end
-    return b"".join([*pieces, data[place:]])
 
 
 def replacement(value: Value, header: bytes, body: bytes, end: int) -> list[Change]:

@@ -5,22 +5,20 @@ All else keeps every byte, and so does the envelope of a value that stays as it 
 
 from __future__ import annotations
 
-import os
 import re
-from collections import Counter
 from dataclasses import dataclass, field
 from typing import NamedTuple
 
 from ansible_vault_companions import parallel
-from ansible_vault_companions.files.envelopes import BYTE_ORDER_MARK, matched
+from ansible_vault_companions.files.changes import Change, changed
+from ansible_vault_companions.files.envelopes import matched
 from ansible_vault_companions.program import Refused
-from ansible_vault_companions.secrets import prompts
 from ansible_vault_companions.tool.keys import Decrypt
 from ansible_vault_companions.tool.tool import Tool
-from ansible_vault_companions.yaml import blocks, literals, matching
-from ansible_vault_companions.yaml.blocks import Change, Decrypted, named
+from ansible_vault_companions.yaml import blocks, literals, matching, mistakes
+from ansible_vault_companions.yaml.blocks import Decrypted, named
 from ansible_vault_companions.yaml.matching import Choice, Typed
-from ansible_vault_companions.yaml.nodes import TAGS, NotYaml, decoded
+from ansible_vault_companions.yaml.nodes import NotYaml
 from ansible_vault_companions.yaml.values import LINE_END, Scan, Value
 
 # How many columns a literal stands to the right of its key.
@@ -31,15 +29,9 @@ NOTE = b"# ansible-vault: "
 SPACES = re.compile(rb" *")
 EMPTY_LINE = re.compile(rb"%s[ \t]*%s" % (LINE_END.pattern, LINE_END.pattern))
 COMMENT = re.compile(rb"(?:[ \t]*%s)+(?P<spaces> *)#" % LINE_END.pattern)
-# What UTF-8 does not decode; and what UTF-16 and UTF-32 have, and no text.
-NO_UTF_8 = re.compile("[\0\udc80-\udcff]")
 LAST_LINE_END = re.compile(rb"%s\Z" % LINE_END.pattern)
 
 JOINED = "it is empty, and the comment below would become its text"
-HIDDEN = "`!vault` within a comment or another text is no tag, and what follows it would stay in plaintext"
-LIKE_A_TAG = "`{}` is not the tag `!vault`, and what follows it would stay in plaintext"
-NOT_UTF_8 = "it is no longer in UTF-8, so its values are not found; save it in UTF-8"
-MARKED = "it now begins with a byte order mark; save it in UTF-8 without one"
 NO_PLACE = "no block can be put into this YAML; is there a tab, or an indented comment, below a value?"
 
 
@@ -63,7 +55,7 @@ class Showing:
     still_encrypted: list[StillEncrypted] = field(default_factory=list)
 
     def text(self) -> bytes:
-        return blocks.changed(self.data, self.changes)
+        return changed(self.data, self.changes)
 
     def show(self, each: Decrypted) -> None:
         """Shows a plaintext as a literal, whose lines no comment and no empty line below can join."""
@@ -140,9 +132,9 @@ def _decrypted(data: bytes, value: Value, decrypt: Decrypt) -> Decrypted | Refus
 
 def encrypted(shown: Showing, text: bytes, tool: Tool, choice: Choice) -> bytes:
     """The file for an edited text."""
-    _check_encoding(shown.text(), text)
+    mistakes.check_encoding(shown.text(), text)
     found = Scan(text)
-    _check_lookalikes(shown, found)
+    mistakes.check_lookalikes(shown.found, found, shown.note.decode())
     typed = [Typed(value, _plain(value)) for value in found.values if not blocks.is_envelope(value)]
     changes = [Change(start, end, b"") for start, end in found.comments(shown.note.strip().decode())]
     envelopes = {}
@@ -153,7 +145,7 @@ def encrypted(shown: Showing, text: bytes, tool: Tool, choice: Choice) -> bytes:
         elif old:
             envelopes[value] = old.block.envelope
             changes += old.block.in_place_of(value)
-    after = blocks.changed(text, changes)
+    after = changed(text, changes)
     if any(map(shown.needs_final_newline, shown.decrypted)):
         after = LAST_LINE_END.sub(b"", after)
     wanted = [envelopes.get(value, value.content).strip() for value in found.values]
@@ -175,29 +167,3 @@ def _plain(value: Value) -> bytes:
         return literals.plain(value)
     except Refused as fault:
         raise Refused(f"line {value.line}: {named(value)} {fault}") from None
-
-
-def _check_encoding(before: bytes, after: bytes) -> None:
-    """Refuses a text in another encoding than before. The file itself may have bytes that are not UTF-8, as in a
-    comment: it may have no more of them."""
-    if after.startswith(BYTE_ORDER_MARK) and not before.startswith(BYTE_ORDER_MARK):
-        raise Refused(MARKED)
-    if Counter(NO_UTF_8.findall(decoded(after))) - Counter(NO_UTF_8.findall(decoded(before))):
-        raise Refused(NOT_UTF_8)
-
-
-def _check_lookalikes(shown: Showing, found: Scan) -> None:
-    """Refuses what was typed like a tag and is none, unless somebody at the terminal says that it is meant."""
-    known = Counter((text, like) for _, text, like in shown.found.lookalikes())
-    for line, text, like in found.lookalikes():
-        known[text, like] -= 1
-        if known[text, like] < 0 and not text.startswith(shown.note.decode()):
-            why = f"line {line}: {HIDDEN if like == TAGS[0] else LIKE_A_TAG.format(like)}"
-            if not _is_meant(why):
-                raise Refused(why)
-
-
-def _is_meant(why: str) -> bool:
-    if not os.isatty(0):
-        return False
-    return prompts.choice(f"{why}. Is that meant?", ["yes", "no"]) == "yes"

@@ -7,6 +7,7 @@ from __future__ import annotations
 
 import re
 
+from ansible_vault_companions.files.changes import indented
 from ansible_vault_companions.files.envelopes import MAGIC
 from ansible_vault_companions.program import Refused
 from ansible_vault_companions.yaml import nodes
@@ -61,10 +62,7 @@ def header(text: bytes, indentation: int) -> bytes:
 
 def lines(text: bytes, spaces: int, end: bytes) -> bytes:
     """Its lines, indented, each after the line ending of the one above; no line ending follows the last."""
-    if not text:
-        return b""
-    margin = b" " * spaces
-    return b"".join(end + (margin + line if line else b"") for line in text.removesuffix(b"\n").split(b"\n"))
+    return end + indented(text.removesuffix(b"\n"), b" " * spaces, end) if text else b""
 
 
 def plain(value: Value) -> bytes:

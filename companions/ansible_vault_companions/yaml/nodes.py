@@ -46,10 +46,9 @@ class Node(NamedTuple):
     # Its characters, from its tag or anchor on. A block scalar ends below the empty lines that follow it.
     start: int
     end: int
-    # Where it starts, and where it ends; lines are counted from 1.
+    # Where it starts; lines are counted from 1.
     line: int
     column: int
-    last_line: int
     container: Container
 
     @property
@@ -129,7 +128,7 @@ def nodes(data: bytes, tags: Collection[str] = (), extend: Extend = by_keys) -> 
         path = extend(around.path, around.step, step) if around.style else around.path
         if tag in tags or not tags:
             start, end = event.start_mark, event.end_mark
-            places = (start.index + skipped, end.index + skipped, start.line + 1, start.column, end.line + 1)
+            places = (start.index + skipped, end.index + skipped, start.line + 1, start.column)
             yield Node(path, is_key, tag, style, value, *places, around)
         if kind in beginnings:
             column = around.column if event.flow_style else _column(content, style, event.end_mark)

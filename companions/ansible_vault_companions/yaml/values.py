@@ -12,10 +12,10 @@ from functools import cached_property
 from typing import Collection, Iterable, Iterator, NamedTuple
 
 from ansible_vault_companions.files.envelopes import matched
-from ansible_vault_companions.yaml import nodes
+from ansible_vault_companions.yaml import conflicts, nodes
 from ansible_vault_companions.yaml.lookalikes import lookalikes
 from ansible_vault_companions.yaml.nodes import Node
-from ansible_vault_companions.yaml.paths import Path
+from ansible_vault_companions.yaml.paths import Extend, Path, by_keys
 
 # How a line ends in YAML 1.1.
 LINE_END = re.compile(rb"(?:\r\n?|\n|\xc2\x85|\xe2\x80[\xa8\xa9])")
@@ -23,8 +23,6 @@ LINE_ENDS_IN_TEXT = "\n\u2028\u2029"
 # The tag and the anchor of a value, and what is between them and it.
 PROPERTIES = re.compile(rb"(?:[!&][^ \t\r\n]*(?:[ \t]+(?:#[^\r\n]*)?|%s)*)+" % LINE_END.pattern)
 BLOCK_HEADER = re.compile(rb"[|>](?P<indicators>[-+0-9]*)")
-CONFLICT = "<<<<<<<"
-CONFLICT_MARKER = re.compile(r"([<|=>])\1{6}(?:[ \t]|\r?\Z)")
 
 
 class Value(NamedTuple):
@@ -62,9 +60,10 @@ class Value(NamedTuple):
 class Scan:
     """What a file contains."""
 
-    def __init__(self, data: bytes) -> None:
+    def __init__(self, data: bytes, extend: Extend = by_keys) -> None:
         self.data = data
         self.text = nodes.decoded(data)
+        self.extend = extend
         self.tagged = _Places(node for node in self._nodes(nodes.TAGS) if node.style != nodes.ALIAS)
         self.values = list(self._values())
 
@@ -91,10 +90,10 @@ class Scan:
             yield _value(self.data, node, head, offsets.of(node.start), offsets.of(node.end))
 
     def _nodes(self, tags: Collection[str] = ()) -> Iterable[Node]:
-        sides = _sides(self.text) if CONFLICT in self.text else []
+        sides = [_encoded(side) for side in conflicts.sides(self.text)]
         if not sides:
-            return nodes.nodes(self.data, tags)
-        found = {(node.start, node.end): node for side in sides for node in nodes.nodes(side, tags)}
+            return nodes.nodes(self.data, tags, self.extend)
+        found = {(node.start, node.end): node for side in sides for node in nodes.nodes(side, tags, self.extend)}
         return [found[place] for place in sorted(found)]
 
     @cached_property
@@ -139,27 +138,6 @@ class _Offsets:
 
 def _encoded(text: str) -> bytes:
     return text.encode(errors="surrogateescape")
-
-
-def _sides(text: str) -> list[bytes]:
-    """A text as each side of git's conflicts has it, with comments in the place of the others; none where there are
-    no conflicts."""
-    lines = text.split("\n")
-    # Of each line: the marker of its side; nothing where all sides have it.
-    marks, mark = [], ""
-    for line in lines:
-        found = CONFLICT_MARKER.match(line)
-        if found and (mark or found[1] == "<"):
-            mark = found[1].strip(">")
-            marks.append("marker")
-        else:
-            marks.append(mark)
-    sides = [side for side in "<|=" if side in marks or side == "<"] if "marker" in marks else []
-    return [_encoded("\n".join(_on_side(side, *each) for each in zip(lines, marks))) for side in sides]
-
-
-def _on_side(side: str, line: str, mark: str) -> str:
-    return line if mark in ("", side) else "#" * len(line)
 
 
 def _value(data: bytes, node: Node, head: str, tag: int, end: int) -> Value:

@@ -1,0 +1,142 @@
+"""The encrypted copy of what was saved and cannot be put back, and how it gets into its file or is taken up again."""
+
+from __future__ import annotations
+
+import argparse
+import os
+import shlex
+from contextlib import suppress
+from dataclasses import dataclass
+
+from ansible_vault_companions import program
+from ansible_vault_companions.files import reading, replacing
+from ansible_vault_companions.files.envelopes import MAGIC
+from ansible_vault_companions.files.private_folder import PrivateFolder
+from ansible_vault_companions.git import damage
+from ansible_vault_companions.plaintext.loading import Values, Vault
+from ansible_vault_companions.plaintext.setting import SingleValue
+from ansible_vault_companions.program import Refused
+from ansible_vault_companions.secrets import options
+from ansible_vault_companions.tool import layers
+from ansible_vault_companions.tool.keys import Decrypt
+from ansible_vault_companions.tool.tool import Tool
+from ansible_vault_companions.yaml import inline
+
+NAME = "ansible-vault-edit"
+SHOWS = "ansible-vault-textconv"
+# A first line for a text that only begins like a vault.
+BELOW = b"# What was saved begins below.\n"
+# What ends the name of a copy of the save before the last.
+BEFORE = "before"
+NO_COPY = "no text of an earlier edit is kept beside it or in $TMPDIR"
+SEVERAL = (
+    "--resume would not know which value gets which secret: {} is not under the same password alone as the file; take "
+    "from it what you need, which `ansible-vault-textconv` shows"
+)
+
+
+@dataclass
+class Copies:
+    """Keeps what is typed in an edit of a file."""
+
+    tool: Tool
+    vault: Vault | Values | SingleValue
+    # Of the plaintext, which has the name of the file there.
+    folder: PrivateFolder
+    # Of the file, as the command line has it.
+    path: str
+    args: argparse.Namespace
+    # What is to be put back.
+    text: bytes | None = None
+
+    @property
+    def name(self) -> str:
+        return os.path.basename(self.path)
+
+    def rescue(self, text: bytes, why: Exception) -> Refused:
+        """Where what was saved is, since the vault cannot be made of it."""
+        try:
+            copy = self.sealed(text)
+        except Exception:
+            return self.folder.keep(why, self.name, self.text)
+        return self.keep_encrypted(copy, why, is_finished=self.vault.IS_WHOLE or copy == text)
+
+    def sealed(self, text: bytes) -> bytes:
+        """It as a whole, encrypted. A vault is so already; what only begins like one is put below a comment, since
+        ansible-vault does not encrypt it as it is."""
+        if damage.is_whole(text):
+            return text
+        return layers.encrypted(self.tool, BELOW * text.startswith(MAGIC) + text, self.vault.keys)
+
+    def keep_encrypted(self, content: bytes, why: Exception, is_finished: bool) -> Refused:
+        """Where what was saved is, since it is not in the vault; and how it gets there."""
+        try:
+            copy = replacing.save_copy(self.vault.target, content)
+        except OSError:
+            return self.folder.keep(why, self.name, self.text)
+        count = len(self.vault.keys)
+        layered = f", under {count} secrets in turn" if count > 1 and not is_finished else ""
+        steps = self.replacing_steps(copy) if is_finished else self.mending_steps(copy)
+        where = f"what you saved is encrypted in {program.shown(copy)}{layered}"
+        return Refused("\n".join([f"{program.reason(why)}; {where}", *map(program.shown, steps)]))
+
+    def replacing_steps(self, copy: str) -> list[str]:
+        """The commands that show a copy, and put it in the place of the file."""
+        return [
+            f"To look at it, and to put it in the place of {self.path}:",
+            f"  {shlex.join([SHOWS, *self.options(), copy])}",
+            f"  cp -- {shlex.join([copy, self.path])} && rm {shlex.quote(copy)}",
+        ]
+
+    def mending_steps(self, copy: str) -> list[str]:
+        """The commands that mend the text of a copy, which is a vault, and put it into the file."""
+        label = ["--encrypt-vault-id", self.args.encrypt_vault_id] if self.args.encrypt_vault_id else []
+        edits, shows = [NAME, *self.options(), *label], shlex.join([SHOWS, *self.options(), copy])
+        removes = f"&& rm {shlex.quote(copy)}"
+        if isinstance(self.vault, SingleValue):
+            sets = shlex.join([*edits, "--value", self.vault.path, "--", self.path])
+            return [f"To put it into {self.path}:", f"  {shows} | {sets} {removes}"]
+        steps = [f"  {shlex.join([*edits, '--resume', '--', self.path])}"]
+        if len(layers.different(self.vault.keys)) > 1:
+            steps = [
+                f"  {shlex.join([NAME, *self.options(), copy])}",
+                f"  VISUAL={shlex.quote(f'{shows} >')} {shlex.join([*edits, '--', self.path])} {removes}",
+            ]
+        return [f"To mend it, and to put it into {self.path}:", *steps]
+
+    def options(self) -> list[str]:
+        return options.words(self.args.vault_id, self.args.vault_password_file)
+
+    def keep_others(self, text: bytes | None, last_save: bytes | None) -> str:
+        """Copies what the editor has left of its own, such as a swap file, which may hold what was typed and not saved,
+        and the save before one that it may not have finished."""
+        paths = []
+        for name, content in [*self.folder.others(self.name), (BEFORE, last_save)]:
+            if not content or content in (text, self.vault.plaintext):
+                continue
+            with suppress(Refused, OSError):
+                path = replacing.save_copy(self.vault.target, self.sealed(content), name)
+                paths.append(program.shown(path))
+        return f"; what the editor left is encrypted in {', '.join(paths)}" if paths else ""
+
+
+def newest(target: str) -> str:
+    """The copy that the last edit has kept of what was saved. In $TMPDIR others may have made files of that name."""
+    found = [each for each in replacing.copies(target, is_last_save=True) if os.lstat(each).st_uid == os.geteuid()]
+    if not found:
+        raise Refused(NO_COPY)
+    return max(found, key=os.path.getmtime)
+
+
+def taken_up(copy: str, vault: Vault | Values, decrypt: Decrypt) -> bytes:
+    """The text of a copy, which is a vault or, where the text was finished, YAML with values that are. Somebody may
+    have put the file, or a value of it, under another password meanwhile, which the text must not get."""
+    content = reading.named(copy)
+    if content.startswith(MAGIC):
+        keys, text = layers.decrypted(decrypt, content)
+    else:
+        showing = inline.showing(content, decrypt, with_notes=True)
+        keys, text = [each.key for each in showing.decrypted], showing.text()
+    if len(layers.different([*keys, *vault.keys])) != 1:
+        raise Refused(SEVERAL.format(program.shown(copy)))
+    return text.removeprefix(BELOW)

@@ -1,0 +1,146 @@
+"""An edit of a plaintext: what was saved is put back, or is kept in an encrypted copy, whatever fails."""
+
+from __future__ import annotations
+
+import argparse
+import os
+from dataclasses import dataclass
+
+from ansible_vault_companions import program, running, stopping
+from ansible_vault_companions.files import reading, replacing
+from ansible_vault_companions.files.envelopes import MAGIC
+from ansible_vault_companions.files.last_save import LastSave
+from ansible_vault_companions.files.private_folder import PrivateFolder
+from ansible_vault_companions.git import leaks
+from ansible_vault_companions.plaintext.copies import NAME, Copies
+from ansible_vault_companions.plaintext.loading import Values, Vault
+from ansible_vault_companions.plaintext.setting import SingleValue
+from ansible_vault_companions.program import Refused, write_error
+from ansible_vault_companions.secrets import prompts
+from ansible_vault_companions.tool.tool import Tool
+
+ITSELF_A_VAULT = "what you saved is itself a vault, which is not encrypted once more"
+GIVEN_A_VAULT = "standard input is itself a vault, which is not encrypted once more"
+AT_TERMINAL = "the value is read from standard input, which is a terminal; give it by a pipe or from a file"
+
+
+@dataclass
+class Edit(Copies):
+    """An edit of a plaintext, which is in a folder."""
+
+    # As a whole, if the editor saved anything.
+    last_save: bytes | None = None
+
+    def run_editor(self) -> tuple[bytes | None, str]:
+        """What the editor saved, and why it counts for nothing."""
+        editor = os.environ.get("VISUAL") or os.environ.get("EDITOR") or "vi"
+        path = os.path.join(self.folder.path, self.name)
+        try:
+            with LastSave(path) as last_save:
+                status = running.run_on_terminal(["sh", "-c", f'{editor} "$@"', editor, path])
+        except stopping.Stopped:
+            # It has run before, and what was saved then is to be kept.
+            if self.text is None:
+                raise
+            return None, by_signal()
+        self.last_save = last_save.text
+        fault = f"the editor failed ({editor}, status {status})" if status else ""
+        try:
+            text = reading.read(path)
+        except (Refused, IsADirectoryError) as replaced:
+            return last_save.text, program.reason(replaced)
+        except OSError as unread:
+            raise self.folder.keep(unread, self.name, self.text) from None
+        if text is None:
+            # The folder, too, may be gone: logging out removes what is in memory.
+            return last_save.text, fault or "the editor left no file"
+        return text, fault
+
+    def put_back(self, text: bytes, fault: str) -> bool:
+        """Encrypts what was saved, before the plaintext goes: into the vault or, if anything fails, into a copy. False
+        where it is to be edited again."""
+        vault, self.text = self.vault, text
+        try:
+            if text.startswith(MAGIC):
+                raise Refused(ITSELF_A_VAULT)
+            content = vault.encrypted(self.tool, text)
+        # Whatever it is, nothing is to be lost by it.
+        except Exception as failed:
+            if isinstance(failed, Refused) and not fault and self.opens_again(failed):
+                return False
+            why = "; ".join(filter(None, [fault, program.reason(failed)])) or by_signal()
+            raise self.rescue(text, Refused(why)) from None
+        try:
+            if fault or stopping.ending_signal():
+                raise Refused(fault or by_signal())
+            if content != vault.content:
+                replacing.replace(vault.target, content, vault.content)
+        except (Refused, OSError) as failed:
+            raise self.keep_encrypted(content, failed, is_finished=True) from None
+        names = leaks.now_plain(vault.content or b"", content)
+        if names:
+            write_error(f"{NAME}: {program.shown(vault.target)}: no longer encrypted: {', '.join(names)}")
+        return True
+
+    def opens_again(self, why: Exception) -> bool:
+        """Whether somebody at the terminal wants to mend what was saved."""
+        if not os.isatty(0) or isinstance(self.vault, SingleValue):
+            return False
+        question = f"{program.shown(self.path)}: {program.reason(why)}. Open the editor again?"
+        try:
+            return prompts.choice(question, ["yes", "no"]) == "yes"
+        # A signal, or no terminal any longer.
+        except (stopping.Stopped, Refused, OSError):
+            return False
+
+
+def by_signal() -> str:
+    return f"ended by signal {stopping.ending_signal()}"
+
+
+def edit(
+    tool: Tool, vault: Vault | Values, path: str, args: argparse.Namespace, text: bytes | None = None
+) -> bytes | None:
+    """What was saved, if anything was changed. The editor begins with the plaintext, or with another text."""
+    with PrivateFolder() as folder:
+        this = Edit(tool, vault, folder, path, args)
+        folder.create(this.name, vault.plaintext if text is None else text)
+        while True:
+            saved, fault = this.run_editor()
+            with stopping.postponed():
+                if stopping.ending_signal():
+                    fault = by_signal()
+                if fault:
+                    fault += this.keep_others(saved, this.last_save)
+                if saved is None or vault.is_as_it_was(saved):
+                    # What was saved before the editor opened again counts if it fails then.
+                    saved = this.text if fault else None
+                if saved is None:
+                    break
+                if this.put_back(saved, fault):
+                    return saved
+        if fault:
+            raise Refused(f"{fault}; nothing was changed")
+    return None
+
+
+def set_value(tool: Tool, value: SingleValue, path: str, args: argparse.Namespace) -> None:
+    """Puts standard input in the place of a value."""
+    with PrivateFolder() as folder:
+        this = Edit(tool, value, folder, path, args)
+        text = _standard_input()
+        if text.startswith(MAGIC):
+            raise Refused(GIVEN_A_VAULT)
+        with stopping.postponed():
+            if not value.is_as_it_was(text):
+                this.put_back(text, "")
+
+
+def _standard_input() -> bytes:
+    if os.isatty(0):
+        raise Refused(AT_TERMINAL)
+    with stopping.interruptible(), open(0, "rb", closefd=False) as file:
+        text = file.read(reading.LIMIT + 1)
+    if len(text) > reading.LIMIT:
+        raise Refused("standard input is longer than any vault")
+    return text

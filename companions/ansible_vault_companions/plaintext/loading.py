@@ -1,0 +1,139 @@
+"""What is edited: a vault, or YAML with values that are vaults; its text, and how that is encrypted again."""
+
+from __future__ import annotations
+
+import os
+from dataclasses import dataclass
+from typing import ClassVar
+
+from ansible_vault_companions import stopping
+from ansible_vault_companions.files import reading
+from ansible_vault_companions.files.envelopes import MAGIC, TAG_NAME, Envelope
+from ansible_vault_companions.files.finding import envelopes
+from ansible_vault_companions.git import damage
+from ansible_vault_companions.program import Refused
+from ansible_vault_companions.secrets import labels
+from ansible_vault_companions.secrets.sources import Secret
+from ansible_vault_companions.tool import layers
+from ansible_vault_companions.tool.faults import NotDecrypted
+from ansible_vault_companions.tool.keys import Key
+from ansible_vault_companions.tool.tool import Tool
+from ansible_vault_companions.yaml import blocks, inline
+from ansible_vault_companions.yaml.inline import Showing
+from ansible_vault_companions.yaml.matching import Choice
+
+NO_VAULT = (
+    "it is not a vault, and no value in it has the tag `!vault`; encrypt it with `ansible-vault-with encrypt`, or "
+    "write `NAME: !vault TEXT` in it for a single value and run this again"
+)
+NO_OPTION = "no option can give the label {}, which has an @"
+TO_ADD = "; or to add values without seeing the others, choose their secret with --encrypt-vault-id"
+
+
+@dataclass
+class Vault:
+    """A file that is a vault, and how it is encrypted again."""
+
+    # Whether the text, encrypted as a whole, may take its place.
+    IS_WHOLE: ClassVar[bool] = True
+
+    target: str
+    # Several for a copy of what several secrets encrypted.
+    keys: list[Key]
+    plaintext: bytes = b""
+    # As it was found; none for one that is not there.
+    envelope: Envelope | None = None
+
+    @property
+    def content(self) -> bytes | None:
+        return self.envelope.text if self.envelope else None
+
+    def is_as_it_was(self, text: bytes) -> bool:
+        return text == self.plaintext
+
+    def label_faults(self) -> list[str]:
+        """Where a secret of another label opens it: that secret stays, and so does the label."""
+        fault = labels.fault(self.keys[0][0], self.envelope.text) if self.envelope else ""
+        return [fault] if fault else []
+
+    def encrypted(self, tool: Tool, text: bytes) -> bytes:
+        envelope = layers.encrypted(tool, text, self.keys)
+        return self.envelope.with_layout(envelope) if self.envelope else envelope
+
+
+class Values:
+    """A file of YAML with values that are vaults, or are to be."""
+
+    IS_WHOLE: ClassVar[bool] = False
+
+    def __init__(self, target: str, content: bytes, showing: Showing, choice: Choice) -> None:
+        self.target = target
+        self.content = content
+        self.showing = showing
+        self.choice = choice
+        self.plaintext = showing.text()
+
+    @property
+    def keys(self) -> list[Key]:
+        """What its text is encrypted by where it cannot be put back: the secrets of its values, and that for new ones;
+        all, where it is not known which."""
+        shown = [each.key for each in self.showing.decrypted]
+        chosen = self.choice.keys() if self.choice.label is not None or not shown else []
+        return layers.different([*shown, *chosen] or [(each, each.label) for each in self.choice.secrets])
+
+    def is_as_it_was(self, text: bytes) -> bool:
+        return text == self.plaintext and all(map(blocks.is_envelope, self.showing.found.values))
+
+    def label_faults(self) -> list[str]:
+        found = [
+            (each.block.value, labels.fault(each.secret, each.block.envelope))
+            for each in self.showing.decrypted
+        ]
+        return [f"line {value.line}: {blocks.named(value)}: {fault}" for value, fault in found if fault]
+
+    def encrypted(self, tool: Tool, text: bytes) -> bytes:
+        return inline.encrypted(self.showing, text, tool, self.choice)
+
+
+def _choose_secret(secrets: list[Secret], label: str | None) -> Secret:
+    """The secret for a new vault: that of the label, else the only one."""
+    fitting = [secret for secret in secrets if label in (None, secret.label)]
+    if not fitting:
+        raise Refused("no secret has the label of --encrypt-vault-id")
+    if label is None and len(fitting) > 1:
+        raise Refused("it is not there; choose the secret to make it with --encrypt-vault-id")
+    return fitting[0]
+
+
+def load(tool: Tool, secrets: list[Secret], path: str, new_label: str | None) -> Vault | Values:
+    """The vault at a path, or a new one, or the values of a file."""
+    target = os.path.realpath(path)
+    with stopping.interruptible():
+        content = reading.read(target)
+    if content is None:
+        secret = _choose_secret(secrets, new_label)
+        return Vault(target, [(secret, secret.label)])
+    if damage.is_torn(content):
+        raise Refused(f"{damage.TORN}; {damage.merge_again(path)}")
+    if not content.startswith(MAGIC):
+        return _load_values(tool, target, content, Choice(secrets, new_label))
+    [envelope] = envelopes(content)
+    keys, plaintext = layers.decrypted(lambda vault: tool.decrypt(vault, secrets), content)
+    for _, label in keys:
+        if "@" in label:
+            raise Refused(NO_OPTION.format(label))
+    return Vault(target, keys, plaintext, envelope)
+
+
+def _load_values(tool: Tool, target: str, content: bytes, choice: Choice) -> Values:
+    if TAG_NAME not in content:
+        raise Refused(NO_VAULT)
+    showing = inline.showing(content, lambda envelope: tool.decrypt(envelope, choice.secrets), with_notes=True)
+    if not showing.found.values:
+        raise Refused(NO_VAULT)
+    all_encrypted = len(showing.still_encrypted) == len(showing.found.values)
+    are_locked = all(isinstance(each.why, NotDecrypted) for each in showing.still_encrypted)
+    if all_encrypted and choice.label is None and are_locked:
+        value, why = showing.still_encrypted[0]
+        raise Refused(f"line {value.line}: {blocks.named(value)}: {why}{TO_ADD}")
+    return Values(target, content, showing, choice)

@@ -1,0 +1,161 @@
+"""Another text for a single value of YAML, by the path that is typed."""
+
+from __future__ import annotations
+
+import re
+from typing import ClassVar, Iterable
+
+from ansible_vault_companions.files.changes import Change, changed
+from ansible_vault_companions.files.envelopes import MAGIC
+from ansible_vault_companions.git import damage
+from ansible_vault_companions.plaintext.loading import NO_OPTION
+from ansible_vault_companions.plaintext.single import NO_TEXT, NOT_ENCRYPTED
+from ansible_vault_companions.program import Refused, shown
+from ansible_vault_companions.secrets import labels
+from ansible_vault_companions.tool.keys import Decrypt, Key
+from ansible_vault_companions.tool.tool import Tool
+from ansible_vault_companions.yaml import blocks, literals
+from ansible_vault_companions.yaml.blocks import Decrypted
+from ansible_vault_companions.yaml.matching import Choice
+from ansible_vault_companions.yaml.nodes import ALIAS, LIST, MAPPING, Node, NotYaml, decoded, nodes
+from ansible_vault_companions.yaml.typed_paths import LAST_KEY, is_at, no_value, node_at, quoted, typed, value_at
+from ansible_vault_companions.yaml.values import LINE_END, Value
+
+TO_ENCRYPT = "; to encrypt it there, choose its secret with --encrypt-vault-id"
+WHOLE = "it is a vault as a whole, whose values are not encrypted one by one; edit it without --value"
+NO_PLACE = "{} cannot be put into this YAML; edit the file without --value"
+# A key that needs no quotes.
+SIMPLE_KEY = re.compile(r"[A-Za-z_][A-Za-z0-9_-]*")
+# Stands for the envelope until there is one, and for the text before that.
+NO_ENVELOPE = b"$ANSIBLE_VAULT;1.1;AES256\n6162\n"
+NO_PLAINTEXT = b"!vault x"
+
+
+class SingleValue:
+    """A value that gets another text, under its own secret and label, or under those that are chosen."""
+
+    IS_WHOLE: ClassVar[bool] = False
+    # Nothing is shown.
+    plaintext = b""
+
+    def __init__(self, target: str, content: bytes, path: str, decrypt: Decrypt, choice: Choice) -> None:
+        if content.startswith(MAGIC):
+            raise Refused(WHOLE)
+        if damage.is_unmerged(content):
+            raise Refused(f"it {damage.UNMERGED}")
+        self.target = target
+        self.content = content
+        self.is_chosen = choice.label is not None
+        # With the tag and a text where there is no value yet.
+        self.text = content
+        found = value_at(content, path)
+        if not (found and blocks.is_envelope(found)):
+            self.text = _prepared(content, path, found, self.is_chosen)
+            found = value_at(self.text, path)
+        if not found:
+            raise Refused(NO_PLACE.format(shown(path)))
+        self.value: Value = found
+        self.path = "".join(found.path)
+        self.before = self._decrypted(decrypt)
+        self.keys: list[Key] = [choice.key(found)] if self.is_chosen or not self.before else [self.before.key]
+        if "@" in self.keys[0][1]:
+            raise Refused(NO_OPTION.format(self.keys[0][1]))
+        # Before a text is read that might be lost.
+        self._with_envelope(NO_ENVELOPE)
+
+    def is_as_it_was(self, text: bytes) -> bool:
+        return self.before is not None and self.before.plaintext == text and self.before.key == self.keys[0]
+
+    def label_faults(self) -> Iterable[str]:
+        """Where a secret of another label opens it: that secret stays, and so does the label."""
+        if self.before and not self.is_chosen:
+            yield from filter(None, [labels.fault(self.before.secret, self.before.block.envelope)])
+
+    def encrypted(self, tool: Tool, text: bytes) -> bytes:
+        """The file with an envelope for this text."""
+        return self._with_envelope(tool.encrypt(text, *self.keys[0]))
+
+    def _decrypted(self, decrypt: Decrypt) -> Decrypted | None:
+        """What it was; where another secret is chosen, nobody has to know."""
+        if not blocks.is_envelope(self.value):
+            return None
+        block = blocks.block_of(self.text, self.value)
+        try:
+            return Decrypted(block, *decrypt(block.envelope))
+        except Refused:
+            if self.is_chosen:
+                return None
+            raise
+
+    def _with_envelope(self, envelope: bytes) -> bytes:
+        if blocks.is_envelope(self.value):
+            changes = blocks.block_of(self.text, self.value).replace(self.value, envelope)
+        else:
+            changes = blocks.new_block(self.text, self.value, envelope)
+        after = changed(self.text, changes)
+        try:
+            found = value_at(after, self.path)
+            is_right = found and found.content.strip() == envelope.strip() and self._others(after) == self._others()
+        except NotYaml:
+            is_right = False
+        if not is_right:
+            raise Refused(NO_PLACE.format(shown(self.path)))
+        return after
+
+    def _others(self, data: bytes | None = None) -> list[tuple[str, bool, str | None, str, str]]:
+        """All nodes of the file but for the value and its key."""
+        found = nodes(self.content if data is None else data, extend=typed)
+        # An alias may stand for the value.
+        every = [node._replace(tag=None, text="") if node.style == ALIAS else node for node in found]
+        about = [("".join(node.path), node.is_key, node.tag, node.style, node.text) for node in every]
+        return [each for each in about if each[0] != self.path]
+
+
+def _prepared(content: bytes, path: str, value: Value | None, is_chosen: bool) -> bytes:
+    """A file with a value that is to be encrypted, in plaintext."""
+    node = node_at(content, path)
+    if not is_chosen:
+        why = Refused(NOT_ENCRYPTED.format(shown(path))) if node else no_value(content, path)
+        raise Refused(f"{why}{TO_ENCRYPT}")
+    if node and node.style in (LIST, MAPPING, ALIAS):
+        raise Refused(NO_TEXT.format(shown(path)))
+    after = content if value else _with_tag(content, node) if node else _with_key(content, path)
+    found = value_at(after, path)
+    try:
+        if found:
+            literals.plain(found)
+    except Refused as fault:
+        raise Refused(f"{shown(path)} {fault}") from None
+    return after
+
+
+def _with_tag(content: bytes, node: Node) -> bytes:
+    place = _offset(content, node.start)
+    return changed(content, [Change(place, place, b"!vault " if node.end > node.start else b' !vault ""')])
+
+
+def _with_key(content: bytes, path: str) -> bytes:
+    """The last key of the path is new in its mapping, below the others."""
+    words = LAST_KEY.fullmatch(path)
+    every = [*nodes(content, extend=typed)] if words else []
+    around = {id(node.container): node.container for node in every if node.container.style == MAPPING}
+    above = words["above"] or "" if words else ""
+    found = [each for each in around.values() if is_at(above, each.path) and not each.is_key and not each.in_flow]
+    if not words or len(found) != 1:
+        raise no_value(content, path)
+    [mapping] = found
+    last = _offset(content, max(node.end for node in every if mapping.path in node.path.upwards()))
+    key = words["key"] if SIMPLE_KEY.fullmatch(words["key"]) or words["key"][0] == '"' else quoted(words["key"])
+    line = b" " * mapping.column + key.encode(errors="surrogateescape") + b": " + NO_PLAINTEXT
+    ending = LINE_END.search(content)
+    end = ending[0] if ending else b"\n"
+    if content[:last].endswith((b"\n", b"\r")):
+        return changed(content, [Change(last, last, line + end)])
+    following = LINE_END.search(content, last)
+    place = following.start() if following else len(content)
+    return changed(content, [Change(place, place, end + line)])
+
+
+def _offset(content: bytes, place: int) -> int:
+    """That of a character, in bytes."""
+    return len(decoded(content)[:place].encode(errors="surrogateescape"))

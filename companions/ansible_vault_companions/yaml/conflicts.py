@@ -1,0 +1,31 @@
+"""Texts in which git has left the markers of conflicts."""
+
+from __future__ import annotations
+
+import re
+
+CONFLICT = "<<<<<<<"
+CONFLICT_MARKER = re.compile(r"([<|=>])\1{6}(?:[ \t]|\r?\Z)")
+
+
+def sides(text: str) -> list[str]:
+    """A text as each side of git's conflicts has it, with comments in the place of the others; none where there are
+    no conflicts."""
+    if CONFLICT not in text:
+        return []
+    lines = text.split("\n")
+    # Of each line: the marker of its side; nothing where all sides have it.
+    marks, mark = [], ""
+    for line in lines:
+        found = CONFLICT_MARKER.match(line)
+        if found and (mark or found[1] == "<"):
+            mark = found[1].strip(">")
+            marks.append("marker")
+        else:
+            marks.append(mark)
+    kept = [side for side in "<|=" if side in marks or side == "<"] if "marker" in marks else []
+    return ["\n".join(_on_side(side, *each) for each in zip(lines, marks)) for side in kept]
+
+
+def _on_side(side: str, line: str, mark: str) -> str:
+    return line if mark in ("", side) else "#" * len(line)

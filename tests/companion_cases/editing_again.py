@@ -1,0 +1,182 @@
+"""After an edit that cannot be put back the editor opens again, at a terminal, and --resume takes up what was kept."""
+
+from __future__ import annotations
+
+import os
+
+import pytest
+
+from companion_cases import EDIT, NOBODY, TEXT, Companions, Place, block, decrypted, ended, sealed
+from companion_cases.blocks import texts
+from companion_cases.editing import CHANGE, CHANGED, edit
+from companion_cases.keeping import ENCRYPTED
+from companion_cases.mistakes import commands
+from companion_cases.prompts import ask
+from companion_cases.terminal import Session
+from lib.needs import needs, needs_pyyaml
+
+AGAIN = "Open the editor again? (yes, no): "
+TYPO = 'new: !vault "more'
+# Each run of the editor notes what it sees; the first makes a mistake, and the second mends it.
+MENDS = f"""\
+cat "$1" >> ../seen
+if grep -q '^new' "$1"; then sed -i 's/"more/more/' "$1"; else echo '{TYPO}' >> "$1"; fi
+"""
+
+
+def at_terminal(place: Place, editor: str, *answers: tuple[str, bytes]) -> Session:
+    needs("stty")
+    needs_pyyaml()
+    place.put("vars.yml", block("old"))
+    words = ["sh", "-c", 'exec "$@" < /dev/tty', "sh", EDIT, *place.by_file("old"), "vars.yml"]
+    return ask(place, *words, answers=[*answers], EDITOR=place.script(editor, "editor"))
+
+
+def kept(place: Place) -> list[bytes | None]:
+    return [decrypted("old", place.get(name)) for name in place.names() if name.startswith(".ansible-vault-saved-")]
+
+
+def test_mended(place: Place) -> None:
+    session = at_terminal(place, MENDS, (AGAIN, b"yes\n"))
+    assert (session.returncode, session.stderr) == (0, "")
+    assert "vars.yml: line 3: it cannot be read as YAML: " in session.shown, "the reason is shown"
+    shown = f"secret: !vault |\n  {TEXT.decode()}"
+    assert (place.path / "seen").read_text() == f"{shown}{shown}{TYPO}\n", "the text is there again"
+    assert texts(place.get("vars.yml"), "old") == [TEXT, b"more"]
+    assert (place.names(), place.left()) == (["vars.yml"], []), "nothing is left"
+
+
+TYPED = f"secret: !vault |\n  {TEXT.decode()}{TYPO}\n".encode()
+ENDS = {
+    "no": (f"echo '{TYPO}' >> \"$1\"", [(AGAIN, b"no\n")], 1, "it cannot be read as YAML"),
+    "the terminal says nothing": (f"echo '{TYPO}' >> \"$1\"", [(AGAIN, b"\x04")], 1, "it cannot be read as YAML"),
+    "an interrupt": (f"echo '{TYPO}' >> \"$1\"", [(AGAIN, b"\x03")], 130, "it cannot be read as YAML"),
+    "no, later": (
+        f"grep -q new \"$1\" || echo '{TYPO}' >> \"$1\"",
+        [(AGAIN, b"yes\n"), (AGAIN, b"yes\n"), (AGAIN, b"no\n")],
+        1,
+        "it cannot be read as YAML",
+    ),
+    "the editor fails": (f"grep -q new \"$1\" && exit 3; echo '{TYPO}' >> \"$1\"", [(AGAIN, b"yes\n")], 1, "status 3"),
+    "it empties the text and fails": (
+        f"grep -q new \"$1\" && sed -i /new/d \"$1\" && exit 3; echo '{TYPO}' >> \"$1\"",
+        [(AGAIN, b"yes\n")],
+        1,
+        "status 3",
+    ),
+    "a folder in its place": (
+        f"grep -q new \"$1\" && rm \"$1\" && exec mkdir \"$1\"; echo '{TYPO}' >> \"$1\"",
+        [(AGAIN, b"yes\n")],
+        1,
+        "Is a directory",
+    ),
+    "the text is gone": (
+        f"grep -q new \"$1\" && exec rm \"$1\"; echo '{TYPO}' >> \"$1\"",
+        [(AGAIN, b"yes\n")],
+        1,
+        "the editor left no file",
+    ),
+}
+
+
+@pytest.mark.parametrize("what", ENDS)
+def test_given_up(place: Place, what: str) -> None:
+    """What was typed is kept."""
+    editor, answers, status, why = ENDS[what]
+    session = at_terminal(place, editor, *answers)
+    assert (session.returncode, kept(place), place.left()) == (status, [TYPED], []), session
+    assert why in session.stderr and "what you saved is encrypted in" in session.stderr
+    assert place.get("vars.yml") == block("old")
+
+
+def test_without_a_change(place: Place) -> None:
+    """Who takes the mistake back has changed nothing."""
+    editor = f"if grep -q new \"$1\"; then sed -i /new/d \"$1\"; else echo '{TYPO}' >> \"$1\"; fi"
+    session = at_terminal(place, editor, (AGAIN, b"yes\n"))
+    assert (session.returncode, "nothing was changed" in session.stderr, kept(place)) == (0, True, [])
+    assert place.get("vars.yml") == block("old")
+
+
+def test_resumed(place: Place) -> None:
+    """By the command of the message; a text that is still wrong is kept again."""
+    needs_pyyaml()
+    place.put("vars.yml", block("old"), 0o640)
+    done = edit(place, f"echo '{TYPO}' >> \"$1\"", *place.by_file("old"), "vars.yml")
+    [command] = commands(done.stderr)
+    assert kept(place) == [TYPED]
+    ended("not mended", place.shell(command, EDITOR="true"), 1, "it cannot be read as YAML")
+    assert kept(place) == [TYPED, TYPED], "it is kept twice"
+    editor = place.script('cp "$1" ../seen; ' + "sed -i 's/\"more/more/' \"$1\"", "editor")
+    done = place.shell(command, EDITOR=editor)
+    assert (done.returncode, done.stderr.count("an earlier edit is encrypted in")) == (0, 1), done.stderr
+    assert (place.path / "seen").read_bytes() == TYPED
+    assert texts(place.get("vars.yml"), "old") == [TEXT, b"more"]
+    assert (place.mode("vars.yml"), len(kept(place)), place.left()) == ("0o640", 1, []), "that copy is gone"
+
+
+@pytest.mark.parametrize("name", ("all.yml", "-rf x.yml"))
+def test_vaults(place: Place, name: str) -> None:
+    """Also after a failing editor, and where the vault is still to be made."""
+    for content in (sealed("old"), None):
+        if content:
+            place.put(name, content)
+        else:
+            (place.tree / name).unlink()
+        text = CHANGE if content else 'echo new > "$1"'
+        done = edit(place, f'{text}; echo typed > "${{1%/*}}/other"; exit 3', *place.by_file("old"), "--", name)
+        assert ENCRYPTED.search(done.stderr.replace("; what the editor left", "\n")), done.stderr
+        ended("resumed", edit(place, 'echo more >> "$1"', *place.by_file("old"), "--resume", "--", name), 0)
+        assert decrypted("old", place.get(name)) == (CHANGED if content else b"new\n") + b"more\n"
+        for copy in place.tree.glob(".ansible-vault-saved-*"):
+            assert decrypted("old", copy.read_bytes()) == b"typed\n", "what the editor left stays"
+            copy.unlink()
+
+
+def test_newest(place: Place) -> None:
+    place.put("all.yml", sealed("old"))
+    for number in range(3):
+        edit(place, f'echo {number} > "$1"; exit 3', *place.by_file("old"), "all.yml")
+    done = edit(place, 'cp "$1" ../seen', *place.by_file("old"), "--resume", "all.yml")
+    assert (done.returncode, (place.path / "seen").read_text()) == (0, "2\n"), done.stderr
+    assert decrypted("old", place.get("all.yml")) == b"2\n"
+    assert {*kept(place)} == {b"0\n", b"1\n"}
+
+
+def test_nothing_to_resume(place: Place) -> None:
+    """What somebody else has put there is none."""
+    place.put("all.yml", sealed("old"))
+    if os.geteuid() == 0:
+        place.put(".ansible-vault-saved-all.yml-abcdefgh", sealed("old", b"theirs"))
+        os.chown(place.tree / ".ansible-vault-saved-all.yml-abcdefgh", NOBODY, NOBODY)
+    done = edit(place, "touch ../started", *place.by_file("old"), "--resume", "all.yml")
+    ended("no copy", done, 1, "all.yml: no text of an earlier edit is kept")
+    words = [*place.by_file("old"), "--resume", "--value", "a", "all.yml"]
+    ended("no editor", place.run(EDIT, *words), 2, "--resume is for an editor")
+    assert not (place.path / "started").exists()
+
+
+def test_under_another_password(cases: Companions) -> None:
+    """A text never gets the password of a file that somebody has exchanged meanwhile."""
+    needs_pyyaml()
+    files = {
+        "a vault": (sealed("prod", label="prod"), sealed("dev", label="prod"), sealed("dev", label="dev")),
+        "values": (block("prod", label="prod"), block("dev", label="prod"), block("dev", label="dev")),
+        "a value of two": (
+            block("prod", label="prod") + block("dev", label="dev", name="b"),
+            block("dev", label="prod") + block("dev", label="dev", name="b"),
+        ),
+    }
+    for what, (before, *exchanged) in files.items():
+        place = cases.place()
+        both = [*place.by_id("dev", "dev"), *place.by_id("prod", "prod")]
+        place.put("a.yml", before)
+        edit(place, f"{CHANGE}; exit 3", *both, "a.yml")
+        for content in exchanged:
+            place.put("a.yml", content)
+            done = edit(place, "touch ../started", *both, "--resume", "a.yml")
+            ended(what, done, 1, "a.yml: --resume would not know which value gets which secret: ")
+            assert (place.get("a.yml"), (place.path / "started").exists()) == (content, False)
+        if what != "a value of two":
+            place.put("a.yml", before)
+            ended(f"{what}, as it was", edit(place, "true", *both, "--resume", "a.yml"), 0)
+            assert place.get("a.yml") != before

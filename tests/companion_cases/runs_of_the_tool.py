@@ -1,0 +1,110 @@
+"""How many keys each companion derives, which is what its runs cost: one for each envelope and secret that is tried,
+and one for each envelope that is made, however often an envelope stands in the files.
+
+Each run of the program over something derives one key, so these runs are counted.
+"""
+
+import pytest
+
+from companion_cases import CHECK, EDIT, MERGE, ROTATE, TEXT, TEXTCONV, Place, block, decrypted, ended, sealed
+from companion_cases.rotating import summary, to_new
+from lib.needs import needs, needs_pyyaml
+
+# Notes the command where there is anything to derive a key for, which is not so when a secret alone is looked at.
+NOTED = 'cat > "$0.$$"; [ -s "$0.$$" ] && echo "$1" >> ../runs; exec < "$0.$$"; rm "$0.$$"'
+
+
+def derivations(place: Place, *words: str, status: int = 0, parts: tuple[str, ...] = (), **variables: str) -> list[int]:
+    """How often a run decrypts, and how often it encrypts."""
+    place.wrap_tool(NOTED)
+    runs = place.path / "runs"
+    runs.write_text("")
+    ended(f"{words}", place.run(*words, **variables), status, *parts)
+    found = runs.read_text().split()
+    return [found.count("view"), found.count("encrypt")]
+
+
+def three(place: Place) -> None:
+    """Two vaults and a block, of which each stands twice or more."""
+    for name in ("a.yml", "b.yml", "c.yml"):
+        place.put(name, sealed("old"))
+    place.put("d.yml", sealed("old", b"another"))
+    place.put("e.yml", block("old", b"one", name="a") + block("old", b"one", name="b"))
+    place.put("f.yml", b"- " + block("old", b"one", name="a"))
+
+
+def test_check(place: Place) -> None:
+    three(place)
+    counts = "7 decrypted, 0 not"
+    assert derivations(place, CHECK, *place.by_file("old"), ".", parts=(counts,)) == [3, 0], "one secret"
+    both = [*place.by_file("new"), *place.by_file("old")]
+    assert derivations(place, CHECK, *both, ".", parts=(counts,)) == [6, 0], "the second of two secrets"
+    both = [*place.by_file("new"), *place.by_file("dev")]
+    refused = derivations(place, CHECK, *both, ".", status=1, parts=("0 decrypted, 7 not",))
+    assert refused == [6, 0], "none of two secrets"
+
+
+def test_rotate(place: Place) -> None:
+    three(place)
+    to_be = summary(7).replace("rotated", "to be rotated")
+    assert derivations(place, ROTATE, "--dry-run", *to_new(place), ".", status=1, parts=(to_be,)) == [3, 0], "dry"
+    assert derivations(place, ROTATE, *to_new(place), ".", parts=(summary(7),)) == [3, 3], "rotated"
+    assert {decrypted("new", place.get(name)) for name in ("a.yml", "b.yml", "c.yml")} == {TEXT}, "each copy"
+    assert derivations(place, ROTATE, *to_new(place), ".", parts=(summary(0, 7),)) == [6, 0], "again, by both secrets"
+
+
+def test_rotate_within(place: Place) -> None:
+    """A vault with a block that stands in another file, too; and copies of both."""
+    for name in ("a.yml", "b.yml"):
+        place.put(name, sealed("old", block("old", b"one")))
+    place.put("c.yml", block("old", b"one"))
+    assert derivations(place, ROTATE, *to_new(place), ".", parts=(summary(5),)) == [2, 2]
+
+
+def test_equal_texts(place: Place) -> None:
+    """What has the same text in envelopes of its own gets envelopes of its own: nobody is to see that it is equal."""
+    for name in ("a.yml", "b.yml"):
+        place.put(name, sealed("old", TEXT) if name == "a.yml" else sealed("old", TEXT, "default"))
+    assert derivations(place, ROTATE, *to_new(place), ".", parts=(summary(2),)) == [2, 2]
+    assert place.get("a.yml").split()[1:] != place.get("b.yml").split()[1:]
+
+
+@pytest.mark.parametrize("companion", (TEXTCONV, EDIT))
+def test_shown(place: Place, companion: str) -> None:
+    needs_pyyaml()
+    content = block("old", b"one", name="a") + block("old", b"one", name="b") + block("old", b"two", name="c")
+    place.put("a.yml", content)
+    words = [companion, *place.by_file("old"), "a.yml"]
+    assert derivations(place, *words, EDITOR="true") == [2, 0], "YAML"
+    # Behind a tab it is no YAML.
+    place.put("a.yml", content + b"d: 1\n\te: 2\n")
+    if companion == TEXTCONV:
+        assert derivations(place, *words) == [2, 0], "no YAML"
+    place.put("a.yml", sealed("old"))
+    assert derivations(place, *words, EDITOR="true") == [1, 0], "a vault"
+
+
+def test_edit(place: Place) -> None:
+    needs_pyyaml()
+    place.put("a.yml", block("old", b"one", name="a") + block("old", b"one", name="b") + block("old", b"two", name="c"))
+    editor = place.script("sed -i s/two/three/ \"$1\"; echo 'd: !vault four' >> \"$1\"", "editor")
+    words = [EDIT, *place.by_file("old"), "a.yml"]
+    assert derivations(place, *words, EDITOR=editor) == [2, 2], "a value is changed, and one is new"
+    place.put("b.yml", sealed("old"))
+    words = [EDIT, *place.by_file("old"), "b.yml"]
+    assert derivations(place, *words, EDITOR=place.script('echo >> "$1"', "editor")) == [1, 1], "a vault"
+
+
+def test_merge(place: Place) -> None:
+    """What is made is decrypted once more before it takes the place of anything."""
+    needs("git")
+    needs_pyyaml()
+    texts = {"base": b"a: 1\n\nb: 1\n", "ours": b"a: 2\n\nb: 1\n", "theirs": b"a: 1\n\nb: 2\n"}
+    words = [MERGE, *place.by_file("old"), *texts, "a.yml"]
+    for name, text in texts.items():
+        place.put(name, sealed("old", text))
+    assert derivations(place, *words) == [3 + 1, 1], "vaults"
+    same = block("old", b"same", name="same")
+    for name in texts:
+        place.put(name, same + block("old", name.encode() if name == "ours" else b"base", name="a") + b"\n" + same)
+    assert derivations(place, *words) == [2, 0], "the value that differs, on both sides"
