@@ -2,7 +2,7 @@
 ghost use Rattle.std.specs.Prelude.{◌≡◌, ◌<◌, length};
 ghost use Rattle.vault_text.specs.declared.limits.TheConstants.{CIPHERTEXT_LIMIT};
 
-use crate::leaving::assert_leaves_in_steps;
+use crate::leaving::assert_leaves;
 use crate::ran::Left;
 use crate::trial::Trial;
 use std::alloc::{AllocError, Global};
@@ -69,7 +69,7 @@ fn assert_refused(
     let vault = ended(prefix, end.bytes)?;
     let trial = Trial::new(DECRYPT, FIRST, &[]).at_the_limit();
     let left = Left::refused(end.line);
-    assert_leaves_in_steps(rt, alloc, &trial, vault.as_slice(), 4_096, left)
+    assert_leaves(rt, alloc, &trial, vault.as_slice(), left)
 }
 
 #[test]

@@ -3,7 +3,7 @@ ghost use Rattle.std.specs.Prelude.{◌≡◌, length, map, slice_index_or, true
 ghost use Rattle.vault_core.specs.Password.{IsPassword};
 ghost use Rattle.vault_request.specs.CommandName.{rekeys};
 ghost use Rattle.vault_request.specs.Request.{files_of};
-ghost use Rattle.vault_cli.specs.runs.Task.{new_secret_in, password_in, secret_list_of};
+ghost use Rattle.vault_cli.specs.runs.Task.{new_secret_of, password_in, secret_list_of};
 
 use vault_core::{Fault, SealingSecret, Secrets, password_of};
 use vault_request::Request;
@@ -27,7 +27,7 @@ pub(crate) fn secrets_of<'p>(
 }
 
 /// The new secret of `rekey`, whose password file is the last.
-pub(crate) fn new_secret_in<'p>(
+pub(crate) fn new_secret_of<'p>(
     request: &'p Request,
     secret_files: &'p [Vec<u8>],
 ) -> Result<SealingSecret<'p, 'p>, Fault>
@@ -35,7 +35,7 @@ pub(crate) fn new_secret_in<'p>(
     requires files { length secret_files.now ≡ length (files_of request.now) }
     ensures { let contents = map (λ file. file.items) secret_files.now in
         let last = slice_index_or contents (length request.now.secrets) [] in
-        result ≡ new_secret_in request.now.new_secret last }
+        result ≡ new_secret_of request.now.new_secret last }
 {
     let label = request.new_label().unwrap();
     let password = password_in(secret_files[request.secret_count()].as_slice())?;
@@ -48,8 +48,5 @@ fn password_in(file: &[u8]) -> Result<&[u8], Fault>
     ensures fits { IfOk result (λ password. IsPassword password.now) }
     ensures refused { IfErr result (λ fault. password_in file.now ≡ Err fault) }
 {
-    match password_of(file) {
-        Ok(password) => Ok(password),
-        Err(fault) => Err(Fault::from(fault)),
-    }
+    Ok(password_of(file)?)
 }
