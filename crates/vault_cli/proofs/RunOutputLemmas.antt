@@ -2,14 +2,14 @@
 use Rattle.std.proofs.Common.{◌≡◌, ℕ, List, Option, Some, None, Result, take, ap, ◌∙◌, refl, sym}
 use Rattle.std.proofs.Common.{arith}
 use Rattle.vault_text.specs.declared.sink.Stage.TheVariants as stage
-use Rattle.vault_files.specs.Output.{FileOutputState, OutputState, stage_of}
+use Rattle.vault_files.specs.Output.{FileOutputState, FileTakes, OutputState, stage_of}
 use Rattle.vault_files.specs.Output.OutputState.{Begun, Chosen, Finished}
+use Rattle.vault_files.specs.System.{SystemCall}
 use Rattle.vault_files.specs.declared.access.Access.{Access}
 use Rattle.vault_files.specs.declared.system.System.{Ghosts as SystemTerms}
 use Rattle.vault_fault.specs.declared.fault.Fault.{Fault}
-use Rattle.vault_cli.specs.Call.{FilesCall, SinkCall, SourceCall, system}
+use Rattle.vault_cli.specs.Call.{FilesCall, SinkCall, SourceCall, sink, system}
 use Rattle.vault_cli.specs.Drive.{to_path}
-use Rattle.vault_cli.specs.RunsToPath.{file_sink}
 use Rattle.vault_cli.specs.runs.Run.{RunEnds, OutputEnd, to_sink}
 use Rattle.vault_cli.specs.runs.Run.RunEnds.{Succeeded, HasRefused, OutputFailed, InputFailed}
 use Rattle.vault_cli.specs.declared.runs.status.Status.{Status}
@@ -85,6 +85,15 @@ path-alone files out access None same_files same_out = (same_out, same_files)
 path-alone files out access (Some path) same_files same_out = (same_out, same_files)
 
 -- ---- a run whose output is a file of a system
+
+-- a call over a file of a system
+abbrev file_sink : {D : Type 0} → (D → List SystemCall → D → Type 0) → FileOutputState D
+    → FileOutputState D → SinkCall (FileOutputState D)
+file_sink executes old new = sink (record {
+  takes = FileTakes executes;
+  stage = λ s. stage_of s.output;
+  failures = λ s. s.failures;
+}) old new
 
 stage-finished : (s : OutputState) → stage_of s ≡ stage.Finished → s ≡ Finished
 stage-finished (Chosen path access) is = absurd cc

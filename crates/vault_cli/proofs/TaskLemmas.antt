@@ -19,7 +19,7 @@ use Rattle.vault_core.specs.Rekeying.{rekeying}
 use Rattle.vault_core.specs.Secrets.{Secret}
 use Rattle.vault_request.specs.Request.{Request, SecretFile, files_of}
 use Rattle.vault_cli.specs.runs.Answer.{prepared, task_limit}
-use Rattle.vault_cli.specs.runs.Task.{Task, Encrypt, Decrypt, Rekey, password_in, secrets_of}
+use Rattle.vault_cli.specs.runs.Task.{Task, Encrypt, Decrypt, Rekey, password_or_fault, secrets_of}
 use Rattle.vault_core.proofs.EncryptionLemmas.{encryption-too_long}
 
 -- an input that is too long is refused as such
@@ -72,13 +72,13 @@ module _ (i : ℕ) (files : List SecretFile) (contents : List (List ℕ)) (file 
     (before : with_prefix prefix (secrets_of (drop i files) (drop i contents))
     ≡ secrets_of files contents) where
   -- a password file that is refused refuses all
-  pub secrets_of-refused : (fault : Fault) → password_in bytes ≡ Err fault
+  pub secrets_of-refused : (fault : Fault) → password_or_fault bytes ≡ Err fault
       → Err fault ≡ secrets_of files contents
   unfolding secrets_of
   secrets_of-refused fault refused = rw (at_file, at_bytes, refused) at before
 
   -- a password file that gives a password adds a secret
-  pub secrets_of-added : (password : List ℕ) → password_in bytes ≡ Ok password
+  pub secrets_of-added : (password : List ℕ) → password_or_fault bytes ≡ Ok password
       → with_prefix (prefix ++ record { label = file.label; password = password } ∷ [])
       (secrets_of (drop (i + 1) files) (drop (i + 1) contents)) ≡ secrets_of files contents
   unfolding secrets_of

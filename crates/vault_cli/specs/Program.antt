@@ -10,7 +10,7 @@ use Rattle.vault_core.specs.Ready.{Ready}
 use Rattle.vault_fault.specs.declared.fault.Fault.{Fault}
 use Rattle.vault_fault.specs.declared.fault.Fault.TheVariants.{CannotOpen}
 use Rattle.vault_fault.specs.declared.fault.Role.TheVariants.{Input, Salt}
-use Rattle.vault_cli.specs.runs.FileContents.{contents_of, file_prefix, secret_paths}
+use Rattle.vault_cli.specs.runs.FileContents.{contents_of, file_prefix}
 use Rattle.vault_cli.specs.runs.Answer.{input_limit, input_needed_by, output_of, ready_by}
 use Rattle.vault_request.specs.Request.{Request}
 use Rattle.vault_request.specs.Settled.{requested_by}

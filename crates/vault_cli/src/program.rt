@@ -11,7 +11,6 @@ ghost use Rattle.vault_cli.specs.Access.{output_access};
 ghost use Rattle.vault_cli.specs.Call.{sink, source, system};
 ghost use Rattle.vault_cli.specs.Drive.{Ends, to_path};
 ghost use Rattle.vault_cli.specs.Program.{answer_to, program};
-ghost use Rattle.vault_cli.specs.RunsToPath.{RunsToPath};
 ghost use Rattle.vault_cli.specs.runs.Answer.{input_needed, run_answer};
 ghost use Rattle.vault_cli.specs.runs.Run.{RunEnds, RunsRequest};
 
@@ -104,32 +103,14 @@ fn run_to_output<D: System, S: Source, K: Sink, E: Sink>(
         (input_needed PLAINTEXT_LIMIT request contents salt) (run_answer request contents salt) }
 {
     match request.output() {
-        Some(path) => run_to_path(files, path, request, memory, src, err),
+        Some(path) => {
+            let mut file = FileOutput::new(files, path, output_access(request.command()));
+            let status = run_reserved(request, memory, src, &mut file, err);
+            let _files = file.into_system();
+            status
+        }
         None => run_reserved(request, memory, src, out, err),
     }
-}
-
-/// Runs a request, whose output goes to a path.
-fn run_to_path<D: System, S: Source, E: Sink>(
-    files: &mut D,
-    path: &str,
-    request: &Request,
-    memory: RunMemory,
-    src: &mut S,
-    err: &mut E,
-) -> Status
-    requires text { CIPHERTEXT_LIMIT ≤ vec_capacity memory.text }
-    requires count { vec_len memory.secret_files ≡ length (files_of request.now) }
-    requires err_unbegun { E.stage err.old ≡ Stage.Unbegun }
-    ensures runs { let contents = map (λ file. file.items) memory.secret_files.items in
-        RunsToPath D.System files.old files.new path.now (output_access request.now.command)
-        (λ out. RunsRequest PLAINTEXT_LIMIT request.now contents memory.salt.items
-        (source S.Source src.old src.new) out (sink E.Sink err.old err.new) result) }
-{
-    let mut out = FileOutput::new(files, path, output_access(request.command()));
-    let status = run_reserved(request, memory, src, &mut out, err);
-    let _files = out.into_system();
-    status
 }
 
 /// Runs a request in the memory that is reserved.

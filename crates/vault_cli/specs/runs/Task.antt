@@ -32,13 +32,13 @@ HasValidIndex (Decrypt secrets) = Unit {0}
 HasValidIndex (Rekey secrets new salt) = Unit {0}
 
 -- the password in a file that holds these bytes
-abbrev pub password_in : List ℕ → Result (List ℕ) Fault
-password_in bytes = result_map_both (λ password. password) of_secret (password_of bytes)
+abbrev pub password_or_fault : List ℕ → Result (List ℕ) Fault
+password_or_fault bytes = result_map_both (λ password. password) of_secret (password_of bytes)
 
 -- the secret of a password file that holds these bytes
 abbrev pub secret_of : SecretFile → List ℕ → Result Secret Fault
 secret_of file bytes = do
-  password ← password_in bytes
+  password ← password_or_fault bytes
   Ok (record { label = file.label; password = password })
 
 -- step 9: the secrets of password files, in their order, or the first fault; a file without
