@@ -79,7 +79,11 @@ pub(crate) fn run_in<'r, S: Source, K: Sink, E: Sink>(
 }
 
 /// Writes what is ready, or reports why nothing is, or why it cannot be written.
-fn write_or_report<K: Sink, E: Sink>(ready: Result<Ready<'_>, Fault>, out: &mut K, err: &mut E) -> Status
+fn write_or_report<K: Sink, E: Sink>(
+    ready: Result<Ready<'_>, Fault>,
+    out: &mut K,
+    err: &mut E,
+) -> Status
     requires out_unbegun { K.stage out.old ≡ Stage.Unbegun }
     requires err_unbegun { E.stage err.old ≡ Stage.Unbegun }
     ensures writes { Writes (sink K.Sink out.old out.new) (sink E.Sink err.old err.new) result

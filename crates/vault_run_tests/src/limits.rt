@@ -75,7 +75,13 @@ fn take_the_longest_envelope(rt: HostRuntime) -> Result<(), Fail> {
     let plaintext = plaintext.as_slice();
     let vault = vault_of(alloc, plaintext)?;
     let trial = Trial::new(DECRYPT, ONE, &[]).at_the_limit();
-    assert_leaves(&rt, alloc, &trial, vault.as_slice(), Left::success(plaintext))
+    assert_leaves(
+        &rt,
+        alloc,
+        &trial,
+        vault.as_slice(),
+        Left::success(plaintext),
+    )
 }
 
 /// The same vault under another password, label and salt: more than `encrypt` takes is sealed anew.
