@@ -71,7 +71,8 @@ module _ {R : Type 0} (finds : List ℕ → FileState → Type 0) (opened : List
       → ((path : List ℕ) → opened path reader.old → Answers (finds path) n answer)
       → (path : Option (List ℕ)) → AtPath opened path (Some reader.old)
       → FoundWith finds path
-      (λ file. file_prefix Input n file ≡ result_map_both (λ bytes. bytes) (file_fault Input) answer)
+      (λ file. file_prefix Input n file
+      ≡ result_map_both (λ bytes. bytes) (file_fault Input) answer)
   input-found n answer opens law None at = absurd at
   input-found n answer opens law (Some path) at =
       let a = law path at in (

@@ -118,7 +118,8 @@ module _ {D R W S E : Type 0} (terms : SystemTerms D R W) (file left : FileOutpu
       → (path : List ℕ) (access : Access) (old new : D) → file.system.now ≡ old
       → file.output ≡ Chosen path access → file.failures ≡ 0 → left.system.now ≡ new
       → (output_file : Option (List ℕ)) → output_file ≡ Some path → EndsInFile
-      → RunEnds src (to_path (system terms old new) out output_file access) err result needed answers
+      → RunEnds src (to_path (system terms old new) out output_file access) err result needed
+      answers
   ends-file out alone path access old new is_old chosen fresh is_new output_file is ends =
       rw is (ends-carried src err result needed answers
       (to_sink (file_sink terms.executes file left))

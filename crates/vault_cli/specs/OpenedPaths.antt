@@ -20,7 +20,8 @@ opened_secrets [] files = []
 opened_secrets (path ∷ paths) [] = []
 opened_secrets (path ∷ paths) (file ∷ files) =
     path
-    ∷ unless_refused (file_prefix Secret (PASSWORD_FILE_LIMIT + 1) file) (opened_secrets paths files)
+    ∷ unless_refused (file_prefix Secret (PASSWORD_FILE_LIMIT + 1) file)
+    (opened_secrets paths files)
 
 -- of all files of a request: none where no request was made of the arguments
 abbrev pub opened_paths : Option (Result Request Fault) → Files → List (List ℕ)

@@ -51,7 +51,8 @@ can_open-input (Some file) stdin input is_input = rw is_input refl
 
 ready_by-input : (limit amount : ℕ) (task_or_fault : Result Task Fault) (string : Option (List ℕ))
     (file : Option FileState) (stdin input : List ℕ)
-    → ((task : Task) → task_or_fault ≡ Ok task → task_limit limit task ≡ amount) → IsInput file stdin input
+    → ((task : Task) → task_or_fault ≡ Ok task → task_limit limit task ≡ amount)
+    → IsInput file stdin input
     → ready_by limit task_or_fault string (input_from (amount + 1) file stdin)
     ≡ ready_by limit task_or_fault string (Ok input)
 ready_by-input limit amount task_or_fault string None stdin input takes is_input = rw is_input

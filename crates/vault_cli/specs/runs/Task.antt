@@ -90,7 +90,8 @@ rekey_task request secrets last salt = do
 -- the task of each command, of the secrets without the new one, of what the last password file
 -- holds, and of a salt
 abbrev pub command_task : CommandName → Request → SecretList → List ℕ → List ℕ → Result Task Fault
-command_task command.Encrypt request list last salt = encrypt_task request list.secrets Envelope salt
+command_task command.Encrypt request list last salt =
+    encrypt_task request list.secrets Envelope salt
 command_task command.EncryptString request list last salt =
     encrypt_task request list.secrets (Block request.name) salt
 command_task command.Decrypt request list last salt = Ok (Decrypt list)
