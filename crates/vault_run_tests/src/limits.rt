@@ -195,19 +195,31 @@ fn damaged(length: usize) -> Long<'static> {
     }
 }
 
-/// Damage is reported up to the limit, and a byte more in its place, at any step of the source.
+/// The same at three steps.
+fn assert_refused_at_each_step(
+    rt: &impl Abort,
+    alloc: Global,
+    long: &Long<'_>,
+) -> Result<(), Fail> {
+    for step in [1, 7, 4_096] {
+        assert_refused_in_steps(rt, alloc, long, step)?;
+    }
+    Ok(())
+}
+
 #[test]
-fn are_refused_at_each_step(rt: HostRuntime) -> Result<(), Fail> {
-    let alloc = rt.alloc();
+fn tell_the_damage_up_to_the_limit(rt: HostRuntime) -> Result<(), Fail> {
+    assert_refused_at_each_step(&rt, rt.alloc(), &damaged(100_671_488))
+}
+
+/// The length comes before the damage.
+#[test]
+fn tell_the_length_past_the_limit(rt: HostRuntime) -> Result<(), Fail> {
     let too_long = Long {
         length: 100_671_489,
         ..ENDLESS_DAMAGED
     };
-    for step in [1, 7, 4_096] {
-        assert_refused_in_steps(&rt, alloc, &too_long, step)?;
-        assert_refused_in_steps(&rt, alloc, &damaged(100_671_488), step)?;
-    }
-    Ok(())
+    assert_refused_at_each_step(&rt, rt.alloc(), &too_long)
 }
 
 /// At the limit itself the input is read, and what it holds is reported.
