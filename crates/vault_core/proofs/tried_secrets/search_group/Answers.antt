@@ -5,7 +5,8 @@ use Rattle.vault_core.specs.TriedSecrets.{matches, tries}
 use Rattle.vault_core.proofs.TriedSecretsLemmas.{found-if, tried_group, tried_group-drop}
 use Rattle.vault_core.proofs.TriedSecretsLemmas.{tries-cons_no, tries-cons_yes, tries-nil}
 use Rattle.vault_core.proofs.tried_secrets.search_group.Goals as goal
-use Rattle.vault_core.proofs.tried_secrets.search_group.Goals.{then-is_member+else-is_some, else-is_member}
+use Rattle.vault_core.proofs.tried_secrets.search_group.Goals.{else-is_member}
+use Rattle.vault_core.proofs.tried_secrets.search_group.Goals.{then-is_member+else-is_some}
 
 pub returns-then-is_some-clause-tried : goal.returns-then-is_some-clause-tried
 returns-then-is_some-clause-tried c =
@@ -13,8 +14,8 @@ returns-then-is_some-clause-tried c =
     let secret = c.secret-item.result in
     let is_member = rw c.label.ensures at c.is_member.ensures in
     let next = rw (rw is_member at c.if-is_member.true) at
-    (tried_group-drop c.args.group payload.label c.args.secrets.now c.loop-secret.secret-index secret
-    c.loop-secret-test.true c.secret-item.is) in
+    (tried_group-drop c.args.group payload.label c.args.secrets.now c.loop-secret.secret-index
+    secret c.loop-secret-test.true c.secret-item.is) in
     let holds : matches payload secret ≡ true =
     sym (found-if _ _ _ c.keys_if_match-keys.ensures.keys) ∙ sym c.is_some.ensures
     ∙ c.if-is_some.true in
