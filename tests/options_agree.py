@@ -115,7 +115,7 @@ def helps_in(texts: str, entry: Entry) -> set[str]:
 # The end of a command line, by the value's name of an option, and the files that are offered.
 VALUES = {
     "PATH": ("one", {"one.pass"}),
-    "[LABEL@]PATH": ("one", {"one.pass"}),
+    "[LABEL@]SOURCE": ("one", {"one.pass"}),
     "LABEL": ("one", set()),
     "TEXT": ("one", set()),
     "NAME": ("one", set()),

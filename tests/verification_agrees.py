@@ -28,6 +28,11 @@ PRINTED = [
 BLOCK = re.compile(r"(^```rust\n)(.*?)(^```$)", re.MULTILINE | re.DOTALL)
 # A call or a definition, and where it stands below crates/.
 PLACE = re.compile(r"`([\w:]+)` at `([\w/]+\.(?:rt|antt)):(\d+)`")
+# What is to be read of code: contracts up to the body, or to the empty line after a method of a trait, ghost lines and
+# constants.
+CONTRACTS = re.compile(
+    r"^ *(?:pub(?:\(\w+\))? )?(?:fn .*?(?=^ *\{|;\n\n)|ghost (?!use).*?;\n|const .*?;\n)", re.MULTILINE | re.DOTALL
+)
 # A row of a table of claims: the calls with their clauses and the definitions, and the tests.
 CLAIM = re.compile(r"^\| [^|]* \| ([^|]*) ?\| ([^|]*) ?\|$", re.MULTILINE)
 CONTRACT = re.compile(r"^`([\w:]+)`(?:: ((?:`\w+`(?:, )?)+))?$")
@@ -38,6 +43,13 @@ CODE = re.compile(r"`([^`]+)`")
 
 def length(file: Path) -> int:
     return len(file.read_text().splitlines())
+
+
+def to_read(file: Path) -> int:
+    """How many lines are to be read: of code the contracts, of definitions everything."""
+    if file.suffix == ".antt":
+        return length(file)
+    return sum(len(part.splitlines()) for part in CONTRACTS.findall(file.read_text()))
 
 
 def listed(files: list[Path]) -> str:
@@ -97,7 +109,7 @@ def written(page: str) -> str:
     left = iter(blocks)
     page = BLOCK.sub(lambda found: f"{found[1]}{next(left)}{found[3]}", page)
     page = re.sub(r"\d+(?= lines of code)", str(trusted), page)
-    page = re.sub(r"\d+(?= lines to read)", str(sum(map(length, theorem))), page)
+    page = re.sub(r"\d+(?= lines to read)", str(sum(map(to_read, theorem))), page)
     return PLACE.sub(place, page)
 
 

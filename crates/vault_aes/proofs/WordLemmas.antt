@@ -1,6 +1,6 @@
 -- The bytes of numbers.
-use Rattle.std.proofs.Common.{◌≡◌, ℕ, ◌+◌, ◌/◌, ◌%◌, ◌^◌, List, [], ◌∷◌, ◌++◌, refl, ap, ◌∙◌}
-use Rattle.std.proofs.Common.{arith, bit_xor, slice_index, pow_pos, shr-shr}
+use Rattle.std.proofs.Common.{◌≡◌, ℕ, ◌+◌, ◌*◌, ◌/◌, ◌%◌, ◌^◌, ◌<◌, List, [], ◌∷◌, ◌++◌, refl, ap}
+use Rattle.std.proofs.Common.{arith, bit_xor, slice_index, sym, pow_pos, shr-shr, ◌∙◌}
 use Rattle.std.proofs.lemmas.Nat.{field_of, mod-pow-add, mod_below, mod_low, xor_mod, xor_shr}
 use Rattle.std.specs.Int.{w32, w64, w128, to_be_bytes}
 
@@ -33,7 +33,7 @@ low_byte n j k all =
     ∙ rw (field_of n (j + 8) k, mod-pow-add (n / 2 ^ k) j 8)
     (mod_low _ 8 _ (mod_below (n / 2 ^ k) (2 ^ 8) (pow_pos 8)))
 
-pub to_be_bytes-halves : (n : ℕ)
+to_be_bytes-halves : (n : ℕ)
     → to_be_bytes w64 (n / 2 ^ 64) ++ to_be_bytes w64 (n % 2 ^ 64) ≡ to_be_bytes w128 n
 to_be_bytes-halves n =
     let last : n % 2 ^ 64 % 2 ^ 8 ≡ n % 2 ^ 8 = omega arith in
@@ -42,3 +42,12 @@ to_be_bytes-halves n =
     ∷ low_byte n 0 56 refl i ∷ low_byte n 8 48 refl i ∷ low_byte n 16 40 refl i
     ∷ low_byte n 24 32 refl i ∷ low_byte n 32 24 refl i ∷ low_byte n 40 16 refl i
     ∷ low_byte n 48 8 refl i ∷ last i ∷ [])
+
+-- the same, of two words
+pub to_be_bytes-words : (high low : ℕ) → low < 2 ^ 64
+    → to_be_bytes w64 high ++ to_be_bytes w64 low ≡ to_be_bytes w128 (high * 2 ^ 64 + low)
+to_be_bytes-words high low small =
+    let n : ℕ = high * 2 ^ 64 + low in
+    let is_high : n / 2 ^ 64 ≡ high = omega arith in
+    let is_low : n % 2 ^ 64 ≡ low = omega arith in
+    (λ i. to_be_bytes w64 (sym is_high i) ++ to_be_bytes w64 (sym is_low i)) ∙ to_be_bytes-halves n

@@ -1,5 +1,5 @@
 //! Counter mode (SP 800-38A, 6.5).
-ghost use Rattle.std.specs.Prelude.{◌≡◌, ◌≤◌, length, slice_index};
+ghost use Rattle.std.specs.Prelude.{◌≡◌, ◌+◌, ◌*◌, ◌%◌, ◌^◌, ◌≤◌, length, slice_index};
 ghost use Rattle.std.specs.Int.{w128, to_be_bytes};
 ghost use Rattle.vault_aes.specs.CounterMode.{counter_mode, xor_keystream};
 
@@ -11,28 +11,42 @@ use crate::rounds::BLOCK_LEN;
 pub fn ctr_apply(key: &Key, iv: &[u8; BLOCK_LEN], bytes: &mut [u8])
     ensures { bytes.new ≡ counter_mode key.now iv.now bytes.old }
 {
-    let mut counter = u128::from_be_bytes(*iv);
+    let initial = u128::from_be_bytes(*iv);
+    let mut high = (initial >> 64) as u64;
+    let mut low = (initial % (1 << 64)) as u64;
     let whole_blocks = bytes.len() / BLOCK_LEN;
     for j in 0..whole_blocks {
-        let keystream = key.block(&counter_block(counter));
+        let keystream = key.block(&counter_block(high, low));
         xor_keystream(&mut bytes[BLOCK_LEN * j..BLOCK_LEN * (j + 1)], &keystream);
-        counter = counter.wrapping_add(1);
+        (high, low) = next_counter(high, low);
     }
     if bytes.len() % BLOCK_LEN != 0 {
-        let keystream = key.block(&counter_block(counter));
+        let keystream = key.block(&counter_block(high, low));
         xor_keystream(&mut bytes[BLOCK_LEN * whole_blocks..], &keystream);
     }
 }
 
-/// The counter's big-endian bytes. Each half is stored whole; the 16 bytes of
-/// `counter.to_be_bytes()` would be stored one by one.
+/// The counter that follows; it wraps at 2^128.
 #[inline(always)]
-fn counter_block(counter: u128) -> [u8; BLOCK_LEN]
-    ensures { result ≡ to_be_bytes w128 counter }
+fn next_counter(high: u64, low: u64) -> (u64, u64)
+    ensures { result.0 * 2 ^ 64 + result.1 ≡ (high * 2 ^ 64 + low + 1) % 2 ^ 128 }
+{
+    if low == u64::MAX {
+        (high.wrapping_add(1), 0)
+    } else {
+        (high, low + 1)
+    }
+}
+
+/// The counter's big-endian bytes. It comes in two words, each of which is stored whole; the bytes
+/// of one word of 128 bits would be picked one by one.
+#[inline(always)]
+fn counter_block(high: u64, low: u64) -> [u8; BLOCK_LEN]
+    ensures { result ≡ to_be_bytes w128 (high * 2 ^ 64 + low) }
 {
     let mut block = [0; BLOCK_LEN];
-    block[..8].copy_from_slice(&((counter >> 64) as u64).to_be_bytes());
-    block[8..].copy_from_slice(&((counter % (1 << 64)) as u64).to_be_bytes());
+    block[..8].copy_from_slice(&high.to_be_bytes());
+    block[8..].copy_from_slice(&low.to_be_bytes());
     block
 }
 

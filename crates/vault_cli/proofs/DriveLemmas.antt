@@ -21,22 +21,21 @@ use Rattle.vault_cli.specs.Drive.{Ends, to_path}
 use Rattle.vault_cli.specs.Drive.Ends.{Ran, Stopped}
 use Rattle.vault_cli.specs.Explained.Explains.{MemoryLacked}
 use Rattle.vault_cli.specs.Loaded.{ContentsFound, RefusedBy, SaltFound}
-use Rattle.vault_cli.specs.Program.{Files, answer_to, can_open_input, input_in, output_path}
+use Rattle.vault_cli.specs.Program.{Files, answer_to, can_open_input, input_from, output_path}
 use Rattle.vault_cli.specs.Program.{unless_file}
 use Rattle.vault_cli.specs.runs.Answer.{input_limit, input_needed, input_needed_by, output_of}
-use Rattle.vault_cli.specs.runs.Answer.{performed, ready_by, run_answer, run_answer_within}
-use Rattle.vault_cli.specs.runs.FileContents.{AtPath, fault_in, prefix_in, request_paths}
+use Rattle.vault_cli.specs.runs.Answer.{prepared, ready_by, run_answer, run_answer_within}
+use Rattle.vault_cli.specs.runs.FileContents.{AtPath, file_fault, file_prefix, request_paths}
 use Rattle.vault_cli.specs.runs.FileContents.{secret_paths}
 use Rattle.vault_cli.specs.runs.Reports.{Reports, line_of}
-use Rattle.vault_cli.specs.runs.Run as run
-use Rattle.vault_cli.specs.runs.Run.{Output}
-use Rattle.vault_cli.specs.runs.Run.Ends.{Succeeded, HasRefused, OutputFailed, InputFailed}
+use Rattle.vault_cli.specs.runs.Run.{InputFails, OutputEnd, Reads, RunEnds}
+use Rattle.vault_cli.specs.runs.Run.RunEnds.{Succeeded, HasRefused, OutputFailed, InputFailed}
 use Rattle.vault_cli.specs.runs.Status.{status_of}
-use Rattle.vault_cli.specs.runs.Task.{Task, planned}
+use Rattle.vault_cli.specs.runs.Task.{Task, task_of}
 use Rattle.vault_cli.specs.declared.runs.status.Status.{Status}
 use Rattle.vault_cli.specs.declared.runs.status.Status.TheVariants.{DeviceFailed, OutOfMemory}
 use Rattle.vault_cli.specs.declared.runs.status.Status.TheVariants.{ParseFault, Refused, Success}
-use Rattle.vault_cli.proofs.EndingLemmas.{path-alone}
+use Rattle.vault_cli.proofs.RunOutputLemmas.{path-alone}
 use Rattle.vault_cli.proofs.OpenedPathsLemmas.{opened_paths-found}
 use Rattle.vault_cli.proofs.ProgramLemmas.{opening, task-found}
 
@@ -72,14 +71,15 @@ module _ {R : Type 0} (finds : List ℕ → FileState → Type 0) (opened : List
       → ((path : List ℕ) → opened path reader.old → Answers (finds path) n answer)
       → (path : Option (List ℕ)) → AtPath opened path (Some reader.old)
       → FoundWith finds path
-      (λ file. prefix_in Input n file ≡ result_map_both (λ bytes. bytes) (fault_in Input) answer)
+      (λ file. file_prefix Input n file
+      ≡ result_map_both (λ bytes. bytes) (file_fault Input) answer)
   input-found n answer opens law None at = absurd at
   input-found n answer opens law (Some path) at =
       let a = law path at in (
         a.file,
         a.found,
         opening a.file n (λ missing. opens (sym a.same ∙ missing)),
-        ap (result_map_both (λ bytes. bytes) (fault_in Input)) a.same,
+        ap (result_map_both (λ bytes. bytes) (file_fault Input)) a.same,
       )
 
 unopened : {R : Type 0} (finds : List ℕ → FileState → Type 0) (opened : List ℕ → R → Type 0)
@@ -110,27 +110,27 @@ module _ {D R W S K E : Type 0} (files : FilesCall D R W) (src : SourceCall S) (
       (read : ContentsFound (files.finds files.old) (secret_paths request) (Ok contents))
       (salted : SaltFound (files.finds files.old) request.salt_path (Ok salt))
       (opened : D) (went : Opens files.executes files.old (request_paths request) opened) where
-    abbrev SentTo : Output
+    abbrev SentTo : OutputEnd
     SentTo =
         to_path (files_from opened files) out request.output (output_access request.command)
 
     abbrev SentFrom : {T : Type 0} → SourceCall T → Type 0
     SentFrom from =
-        run.Ends from SentTo err result (input_needed PLAINTEXT_LIMIT request contents salt)
+        RunEnds from SentTo err result (input_needed PLAINTEXT_LIMIT request contents salt)
         (run_answer request contents salt)
 
     -- over this STRING, this input file and this task
     abbrev EndsWith : Option (List ℕ) → Option FileState → Result Task Fault → Type 0
-    EndsWith string input task = run.Ends src SentTo err result
+    EndsWith string input task = RunEnds src SentTo err result
         (unless_file input
         (input_needed_by task string (input_limit PLAINTEXT_LIMIT request.command)))
         (λ stdin. output_of (ready_by PLAINTEXT_LIMIT task string
-        (input_in (input_limit PLAINTEXT_LIMIT request.command + 1) input stdin)))
+        (input_from (input_limit PLAINTEXT_LIMIT request.command + 1) input stdin)))
 
     -- with an input file that may be found there and can be opened, or none
     drives-with : (input : Option FileState) → AtPath (files.finds files.old) request.input input
         → can_open_input input ≡ Ok tt
-        → EndsWith request.string input (planned request contents salt)
+        → EndsWith request.string input (task_of request contents salt)
         → RequestDrives (Some (Ok request))
     drives-with input input_found opens ends =
         let (secrets, secrets_found, gave) = read in
@@ -159,10 +159,10 @@ module _ {D R W S K E : Type 0} (files : FilesCall D R W) (src : SourceCall S) (
         (break_law : BreakLaw (files.finds files.old) reads reader) where
       -- it was read so far, or it failed
       kept-ends : (needed : Option ℕ) (answers : List ℕ → Result (List ℕ) Fault)
-          → run.Ends reader SentTo err result needed answers
-          → run.InputFails reader SentTo err result needed answers
-          ⊎ ((input : List ℕ) × run.Reads reader needed input
-          × run.Ends src SentTo err result None (λ stdin. answers input))
+          → RunEnds reader SentTo err result needed answers
+          → InputFails reader SentTo err result needed answers
+          ⊎ ((input : List ℕ) × Reads reader needed input
+          × RunEnds src SentTo err result None (λ stdin. answers input))
       kept-ends needed answers (Succeeded s) = inr (
         s.input,
         s.reads,
@@ -208,9 +208,9 @@ module _ {D R W S K E : Type 0} (files : FilesCall D R W) (src : SourceCall S) (
 
       -- where it was not asked for, it was opened
       unread-ends : (answer : Result (List ℕ) Fault)
-          → run.Ends reader SentTo err result None (λ input. answer)
+          → RunEnds reader SentTo err result None (λ input. answer)
           → FoundWith (files.finds files.old) request.input
-          (λ _. run.Ends src SentTo err result None (λ stdin. answer))
+          (λ _. RunEnds src SentTo err result None (λ stdin. answer))
       unread-ends answer ends =
           let (file, seen, opens, same) = input-found (files.finds files.old) reads reader 0 (Ok [])
           (λ missing. cc)
@@ -222,18 +222,18 @@ module _ {D R W S K E : Type 0} (files : FilesCall D R W) (src : SourceCall S) (
           ]
 
       -- the answer to what the file gives
-      file-ends : (plans : Result Task Fault) (string : Option (List ℕ))
-          → run.Ends reader SentTo err result
-          (input_needed_by plans string (input_limit PLAINTEXT_LIMIT request.command))
-          (λ input. output_of (ready_by PLAINTEXT_LIMIT plans string (Ok input)))
+      file-ends : (task_or_fault : Result Task Fault) (string : Option (List ℕ))
+          → RunEnds reader SentTo err result
+          (input_needed_by task_or_fault string (input_limit PLAINTEXT_LIMIT request.command))
+          (λ input. output_of (ready_by PLAINTEXT_LIMIT task_or_fault string (Ok input)))
           → FoundWith (files.finds files.old) request.input
-          (λ file. EndsWith string (Some file) plans)
+          (λ file. EndsWith string (Some file) task_or_fault)
       file-ends (Err fault) string ends = unread-ends (Err fault) ends
       file-ends (Ok task) (Some string) ends =
-          unread-ends (output_of (performed PLAINTEXT_LIMIT task string)) ends
+          unread-ends (output_of (prepared PLAINTEXT_LIMIT task string)) ends
       file-ends (Ok task) None ends =
           let limit = input_limit PLAINTEXT_LIMIT request.command in
-          elim (kept-ends (Some limit) (λ input. output_of (performed PLAINTEXT_LIMIT task input))
+          elim (kept-ends (Some limit) (λ input. output_of (prepared PLAINTEXT_LIMIT task input))
           ends) [
             | inl f ↦
                 let is : limit ≡ f.limit = (cc f.is_needed) in
@@ -266,7 +266,7 @@ module _ {D R W S K E : Type 0} (files : FilesCall D R W) (src : SourceCall S) (
       pub drives-file : SentFrom reader → RequestDrives (Some (Ok request))
       unfolding run_answer_within
       drives-file sent =
-          let (file, seen, opens, ends) = file-ends (planned request contents salt) request.string
+          let (file, seen, opens, ends) = file-ends (task_of request contents salt) request.string
           sent in
           drives-with (Some file) seen opens ends
 
@@ -278,7 +278,7 @@ module _ {D R W S K E : Type 0} (files : FilesCall D R W) (src : SourceCall S) (
         → files.new ≡ opened → result ≢ OutOfMemory
         → (needed : Option ℕ) (answers : List ℕ → Result (List ℕ) Fault) → needed ≡ None
         → answers [] ≡ Err fault
-        → run.Ends src (to_path (files_from opened files) out (output_path requested)
+        → RunEnds src (to_path (files_from opened files) out (output_path requested)
         (access_of requested)) err result needed answers
     reported-alone requested opened same_files suffices needed answers none is =
         HasRefused (record {

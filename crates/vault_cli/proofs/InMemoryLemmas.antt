@@ -34,14 +34,13 @@ use Rattle.vault_cli.specs.Drive.{Ends, to_path}
 use Rattle.vault_cli.specs.Drive.Ends.{Ran, Stopped}
 use Rattle.vault_cli.specs.Explained.Explains.{MemoryLacked, HelpShown, HelpFailed, Rejected}
 use Rattle.vault_cli.specs.OpenedPaths.{opened_paths}
-use Rattle.vault_cli.specs.Program.{Files, answer_to, files_in, output_path, stdin_needed}
+use Rattle.vault_cli.specs.Program.{Files, answer_to, output_path, stdin_needed}
 use Rattle.vault_cli.specs.InMemory as in_memory
 use Rattle.vault_cli.specs.InMemory.{Change, EndsInMemory, Holds, HoldsPrefix, IsCut, IsKept}
-use Rattle.vault_cli.specs.InMemory.{IsSynced, Received, Stands, Taken, stands_after}
+use Rattle.vault_cli.specs.InMemory.{IsSynced, Received, Stands, Taken, files_at, stands_after}
 use Rattle.vault_cli.specs.runs.Reports.{Reports}
-use Rattle.vault_cli.specs.runs.Run as run
-use Rattle.vault_cli.specs.runs.Run.{Output, Reads}
-use Rattle.vault_cli.specs.runs.Run.Ends.{Succeeded, HasRefused, OutputFailed, InputFailed}
+use Rattle.vault_cli.specs.runs.Run.{OutputEnd, Reads, RunEnds}
+use Rattle.vault_cli.specs.runs.Run.RunEnds.{Succeeded, HasRefused, OutputFailed, InputFailed}
 use Rattle.vault_cli.specs.declared.runs.status.Status.{Status}
 use Rattle.vault_cli.specs.declared.runs.status.Status.TheVariants.{OutOfMemory}
 use Rattle.vault_cli.proofs.ProgramLemmas.{IsOfPrefix, answer-prefix, at-paths}
@@ -227,7 +226,7 @@ module _ (W : Type 0) (result : Status) (files : Change StoreState) (log : Optio
   abbrev opened : StoreState
   opened = record files.old { log = log }
 
-  abbrev OutputAt : Option (List ℕ) → Output
+  abbrev OutputAt : Option (List ℕ) → OutputEnd
   OutputAt path =
       to_path (system (memory_terms {W = W}) opened files.new) (memory_sink out) path access
 
@@ -311,7 +310,7 @@ module _ (W : Type 0) (result : Status) (files : Change StoreState) (log : Optio
     -- a run ends so
     pub ends-run : (needed : Option ℕ) (answers : List ℕ → Result (List ℕ) Fault)
         → IsOfPrefix needed answers
-        → run.Ends (memory_source src) (OutputAt path) (memory_sink err) result needed answers
+        → RunEnds (memory_source src) (OutputAt path) (memory_sink err) result needed answers
         → EndsInMemory result files out err path (answers src.old.left) × Taken needed src
         × (files.new.log ≡ log)
     ends-run needed answers same (Succeeded s) =
@@ -365,7 +364,7 @@ module _ (W : Type 0) (result : Status) (files : Change StoreState)
     (none : files.old.created ≡ None) (not_ended : src.old.ended ≡ false)
     (requested : Option (Result Request Fault)) where
   abbrev found : Files
-  found = files_in (file_at files.old.entries) requested
+  found = files_at (file_at files.old.entries) requested
 
   -- it ends as the answer to all of its input; where it did not run out of memory, what it needed
   -- of that was taken, and these paths were opened

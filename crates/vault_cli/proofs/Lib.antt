@@ -1,13 +1,13 @@
 pub mod theorems
 pub mod DriveLemmas
 pub mod InMemoryLemmas
-pub mod EndingLemmas
+pub mod RunOutputLemmas
 pub mod FileContentsLemmas
 pub mod LoadedLemmas
 pub mod OpenedPathsLemmas
 pub mod AnswerLemmas
-pub mod PerformedLemmas
-pub mod PlannedLemmas
+pub mod RunLemmas
+pub mod TaskSoundLemmas
 pub mod ProgramLemmas
 pub mod EscapedLemmas
 pub mod StatusLemmas

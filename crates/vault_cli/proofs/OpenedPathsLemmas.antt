@@ -5,9 +5,9 @@ use Rattle.vault_files.specs.File.{FileState, Found}
 use Rattle.vault_fault.specs.declared.fault.Role.TheVariants.{Secret}
 use Rattle.vault_core.specs.declared.limits.TheConstants.{PASSWORD_FILE_LIMIT}
 use Rattle.vault_request.specs.Request.{Request}
-use Rattle.vault_cli.specs.runs.FileContents.{contents_of, prefix_in, secret_paths}
+use Rattle.vault_cli.specs.runs.FileContents.{contents_of, file_prefix, secret_paths}
 use Rattle.vault_cli.specs.OpenedPaths.{unless_refused, opened_paths, opened_secrets}
-use Rattle.vault_cli.specs.Program.{Files, salt_in}
+use Rattle.vault_cli.specs.Program.{Files, file_salt}
 use Rattle.vault_cli.proofs.AnswerLemmas.{steps-ok}
 
 -- all password files gave their bytes
@@ -19,7 +19,7 @@ opened-secrets finds [] files contents found e = refl
 opened-secrets finds (path ∷ paths) [] contents found e = absurd found
 opened-secrets finds (path ∷ paths) (file ∷ files) contents found e =
     let (bytes, read, left) =
-    steps-ok (prefix_in Secret (PASSWORD_FILE_LIMIT + 1) file) _ contents e in
+    steps-ok (file_prefix Secret (PASSWORD_FILE_LIMIT + 1) file) _ contents e in
     let (others, rest, all) = steps-ok (contents_of files) _ contents left in
     rw (read, opened-secrets finds paths files others found.1 rest)
 
@@ -29,7 +29,7 @@ pub opened_paths-found : (finds : List ℕ → FileState → Type 0) (request : 
     → contents_of files.secrets ≡ Ok contents
     → opened_paths (Some (Ok request)) files
     ≡ (secret_paths request ++ option_to_list request.salt_path)
-    ++ unless_refused (salt_in files.salt) (option_to_list request.input)
+    ++ unless_refused (file_salt files.salt) (option_to_list request.input)
 opened_paths-found finds request files contents found read =
     rw (
       opened-secrets finds (secret_paths request) files.secrets contents found read,

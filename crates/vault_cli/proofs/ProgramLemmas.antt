@@ -10,16 +10,17 @@ use Rattle.vault_fault.specs.declared.fault.Fault.{Fault}
 use Rattle.vault_core.specs.Input.{IsReadToEndOrPastLimit}
 use Rattle.vault_request.specs.Request.{Request}
 use Rattle.vault_cli.specs.runs.FileContents.{AtPath, contents_of, secret_paths}
-use Rattle.vault_cli.specs.Program.{Files, can_open_input, salt_in, task_over}
-use Rattle.vault_cli.specs.Program.{answer_to, files_in, stdin_needed}
-use Rattle.vault_cli.specs.runs.Task.{planned, Task}
+use Rattle.vault_cli.specs.Program.{Files, can_open_input, file_salt, task_over}
+use Rattle.vault_cli.specs.InMemory.{files_at}
+use Rattle.vault_cli.specs.Program.{answer_to, stdin_needed}
+use Rattle.vault_cli.specs.runs.Task.{task_of, Task}
 use Rattle.vault_cli.specs.Drive.{AllFound}
 use Rattle.vault_cli.specs.OpenedPaths.{opened_paths}
 use Rattle.vault_cli.specs.runs.Answer.{input_limit, input_needed_by, output_of, ready_by}
 use Rattle.vault_cli.specs.runs.Answer.{task_limit}
 use Rattle.vault_cli.proofs.AnswerLemmas.{steps-ok}
-use Rattle.vault_cli.proofs.PlannedLemmas.{keeps-planned}
-use Rattle.vault_cli.proofs.TaskLemmas.{performed-prefix}
+use Rattle.vault_cli.proofs.TaskSoundLemmas.{keeps-task_of}
+use Rattle.vault_cli.proofs.TaskLemmas.{prepared-prefix}
 
 -- ---- the task of a request over files
 
@@ -32,8 +33,8 @@ opening (Broken bytes) n opened = refl
 
 -- what steps 9 to 11 prepare, where the files can be read
 pub task-found : (request : Request) (files : Files) (contents : List (List ℕ)) (salt : List ℕ)
-    → contents_of files.secrets ≡ Ok contents → salt_in files.salt ≡ Ok salt
-    → can_open_input files.input ≡ Ok tt → task_over request files ≡ planned request contents salt
+    → contents_of files.secrets ≡ Ok contents → file_salt files.salt ≡ Ok salt
+    → can_open_input files.input ≡ Ok tt → task_over request files ≡ task_of request contents salt
 unfolding task_over
 task-found request files contents salt read salted opened = rw (read, salted, opened)
 
@@ -46,9 +47,9 @@ limit-over : (limit : ℕ) (request : Request) (files : Files) (task : Task)
 unfolding task_over
 limit-over limit request files task e =
     let (contents, read, left) = steps-ok (contents_of files.secrets) _ task e in
-    let (salt, salted, last) = steps-ok (salt_in files.salt) _ task left in
+    let (salt, salted, last) = steps-ok (file_salt files.salt) _ task left in
     let (opened, opens, found) = steps-ok (can_open_input files.input) _ task last in
-    (rw found at (keeps-planned request salt contents)).0 limit
+    (rw found at (keeps-task_of request salt contents)).0 limit
 
 -- where no input is asked for, the answer is the same for each; where some is, it depends on no
 -- byte after the first past the limit
@@ -58,15 +59,15 @@ IsOfPrefix (Some limit) answers =
     (ended : Bool) (text prefix left : List ℕ) → text ≡ prefix ++ left → (IsTrue ended → left ≡ [])
     → IsReadToEndOrPastLimit limit ended prefix → answers prefix ≡ answers text
 
-task-prefix : (limit amount : ℕ) (plans : Result Task Fault) (string : Option (List ℕ))
-    → ((task : Task) → plans ≡ Ok task → task_limit limit task ≡ amount)
-    → IsOfPrefix (input_needed_by plans string amount)
-    (λ input. output_of (ready_by limit plans string (Ok input)))
+task-prefix : (limit amount : ℕ) (task_or_fault : Result Task Fault) (string : Option (List ℕ))
+    → ((task : Task) → task_or_fault ≡ Ok task → task_limit limit task ≡ amount)
+    → IsOfPrefix (input_needed_by task_or_fault string amount)
+    (λ input. output_of (ready_by limit task_or_fault string (Ok input)))
 task-prefix limit amount (Err fault) string has = λ input. refl
 task-prefix limit amount (Ok task) (Some string) has = λ input. refl
 task-prefix limit amount (Ok task) None has = λ ended text prefix left parts last whole.
     ap output_of
-    (performed-prefix limit task ended text prefix left parts last (rw (has task refl) whole))
+    (prepared-prefix limit task ended text prefix left parts last (rw (has task refl) whole))
 
 file-prefix : (request : Request) (secrets : List FileState) (salt input : Option FileState)
     → IsOfPrefix
@@ -106,12 +107,12 @@ pub at-paths : (at : List ℕ → FileState) (requested : Option (Result Request
     (found : Files) → AllFound (λ path file. file ≡ at path) requested found
     → (P : List (List ℕ) → Option ℕ → (List ℕ → Result (List ℕ) Fault) → Type 0)
     → P (opened_paths requested found) (stdin_needed requested found) (answer_to requested found)
-    → P (opened_paths requested (files_in at requested))
-    (stdin_needed requested (files_in at requested)) (answer_to requested (files_in at requested))
+    → P (opened_paths requested (files_at at requested))
+    (stdin_needed requested (files_at at requested)) (answer_to requested (files_at at requested))
 at-paths at None found seen P p = p
 at-paths at (Some (Err fault)) found seen P p = p
 at-paths at (Some (Ok request)) found seen P p =
-    let same : found ≡ files_in at (Some (Ok request)) =
+    let same : found ≡ files_at at (Some (Ok request)) =
     rw (
       ← all-in at (secret_paths request) found.secrets seen.0,
       ← one-in at request.salt_path found.salt seen.1,

@@ -17,7 +17,7 @@ use Rattle.vault_core.specs.Form.{is_block}
 use Rattle.vault_core.specs.Unsealing.{unsealing, plaintext_of}
 use Rattle.vault_core.specs.Rekeying.{rekeying, rekeying_of_payload}
 use Rattle.vault_core.specs.Secrets.{SecretList, tried_order}
-use Rattle.vault_cli.specs.runs.Answer.{performed}
+use Rattle.vault_cli.specs.runs.Answer.{prepared}
 use Rattle.vault_cli.specs.runs.Status.{status_of}
 use Rattle.vault_cli.specs.runs.Task.{Task, Encrypt, Decrypt, Rekey}
 use Rattle.vault_cli.specs.declared.runs.status.Status.TheVariants.{Refused}
@@ -65,17 +65,17 @@ reads limit input =
     named _ of_text (read_within limit input) (λ payload read. tt) (λ fault. grind arith)
 
 -- steps 13 and 14
-pub alone-performed : (limit : ℕ) (task : Task) (input : List ℕ)
-    → IsRefusedAlone (performed limit task input)
+pub alone-prepared : (limit : ℕ) (task : Task) (input : List ℕ)
+    → IsRefusedAlone (prepared limit task input)
 unfolding encryption decryption rekeying rekeying_of_payload
-alone-performed limit (Encrypt secrets index form salt) input =
+alone-prepared limit (Encrypt secrets index form salt) input =
     unless _ (nat_lt limit (length input)) TooLong _ refl
     (unless _ (is_block form && length input == 0) EmptyString _ refl
     (unless _ (is_vault input) AlreadyVault _ refl tt))
-alone-performed limit (Decrypt secrets) input =
+alone-prepared limit (Decrypt secrets) input =
     next (λ _. Unit {0}) _ (payload_of limit input) _ (reads limit input)
     (λ payload _. unseals secrets payload)
-alone-performed limit (Rekey secrets new salt) input =
+alone-prepared limit (Rekey secrets new salt) input =
     next (λ _. Unit {0}) _ (payload_of limit input) _ (reads limit input)
     (λ payload _. next (λ _. Unit {0}) _ (unsealing secrets payload) _ (unseals secrets payload)
     (λ unsealed _. unless _ (is_vault unsealed.output) AlreadyVault _ refl tt))

@@ -18,33 +18,33 @@ use Rattle.vault_core.specs.Input.{IsReadToEndOrPastLimit}
 use Rattle.vault_core.specs.Rekeying.{rekeying}
 use Rattle.vault_core.specs.Secrets.{Secret}
 use Rattle.vault_request.specs.Request.{Request, SecretFile, files_of}
-use Rattle.vault_cli.specs.runs.Answer.{performed, task_limit}
-use Rattle.vault_cli.specs.runs.Task.{Task, Encrypt, Decrypt, Rekey, password_in, secrets_of}
+use Rattle.vault_cli.specs.runs.Answer.{prepared, task_limit}
+use Rattle.vault_cli.specs.runs.Task.{Task, Encrypt, Decrypt, Rekey, password_or_fault, secrets_of}
 use Rattle.vault_core.proofs.EncryptionLemmas.{encryption-too_long}
 
 -- an input that is too long is refused as such
-pub performed-too_long : (limit : ℕ) (task : Task) (input : List ℕ)
-    → task_limit limit task < length input → performed limit task input ≡ Err TooLong
+pub prepared-too_long : (limit : ℕ) (task : Task) (input : List ℕ)
+    → task_limit limit task < length input → prepared limit task input ≡ Err TooLong
 unfolding decryption rekeying read_within
-performed-too_long limit (Encrypt secrets index form salt) input long =
+prepared-too_long limit (Encrypt secrets index form salt) input long =
     encryption-too_long limit secrets index form salt input long
-performed-too_long limit (Decrypt secrets) input long =
+prepared-too_long limit (Decrypt secrets) input long =
     rw (lt-ltb (envelope_limit limit) (length input) long)
-performed-too_long limit (Rekey secrets new salt) input long =
+prepared-too_long limit (Rekey secrets new salt) input long =
     rw (lt-ltb (envelope_limit limit) (length input) long)
 
 -- a text that was read to its end, or to one byte past the limit
 module _ (limit : ℕ) (task : Task) (ended : Bool) (text prefix left : List ℕ)
     (parts : text ≡ prefix ++ left) (last : IsTrue ended → left ≡ []) where
-  pub performed-prefix : IsReadToEndOrPastLimit (task_limit limit task) ended prefix
-      → performed limit task prefix ≡ performed limit task text
-  performed-prefix (inl end) = rw (parts, last end, append-nil)
-  performed-prefix (inr long) =
+  pub prepared-prefix : IsReadToEndOrPastLimit (task_limit limit task) ended prefix
+      → prepared limit task prefix ≡ prepared limit task text
+  prepared-prefix (inl end) = rw (parts, last end, append-nil)
+  prepared-prefix (inr long) =
       let more : length text ≡ length prefix + length left =
       rw parts (length-append prefix left) in
       rw (
-        performed-too_long limit task text (omega (arith, long, more)),
-        performed-too_long limit task prefix (omega (arith, long)),
+        prepared-too_long limit task text (omega (arith, long, more)),
+        prepared-too_long limit task prefix (omega (arith, long)),
       )
 
 -- ---- the secrets of password files, one file after the other
@@ -72,13 +72,13 @@ module _ (i : ℕ) (files : List SecretFile) (contents : List (List ℕ)) (file 
     (before : with_prefix prefix (secrets_of (drop i files) (drop i contents))
     ≡ secrets_of files contents) where
   -- a password file that is refused refuses all
-  pub secrets_of-refused : (fault : Fault) → password_in bytes ≡ Err fault
+  pub secrets_of-refused : (fault : Fault) → password_or_fault bytes ≡ Err fault
       → Err fault ≡ secrets_of files contents
   unfolding secrets_of
   secrets_of-refused fault refused = rw (at_file, at_bytes, refused) at before
 
   -- a password file that gives a password adds a secret
-  pub secrets_of-added : (password : List ℕ) → password_in bytes ≡ Ok password
+  pub secrets_of-added : (password : List ℕ) → password_or_fault bytes ≡ Ok password
       → with_prefix (prefix ++ record { label = file.label; password = password } ∷ [])
       (secrets_of (drop (i + 1) files) (drop (i + 1) contents)) ≡ secrets_of files contents
   unfolding secrets_of

@@ -13,8 +13,7 @@ use Rattle.vault_cli.specs.Explained.{Explains}
 use Rattle.vault_cli.specs.OpenedPaths.{opened_paths}
 use Rattle.vault_cli.specs.Program.{Files, output_path, stdin_needed}
 use Rattle.vault_cli.specs.runs.FileContents.{AtPath, secret_paths}
-use Rattle.vault_cli.specs.runs.Run as run
-use Rattle.vault_cli.specs.runs.Run.{Output, to_sink}
+use Rattle.vault_cli.specs.runs.Run.{OutputEnd, RunEnds, to_sink}
 use Rattle.vault_request.specs.Request.{Request}
 use Rattle.vault_cli.specs.declared.runs.status.Status.{Status}
 
@@ -26,22 +25,24 @@ AllFound finds (Some (Ok request)) files =
     Found finds (secret_paths request) files.secrets × AtPath finds request.salt_path files.salt
     × AtPath finds request.input files.input
 
-module _ {D R W K : Type 0} (files : FilesCall D R W) (out : SinkCall K) where
+-- the system since the files of the request were opened: `since_opens.old` is its state after that
+module _ {D R W K : Type 0} (since_opens : FilesCall D R W) (out : SinkCall K) where
   -- what became of the file at a path, if one is named, or else of standard output; the other is
-  -- left alone
-  abbrev pub to_path : Option (List ℕ) → Access → Output
+  -- left alone. Of the uses of a file that received the bytes none failed (0), and of those of a
+  -- file that was cut one did (1).
+  abbrev pub to_path : Option (List ℕ) → Access → OutputEnd
   to_path None access = record {
-    untouched = (out.new ≡ out.old) × (files.new ≡ files.old);
-    received = λ bytes. (to_sink out).received bytes × (files.new ≡ files.old);
-    cut = λ bytes. (to_sink out).cut bytes × (files.new ≡ files.old);
+    untouched = (out.new ≡ out.old) × (since_opens.new ≡ since_opens.old);
+    received = λ bytes. (to_sink out).received bytes × (since_opens.new ≡ since_opens.old);
+    cut = λ bytes. (to_sink out).cut bytes × (since_opens.new ≡ since_opens.old);
   }
   to_path (Some path) access = record {
-    untouched = (out.new ≡ out.old) × (files.new ≡ files.old);
+    untouched = (out.new ≡ out.old) × (since_opens.new ≡ since_opens.old);
     received = λ bytes. (out.new ≡ out.old)
-        × ((calls : List SystemCall) × files.executes files.old calls files.new
+        × ((calls : List SystemCall) × since_opens.executes since_opens.old calls since_opens.new
         × OutputCalls (Chosen path access) calls bytes 0 Finished);
     cut = λ bytes. (out.new ≡ out.old)
-        × ((calls : List SystemCall) × files.executes files.old calls files.new
+        × ((calls : List SystemCall) × since_opens.executes since_opens.old calls since_opens.new
         × ((state : OutputState) × OutputCalls (Chosen path access) calls bytes 1 state));
   }
 
@@ -55,8 +56,9 @@ module _ {D R W S K E : Type 0} (files : FilesCall D R W) (src : SourceCall S) (
     Ran : kinds ≡ []
         → (found : Files) → AllFound (files.finds files.old) requested found
         → (opened : D) → Opens files.executes files.old (opened_paths requested found) opened
-        → run.Ends src (to_path (files_from opened files) out (output_path requested)
+        → RunEnds src (to_path (files_from opened files) out (output_path requested)
         (access_of requested)) err result (stdin_needed requested found) (answers found)
         → Ends
-    -- It opened and read nothing: there was no memory, or the arguments do not parse.
+    -- It opened and read nothing: help was asked for, the arguments do not parse, or there was no
+    -- memory.
     Stopped : files.new ≡ files.old → src.new ≡ src.old → Explains out err result kinds → Ends

@@ -1,6 +1,8 @@
 -- How the program ends over files, an input and sinks in memory: what each holds afterwards.
-use Rattle.std.specs.Prelude.{◌≡◌, ◌⊎◌, ℕ, ◌+◌, ◌<◌, if◌then◌else◌, List, ◌++◌, length, take}
-use Rattle.std.specs.Prelude.{drop, Bool, true, false, Option, Some, None, IfSome, Result, Ok, Err}
+use Rattle.std.specs.Prelude.{◌≡◌, ◌⊎◌, ℕ, ◌+◌, ◌<◌, if◌then◌else◌, List, [], ◌++◌, length}
+use Rattle.std.specs.Prelude.{map, take, drop, Bool, true, false, Option, Some, None, IfSome}
+use Rattle.std.specs.Prelude.{Result, Ok, Err}
+use Rattle.std.specs.Option.{option_map}
 use Rattle.std.specs.Str.{bytes_eq}
 use Rattle.clap.specs.Words.{Text}
 use Rattle.vault_text.specs.Failures.{HasRisen}
@@ -13,17 +15,29 @@ use Rattle.vault_files.specs.Memory.{Created, StoreState, file_at, stands_at}
 use Rattle.vault_files.specs.declared.memory.store.TheConstants.{PATH_LIMIT}
 use Rattle.vault_fault.specs.declared.fault.Fault.{Fault}
 use Rattle.vault_fault.specs.declared.fault.Fault.TheVariants.{Memory, Write}
+use Rattle.vault_request.specs.Request.{Request}
 use Rattle.vault_request.specs.Settled.{requested_by}
-use Rattle.vault_cli.specs.Program.{Files, files_in}
+use Rattle.vault_cli.specs.Program.{Files}
+use Rattle.vault_cli.specs.runs.FileContents.{secret_paths}
 use Rattle.vault_cli.specs.runs.Reports.{line_of}
 use Rattle.vault_cli.specs.runs.Status.{status_of}
 use Rattle.vault_cli.specs.declared.runs.status.Status.{Status}
 use Rattle.vault_cli.specs.declared.runs.status.Status.TheVariants.{DeviceFailed, OutOfMemory}
 use Rattle.vault_cli.specs.declared.runs.status.Status.TheVariants.{Success}
 
+-- the files at the paths of the request
+abbrev pub files_at : (List ℕ → FileState) → Option (Result Request Fault) → Files
+files_at at None = record { secrets = []; salt = None; input = None }
+files_at at (Some (Err fault)) = record { secrets = []; salt = None; input = None }
+files_at at (Some (Ok request)) = record {
+  secrets = map at (secret_paths request);
+  salt = option_map at request.salt_path;
+  input = option_map at request.input;
+}
+
 -- the files at the paths of arguments
 abbrev pub found_by : StoreState → List Text → Files
-found_by files words = files_in (file_at files.entries) (requested_by words)
+found_by files words = files_at (file_at files.entries) (requested_by words)
 
 -- what was in memory before a call, and what is after it
 pub record Change (T : Type 0) : Type 0 where

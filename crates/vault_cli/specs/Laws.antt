@@ -10,7 +10,7 @@ use Rattle.vault_cli.specs.runs.Answer.{run_answer_within, room_limit, text_of_r
 use Rattle.vault_request.specs.Laws.{IsRequest}
 use Rattle.vault_request.specs.Request.{Request}
 use Rattle.vault_cli.specs.runs.Task as task
-use Rattle.vault_cli.specs.runs.Task.{planned}
+use Rattle.vault_cli.specs.runs.Task.{task_of}
 use Rattle.vault_request.specs.declared.command_name.CommandName.TheVariants.{Encrypt, Decrypt}
 use Rattle.vault_request.specs.declared.command_name.CommandName.TheVariants.{View, Rekey}
 use Rattle.vault_cli.specs.runs.Status.{status_of}
@@ -28,7 +28,7 @@ pub record UnsealsWith (request : Request) (contents : List (List ℕ)) (salt : 
     (secrets : SecretList) : Type 0 where
   pub settled : IsRequest request
   pub command : (request.command ≡ Decrypt) ⊎ (request.command ≡ View)
-  pub found : planned request contents salt ≡ Ok (task.Decrypt secrets)
+  pub found : task_of request contents salt ≡ Ok (task.Decrypt secrets)
 
 -- what `encrypt` wrote with a secret, `decrypt` and `view` give back where the first secret that
 -- they try has its password
@@ -39,7 +39,7 @@ EncryptThenDecrypt =
     (list : List Secret) (index : ℕ) (used : List ℕ) (secrets : SecretList)
     → IsRequest encrypting → encrypting.command ≡ Encrypt
     → IfSome encrypting.salt_text IsBytes → IsBytes salt → IsBytes input
-    → planned encrypting contents salt ≡ Ok (task.Encrypt list index Envelope used)
+    → task_of encrypting contents salt ≡ Ok (task.Encrypt list index Envelope used)
     → run_answer_within limit encrypting contents salt input ≡ Ok envelope
     → UnsealsWith decrypting other_contents other_salt secrets
     → IsTriedFirst secrets (secret_at index list)
@@ -56,7 +56,7 @@ RekeyKeepsThePlaintext =
     (secrets : SecretList) (new : Secret) (used : List ℕ) (rule : LabelRule)
     → IsRequest rekeying → rekeying.command ≡ Rekey
     → IfSome rekeying.salt_text IsBytes → IsBytes salt
-    → planned rekeying contents salt ≡ Ok (task.Rekey secrets new used)
+    → task_of rekeying contents salt ≡ Ok (task.Rekey secrets new used)
     → run_answer_within limit rekeying contents salt input ≡ Ok envelope
     → UnsealsWith before old_contents old_salt secrets
     → UnsealsWith after new_contents new_salt (record { secrets = new ∷ []; rule = rule })

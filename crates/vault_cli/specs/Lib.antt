@@ -6,7 +6,6 @@ pub mod Escaped
 pub mod Program
 pub mod OpenedPaths
 pub mod Drive
-pub mod RunsToPath
 pub mod Loaded
 pub mod System
 pub mod InMemory

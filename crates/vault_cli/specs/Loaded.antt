@@ -4,15 +4,15 @@ use Rattle.vault_fault.specs.declared.fault.Fault.{Fault}
 use Rattle.vault_fault.specs.declared.fault.Role.{Role}
 use Rattle.vault_files.specs.File.{FileState, Found}
 use Rattle.vault_cli.specs.Drive.{AllFound}
-use Rattle.vault_cli.specs.runs.FileContents.{AtPath, contents_of, prefix_in}
+use Rattle.vault_cli.specs.runs.FileContents.{AtPath, contents_of, file_prefix}
 use Rattle.vault_cli.specs.OpenedPaths.{opened_paths, opened_secrets}
-use Rattle.vault_cli.specs.Program.{Files, salt_in, task_over}
+use Rattle.vault_cli.specs.Program.{Files, file_salt, task_over}
 use Rattle.vault_request.specs.Request.{Request}
 
 -- a file that may be found gives this answer
 abbrev pub PrefixFound : (FileState → Type 0) → Role → ℕ → Result (List ℕ) Fault → Type 0
 PrefixFound finds role limit answer =
-    (file : FileState) × finds file × (prefix_in role limit file ≡ answer)
+    (file : FileState) × finds file × (file_prefix role limit file ≡ answer)
 
 -- password files that may be found at the paths give this answer
 abbrev pub ContentsFound : (List ℕ → FileState → Type 0)
@@ -24,7 +24,7 @@ ContentsFound finds paths answer =
 abbrev pub SaltFound : (List ℕ → FileState → Type 0) → Option (List ℕ) → Result (List ℕ) Fault
     → Type 0
 SaltFound finds path answer =
-    (file : Option FileState) × AtPath finds path file × (salt_in file ≡ answer)
+    (file : Option FileState) × AtPath finds path file × (file_salt file ≡ answer)
 
 -- password files that may be found at the paths refuse, and the paths up to the first that does
 -- were opened

@@ -5,8 +5,8 @@ use Rattle.vault_files.specs.File.{FileState}
 use Rattle.vault_fault.specs.declared.fault.Fault.{Fault}
 use Rattle.vault_fault.specs.declared.fault.Role.TheVariants.{Secret}
 use Rattle.vault_core.specs.declared.limits.TheConstants.{PASSWORD_FILE_LIMIT}
-use Rattle.vault_cli.specs.runs.FileContents.{contents_of, prefix_in, secret_paths}
-use Rattle.vault_cli.specs.Program.{Files, salt_in}
+use Rattle.vault_cli.specs.runs.FileContents.{contents_of, file_prefix, secret_paths}
+use Rattle.vault_cli.specs.Program.{Files, file_salt}
 use Rattle.vault_request.specs.Request.{Request}
 
 -- none after a step that refuses
@@ -20,7 +20,8 @@ opened_secrets [] files = []
 opened_secrets (path ∷ paths) [] = []
 opened_secrets (path ∷ paths) (file ∷ files) =
     path
-    ∷ unless_refused (prefix_in Secret (PASSWORD_FILE_LIMIT + 1) file) (opened_secrets paths files)
+    ∷ unless_refused (file_prefix Secret (PASSWORD_FILE_LIMIT + 1) file)
+    (opened_secrets paths files)
 
 -- of all files of a request: none where no request was made of the arguments
 abbrev pub opened_paths : Option (Result Request Fault) → Files → List (List ℕ)
@@ -29,4 +30,4 @@ opened_paths (Some (Err fault)) files = []
 opened_paths (Some (Ok request)) files =
     opened_secrets (secret_paths request) files.secrets
     ++ unless_refused (contents_of files.secrets) (option_to_list request.salt_path
-    ++ unless_refused (salt_in files.salt) (option_to_list request.input))
+    ++ unless_refused (file_salt files.salt) (option_to_list request.input))

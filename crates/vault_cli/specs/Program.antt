@@ -1,7 +1,6 @@
 -- What the program answers, as a function of its arguments, the files that it finds, and its
 -- standard input.
-use Rattle.std.specs.Prelude.{ℕ, ◌+◌, List, [], map, Option, Some, None, Result, Ok, Err}
-use Rattle.std.specs.Option.{option_map}
+use Rattle.std.specs.Prelude.{ℕ, ◌+◌, List, [], Option, Some, None, Result, Ok, Err}
 use Rattle.clap.specs.Words.{Text}
 use Rattle.vault_files.specs.File.{FileState}
 use Rattle.vault_files.specs.File.FileState.{Missing, Whole, Broken}
@@ -11,11 +10,11 @@ use Rattle.vault_core.specs.Ready.{Ready}
 use Rattle.vault_fault.specs.declared.fault.Fault.{Fault}
 use Rattle.vault_fault.specs.declared.fault.Fault.TheVariants.{CannotOpen}
 use Rattle.vault_fault.specs.declared.fault.Role.TheVariants.{Input, Salt}
-use Rattle.vault_cli.specs.runs.FileContents.{contents_of, prefix_in, secret_paths}
+use Rattle.vault_cli.specs.runs.FileContents.{contents_of, file_prefix}
 use Rattle.vault_cli.specs.runs.Answer.{input_limit, input_needed_by, output_of, ready_by}
 use Rattle.vault_request.specs.Request.{Request}
 use Rattle.vault_request.specs.Settled.{requested_by}
-use Rattle.vault_cli.specs.runs.Task.{Task, planned}
+use Rattle.vault_cli.specs.runs.Task.{Task, task_of}
 use Rattle.vault_cli.specs.declared.limits.TheConstants.{SEALING_SALT_LENGTH}
 
 -- the files that a request names, as they are found: its password files, in order, its salt file
@@ -26,9 +25,9 @@ pub record Files : Type 0 where
   pub input : Option FileState
 
 -- the salt: the first bytes of the salt file
-abbrev pub salt_in : Option FileState → Result (List ℕ) Fault
-salt_in None = Ok []
-salt_in (Some file) = prefix_in Salt SEALING_SALT_LENGTH file
+abbrev pub file_salt : Option FileState → Result (List ℕ) Fault
+file_salt None = Ok []
+file_salt (Some file) = file_prefix Salt SEALING_SALT_LENGTH file
 
 -- whether the input file can be opened
 abbrev pub can_open_input : Option FileState → Result (Unit {0}) Fault
@@ -38,25 +37,25 @@ can_open_input (Some (Whole bytes)) = Ok tt
 can_open_input (Some (Broken bytes)) = Ok tt
 
 -- the task of a request, or the first fault: of its password files, of its salt file, of an input
--- file that cannot be opened, or of steps 9 to 11
+-- file that cannot be opened, or of its passwords, of the choice of a secret, or of the salt
 unfoldable pub task_over : Request → Files → Result Task Fault
 task_over request files = do
   contents ← contents_of files.secrets
-  salt ← salt_in files.salt
+  salt ← file_salt files.salt
   opened ← can_open_input files.input
-  planned request contents salt
+  task_of request contents salt
 
 -- this many bytes of the input file, or else standard input
-abbrev pub input_in : ℕ → Option FileState → List ℕ → Result (List ℕ) Fault
-input_in limit None stdin = Ok stdin
-input_in limit (Some file) stdin = prefix_in Input limit file
+abbrev pub input_from : ℕ → Option FileState → List ℕ → Result (List ℕ) Fault
+input_from limit None stdin = Ok stdin
+input_from limit (Some file) stdin = file_prefix Input limit file
 
 -- what is ready to be written, or the first fault: of the task, of its input, which counts up to
--- one byte more than is taken, or of steps 13 and 14
+-- one byte more than is taken, or of what is done with it
 abbrev pub ready_of : Request → Files → List ℕ → Result Ready Fault
 ready_of request files stdin =
     ready_by PLAINTEXT_LIMIT (task_over request files) request.string
-    (input_in (input_limit PLAINTEXT_LIMIT request.command + 1) files.input stdin)
+    (input_from (input_limit PLAINTEXT_LIMIT request.command + 1) files.input stdin)
 
 -- the answer to the request: the bytes to be written, or a fault. Arguments that parse name a
 -- command, which is a law, so that the first case never comes
@@ -87,13 +86,3 @@ stdin_needed (Some (Err fault)) files = None
 stdin_needed (Some (Ok request)) files =
     let limit = input_limit PLAINTEXT_LIMIT request.command in
     unless_file files.input (input_needed_by (task_over request files) request.string limit)
-
--- the files at the paths of the request
-abbrev pub files_in : (List ℕ → FileState) → Option (Result Request Fault) → Files
-files_in at None = record { secrets = []; salt = None; input = None }
-files_in at (Some (Err fault)) = record { secrets = []; salt = None; input = None }
-files_in at (Some (Ok request)) = record {
-  secrets = map at (secret_paths request);
-  salt = option_map at request.salt_path;
-  input = option_map at request.input;
-}

@@ -8,15 +8,15 @@ use Rattle.vault_core.specs.Laws.{IsBytes, IsTriedFirst}
 use Rattle.vault_core.specs.Secrets.{Secret, SecretList, secret_at}
 use Rattle.vault_fault.specs.declared.fault.Fault.{Fault}
 use Rattle.vault_fault.specs.declared.label_rule.LabelRule.{LabelRule}
-use Rattle.vault_cli.specs.InMemory.{stands_after}
+use Rattle.vault_cli.specs.InMemory.{files_at, stands_after}
 use Rattle.vault_cli.specs.runs.FileContents.{contents_of}
 use Rattle.vault_cli.specs.Laws.{UnsealsWith}
 use Rattle.vault_cli.specs.runs.Answer.{run_answer}
 use Rattle.vault_request.specs.Settled.{requested_by}
-use Rattle.vault_cli.specs.Program.{Files, files_in, output_path, program, salt_in}
+use Rattle.vault_cli.specs.Program.{Files, output_path, program, file_salt}
 use Rattle.vault_request.specs.Request.{Request}
 use Rattle.vault_cli.specs.runs.Task as task
-use Rattle.vault_cli.specs.runs.Task.{planned}
+use Rattle.vault_cli.specs.runs.Task.{task_of}
 use Rattle.vault_request.specs.declared.command_name.CommandName.TheVariants.{Encrypt, Rekey}
 
 -- the input is a file that can be read to its end, or else standard input
@@ -36,7 +36,7 @@ pub record Run : Type 0 where
   pub input : List ℕ
   pub requested : requested_by words ≡ Some (Ok request)
   pub secrets : contents_of files.secrets ≡ Ok contents
-  pub salted : salt_in files.salt ≡ Ok salt
+  pub salted : file_salt files.salt ≡ Ok salt
   pub is_input : IsInput files.input stdin input
 
 -- what the program answers to it
@@ -54,7 +54,7 @@ WrittenIsRead =
     (request : Request)
     → output_path (requested_by writing) ≡ Some path
     → requested_by reading ≡ Some (Ok request) → request.input ≡ Some path
-    → (files_in (stands_after before (output_path (requested_by writing)) bytes)
+    → (files_at (stands_after before (output_path (requested_by writing)) bytes)
     (requested_by reading)).input ≡ Some (Whole bytes)
 
 -- what `encrypt` wrote with a secret, `decrypt` and `view` give back where the first secret that
@@ -66,7 +66,7 @@ ProgramEncryptsThenDecrypts =
     → encrypting.request.command ≡ Encrypt
     → IfSome encrypting.request.salt_text IsBytes
     → IsBytes encrypting.salt → IsBytes encrypting.input
-    → planned encrypting.request encrypting.contents encrypting.salt
+    → task_of encrypting.request encrypting.contents encrypting.salt
     ≡ Ok (task.Encrypt list index Envelope used)
     → answer encrypting ≡ Ok decrypting.input
     → UnsealsWith decrypting.request decrypting.contents decrypting.salt secrets
@@ -81,7 +81,7 @@ ProgramKeepsThePlaintext =
     (secrets : SecretList) (new : Secret) (used : List ℕ) (rule : LabelRule)
     → rekeying.request.command ≡ Rekey
     → IfSome rekeying.request.salt_text IsBytes → IsBytes rekeying.salt
-    → planned rekeying.request rekeying.contents rekeying.salt ≡ Ok (task.Rekey secrets new used)
+    → task_of rekeying.request rekeying.contents rekeying.salt ≡ Ok (task.Rekey secrets new used)
     → before.input ≡ rekeying.input → answer rekeying ≡ Ok after.input
     → UnsealsWith before.request before.contents before.salt secrets
     → UnsealsWith after.request after.contents after.salt

@@ -1,6 +1,6 @@
 pub mod FileContents
 pub mod Answer
-pub mod Delivered
+pub mod Writes
 pub mod Reports
 pub mod Run
 pub mod Status

@@ -5,7 +5,8 @@ ghost use Rattle.vault_files.specs.File.FileState.{Missing};
 ghost use Rattle.vault_files.specs.System.{Opens};
 ghost use Rattle.vault_fault.specs.declared.fault.Fault.TheVariants.{CannotOpen, Memory};
 ghost use Rattle.vault_fault.specs.declared.fault.Role.TheVariants.{Input};
-ghost use Rattle.vault_cli.specs.runs.FileContents.{AtPath, request_paths, fault_in, secret_paths};
+ghost use Rattle.vault_cli.specs.runs.FileContents.{AtPath, file_fault, request_paths};
+ghost use Rattle.vault_cli.specs.runs.FileContents.{secret_paths};
 ghost use Rattle.vault_cli.specs.Loaded.{ContentsFound, PrefixFound, SaltFound};
 ghost use Rattle.vault_cli.specs.Loaded.{RefusedBy, SecretsRefuse};
 ghost use Rattle.vault_core.specs.declared.limits.TheConstants.{PASSWORD_FILE_LIMIT};
@@ -46,8 +47,8 @@ pub(crate) fn load<D: System>(
 }
 
 /// The fault of a file in its role.
-fn fault_in(role: Role, fault: FileFault) -> Fault
-    ensures { result ≡ fault_in role fault }
+fn file_fault(role: Role, fault: FileFault) -> Fault
+    ensures { result ≡ file_fault role fault }
 {
     match fault {
         FileFault::CannotOpen => Fault::CannotOpen(role),
@@ -69,13 +70,9 @@ fn fill_from<D: System>(
         PrefixFound (D.finds files.old path.now) role (vec_len buf.old) (Err fault)) }
     ensures memory_suffices { IfErr result (λ fault. fault ≢ Memory) }
 {
-    match read_prefix(files, path, buf.as_mut_slice()) {
-        Ok(n) => {
-            buf.truncate(n);
-            Ok(())
-        }
-        Err(fault) => Err(fault_in(role, fault)),
-    }
+    let n = read_prefix(files, path, buf.as_mut_slice()).map_err(|fault| file_fault(role, fault))?;
+    buf.truncate(n);
+    Ok(())
 }
 
 /// Reads the password files, in their order, each up to one byte more than is taken.
@@ -132,8 +129,6 @@ fn open_input<D: System>(files: &mut D, request: &Request) -> Result<Option<D::R
     let Some(path) = request.input() else {
         return Ok(None);
     };
-    match open(files, path) {
-        Ok(reader) => Ok(Some(reader)),
-        Err(fault) => Err(fault_in(Role::Input, fault)),
-    }
+    let reader = open(files, path).map_err(|fault| file_fault(Role::Input, fault))?;
+    Ok(Some(reader))
 }

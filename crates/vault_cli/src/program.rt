@@ -1,29 +1,24 @@
 //! What the program does with its arguments, its files and its standard streams.
-ghost use Rattle.std.specs.Prelude.{◌≡◌, ◌≤◌, [], Ok, Some, is_some, length, map, true};
+ghost use Rattle.std.specs.Prelude.{◌≡◌, ◌≤◌, [], Ok, Some, length, map};
 ghost use Rattle.std.specs.Prelude.{vec_capacity, vec_len};
 ghost use Rattle.std.specs.String.{string_bytes};
-ghost use Rattle.clap.specs.Words.{fault_of, subcommand_rows_of};
+ghost use Rattle.clap.specs.Words.{fault_of};
 ghost use Rattle.vault_text.specs.declared.limits.TheConstants.{CIPHERTEXT_LIMIT, PLAINTEXT_LIMIT};
-ghost use Rattle.vault_text.specs.Limits.{IsWorkLength, limit_of};
-ghost use Rattle.vault_files.specs.Output.{stage_of};
 ghost use Rattle.vault_request.specs.CommandLine.{vault_app};
 ghost use Rattle.vault_request.specs.Request.{files_of};
-ghost use Rattle.vault_request.specs.Settled.{requested, requested_by};
+ghost use Rattle.vault_request.specs.Settled.{requested_by};
 ghost use Rattle.vault_cli.specs.Access.{output_access};
 ghost use Rattle.vault_cli.specs.Call.{sink, source, system};
 ghost use Rattle.vault_cli.specs.Drive.{Ends, to_path};
 ghost use Rattle.vault_cli.specs.Program.{answer_to, program};
-ghost use Rattle.vault_cli.specs.RunsToPath.{RunsToPath};
 ghost use Rattle.vault_cli.specs.runs.Answer.{input_needed, run_answer};
-ghost use Rattle.vault_cli.specs.runs.Run as run;
-ghost use Rattle.vault_cli.specs.runs.Run.{RunsRequest};
+ghost use Rattle.vault_cli.specs.runs.Run.{RunEnds, RunsRequest};
 
 use crate::access::output_access;
 use crate::explaining::explain;
 use crate::loading::load;
 use crate::reserving::{RunMemory, reserve};
 use crate::runs::{Status, report, run_in};
-use clap::ArgMatches;
 use std::alloc::Global;
 use vault_core::Fault;
 use vault_files::{FileOutput, System};
@@ -50,31 +45,11 @@ pub fn drive_over<D: System, S: Source, K: Sink, E: Sink>(
         (fault_of vault_app texts) (requested_by texts) (program texts) }
 {
     match parse(alloc, words) {
-        Ok(matches) => drive_matches(files, alloc, &matches, src, out, err),
+        Ok(matches) => match settle(alloc, &matches) {
+            Ok(request) => drive_request(files, alloc, &request, src, out, err),
+            Err(fault) => report(fault, err),
+        },
         Err(error) => explain(alloc, words, &error, out, err),
-    }
-}
-
-/// Settles what the matches ask for, and runs it.
-fn drive_matches<D: System, S: Source, K: Sink, E: Sink>(
-    files: &mut D,
-    alloc: Global,
-    matches: &ArgMatches<'_>,
-    src: &mut S,
-    out: &mut K,
-    err: &mut E,
-) -> Status
-    requires requested { is_some (requested (subcommand_rows_of matches.now)) ≡ true }
-    requires out_unbegun { K.stage out.old ≡ Stage.Unbegun }
-    requires err_unbegun { E.stage err.old ≡ Stage.Unbegun }
-    ensures { let requested = requested (subcommand_rows_of matches.now) in
-        Ends (system D.System files.old files.new) (source S.Source src.old src.new)
-        (sink K.Sink out.old out.new) (sink E.Sink err.old err.new) result [] requested
-        (answer_to requested) }
-{
-    match settle(alloc, matches) {
-        Ok(request) => drive_request(files, alloc, &request, src, out, err),
-        Err(fault) => report(fault, err),
     }
 }
 
@@ -122,10 +97,38 @@ fn run_to_output<D: System, S: Source, K: Sink, E: Sink>(
     ensures { let request = request.now in
         let contents = map (λ file. file.items) memory.secret_files.items in
         let salt = memory.salt.items in
-        run.Ends (source S.Source src.old src.new)
+        RunEnds (source S.Source src.old src.new)
         (to_path (system D.System files.old files.new) (sink K.Sink out.old out.new)
         request.output (output_access request.command)) (sink E.Sink err.old err.new) result
         (input_needed PLAINTEXT_LIMIT request contents salt) (run_answer request contents salt) }
+{
+    match request.output() {
+        Some(path) => {
+            let mut file = FileOutput::new(files, path, output_access(request.command()));
+            let status = run_reserved(request, memory, src, &mut file, err);
+            let _files = file.into_system();
+            status
+        }
+        None => run_reserved(request, memory, src, out, err),
+    }
+}
+
+/// Runs a request in the memory that is reserved.
+fn run_reserved<S: Source, K: Sink, E: Sink>(
+    request: &Request,
+    memory: RunMemory,
+    src: &mut S,
+    out: &mut K,
+    err: &mut E,
+) -> Status
+    requires text { CIPHERTEXT_LIMIT ≤ vec_capacity memory.text }
+    requires count { vec_len memory.secret_files ≡ length (files_of request.now) }
+    requires out_unbegun { K.stage out.old ≡ Stage.Unbegun }
+    requires err_unbegun { E.stage err.old ≡ Stage.Unbegun }
+    ensures { let contents = map (λ file. file.items) memory.secret_files.items in
+        RunsRequest PLAINTEXT_LIMIT request.now contents memory.salt.items
+        (source S.Source src.old src.new) (sink K.Sink out.old out.new)
+        (sink E.Sink err.old err.new) result }
 {
     let RunMemory {
         mut text,
@@ -134,58 +137,5 @@ fn run_to_output<D: System, S: Source, K: Sink, E: Sink>(
     } = memory;
     let text = TextMemory::reserved(&mut text, CIPHERTEXT_LIMIT);
     let (secret_files, salt) = (secret_files.as_slice(), salt.as_slice());
-    match request.output() {
-        Some(path) => run_to_path(files, path, request, secret_files, salt, text, src, err),
-        None => run_in(request, secret_files, salt, text, src, out, err),
-    }
-}
-
-/// Runs a request, whose output goes to a path.
-fn run_to_path<'r, D: System, S: Source, E: Sink>(
-    files: &mut D,
-    path: &str,
-    request: &'r Request,
-    secret_files: &'r [Vec<u8>],
-    salt: &'r [u8],
-    memory: TextMemory<'r>,
-    src: &mut S,
-    err: &mut E,
-) -> Status
-    requires files { length secret_files.now ≡ length (files_of request.now) }
-    requires empty { memory.bytes ≡ [] }
-    requires room { IsWorkLength memory.limit }
-    requires err_unbegun { E.stage err.old ≡ Stage.Unbegun }
-    ensures runs { let contents = map (λ file. file.items) secret_files.now in
-        RunsToPath D.System files.old files.new path.now (output_access request.now.command)
-        (λ out. RunsRequest (limit_of memory.entry.limit) request.now contents salt.now
-        (source S.Source src.old src.new) out (sink E.Sink err.old err.new) result) }
-{
-    let mut out = FileOutput::new(files, path, output_access(request.command()));
-    let status = run_to_file(request, secret_files, salt, memory, src, &mut out, err);
-    let _files = out.into_system();
-    status
-}
-
-/// Runs a request, whose output goes to a file.
-fn run_to_file<'r, 'f, D: System, S: Source, E: Sink>(
-    request: &'r Request,
-    secret_files: &'r [Vec<u8>],
-    salt: &'r [u8],
-    memory: TextMemory<'r>,
-    src: &mut S,
-    out: &mut FileOutput<'f, D>,
-    err: &mut E,
-) -> Status
-    requires files { length secret_files.now ≡ length (files_of request.now) }
-    requires empty { memory.bytes ≡ [] }
-    requires room { IsWorkLength memory.limit }
-    requires out_unbegun { stage_of out.old.output ≡ Stage.Unbegun }
-    requires err_unbegun { E.stage err.old ≡ Stage.Unbegun }
-    ensures same_reference { out.new.system.ghost_name ≡ out.old.system.ghost_name }
-    ensures runs { let contents = map (λ file. file.items) secret_files.now in
-        RunsRequest (limit_of memory.entry.limit) request.now contents salt.now
-        (source S.Source src.old src.new) (sink ⟦<FileOutput<'f, D> as Sink>⟧ out.old out.new)
-        (sink E.Sink err.old err.new) result }
-{
-    run_in(request, secret_files, salt, memory, src, out, err)
+    run_in(request, secret_files, salt, text, src, out, err)
 }

@@ -12,8 +12,9 @@ use vault_core::PASSWORD_FILE_LIMIT;
 use vault_request::Request;
 use vault_text::CIPHERTEXT_LIMIT;
 
-/// How much of the stack a run takes below `reserve`, with some to spare, in bytes.
-const STACK_LENGTH: usize = 36_864;
+/// How much of the stack a run takes below `reserve`, in bytes: nine pages of 4 KiB, of which the
+/// buffer of an envelope that is written takes four. `tests/cases/stack.py` shows that they do.
+const STACK_LENGTH: usize = 9 * 4_096;
 
 /// The memory of a run: reserved before any file is opened, then filled.
 #[derive(Drop)]
@@ -46,15 +47,15 @@ pub(crate) fn reserve(alloc: Global, request: &Request) -> Result<RunMemory, All
     })
 }
 
-/// Touches the stack that a run needs. Bytes of it are copied from a place that the compiler does
-/// not know, so that it leaves none of it out.
+/// Touches the stack that a run needs. Which of its zeros are copied depends on a number that the
+/// compiler does not know, so that it leaves none of them out. Any number will do.
 #[inline(never)]
-fn touch_stack(place: usize, buf: &mut [u8])
+fn touch_stack(unknown: usize, buf: &mut [u8])
     requires { length buf.old ≡ SEALING_SALT_LENGTH }
     ensures { length buf.new ≡ SEALING_SALT_LENGTH }
 {
     let stack = [0; STACK_LENGTH];
-    let start = place % (STACK_LENGTH - SEALING_SALT_LENGTH);
+    let start = unknown % (STACK_LENGTH - SEALING_SALT_LENGTH);
     buf.copy_from_slice(&stack[start..start + SEALING_SALT_LENGTH]);
 }
 

@@ -4,7 +4,7 @@ ghost use Rattle.vault_text.specs.Failures.{IsSaturated};
 ghost use Rattle.vault_text.specs.Limits.{IsWorkLength, limit_of};
 ghost use Rattle.vault_request.specs.Request.{files_of};
 ghost use Rattle.vault_cli.specs.Call.{sink, source};
-ghost use Rattle.vault_cli.specs.runs.Delivered.{Delivers};
+ghost use Rattle.vault_cli.specs.runs.Writes.{Writes};
 ghost use Rattle.vault_cli.specs.runs.Run.{RunsRequest};
 
 mod report_line;
@@ -15,7 +15,7 @@ mod task;
 pub use report_line::report;
 pub(crate) use report_line::write_text;
 pub use status::Status;
-use task::{Task, plan};
+use task::{Task, task_of};
 use vault_core::{Fault, Ready};
 use vault_request::Request;
 use vault_text::{MemSource, Sink, Source, Stage, TextMemory};
@@ -67,22 +67,26 @@ pub(crate) fn run_in<'r, S: Source, K: Sink, E: Sink>(
         (source S.Source src.old src.new) (sink K.Sink out.old out.new)
         (sink E.Sink err.old err.new) result }
 {
-    let task = match plan(request, secret_files, salt) {
+    let task = match task_of(request, secret_files, salt) {
         Ok(task) => task,
         Err(fault) => return report(fault, err),
     };
     let ready = match request.string() {
-        Some(string) => task.perform(&mut MemSource::new(string.as_bytes(), usize::MAX), memory),
-        None => task.perform(src, memory),
+        Some(string) => task.prepare(&mut MemSource::new(string.as_bytes(), usize::MAX), memory),
+        None => task.prepare(src, memory),
     };
-    deliver(ready, out, err)
+    write_or_report(ready, out, err)
 }
 
 /// Writes what is ready, or reports why nothing is, or why it cannot be written.
-fn deliver<K: Sink, E: Sink>(ready: Result<Ready<'_>, Fault>, out: &mut K, err: &mut E) -> Status
+fn write_or_report<K: Sink, E: Sink>(
+    ready: Result<Ready<'_>, Fault>,
+    out: &mut K,
+    err: &mut E,
+) -> Status
     requires out_unbegun { K.stage out.old ≡ Stage.Unbegun }
     requires err_unbegun { E.stage err.old ≡ Stage.Unbegun }
-    ensures delivers { Delivers (sink K.Sink out.old out.new) (sink E.Sink err.old err.new) result
+    ensures writes { Writes (sink K.Sink out.old out.new) (sink E.Sink err.old err.new) result
         ready.entry }
     ensures full { IsSaturated (K.failures out.old) → result ≢ Status.Success }
 {

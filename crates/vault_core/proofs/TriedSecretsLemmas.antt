@@ -12,9 +12,10 @@ use Rattle.std.proofs.lemmas.List.Folds.{find-append}
 use Rattle.std.proofs.lemmas.List.Sums.{count_by-le-length, length-filter}
 use Rattle.std.proofs.lemmas.Nat.{le_or_l, le_or_r}
 use Rattle.vault_text.specs.Envelope.{Payload}
-use Rattle.vault_core.specs.TriedSecrets.{is_in, matches, tries}
-use Rattle.vault_core.specs.declared.tried_secrets.Part.{Part}
-use Rattle.vault_core.specs.declared.tried_secrets.Part.TheVariants.{SameLabel}
+use Rattle.vault_core.specs.Group.{is_member}
+use Rattle.vault_core.specs.TriedSecrets.{matches, tries}
+use Rattle.vault_core.specs.declared.tried_secrets.Group.{Group}
+use Rattle.vault_core.specs.declared.tried_secrets.Group.TheVariants.{SameLabel}
 use Rattle.vault_core.specs.Secrets.{Secret, SecretList, tried_after, tried_order}
 use Rattle.vault_fault.specs.declared.label_rule.LabelRule.{LabelRule}
 
@@ -66,18 +67,18 @@ tries-filter payload p secrets =
     let least = tries-min payload (filter p secrets) in
     omega (arith, length-filter p secrets, count_by-le-length p secrets)
 
-abbrev pub tried_part : Part → List ℕ → List Secret → List Secret
-tried_part part label secrets = filter (is_in part label) secrets
+abbrev pub tried_group : Group → List ℕ → List Secret → List Secret
+tried_group group label secrets = filter (is_member group label) secrets
 
--- the part that is left, from a secret that is in it or is not
-pub tried_part-drop : (part : Part) (label : List ℕ) (secrets : List Secret) (i : ℕ)
+-- the group that is left, from a secret that is in it or is not
+pub tried_group-drop : (group : Group) (label : List ℕ) (secrets : List Secret) (i : ℕ)
     (secret : Secret)
     → i < length secrets → secret ≡ get_or secrets i secret
-    → let rest = tried_part part label (drop (i + 1) secrets) in
-    tried_part part label (drop i secrets)
-    ≡ (if is_in part label secret then secret ∷ rest else rest)
-tried_part-drop part label secrets i secret inside is =
-    ap (tried_part part label) (drop_more secrets i secret inside) ∙ rw (← is) refl
+    → let rest = tried_group group label (drop (i + 1) secrets) in
+    tried_group group label (drop i secrets)
+    ≡ (if is_member group label secret then secret ∷ rest else rest)
+tried_group-drop group label secrets i secret inside is =
+    ap (tried_group group label) (drop_more secrets i secret inside) ∙ rw (← is) refl
 
 -- something is found if a condition holds
 pub found-if : {A : Type 0} (condition : Bool) (x : A) (found : Option A)
@@ -98,10 +99,10 @@ found-none f None found is none = refl
 found-none f (Some x) found is none = absurd cc
 
 -- if a secret with the label matches, no other is tried
-pub tried_order-parts : (payload : Payload) (list : SecretList) (label : List ℕ)
+pub tried_order-groups : (payload : Payload) (list : SecretList) (label : List ℕ)
     (rule : LabelRule)
     → list.rule ≡ rule
-    → let first = tried_part SameLabel label list.secrets in
+    → let first = tried_group SameLabel label list.secrets in
     let others = tried_after rule label list.secrets in
     (find (matches payload) (tried_order list label)
     ≡ option_or (find (matches payload) first) (find (matches payload) others))
@@ -109,7 +110,7 @@ pub tried_order-parts : (payload : Payload) (list : SecretList) (label : List �
     ≡ tries payload first
     + option_map_or (λ _. 0) (find (matches payload) first) (tries payload others))
 unfolding tried_order
-tried_order-parts payload list label rule is =
+tried_order-groups payload list label rule is =
     rw is (find-append (matches payload) _ _, tries-append payload _ _)
 
 -- ---- tags whose differences are collected byte by byte

@@ -3,6 +3,7 @@ pub mod Choice
 pub mod Decryption
 pub mod Encryption
 pub mod Form
+pub mod Group
 pub mod Input
 pub mod Laws
 pub mod Unsealing

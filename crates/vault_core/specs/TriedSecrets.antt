@@ -1,5 +1,5 @@
 -- Which secrets match an envelope.
-use Rattle.std.specs.Prelude.{ℕ, ◌+◌, not, Bool, List, length}
+use Rattle.std.specs.Prelude.{ℕ, ◌+◌, Bool, List, length}
 use Rattle.std.specs.List.{position}
 use Rattle.std.specs.Option.{option_map_or}
 use Rattle.std.specs.Str.{bytes_eq}
@@ -7,14 +7,7 @@ use Rattle.vault_kdf.specs.Hmac.{hmac}
 use Rattle.vault_kdf.specs.Keys.{vault_keys}
 use Rattle.vault_kdf.specs.declared.keys.Keys.{Keys}
 use Rattle.vault_text.specs.Envelope.{Payload}
-use Rattle.vault_core.specs.Secrets.{Secret, has_label}
-use Rattle.vault_core.specs.declared.tried_secrets.Part.{Part}
-use Rattle.vault_core.specs.declared.tried_secrets.Part.TheVariants.{SameLabel, OtherLabels}
-
--- whether a secret is in a part of a list: those with the label, or those with another
-abbrev pub is_in : Part → List ℕ → Secret → Bool
-is_in SameLabel label = has_label label
-is_in OtherLabels label = λ secret. not (has_label label secret)
+use Rattle.vault_core.specs.Secrets.{Secret}
 
 -- the keys that the secret's password and the envelope's salt give
 abbrev pub keys_of : Payload → Secret → Keys

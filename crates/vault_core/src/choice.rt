@@ -11,12 +11,10 @@ use vault_text::Label;
 
 /// Why no secret is chosen to encrypt with.
 #[derive(Clone, Copy, Debug, PartialEq, Eq, Error)]
+#[error("{}", Fault::from(*self).text())]
 pub enum ChoiceFault {
-    #[error("no secret was given to encrypt with")]
     NoEncryptSecret,
-    #[error("several secrets were given; choose one with --encrypt-vault-id")]
     ManyEncryptSecrets,
-    #[error("no secret has the label of --encrypt-vault-id")]
     UnknownEncryptId,
 }
 

@@ -1,9 +1,8 @@
 //! Reading the input of a call.
-ghost use Rattle.std.specs.Prelude.{◌≡◌, ◌≢◌, ℕ, ◌<◌, ◌≤◌, ◌↔◌, List, [], length};
-ghost use Rattle.std.specs.Prelude.{IsTrue, IsErr, IfOk, OnOk, OnErr, Err};
+ghost use Rattle.std.specs.Prelude.{◌≡◌, ◌≢◌, ℕ, List, [], Err, IsErr, OnOk, OnErr};
 ghost use Rattle.vault_text.specs.Call.{source};
 ghost use Rattle.vault_text.specs.EnvelopeReader.{HasRead};
-ghost use Rattle.vault_text.specs.Failures.{CountsFailure, IsSaturated};
+ghost use Rattle.vault_text.specs.Failures.{IsSaturated};
 ghost use Rattle.vault_core.specs.Decryption.{payload_of};
 ghost use Rattle.vault_core.specs.Input.{ReadFails, ReadsInput};
 ghost use Rattle.vault_text.specs.Limits.{IsWorkLength, envelope_limit, limit_of};
@@ -17,8 +16,8 @@ use vault_text::{EnvelopeReader, PADDING_LIMIT, Payload, Source, SourceFailed, T
 /// How many bytes a source is asked for at once.
 const PIECE_LIMIT: usize = 4096;
 
-/// Reads a plaintext into memory that holds no text, to its end, or to one byte more than leaves
-/// room for padding.
+/// Reads a plaintext into memory that holds no text: all of it, or one byte more than can be padded
+/// there.
 pub(crate) fn read_plaintext<S: Source>(
     src: &mut S,
     memory: &mut TextMemory,
@@ -35,11 +34,12 @@ pub(crate) fn read_plaintext<S: Source>(
     let mut buffer = [0; PIECE_LIMIT];
     while memory.room() >= PADDING_LIMIT {
         let most = memory.room() - PADDING_LIMIT + 1;
-        let piece = next_piece(src, &mut buffer[..most.min(PIECE_LIMIT)])?;
-        if piece.is_empty() {
+        let piece = &mut buffer[..most.min(PIECE_LIMIT)];
+        let n = src.fill(piece)?;
+        if n == 0 {
             break;
         }
-        memory.put(piece);
+        memory.put(&piece[..n]);
     }
     Ok(())
 }
@@ -82,26 +82,13 @@ fn feed_input<S: Source>(src: &mut S, reader: &mut EnvelopeReader) -> Result<(),
     let mut buffer = [0; PIECE_LIMIT];
     let mut left = reader.input_limit() + 1;
     while left > 0 {
-        let piece = next_piece(src, &mut buffer[..left.min(PIECE_LIMIT)])?;
-        if piece.is_empty() {
+        let piece = &mut buffer[..left.min(PIECE_LIMIT)];
+        let n = src.fill(piece)?;
+        if n == 0 {
             break;
         }
-        reader.feed(piece);
-        left -= piece.len();
+        reader.feed(&piece[..n]);
+        left -= n;
     }
     Ok(())
-}
-
-/// The bytes that the source gives next, none at the end, at the start of the buffer.
-fn next_piece<'b, S: Source>(src: &mut S, buffer: &'b mut [u8]) -> Result<&'b [u8], SourceFailed>
-    requires { 0 < length buffer.old }
-    ensures gives { IfOk result (λ piece. S.gives src.old piece.now src.new) }
-    ensures bound { IfOk result (λ piece. length piece.now ≤ length buffer.old) }
-    ensures end { IfOk result (λ piece. (length piece.now ≡ 0) ↔ IsTrue (S.ended src.new)) }
-    ensures nothing { OnErr result (S.gives src.old [] src.new) }
-    ensures failed { CountsFailure (S.failures src.old) (S.failures src.new) result }
-    ensures full { IsSaturated (S.failures src.old) → IsErr result }
-{
-    let n = src.fill(buffer)?;
-    Ok(&buffer[..n])
 }

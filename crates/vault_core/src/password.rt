@@ -11,14 +11,11 @@ const SCRIPT_MARKER: &[u8; 2] = b"#!";
 
 /// Why a file gives no password, in the order in which the faults are looked for.
 #[derive(Clone, Copy, Debug, PartialEq, Eq, Error)]
+#[error("{}", Fault::from(*self).text())]
 pub enum SecretFault {
-    #[error("a password file is longer than 4096 bytes")]
     SecretTooLong,
-    #[error("a password file is a script")]
     SecretIsScript,
-    #[error("a password file is itself a vault")]
     SecretIsVault,
-    #[error("a password is empty")]
     SecretEmpty,
 }
 

@@ -13,8 +13,8 @@ use vault_text::{Sink, SinkFailed, Stage, put_all, write_block, write_envelope};
 
 /// Why output was not written whole.
 #[derive(Clone, Copy, Debug, PartialEq, Eq, Error)]
+#[error("{}", Fault::from(*self).text())]
 pub enum WriteFault {
-    #[error("the output cannot be written")]
     Write,
 }
 

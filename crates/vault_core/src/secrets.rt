@@ -75,8 +75,8 @@ impl<'p> Default for Secret<'p> {
 
 /// Why a list takes no further secret.
 #[derive(Clone, Copy, Debug, PartialEq, Eq, Error)]
+#[error("{}", Fault::from(*self).text())]
 pub enum ListFault {
-    #[error("more than 16 secrets were given")]
     TooManySecrets,
 }
 
@@ -161,10 +161,8 @@ impl<'p> Secrets<'p> {
         ensures full { IsErr result ↔ (length self.old.secrets ≡ SECRET_COUNT_LIMIT) }
         ensures unchanged { OnErr result (self.new ≡ self.old) }
     {
-        match self.list.try_push(Secret { label, password }) {
-            Ok(()) => Ok(()),
-            Err(_) => Err(ListFault::TooManySecrets),
-        }
+        let pushed = self.list.try_push(Secret { label, password });
+        pushed.map_err(|_| ListFault::TooManySecrets)
     }
 
     /// The index, from 0, of the secret to encrypt with: the first of the label, or the only one if

@@ -2,7 +2,8 @@
 ghost use Rattle.std.specs.Prelude.{◌≡◌, ◌+◌, ◌<◌, ◌^◌, Some, None, if◌then◌else◌, length};
 ghost use Rattle.std.specs.Prelude.{filter, find};
 ghost use Rattle.std.specs.Option.{option_map};
-ghost use Rattle.vault_core.specs.TriedSecrets.{is_in, matches, keys_of, tries};
+ghost use Rattle.vault_core.specs.TriedSecrets.{matches, keys_of, tries};
+ghost use Rattle.vault_core.specs.Group.{is_member};
 ghost use Rattle.vault_core.specs.Secrets.{tried_order};
 
 use crate::secrets::{Secret, Secrets};
@@ -13,7 +14,7 @@ use vault_text::{Label, Payload};
 
 /// The secrets of a list that have the label of an envelope, or those that have another.
 #[derive(Clone, Copy)]
-pub(crate) enum Part {
+pub(crate) enum Group {
     SameLabel,
     OtherLabels,
 }
@@ -38,13 +39,13 @@ pub(crate) fn find_match(secrets: &Secrets, payload: &Payload, meter: &mut Meter
     ensures countable { meter.new < 2 ^ 63 }
 {
     let list = secrets.as_slice();
-    let same = find_match_in(list, Part::SameLabel, payload, meter);
+    let same = search_group(list, Group::SameLabel, payload, meter);
     if same.keys.is_some() {
         return same;
     }
     match secrets.rule() {
         LabelRule::Hint => {
-            let others = find_match_in(list, Part::OtherLabels, payload, meter);
+            let others = search_group(list, Group::OtherLabels, payload, meter);
             Search {
                 tried: same.tried + others.tried,
                 keys: others.keys,
@@ -54,18 +55,18 @@ pub(crate) fn find_match(secrets: &Secrets, payload: &Payload, meter: &mut Meter
     }
 }
 
-/// Tries the secrets of a part, in their order, up to the first that matches the payload.
-fn find_match_in(secrets: &[Secret], part: Part, payload: &Payload, meter: &mut Meter) -> Search
+/// Tries the secrets of a group, in their order, up to the first that matches the payload.
+fn search_group(secrets: &[Secret], group: Group, payload: &Payload, meter: &mut Meter) -> Search
     requires { meter.old + length secrets.now < 2 ^ 63 }
     ensures keys { result.keys ≡ option_map (keys_of payload.now)
-        (find (matches payload.now) (filter (is_in part payload.now.label) secrets.now)) }
+        (find (matches payload.now) (filter (is_member group payload.now.label) secrets.now)) }
     ensures tried { result.tried
-        ≡ tries payload.now (filter (is_in part payload.now.label) secrets.now) }
+        ≡ tries payload.now (filter (is_member group payload.now.label) secrets.now) }
     ensures counted { meter.new ≡ meter.old + result.tried }
 {
     let mut tried = 0;
     for secret in secrets {
-        if is_in(part, payload.label(), secret) {
+        if is_member(group, payload.label(), secret) {
             tried += 1;
             let keys = keys_if_match(secret, payload, meter);
             if keys.is_some() {
@@ -76,13 +77,13 @@ fn find_match_in(secrets: &[Secret], part: Part, payload: &Payload, meter: &mut 
     Search { tried, keys: None }
 }
 
-/// Whether a secret is in the part, for an envelope with this label.
-fn is_in(part: Part, label: &Label, secret: &Secret) -> bool
-    ensures { result ≡ is_in part label.now secret.now }
+/// Whether a secret is in the group, for an envelope with this label.
+fn is_member(group: Group, label: &Label, secret: &Secret) -> bool
+    ensures { result ≡ is_member group label.now secret.now }
 {
-    match part {
-        Part::SameLabel => secret.has_label(label),
-        Part::OtherLabels => !secret.has_label(label),
+    match group {
+        Group::SameLabel => secret.has_label(label),
+        Group::OtherLabels => !secret.has_label(label),
     }
 }
 

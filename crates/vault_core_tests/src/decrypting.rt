@@ -1,24 +1,8 @@
-//! Decrypting: which secrets are tried, and what is refused.
+//! Decrypting: passwords that give the same keys, and what is refused.
 use crate::calls::{assert_decrypts, assert_refuses, one_secret, two_secrets};
 use crate::envelopes::{enciphered, enveloped, sealed};
 use std::test::Fail;
-use vault_core::{Fault, LabelRule};
-
-#[test]
-fn the_label_is_a_hint_or_required(rt: HostRuntime) -> Result<(), Fail> {
-    let alloc = rt.alloc();
-    let mut secrets = two_secrets(b"one", b"two")?;
-    // The vault has the label of its secret, and then that of the other.
-    let right = sealed(alloc, "b", b"two", b"plain")?;
-    assert_decrypts(&rt, alloc, right.as_slice(), &secrets, b"plain", 1)?;
-    let wrong = sealed(alloc, "a", b"two", b"plain")?;
-    assert_decrypts(&rt, alloc, wrong.as_slice(), &secrets, b"plain", 2)?;
-
-    secrets.set_rule(LabelRule::Required);
-    assert_decrypts(&rt, alloc, right.as_slice(), &secrets, b"plain", 1)?;
-    assert_refuses(&rt, alloc, wrong.as_slice(), &secrets, Fault::NoSecretFits);
-    Ok(())
-}
+use vault_core::Fault;
 
 /// HMAC fills a short key with zero bytes, so the two passwords give the same keys.
 #[test]

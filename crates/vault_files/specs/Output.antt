@@ -66,7 +66,7 @@ pub data OutputStep : OutputState → List SystemCall → List ℕ → ℕ → O
   writes_nothing : OutputStep Begun (Write [] ∷ []) [] 1 Begun
   fails_to_finish : OutputStep Begun (Sync ∷ Failed ∷ []) [] 1 Begun
 
--- the same of any number of uses, one after the other
+-- the same of any number of uses, one after the other, of which so many failed
 pub data OutputCalls : OutputState → List SystemCall → List ℕ → ℕ → OutputState → Type 0 where
   no_steps : (s : OutputState) → OutputCalls s [] [] 0 s
   steps : (s t u : OutputState) (calls more : List SystemCall) (xs ys : List ℕ) (m n : ℕ)

@@ -14,7 +14,7 @@ mod runtime;
 
 use crate::fault::FileFault;
 use std::io;
-use vault_text::{Source, SourceFailed, fill_up};
+use vault_text::{Source, fill_up};
 
 /// All that files ask of the system. Each method makes one system call, but `chmod_owner_only` and
 /// `truncate` first ask whether the file is a regular one.
@@ -100,10 +100,7 @@ pub fn open<D: System>(files: &mut D, path: &str) -> Result<D::Reader, FileFault
     ensures fault { IfErr result (λ fault. fault ≡ CannotOpen) }
     ensures missing { IfErr result (λ _. D.finds files.old path.now Missing) }
 {
-    match files.open(path) {
-        Ok(reader) => Ok(reader),
-        Err(_) => Err(FileFault::CannotOpen),
-    }
+    files.open(path).map_err(|_| FileFault::CannotOpen)
 }
 
 /// Reads a prefix of a file into the start of `buf` and returns its length: less than that of `buf`
@@ -117,8 +114,5 @@ pub fn read_prefix<D: System>(files: &mut D, path: &str, buf: &mut [u8]) -> Resu
         Answers (D.finds files.old path.now) (length buf.new) (Err fault)) }
 {
     let mut reader = open(files, path)?;
-    match fill_up(&mut reader, buf) {
-        Ok(n) => Ok(n),
-        Err(SourceFailed) => Err(FileFault::CannotRead),
-    }
+    fill_up(&mut reader, buf).map_err(|_| FileFault::CannotRead)
 }

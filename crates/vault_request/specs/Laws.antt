@@ -17,7 +17,7 @@ WordsNameACommand = (words : List Text) → fault_of vault_app words ≡ [] → 
 
 -- what a request that was settled is: its labels are labels, and only `encrypt_string` has a STRING
 pub record IsRequest (request : Request) : Type 0 where
-  pub settled : IsSettled request
+  pub settled : IsSettled request.command request.secrets request.new_secret request.salt_text
   pub labels : AllByRecursion (λ file. is_label file.label ≡ true) (files_of request)
   pub string : request.command ≢ EncryptString → request.string ≡ None
 

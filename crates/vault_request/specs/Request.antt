@@ -41,8 +41,9 @@ pub record IsSaltText (text : List ℕ) : Type 0 where
   pub some : 1 ≤ length text
   pub limit : length text ≤ SALT_TEXT_LIMIT
 
--- what is known of each request
-pub record IsSettled (request : Request) : Type 0 where
-  pub count : length request.secrets ≤ SECRET_COUNT_LIMIT
-  pub salt_text : IfSome request.salt_text IsSaltText
-  pub new_secret : is_some request.new_secret ≡ rekeys request.command
+-- what is known of these fields of each request
+pub record IsSettled (command : CommandName) (secrets : List SecretFile)
+    (new : Option SecretFile) (text : Option (List ℕ)) : Type 0 where
+  pub count : length secrets ≤ SECRET_COUNT_LIMIT
+  pub salt_text : IfSome text IsSaltText
+  pub new_secret : is_some new ≡ rekeys command

@@ -13,7 +13,7 @@ pub struct OptionEntry {
 
 pub const VAULT_ID: OptionEntry = OptionEntry {
     name: "vault-id",
-    value_name: "[LABEL@]PATH",
+    value_name: "[LABEL@]SOURCE",
     help: "A password file and, before @, the label of its secret (default: `default`); may be \
         repeated",
 };
@@ -39,7 +39,7 @@ pub const REQUIRE_ID_MATCH: OptionEntry = OptionEntry {
 
 pub const NEW_VAULT_ID: OptionEntry = OptionEntry {
     name: "new-vault-id",
-    value_name: "[LABEL@]PATH",
+    value_name: "[LABEL@]SOURCE",
     help: "The password file of the new secret and, before @, its label (default: `default`); give \
         this or --new-vault-password-file",
 };

@@ -10,7 +10,7 @@ ghost use Rattle.vault_request.specs.Settled.{file_of_id, new_secret_of};
 
 use crate::limits::SALT_TEXT_LIMIT;
 use crate::options::Options;
-use crate::vault_id::{self, SecretPath, SecretPaths};
+use crate::vault_id::{self, BorrowedSecretFile, BorrowedSecretFiles};
 use vault_fault::{Fault, SECRET_COUNT_LIMIT};
 use vault_text::Label;
 
@@ -18,9 +18,9 @@ use vault_text::Label;
 #[derive(Drop)]
 pub(crate) struct Checked<'a> {
     /// The password files of `--vault-id`.
-    pub labelled: SecretPaths<'a>,
+    pub labelled: BorrowedSecretFiles<'a>,
     /// What `rekey` seals with.
-    pub new_secret: Option<SecretPath<'a>>,
+    pub new_secret: Option<BorrowedSecretFile<'a>>,
     /// The label of the secret to encrypt with.
     pub choice: Option<Label>,
 }
@@ -63,7 +63,7 @@ fn check_count(options: &Options<'_, '_>) -> Result<(), Fault>
 }
 
 /// What `rekey` seals with; refused if not exactly one new secret is given.
-fn new_secret_of<'a>(options: &Options<'_, 'a>) -> Result<Option<SecretPath<'a>>, Fault>
+fn new_secret_of<'a>(options: &Options<'_, 'a>) -> Result<Option<BorrowedSecretFile<'a>>, Fault>
     ensures file { IfOk result (λ file. file ≡ new_secret_of options.now) }
     ensures refused { result_err result ≡ rekey_fault options.now }
 {
@@ -72,7 +72,7 @@ fn new_secret_of<'a>(options: &Options<'_, 'a>) -> Result<Option<SecretPath<'a>>
     }
     match (options.new_vault_id, options.new_password_file) {
         (Some(id), None) => Ok(Some(vault_id::parse(id)?)),
-        (None, Some(path)) => Ok(Some(SecretPath::with_default_label(path))),
+        (None, Some(path)) => Ok(Some(BorrowedSecretFile::with_default_label(path))),
         _ => Err(Fault::NeedNewSecret),
     }
 }
@@ -107,10 +107,7 @@ fn chosen_label(label: Option<&str>) -> Result<Option<Label>, Fault>
     ensures refused { result_err result ≡ label_fault (option_copied label.entry) }
 {
     match label {
-        Some(label) => match Label::new(label) {
-            Ok(label) => Ok(Some(label)),
-            Err(_) => Err(Fault::BadLabel),
-        },
+        Some(label) => Ok(Some(Label::new(label)?)),
         None => Ok(None),
     }
 }

@@ -64,19 +64,8 @@ impl Model for Request {
       output = option_map string_bytes r.output;
     } };
 
-    ghost invariant = { λ r. IsSettled (record {
-      command = r.command;
-      secrets = r.secrets.items;
-      new_secret = r.new_secret;
-      choice = r.choice;
-      name = option_map string_bytes r.name;
-      string = option_map string_bytes r.string;
-      salt_text = option_map string_bytes r.salt_text;
-      salt_path = option_map string_bytes r.salt_path;
-      rule = r.rule;
-      input = option_map string_bytes r.input;
-      output = option_map string_bytes r.output;
-    }) };
+    ghost invariant = { λ r. IsSettled r.command r.secrets.items r.new_secret
+        (option_map string_bytes r.salt_text) };
 }
 
 impl Request {

@@ -17,7 +17,7 @@ use crate::options::Options;
 use crate::refusals::{Checked, check};
 use crate::request::{Request, SecretFile};
 use crate::salt_file::salt_path_of;
-use crate::vault_id::SecretPath;
+use crate::vault_id::BorrowedSecretFile;
 use clap::ArgMatches;
 use std::alloc::{AllocError, Global};
 use vault_fault::Fault;
@@ -33,7 +33,7 @@ fn command_in<'m, 'a>(matches: &'m ArgMatches<'a>) -> Option<(CommandName, &'m A
 }
 
 /// The password file of a request.
-fn file_of(alloc: Global, found: &SecretPath<'_>) -> Result<SecretFile, AllocError>
+fn file_of(alloc: Global, found: &BorrowedSecretFile<'_>) -> Result<SecretFile, AllocError>
     ensures { IfOk result (λ file. file ≡ found.now) }
 {
     let label = found.label.copy();
@@ -45,7 +45,7 @@ fn file_of(alloc: Global, found: &SecretPath<'_>) -> Result<SecretFile, AllocErr
 fn add_labelled(
     alloc: Global,
     files: &mut Vec<SecretFile>,
-    labelled: &[SecretPath<'_>],
+    labelled: &[BorrowedSecretFile<'_>],
 ) -> Result<(), Fault>
     ensures added { OnOk result (files.new.items ≡ files.old.items ++ labelled.now) }
     ensures refused { IfErr result (λ fault. fault ≡ Memory) }
@@ -63,7 +63,7 @@ fn add_unlabelled(alloc: Global, files: &mut Vec<SecretFile>, paths: &[&str]) ->
     ensures refused { IfErr result (λ fault. fault ≡ Memory) }
 {
     for path in paths {
-        files.push(file_of(alloc, &SecretPath::with_default_label(path))?)?;
+        files.push(file_of(alloc, &BorrowedSecretFile::with_default_label(path))?)?;
     }
     Ok(())
 }
@@ -81,7 +81,7 @@ fn copied(alloc: Global, text: Option<&str>) -> Result<Option<String>, AllocErro
 
 fn secret_files_of(
     alloc: Global,
-    labelled: &[SecretPath<'_>],
+    labelled: &[BorrowedSecretFile<'_>],
     paths: &[&str],
 ) -> Result<Vec<SecretFile>, Fault>
     ensures files { IfOk result (λ files. files.items
@@ -97,7 +97,7 @@ fn secret_files_of(
 /// What `rekey` seals with.
 fn new_file_of(
     alloc: Global,
-    new_secret: Option<&SecretPath<'_>>,
+    new_secret: Option<&BorrowedSecretFile<'_>>,
 ) -> Result<Option<SecretFile>, AllocError>
     ensures { IfOk result (λ file. file ≡ option_copied new_secret.entry) }
 {

@@ -10,14 +10,14 @@ use std::marker::Model;
 use vault_fault::{Fault, SECRET_COUNT_LIMIT};
 use vault_text::Label;
 
-/// The path of a password file as the command line has it, and the label of its secret.
+/// A `SecretFile` whose path lies in the command line.
 #[derive(Drop)]
-pub(crate) struct SecretPath<'a> {
+pub(crate) struct BorrowedSecretFile<'a> {
     pub label: Label,
     pub path: &'a str,
 }
 
-impl<'a> Model for SecretPath<'a> {
+impl<'a> Model for BorrowedSecretFile<'a> {
     ghost use Rattle.vault_request.specs.Request.{SecretFile};
 
     ghost Value = { SecretFile };
@@ -25,12 +25,12 @@ impl<'a> Model for SecretPath<'a> {
     ghost view = { λ f. record { label = f.label; path = f.path.now } };
 }
 
-impl<'a> SecretPath<'a> {
+impl<'a> BorrowedSecretFile<'a> {
     /// A password file of `--vault-password-file`, with the label `default`.
     pub(crate) fn with_default_label(path: &'a str) -> Self
         ensures { result ≡ file_of_path path.now }
     {
-        SecretPath {
+        BorrowedSecretFile {
             label: Label::default_label(),
             path,
         }
@@ -38,14 +38,14 @@ impl<'a> SecretPath<'a> {
 }
 
 /// An unused place of a list.
-impl<'a> Default for SecretPath<'a> {
+impl<'a> Default for BorrowedSecretFile<'a> {
     fn default() -> Self {
-        SecretPath::with_default_label("")
+        BorrowedSecretFile::with_default_label("")
     }
 }
 
 /// The password files of the vault ids of a command line.
-pub(crate) type SecretPaths<'a> = ArrayVec<SecretPath<'a>, SECRET_COUNT_LIMIT>;
+pub(crate) type BorrowedSecretFiles<'a> = ArrayVec<BorrowedSecretFile<'a>, SECRET_COUNT_LIMIT>;
 
 /// The parts before and after the first `@`; all is source if there is none.
 fn split(id: &str) -> (&str, &str)
@@ -59,22 +59,20 @@ fn split(id: &str) -> (&str, &str)
 }
 
 /// Reads a vault id; refused if the label is not allowed, or if the source is `prompt`.
-pub(crate) fn parse(id: &str) -> Result<SecretPath<'_>, Fault>
+pub(crate) fn parse(id: &str) -> Result<BorrowedSecretFile<'_>, Fault>
     ensures file { IfOk result (λ file. file ≡ file_of_id id.now) }
     ensures refused { result_err result ≡ fault_of_id id.now }
 {
     let (label, path) = split(id);
-    let Ok(label) = Label::new_or_default(label) else {
-        return Err(Fault::BadLabel);
-    };
+    let label = Label::new_or_default(label)?;
     if path == "prompt" {
         return Err(Fault::PromptSource);
     }
-    Ok(SecretPath { label, path })
+    Ok(BorrowedSecretFile { label, path })
 }
 
 /// Reads vault ids in their order; refused by the first that has a fault.
-pub(crate) fn parse_all<'a>(ids: &[&'a str]) -> Result<SecretPaths<'a>, Fault>
+pub(crate) fn parse_all<'a>(ids: &[&'a str]) -> Result<BorrowedSecretFiles<'a>, Fault>
     requires { length ids.now ≤ SECRET_COUNT_LIMIT }
     ensures files { IfOk result (λ files.
         files.items ≡ map file_of_id (map (λ id. id.now) ids.now)) }

@@ -3,12 +3,10 @@ use crate::ran::Left;
 use crate::sinks::{assert_output_leaves, output_failed};
 use crate::sources::{assert_program_reports_read, assert_read_reported};
 use crate::trial::Trial;
-use crate::watched::Watched;
 use std::alloc::Global;
 use std::process::Abort;
 use std::test::Fail;
-use vault_made::{block, envelope, spelled};
-use vault_text::{FailingSink, Label, Salt, Sink, write_envelope};
+use vault_made::{block, envelope};
 
 const ONE: &[&[u8]] = &[b"one\n"];
 
@@ -110,34 +108,4 @@ fn reports_each_write_of_rekey_that_fails(rt: HostRuntime) -> Result<(), Fail> {
     let vault = envelope(alloc, "default", b"one", ZEROS, b"text")?;
     let rekeyed = envelope(alloc, "default", b"two", ZEROS, b"text")?;
     assert_writes_reported(&rt, alloc, REKEY, TWO, vault.as_slice(), rekeyed.as_slice())
-}
-
-/// Writes the envelope of the label "b" and of zeros to a sink that takes one byte a call and
-/// fails after `calls` of them. What it took is the beginning of the whole.
-fn assert_writes_prefix(
-    rt: &impl Abort,
-    alloc: Global,
-    whole: &[u8],
-    calls: usize,
-) -> Result<(), Fail> {
-    let label = Label::new("b")?;
-    let salt = Salt::new(ZEROS).ok_or("the salt is too long")?;
-    let mut sink = Watched::new(FailingSink::new(alloc, 1, calls));
-    sink.begin()?;
-    let written = write_envelope(&mut sink, &label, &salt, ZEROS, &[0; 64]);
-    let taken = (written.is_ok(), Some(sink.device.bytes()), sink.asked_after);
-    let expected = (calls == 552, whole.get(..calls.saturating_sub(1)), 0);
-    assert_eq!(rt; taken, expected, "{calls}");
-    Ok(())
-}
-
-#[test]
-fn writes_a_prefix_of_an_envelope(rt: HostRuntime) -> Result<(), Fail> {
-    let alloc = rt.alloc();
-    let whole = spelled(alloc, "b", ZEROS, ZEROS, &[0; 64])?;
-    assert_eq!(rt; whole.len(), 551);
-    for calls in 1..=552 {
-        assert_writes_prefix(&rt, alloc, whole.as_slice(), calls)?;
-    }
-    Ok(())
 }

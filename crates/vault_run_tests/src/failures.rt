@@ -1,8 +1,7 @@
 //! Runs whose devices fail.
 use crate::program::LINUX_FILE;
 use crate::ran::Left;
-use crate::sinks::{Calls, assert_leaves, assert_output_leaves, output_failed};
-use crate::sources::assert_read_reported;
+use crate::sinks::{Calls, assert_leaves, output_failed};
 use crate::trial::Trial;
 use std::alloc::{AllocError, Global};
 use std::fs::Files;
@@ -10,7 +9,7 @@ use std::process::Abort;
 use std::test::Fail;
 use vault_cli::{Status, drive};
 use vault_core_tests::{CountingReader, NarrowWriter, line_of};
-use vault_made::{EMPTY_ENVELOPE, envelope};
+use vault_made::envelope;
 
 const DECRYPT: &[&str] = &["decrypt", "--vault-password-file", "one"];
 
@@ -22,43 +21,9 @@ const WRITE_FAILED: &[u8] = b"ERROR! the output cannot be written\n";
 
 const NO_VAULT: &str = "ERROR! input is not vault encrypted data\n";
 
-/// The source fails at its first call, in the middle, and where its end would come.
-#[test]
-fn writes_nothing_where_the_source_fails(rt: HostRuntime) -> Result<(), Fail> {
-    let alloc = rt.alloc();
-    let trial = Trial::new(DECRYPT, FIRST, &[]);
-    assert_read_reported(&rt, alloc, &trial, EMPTY_ENVELOPE, 0)?;
-    assert_read_reported(&rt, alloc, &trial, EMPTY_ENVELOPE, 1)?;
-    assert_read_reported(&rt, alloc, &trial, EMPTY_ENVELOPE, 3)?;
-    assert_read_reported(&rt, alloc, &trial, EMPTY_ENVELOPE, 160)
-}
-
 /// A vault of the plaintext.
 fn vault_of_first(alloc: Global) -> Result<Vec<u8>, AllocError> {
     envelope(alloc, "default", b"first", &[7; 32], PLAINTEXT)
-}
-
-/// The sink takes one byte a call and fails after `calls` of them, and has taken this.
-fn assert_prefix_left(
-    rt: &impl Abort,
-    alloc: Global,
-    vault: &[u8],
-    calls: usize,
-    output: &[u8],
-) -> Result<(), Fail> {
-    let trial = Trial::new(DECRYPT, FIRST, &[]);
-    let expected = output_failed(calls > 0, output);
-    assert_output_leaves(rt, alloc, &trial, vault, calls, expected)
-}
-
-/// The sink fails at `begin`, in the middle of the bytes, and at `finish`.
-#[test]
-fn leaves_a_prefix_where_the_sink_fails(rt: HostRuntime) -> Result<(), Fail> {
-    let alloc = rt.alloc();
-    let vault = vault_of_first(alloc)?;
-    assert_prefix_left(&rt, alloc, vault.as_slice(), 0, b"")?;
-    assert_prefix_left(&rt, alloc, vault.as_slice(), 101, &PLAINTEXT[..100])?;
-    assert_prefix_left(&rt, alloc, vault.as_slice(), 201, PLAINTEXT)
 }
 
 /// How many bytes the writer of the output takes, and that of the message.

@@ -1,5 +1,5 @@
 //! Tests of whole runs: what each command writes; envelopes that are damaged, or spelled otherwise
-//! than they are written; inputs at the limits; password files that are none; devices that fail.
+//! than they are written; inputs at the limits; devices that fail.
 #![tactic(auto)]
 
 #[cfg(test)]
@@ -16,10 +16,6 @@ mod leaving;
 mod limits;
 #[cfg(test)]
 mod long_ciphertext;
-#[cfg(test)]
-mod opened_files;
-#[cfg(test)]
-mod password_files;
 #[cfg(test)]
 mod program;
 #[cfg(test)]

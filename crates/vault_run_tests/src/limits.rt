@@ -66,25 +66,6 @@ fn take_the_longest_plaintext(rt: HostRuntime) -> Result<(), Fail> {
     Ok(())
 }
 
-/// The vault, read in steps, is decrypted to this plaintext.
-fn assert_decrypts_in_steps(
-    rt: &impl Abort,
-    alloc: Global,
-    vault: &[u8],
-    step: usize,
-    plaintext: &[u8],
-) -> Result<(), Fail> {
-    let mut reader = CountingReader::new(vault, step);
-    let ran = Trial::new(DECRYPT, ONE, &[])
-        .at_the_limit()
-        .run_on_reader(alloc, &mut reader)?;
-    assert!(rt;
-        ran.left() == Left::success(plaintext),
-        "in steps of {step}"
-    );
-    Ok(())
-}
-
 /// A plaintext of 15 bytes more than `encrypt` takes fills the longest ciphertext with its padding.
 /// The step of the source changes nothing.
 #[test]
@@ -93,10 +74,14 @@ fn take_the_longest_envelope(rt: HostRuntime) -> Result<(), Fail> {
     let plaintext = repeated(alloc, b'p', 16_777_231)?;
     let plaintext = plaintext.as_slice();
     let vault = vault_of(alloc, plaintext)?;
-    let vault = vault.as_slice();
-    assert_decrypts_in_steps(&rt, alloc, vault, 1, plaintext)?;
-    assert_decrypts_in_steps(&rt, alloc, vault, 7, plaintext)?;
-    assert_decrypts_in_steps(&rt, alloc, vault, 4_096, plaintext)
+    let trial = Trial::new(DECRYPT, ONE, &[]).at_the_limit();
+    assert_leaves(
+        &rt,
+        alloc,
+        &trial,
+        vault.as_slice(),
+        Left::success(plaintext),
+    )
 }
 
 /// The same vault under another password, label and salt: more than `encrypt` takes is sealed anew.
@@ -109,7 +94,7 @@ fn rekey_the_longest_envelope(rt: HostRuntime) -> Result<(), Fail> {
     let rekeyed = envelope(alloc, "prod", b"two", &[1; 32], plaintext)?;
     let left = Left::success(rekeyed.as_slice());
     let trial = Trial::new(REKEY, TWO, &[1; 32]).at_the_limit();
-    assert_leaves_in_steps(&rt, alloc, &trial, vault.as_slice(), 4_096, left)
+    assert_leaves(&rt, alloc, &trial, vault.as_slice(), left)
 }
 
 /// A limit of one MiB would end before it.
@@ -157,20 +142,30 @@ const ENDLESS_DAMAGED: Long<'static> = Long {
     ..ENDLESS
 };
 
-/// The input is refused with its line, after `long.read` bytes of it.
-fn assert_refused(rt: &impl Abort, alloc: Global, long: &Long<'_>) -> Result<(), Fail> {
+/// The input, read in steps, is refused with its line, after `long.read` bytes of it.
+fn assert_refused_in_steps(
+    rt: &impl Abort,
+    alloc: Global,
+    long: &Long<'_>,
+    step: usize,
+) -> Result<(), Fail> {
     let length = long.length;
-    let mut reader = CountingReader::with_line_feeds(long.prefix, length, 65_536);
+    let mut reader = CountingReader::with_line_feeds(long.prefix, length, step);
     let ran = Trial::new(long.words, ONE, &[0; 32])
         .at_the_limit()
         .run_on_reader(alloc, &mut reader)?;
     assert_left(rt, long.words, &ran, Left::refused(long.line));
-    assert_eq!(rt; reader.given, long.read, "{length}");
+    assert_eq!(rt; reader.given, long.read, "{length} in steps of {step}");
     Ok(())
 }
 
+/// The same in long steps.
+fn assert_refused(rt: &impl Abort, alloc: Global, long: &Long<'_>) -> Result<(), Fail> {
+    assert_refused_in_steps(rt, alloc, long, 65_536)
+}
+
 /// Inputs that are too long by one byte or without end, where damage to the body comes after that;
-/// and damaged ones up to the limit, of which the shorter is longer than a limit of one MiB allows.
+/// and a damaged one that is longer than a limit of one MiB allows.
 #[test]
 fn are_refused(rt: HostRuntime) -> Result<(), Fail> {
     let alloc = rt.alloc();
@@ -186,25 +181,45 @@ fn are_refused(rt: HostRuntime) -> Result<(), Fail> {
         ..ENDLESS
     };
     assert_refused(&rt, alloc, &header_alone)?;
-    let too_long = Long {
-        length: 100_671_489,
-        ..ENDLESS_DAMAGED
-    };
-    assert_refused(&rt, alloc, &too_long)?;
     assert_refused(&rt, alloc, &ENDLESS_DAMAGED)?;
-    assert_damage_reported(&rt, alloc, 6_299_649)?;
-    assert_damage_reported(&rt, alloc, 100_671_488)
+    assert_refused(&rt, alloc, &damaged(6_299_649))
 }
 
-/// A damaged vault of this length is read as a whole, and refused for its damage.
-fn assert_damage_reported(rt: &impl Abort, alloc: Global, length: usize) -> Result<(), Fail> {
-    let damaged = Long {
+/// A damaged vault of this length, which is read as a whole.
+fn damaged(length: usize) -> Long<'static> {
+    Long {
         length,
         read: length,
         line: NOT_HEXADECIMAL,
         ..ENDLESS_DAMAGED
+    }
+}
+
+/// The same at three steps.
+fn assert_refused_at_each_step(
+    rt: &impl Abort,
+    alloc: Global,
+    long: &Long<'_>,
+) -> Result<(), Fail> {
+    for step in [1, 7, 4_096] {
+        assert_refused_in_steps(rt, alloc, long, step)?;
+    }
+    Ok(())
+}
+
+#[test]
+fn tell_the_damage_up_to_the_limit(rt: HostRuntime) -> Result<(), Fail> {
+    assert_refused_at_each_step(&rt, rt.alloc(), &damaged(100_671_488))
+}
+
+/// The length comes before the damage.
+#[test]
+fn tell_the_length_past_the_limit(rt: HostRuntime) -> Result<(), Fail> {
+    let too_long = Long {
+        length: 100_671_489,
+        ..ENDLESS_DAMAGED
     };
-    assert_refused(rt, alloc, &damaged)
+    assert_refused_at_each_step(&rt, rt.alloc(), &too_long)
 }
 
 /// At the limit itself the input is read, and what it holds is reported.

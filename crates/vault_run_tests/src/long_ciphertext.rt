@@ -2,7 +2,7 @@
 ghost use Rattle.std.specs.Prelude.{◌≡◌, ◌<◌, length};
 ghost use Rattle.vault_text.specs.declared.limits.TheConstants.{CIPHERTEXT_LIMIT};
 
-use crate::leaving::assert_leaves_in_steps;
+use crate::leaving::assert_leaves;
 use crate::ran::Left;
 use crate::trial::Trial;
 use std::alloc::{AllocError, Global};
@@ -60,25 +60,26 @@ fn ended(vault: &Vec<u8>, end: &[u8]) -> Result<Vec<u8>, AllocError> {
 }
 
 /// The envelope with this end is refused with its line.
-fn assert_refused(
-    rt: &impl Abort,
-    alloc: Global,
-    prefix: &Vec<u8>,
-    end: &End<'_>,
-) -> Result<(), Fail> {
-    let vault = ended(prefix, end.bytes)?;
+fn assert_refused(rt: &impl Abort, alloc: Global, end: &End<'_>) -> Result<(), Fail> {
+    let vault = ended(&prefix(rt, alloc)?, end.bytes)?;
     let trial = Trial::new(DECRYPT, FIRST, &[]).at_the_limit();
     let left = Left::refused(end.line);
-    assert_leaves_in_steps(rt, alloc, &trial, vault.as_slice(), 4_096, left)
+    assert_leaves(rt, alloc, &trial, vault.as_slice(), left)
+}
+
+#[test]
+fn is_refused_for_its_last_digit(rt: HostRuntime) -> Result<(), Fail> {
+    assert_refused(&rt, rt.alloc(), &NO_DIGIT)
+}
+
+#[test]
+fn is_refused_for_its_last_inner_digit(rt: HostRuntime) -> Result<(), Fail> {
+    assert_refused(&rt, rt.alloc(), &NO_INNER_DIGIT)
 }
 
 #[test]
 fn is_refused(rt: HostRuntime) -> Result<(), Fail> {
-    let alloc = rt.alloc();
-    let prefix = prefix(&rt, alloc)?;
-    assert_refused(&rt, alloc, &prefix, &NO_DIGIT)?;
-    assert_refused(&rt, alloc, &prefix, &NO_INNER_DIGIT)?;
-    assert_refused(&rt, alloc, &prefix, &ONE_BYTE_MORE)
+    assert_refused(&rt, rt.alloc(), &ONE_BYTE_MORE)
 }
 
 /// The fault of reading these bytes in steps, without a request.

@@ -1,4 +1,4 @@
-//! Runs of `rekey`, and of commands with a label that is required.
+//! Runs of `rekey`.
 use crate::leaving::assert_leaves;
 use crate::ran::Left;
 use crate::trial::Trial;
@@ -77,46 +77,4 @@ fn rekeys(rt: HostRuntime) -> Result<(), Fail> {
     let trial = Trial::new(REKEY_REQUIRED, FILES, &[1; 32]);
     assert_leaves(&rt, alloc, &trial, vault.as_slice(), left)?;
     assert_rekeyed(&rt, alloc, rekeyed.as_slice())
-}
-
-/// Of two secrets that have the labels `a` and `b`, one opens a vault under this label, with its
-/// password; where the label is required, none does.
-fn assert_label_required(
-    rt: &impl Abort,
-    alloc: Global,
-    label: &str,
-    password: &[u8],
-) -> Result<(), Fail> {
-    let vault = envelope(alloc, label, password, &[7; 32], b"text")?;
-    let vault = vault.as_slice();
-    let words = ["view", "--vault-id=a@f1", "--vault-id=b@f2"];
-    let hint = Trial::new(&words, FILES, b"");
-    assert_leaves(rt, alloc, &hint, vault, Left::success(b"text"))?;
-    let words = [
-        "view",
-        "--vault-id=a@f1",
-        "--vault-id=b@f2",
-        "--require-id-match",
-    ];
-    let required = Trial::new(&words, FILES, b"");
-    assert_leaves(rt, alloc, &required, vault, Left::refused(NO_SECRET_FITS))
-}
-
-#[test]
-fn requires_a_label(rt: HostRuntime) -> Result<(), Fail> {
-    let alloc = rt.alloc();
-    assert_label_required(&rt, alloc, "a", b"two")?;
-    assert_label_required(&rt, alloc, "c", b"one")
-}
-
-#[test]
-fn requires_the_default_label(rt: HostRuntime) -> Result<(), Fail> {
-    let alloc = rt.alloc();
-    let vault = envelope(alloc, "default", b"one", &[0; 32], b"")?;
-    let vault = vault.as_slice();
-    let words = ["decrypt", "--vault-password-file=f1", "--require-id-match"];
-    assert_answers(&rt, alloc, &words, b"one\n", vault, Left::success(b""))?;
-    let words = ["decrypt", "--vault-id=x@f1", "--require-id-match"];
-    let refused = Left::refused(NO_SECRET_FITS);
-    assert_answers(&rt, alloc, &words, b"one\n", vault, refused)
 }

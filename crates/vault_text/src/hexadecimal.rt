@@ -6,13 +6,8 @@ ghost use Rattle.hex.specs.Hex.{hex_digit_value, is_hex_digit};
 ghost use Rattle.vault_text.specs.Hexadecimal.{Decodes, byte_count, new_decoder, unhex, unhex_on};
 ghost use Rattle.vault_text.specs.Hexadecimal.{value_or_invalid};
 
+use crate::line::{LINE_BYTES, LINE_CIPHERTEXT};
 use std::marker::Model;
-
-/// How many digits are decoded at once. A line of an envelope has twice as many digits, which spell
-/// as many of the inner text.
-const BLOCK_DIGITS: usize = 40;
-
-const BLOCK_BYTES: usize = BLOCK_DIGITS / 2;
 
 /// The largest value of a digit.
 const LARGEST: u8 = 15;
@@ -39,37 +34,37 @@ fn decode_pairs(pairs: &[u8], bytes: &mut [u8]) -> bool
 {
     let mut is_good = true;
     let mut done = 0;
-    while bytes.len() - done >= BLOCK_BYTES {
-        let end = done + BLOCK_BYTES;
+    while bytes.len() - done >= LINE_CIPHERTEXT {
+        let end = done + LINE_CIPHERTEXT;
         is_good &= decode_block(&pairs[2 * done..2 * end], &mut bytes[done..end]);
         done = end;
     }
     is_good & decode_one_by_one(&pairs[2 * done..], &mut bytes[done..])
 }
 
-/// Decodes a block of digits, which always has the same length, so that the compiler can use vector
-/// instructions.
+/// Decodes a block of digits: half of a line, or all that a line spells. Its length is always the
+/// same, so that the compiler can use vector instructions.
 // Out of line there is one copy of it, and profiles show what digits cost.
 #[inline(never)]
 fn decode_block(digits: &[u8], bytes: &mut [u8]) -> bool
-    requires digits { length digits.now ≡ BLOCK_DIGITS }
-    requires bytes { length bytes.old ≡ BLOCK_BYTES }
+    requires digits { length digits.now ≡ LINE_BYTES }
+    requires bytes { length bytes.old ≡ LINE_CIPHERTEXT }
     ensures { unhex digits.now ≡ (if result then Some bytes.new else None) }
 {
-    let mut values = [0; BLOCK_DIGITS];
+    let mut values = [0; LINE_BYTES];
     let is_good = digit_values(digits, &mut values);
     join_halves(&values, bytes);
     is_good
 }
 
 /// The values of a block of digits, and whether all were digits.
-fn digit_values(digits: &[u8], values: &mut [u8; BLOCK_DIGITS]) -> bool
-    requires { length digits.now ≡ BLOCK_DIGITS }
+fn digit_values(digits: &[u8], values: &mut [u8; LINE_BYTES]) -> bool
+    requires { length digits.now ≡ LINE_BYTES }
     ensures values { values.new ≡ map value_or_invalid digits.now }
     ensures good { result ≡ list_all is_hex_digit digits.now }
 {
     let mut seen = 0;
-    for place in 0..BLOCK_DIGITS {
+    for place in 0..LINE_BYTES {
         let value = digit_value(digits[place]).unwrap_or(INVALID);
         seen |= value;
         values[place] = value;
@@ -78,12 +73,12 @@ fn digit_values(digits: &[u8], values: &mut [u8; BLOCK_DIGITS]) -> bool
 }
 
 /// Joins the values of a block, each two to a byte.
-fn join_halves(values: &[u8; BLOCK_DIGITS], bytes: &mut [u8])
-    requires { length bytes.old ≡ BLOCK_BYTES }
+fn join_halves(values: &[u8; LINE_BYTES], bytes: &mut [u8])
+    requires { length bytes.old ≡ LINE_CIPHERTEXT }
     ensures { (digits : List ℕ) → values.now ≡ map value_or_invalid digits
         → list_all is_hex_digit digits ≡ true → unhex digits ≡ Some bytes.new }
 {
-    for place in 0..BLOCK_BYTES {
+    for place in 0..LINE_CIPHERTEXT {
         bytes[place] = values[2 * place] << 4 | values[2 * place + 1];
     }
 }

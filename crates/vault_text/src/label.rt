@@ -66,10 +66,9 @@ impl Label {
         if !is_label(text.as_bytes()) {
             return Err(BadLabel);
         }
-        match ArrayString::from(text) {
-            Ok(text) => Ok(Label { text }),
-            Err(_) => Err(BadLabel),
-        }
+        Ok(Label {
+            text: ArrayString::from(text).unwrap(),
+        })
     }
 
     /// The label of this text, `default` if it is empty.

@@ -18,6 +18,7 @@ mod hexadecimal;
 mod label;
 pub mod laws;
 mod limits;
+mod line;
 mod payload;
 mod reader;
 mod salt;

@@ -15,16 +15,9 @@ use crate::fault::TextFault;
 use crate::limits::{PADDING_LIMIT, envelope_limit};
 use crate::payload::Payload;
 use crate::text_memory::TextMemory;
-use crate::writing::LINE_BYTES;
 use body::BodyReader;
 use header_line::HeaderLine;
 use std::marker::Model;
-
-/// How many bytes of the inner text are decoded at once: as many as a written line spells.
-const CHUNK_LIMIT: usize = LINE_BYTES;
-
-/// How many bytes of a part of the inner text the digits of a chunk can complete.
-const CHUNK_BYTES: usize = CHUNK_LIMIT / 2;
 
 /// Reads an envelope that comes in pieces of any length. Only `finish` reports a fault, since one
 /// that comes earlier in the order may still be found. The ciphertext lies in the memory

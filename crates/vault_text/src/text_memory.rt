@@ -12,9 +12,9 @@ pub(crate) enum Place<'a> {
     Reserved(&'a mut Vec<u8>),
 }
 
-/// Memory for one text, which grows at its end up to a limit and never asks for more memory. A
-/// borrowed slice was touched as a whole when it was made; of a vector's capacity no more is
-/// touched than the text takes.
+/// Memory for one text, which grows at its end up to a limit and never asks for more memory. The
+/// bytes of a slice were all written when it was made. The system provides a vector's capacity only
+/// as far as the text reaches, so a short text takes little memory.
 #[derive(Drop)]
 pub struct TextMemory<'a> {
     place: Place<'a>,

@@ -17,7 +17,6 @@ use crate::sink::{Sink, SinkFailed, Stage};
 pub use block::write_block;
 use body::{first_lines, put_ciphertext};
 use lines::{HEAD_ROOM, INDENTATION_LIMIT, TEXT_LIMIT, Text, append, append_lines};
-pub(crate) use lines::{LINE_BYTES, LINE_DIGITS};
 
 /// What may come before the header line.
 const START_LIMIT: usize = 11;
@@ -44,8 +43,9 @@ pub fn write_envelope<K: Sink>(
     put_lines(sink, &[], &[], label, salt, tag, ciphertext)
 }
 
-/// Writes what begins a text, and the lines of an envelope after an indentation. The header line
-/// goes out with the first lines of the body, so that a reader that leaves after it breaks nothing.
+/// Writes what begins a text, and the lines of an envelope after an indentation. The header line is
+/// put together with the first lines of the body: after `| head -n 1` no write of a short envelope
+/// fails.
 // Inlined, so that the indentation is known.
 #[inline(always)]
 fn put_lines<K: Sink>(

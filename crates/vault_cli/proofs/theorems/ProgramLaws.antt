@@ -15,33 +15,33 @@ use Rattle.vault_request.specs.CommandLine.{vault_app}
 use Rattle.vault_cli.specs.InMemory.{stands_after}
 use Rattle.vault_cli.specs.Laws as run_answers
 use Rattle.vault_request.specs.Laws.{IsRequest, SettledRequests}
-use Rattle.vault_cli.specs.runs.Answer.{input_limit, output_of, performed, ready_by}
+use Rattle.vault_cli.specs.runs.Answer.{input_limit, output_of, prepared, ready_by}
 use Rattle.vault_cli.specs.runs.Answer.{run_answer, run_answer_within, task_limit}
-use Rattle.vault_cli.specs.Program.{input_in, can_open_input, output_path}
+use Rattle.vault_cli.specs.Program.{input_from, can_open_input, output_path}
 use Rattle.vault_cli.specs.ProgramLaws.{ProgramEncryptsThenDecrypts, IsInput, ProgramIsRun}
 use Rattle.vault_cli.specs.ProgramLaws.{ProgramKeepsThePlaintext, Run, WrittenIsRead, answer}
 use Rattle.vault_request.specs.Request.{Request}
 use Rattle.vault_request.specs.Settled.{requested_by, command_in, settled}
-use Rattle.vault_cli.specs.runs.Task.{Task, planned}
+use Rattle.vault_cli.specs.runs.Task.{Task, task_of}
 use Rattle.vault_request.specs.declared.command_name.CommandName.{CommandName}
-use Rattle.vault_cli.proofs.PlannedLemmas.{keeps-planned}
+use Rattle.vault_cli.proofs.TaskSoundLemmas.{keeps-task_of}
 use Rattle.vault_cli.proofs.ProgramLemmas.{task-found}
-use Rattle.vault_cli.proofs.TaskLemmas.{performed-prefix}
+use Rattle.vault_cli.proofs.TaskLemmas.{prepared-prefix}
 
 -- ---- the prefix of a file that is read is enough
 
-prefix-enough : (limit amount : ℕ) (plans : Result Task Fault) (string : Option (List ℕ))
-    (text : List ℕ) → ((task : Task) → plans ≡ Ok task → task_limit limit task ≡ amount)
-    → ready_by limit plans string (Ok (take (amount + 1) text))
-    ≡ ready_by limit plans string (Ok text)
+prefix-enough : (limit amount : ℕ) (task_or_fault : Result Task Fault) (string : Option (List ℕ))
+    (text : List ℕ) → ((task : Task) → task_or_fault ≡ Ok task → task_limit limit task ≡ amount)
+    → ready_by limit task_or_fault string (Ok (take (amount + 1) text))
+    ≡ ready_by limit task_or_fault string (Ok text)
 prefix-enough limit amount (Err fault) string text takes = refl
 prefix-enough limit amount (Ok task) (Some string) text takes = refl
 prefix-enough limit amount (Ok task) None text takes = elim (cases_lt amount (length text)) [
   | inl long ↦
-      performed-prefix limit task false text (take (amount + 1) text) (drop (amount + 1) text)
+      prepared-prefix limit task false text (take (amount + 1) text) (drop (amount + 1) text)
       (sym (take-append-drop (amount + 1) text)) (λ ended. absurd cc)
       (inr (omega (arith, long, length-take (amount + 1) text, takes task refl)))
-  | inr short ↦ ap (performed limit task) (take_all (amount + 1) text (omega (arith, short)))
+  | inr short ↦ ap (prepared limit task) (take_all (amount + 1) text (omega (arith, short)))
 ]
 
 can_open-input : (file : Option FileState) (stdin input : List ℕ) → IsInput file stdin input
@@ -49,14 +49,15 @@ can_open-input : (file : Option FileState) (stdin input : List ℕ) → IsInput 
 can_open-input None stdin input is_input = refl
 can_open-input (Some file) stdin input is_input = rw is_input refl
 
-ready_by-input : (limit amount : ℕ) (plans : Result Task Fault) (string : Option (List ℕ))
+ready_by-input : (limit amount : ℕ) (task_or_fault : Result Task Fault) (string : Option (List ℕ))
     (file : Option FileState) (stdin input : List ℕ)
-    → ((task : Task) → plans ≡ Ok task → task_limit limit task ≡ amount) → IsInput file stdin input
-    → ready_by limit plans string (input_in (amount + 1) file stdin)
-    ≡ ready_by limit plans string (Ok input)
-ready_by-input limit amount plans string None stdin input takes is_input = rw is_input
-ready_by-input limit amount plans string (Some file) stdin input takes is_input =
-    rw is_input (prefix-enough limit amount plans string input takes)
+    → ((task : Task) → task_or_fault ≡ Ok task → task_limit limit task ≡ amount)
+    → IsInput file stdin input
+    → ready_by limit task_or_fault string (input_from (amount + 1) file stdin)
+    ≡ ready_by limit task_or_fault string (Ok input)
+ready_by-input limit amount task_or_fault string None stdin input takes is_input = rw is_input
+ready_by-input limit amount task_or_fault string (Some file) stdin input takes is_input =
+    rw is_input (prefix-enough limit amount task_or_fault string input takes)
 
 pub program_is_run : ProgramIsRun
 unfolding run_answer_within
@@ -66,10 +67,10 @@ program_is_run run =
     rw (run.requested, found)
     (ap output_of
     (ready_by-input PLAINTEXT_LIMIT (input_limit PLAINTEXT_LIMIT run.request.command)
-    (planned run.request run.contents run.salt) run.request.string run.files.input run.stdin
+    (task_of run.request run.contents run.salt) run.request.string run.files.input run.stdin
     run.input
     (λ task is.
-    (rw is at (keeps-planned run.request run.salt run.contents)).0 PLAINTEXT_LIMIT) run.is_input))
+    (rw is at (keeps-task_of run.request run.salt run.contents)).0 PLAINTEXT_LIMIT) run.is_input))
 
 -- ---- arguments make requests of which the laws speak
 

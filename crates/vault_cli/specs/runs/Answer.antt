@@ -15,7 +15,7 @@ use Rattle.vault_fault.specs.declared.fault.Fault.{Fault}
 use Rattle.vault_request.specs.CommandName.{encrypts}
 use Rattle.vault_request.specs.Request.{Request}
 use Rattle.vault_cli.specs.runs.Task as task
-use Rattle.vault_cli.specs.runs.Task.{Task, planned}
+use Rattle.vault_cli.specs.runs.Task.{Task, task_of}
 use Rattle.vault_request.specs.declared.command_name.CommandName.{CommandName}
 use Rattle.vault_request.specs.declared.command_name.CommandName.TheVariants.{Encrypt, Decrypt}
 use Rattle.vault_request.specs.declared.command_name.CommandName.TheVariants.{Rekey}
@@ -57,33 +57,33 @@ input_needed_by (Ok task) (Some string) limit = None
 input_needed_by (Ok task) None limit = Some limit
 
 -- steps 13 and 14 of each task
-abbrev pub performed : ℕ → Task → List ℕ → Result Ready Fault
-performed limit (task.Encrypt secrets index form salt) text =
+abbrev pub prepared : ℕ → Task → List ℕ → Result Ready Fault
+prepared limit (task.Encrypt secrets index form salt) text =
     encryption limit secrets index form salt text
-performed limit (task.Decrypt secrets) text = decryption limit secrets text
-performed limit (task.Rekey secrets new salt) text = rekeying limit secrets new salt text
+prepared limit (task.Decrypt secrets) text = decryption limit secrets text
+prepared limit (task.Rekey secrets new salt) text = rekeying limit secrets new salt text
 
 -- steps 9 to 14, where plaintext up to the limit is encrypted
 abbrev pub ready_by : ℕ → Result Task Fault → Option (List ℕ) → Result (List ℕ) Fault
     → Result Ready Fault
-ready_by limit plans string input = do
+ready_by limit task_or_fault string input = do
   -- steps 9 to 11
-  task ← plans
+  task ← task_or_fault
   text ← text_or string input
   -- steps 13 and 14
-  performed limit task text
+  prepared limit task text
 
 -- how much of the input a request asks for
 abbrev pub input_needed : ℕ → Request → List (List ℕ) → List ℕ → Option ℕ
 input_needed limit request contents salt =
-    input_needed_by (planned request contents salt) request.string
+    input_needed_by (task_of request contents salt) request.string
     (input_limit limit request.command)
 
 -- the answer to a request where plaintext up to the limit is encrypted
 unfoldable pub run_answer_within : ℕ → Request → List (List ℕ) → List ℕ → List ℕ
     → Result (List ℕ) Fault
 run_answer_within limit request contents salt input =
-    output_of (ready_by limit (planned request contents salt) request.string (Ok input))
+    output_of (ready_by limit (task_of request contents salt) request.string (Ok input))
 
 -- the answer to a request under the limit of the program
 abbrev pub run_answer : Request → List (List ℕ) → List ℕ → List ℕ

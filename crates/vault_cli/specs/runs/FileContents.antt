@@ -21,13 +21,13 @@ AtPath finds (Some path) None = ⊥
 AtPath finds (Some path) (Some found) = finds path found
 
 -- the fault of a file in its role
-abbrev pub fault_in : Role → FileFault → Fault
-fault_in role file.CannotOpen = CannotOpen role
-fault_in role file.CannotRead = Read role
+abbrev pub file_fault : Role → FileFault → Fault
+file_fault role file.CannotOpen = CannotOpen role
+file_fault role file.CannotRead = Read role
 
 -- the first bytes of a file in its role
-abbrev pub prefix_in : Role → ℕ → FileState → Result (List ℕ) Fault
-prefix_in role limit file = result_map_both (λ bytes. bytes) (fault_in role) (prefix limit file)
+abbrev pub file_prefix : Role → ℕ → FileState → Result (List ℕ) Fault
+file_prefix role limit file = result_map_both (λ bytes. bytes) (file_fault role) (prefix limit file)
 
 -- the paths of the password files, in order
 abbrev pub secret_paths : Request → List (List ℕ)
@@ -43,6 +43,6 @@ request_paths request =
 unfoldable pub contents_of : List FileState → Result (List (List ℕ)) Fault
 contents_of [] = Ok []
 contents_of (file ∷ files) = do
-  bytes ← prefix_in Secret (PASSWORD_FILE_LIMIT + 1) file
+  bytes ← file_prefix Secret (PASSWORD_FILE_LIMIT + 1) file
   contents ← contents_of files
   Ok (bytes ∷ contents)

@@ -18,13 +18,13 @@ use Rattle.vault_cli.specs.declared.runs.status.Status.TheVariants.{Success}
 
 -- What became of an output: it was left alone; it received these bytes and was finished; or it took
 -- these and failed.
-pub record Output : Type 1 where
+pub record OutputEnd : Type 1 where
   pub untouched : Type 0
   pub received : List ℕ → Type 0
   pub cut : List ℕ → Type 0
 
 -- of a sink
-abbrev pub to_sink : {K : Type 0} → SinkCall K → Output
+abbrev pub to_sink : {K : Type 0} → SinkCall K → OutputEnd
 to_sink out = record {
   untouched = out.new ≡ out.old;
   received = λ bytes. out.takes out.old bytes out.new × (out.stage out.new ≡ Finished)
@@ -40,7 +40,7 @@ Reads src (Some limit) input = ReadsInput src limit input
 
 -- A run that needs this much of a source, and whose answer to what it reads is the bytes to be
 -- written, or a fault.
-module _ {S E : Type 0} (src : SourceCall S) (out : Output) (err : SinkCall E) (result : Status)
+module _ {S E : Type 0} (src : SourceCall S) (out : OutputEnd) (err : SinkCall E) (result : Status)
     (needed : Option ℕ) (answers : List ℕ → Result (List ℕ) Fault) where
   -- It succeeded: the answer was written whole, and nothing was said.
   pub record Succeeds : Type 0 where
@@ -87,11 +87,11 @@ module _ {S E : Type 0} (src : SourceCall S) (out : Output) (err : SinkCall E) (
     pub message : Reports err (line_of (Read Input))
 
   -- one of the four
-  pub data Ends : Type 0 where
-    Succeeded : Succeeds → Ends
-    HasRefused : Refuses → Ends
-    OutputFailed : OutputFails → Ends
-    InputFailed : InputFails → Ends
+  pub data RunEnds : Type 0 where
+    Succeeded : Succeeds → RunEnds
+    HasRefused : Refuses → RunEnds
+    OutputFailed : OutputFails → RunEnds
+    InputFailed : InputFails → RunEnds
 
 -- a run, under a limit of the plaintext, of a request, of the contents of its password files, in
 -- their order, and of a salt
@@ -101,7 +101,7 @@ module _ (limit : ℕ) (request : Request) (contents : List (List ℕ)) (salt : 
   pub record RunsRequest : Type 0 where
     -- the source is left alone if the passwords, the secret or the salt are refused, and if there
     -- is a STRING
-    pub ends : Ends src (to_sink out) err result (input_needed limit request contents salt)
+    pub ends : RunEnds src (to_sink out) err result (input_needed limit request contents salt)
         (run_answer_within limit request contents salt)
     -- the status says so only if a device failed
     pub device_failed : result ≡ DeviceFailed

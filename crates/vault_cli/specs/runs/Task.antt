@@ -32,13 +32,13 @@ HasValidIndex (Decrypt secrets) = Unit {0}
 HasValidIndex (Rekey secrets new salt) = Unit {0}
 
 -- the password in a file that holds these bytes
-abbrev pub password_in : List ℕ → Result (List ℕ) Fault
-password_in bytes = result_map_both (λ password. password) of_secret (password_of bytes)
+abbrev pub password_or_fault : List ℕ → Result (List ℕ) Fault
+password_or_fault bytes = result_map_both (λ password. password) of_secret (password_of bytes)
 
 -- the secret of a password file that holds these bytes
-abbrev pub secret_in : SecretFile → List ℕ → Result Secret Fault
-secret_in file bytes = do
-  password ← password_in bytes
+abbrev pub secret_of : SecretFile → List ℕ → Result Secret Fault
+secret_of file bytes = do
+  password ← password_or_fault bytes
   Ok (record { label = file.label; password = password })
 
 -- step 9: the secrets of password files, in their order, or the first fault; a file without
@@ -47,7 +47,7 @@ unfoldable pub secrets_of : List SecretFile → List (List ℕ) → Result (List
 secrets_of [] contents = Ok []
 secrets_of (file ∷ files) [] = Err SecretEmpty
 secrets_of (file ∷ files) (bytes ∷ contents) = do
-  secret ← secret_in file bytes
+  secret ← secret_of file bytes
   secrets ← secrets_of files contents
   Ok (secret ∷ secrets)
 
@@ -58,9 +58,9 @@ secret_list_of request contents = do
   Ok (record { secrets = secrets; rule = request.rule })
 
 -- step 9 of `rekey`: its new secret, which a settled request names
-abbrev pub new_secret_in : Option SecretFile → List ℕ → Result Secret Fault
-new_secret_in None bytes = Err NeedNewSecret
-new_secret_in (Some file) bytes = secret_in file bytes
+abbrev pub new_secret_of : Option SecretFile → List ℕ → Result Secret Fault
+new_secret_of None bytes = Err NeedNewSecret
+new_secret_of (Some file) bytes = secret_of file bytes
 
 -- step 10: the index of the secret that encrypts
 abbrev pub index_of : List Secret → Option (List ℕ) → Result ℕ Fault
@@ -83,26 +83,27 @@ encrypt_task request secrets form salt = do
 -- the last of step 9, and step 11, of `rekey`, whose last password file holds these bytes
 abbrev pub rekey_task : Request → SecretList → List ℕ → List ℕ → Result Task Fault
 rekey_task request secrets last salt = do
-  new ← new_secret_in request.new_secret last
+  new ← new_secret_of request.new_secret last
   used ← salt_of request.salt_text salt
   Ok (Rekey secrets new used)
 
 -- the task of each command, of the secrets without the new one, of what the last password file
 -- holds, and of a salt
-abbrev pub task_of : CommandName → Request → SecretList → List ℕ → List ℕ → Result Task Fault
-task_of command.Encrypt request list last salt = encrypt_task request list.secrets Envelope salt
-task_of command.EncryptString request list last salt =
+abbrev pub command_task : CommandName → Request → SecretList → List ℕ → List ℕ → Result Task Fault
+command_task command.Encrypt request list last salt =
+    encrypt_task request list.secrets Envelope salt
+command_task command.EncryptString request list last salt =
     encrypt_task request list.secrets (Block request.name) salt
-task_of command.Decrypt request list last salt = Ok (Decrypt list)
-task_of command.View request list last salt = Ok (Decrypt list)
-task_of command.Rekey request list last salt = rekey_task request list last salt
+command_task command.Decrypt request list last salt = Ok (Decrypt list)
+command_task command.View request list last salt = Ok (Decrypt list)
+command_task command.Rekey request list last salt = rekey_task request list last salt
 
 -- steps 9 to 11: the task of a request, of the contents of its password files, of which that of the
 -- new secret is the last, and of a salt, or the first fault
-unfoldable pub planned : Request → List (List ℕ) → List ℕ → Result Task Fault
-planned request contents salt = do
+unfoldable pub task_of : Request → List (List ℕ) → List ℕ → Result Task Fault
+task_of request contents salt = do
   -- step 9
   list ← secret_list_of request contents
   -- the new password of `rekey`, and steps 10 and 11
   let last = slice_index_or contents (length request.secrets) [] in
-      task_of request.command request list last salt
+      command_task request.command request list last salt

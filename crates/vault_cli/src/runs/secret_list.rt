@@ -1,9 +1,8 @@
 //! The secrets of a request, out of its password files.
-ghost use Rattle.std.specs.Prelude.{◌≡◌, length, map, slice_index_or, true, [], IfOk, IfErr};
-ghost use Rattle.vault_core.specs.Password.{IsPassword};
+ghost use Rattle.std.specs.Prelude.{◌≡◌, length, map, slice_index_or, true, []};
 ghost use Rattle.vault_request.specs.CommandName.{rekeys};
 ghost use Rattle.vault_request.specs.Request.{files_of};
-ghost use Rattle.vault_cli.specs.runs.Task.{new_secret_in, password_in, secret_list_of};
+ghost use Rattle.vault_cli.specs.runs.Task.{new_secret_of, secret_list_of};
 
 use vault_core::{Fault, SealingSecret, Secrets, password_of};
 use vault_request::Request;
@@ -20,14 +19,14 @@ pub(crate) fn secrets_of<'p>(
     let mut secrets = Secrets::new();
     secrets.set_rule(request.rule());
     for i in 0..request.secret_count() {
-        let password = password_in(secret_files[i].as_slice())?;
+        let password = password_of(secret_files[i].as_slice())?;
         secrets.push(request.label(i).copy(), password).unwrap();
     }
     Ok(secrets)
 }
 
 /// The new secret of `rekey`, whose password file is the last.
-pub(crate) fn new_secret_in<'p>(
+pub(crate) fn new_secret_of<'p>(
     request: &'p Request,
     secret_files: &'p [Vec<u8>],
 ) -> Result<SealingSecret<'p, 'p>, Fault>
@@ -35,21 +34,9 @@ pub(crate) fn new_secret_in<'p>(
     requires files { length secret_files.now ≡ length (files_of request.now) }
     ensures { let contents = map (λ file. file.items) secret_files.now in
         let last = slice_index_or contents (length request.now.secrets) [] in
-        result ≡ new_secret_in request.now.new_secret last }
+        result ≡ new_secret_of request.now.new_secret last }
 {
     let label = request.new_label().unwrap();
-    let password = password_in(secret_files[request.secret_count()].as_slice())?;
+    let password = password_of(secret_files[request.secret_count()].as_slice())?;
     Ok(SealingSecret { label, password })
-}
-
-/// The password in a password file, with its fault as a run names it.
-fn password_in(file: &[u8]) -> Result<&[u8], Fault>
-    ensures found { IfOk result (λ password. password_in file.now ≡ Ok password.now) }
-    ensures fits { IfOk result (λ password. IsPassword password.now) }
-    ensures refused { IfErr result (λ fault. password_in file.now ≡ Err fault) }
-{
-    match password_of(file) {
-        Ok(password) => Ok(password),
-        Err(fault) => Err(Fault::from(fault)),
-    }
 }

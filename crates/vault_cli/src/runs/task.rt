@@ -1,4 +1,4 @@
-//! What is to be done with the input of a request: how that is prepared, and how it is performed.
+//! What is to be done with the input of a request, and the output that is prepared so.
 ghost use Rattle.std.specs.Prelude.{◌≡◌, ◌≢◌, ℕ, List, [], length, map, slice_index_or, true};
 ghost use Rattle.std.specs.Prelude.{Err, IfErr, IfOk};
 ghost use Rattle.vault_core.specs.Form.{form_of};
@@ -8,15 +8,15 @@ ghost use Rattle.vault_text.specs.Failures.{IsSaturated};
 ghost use Rattle.vault_text.specs.Limits.{IsWorkLength, limit_of};
 ghost use Rattle.vault_fault.specs.declared.fault.Fault.TheVariants.{Read};
 ghost use Rattle.vault_fault.specs.declared.fault.Role.TheVariants.{Input};
-ghost use Rattle.vault_cli.specs.runs.Answer.{performed, task_limit};
+ghost use Rattle.vault_cli.specs.runs.Answer.{prepared, task_limit};
 ghost use Rattle.vault_request.specs.CommandName.{rekeys};
 ghost use Rattle.vault_request.specs.Request.{files_of};
-ghost use Rattle.vault_cli.specs.runs.StoredTask.{task_in};
-ghost use Rattle.vault_cli.specs.runs.Task.{HasValidIndex, encrypt_task, planned, rekey_task};
+ghost use Rattle.vault_cli.specs.runs.StoredTask.{as_task};
+ghost use Rattle.vault_cli.specs.runs.Task.{HasValidIndex, encrypt_task, task_of, rekey_task};
 ghost use Rattle.vault_cli.specs.runs.Task.{salt_of};
 
 use crate::limits::SEALING_SALT_LENGTH;
-use crate::runs::secret_list::{new_secret_in, secrets_of};
+use crate::runs::secret_list::{new_secret_of, secrets_of};
 use vault_core::{
     Fault, Form, Ready, SealingSecret, Secrets, prepare_decrypt_in, prepare_encrypt_in,
     prepare_rekey_in,
@@ -49,44 +49,44 @@ pub(crate) enum Task<'p> {
 
 /// Finds the passwords of a request, the secret that encrypts and the salt; faults come in this
 /// order.
-#[tactic(auto, unfolding(crate::specs::runs::Task::planned))]
-pub(crate) fn plan<'p>(
+#[tactic(auto, unfolding(crate::specs::runs::Task::task_of))]
+pub(crate) fn task_of<'p>(
     request: &'p Request,
     secret_files: &'p [Vec<u8>],
     salt: &[u8],
 ) -> Result<Task<'p>, Fault>
     requires { length secret_files.now ≡ length (files_of request.now) }
-    ensures planned { let contents = map (λ file. file.items) secret_files.now in
-        IfOk result (λ task. planned request.now contents salt.now ≡ Ok (task_in task)) }
+    ensures task { let contents = map (λ file. file.items) secret_files.now in
+        IfOk result (λ task. task_of request.now contents salt.now ≡ Ok (as_task task)) }
     ensures refused { let contents = map (λ file. file.items) secret_files.now in
-        IfErr result (λ fault. planned request.now contents salt.now ≡ Err fault) }
-    ensures index { IfOk result (λ task. HasValidIndex (task_in task)) }
+        IfErr result (λ fault. task_of request.now contents salt.now ≡ Err fault) }
+    ensures index { IfOk result (λ task. HasValidIndex (as_task task)) }
 {
     let secrets = secrets_of(request, secret_files)?;
     match request.command() {
-        CommandName::Encrypt => plan_encrypt(request, secrets, Form::Envelope, salt),
-        CommandName::EncryptString => plan_encrypt(
+        CommandName::Encrypt => encrypt_task(request, secrets, Form::Envelope, salt),
+        CommandName::EncryptString => encrypt_task(
             request,
             secrets,
             Form::Block(request.name()),
             salt,
         ),
         CommandName::Decrypt | CommandName::View => Ok(Task::Decrypt { secrets }),
-        CommandName::Rekey => plan_rekey(request, secrets, secret_files, salt),
+        CommandName::Rekey => rekey_task(request, secrets, secret_files, salt),
     }
 }
 
 /// The task of a request that encrypts.
-fn plan_encrypt<'p>(
+fn encrypt_task<'p>(
     request: &'p Request,
     secrets: Secrets<'p>,
     form: Form<'p>,
     salt: &[u8],
 ) -> Result<Task<'p>, Fault>
-    ensures index { IfOk result (λ task. HasValidIndex (task_in task)) }
-    ensures planned { IfOk result (λ task.
+    ensures index { IfOk result (λ task. HasValidIndex (as_task task)) }
+    ensures task { IfOk result (λ task.
         encrypt_task request.now secrets.entry.secrets (form_of form.entry) salt.now
-        ≡ Ok (task_in task)) }
+        ≡ Ok (as_task task)) }
     ensures refused { IfErr result (λ fault.
         encrypt_task request.now secrets.entry.secrets (form_of form.entry) salt.now ≡ Err fault) }
 {
@@ -101,7 +101,7 @@ fn plan_encrypt<'p>(
 }
 
 /// The task of `rekey`.
-fn plan_rekey<'p>(
+fn rekey_task<'p>(
     request: &'p Request,
     secrets: Secrets<'p>,
     secret_files: &'p [Vec<u8>],
@@ -109,16 +109,16 @@ fn plan_rekey<'p>(
 ) -> Result<Task<'p>, Fault>
     requires command { rekeys request.now.command ≡ true }
     requires files { length secret_files.now ≡ length (files_of request.now) }
-    ensures index { IfOk result (λ task. HasValidIndex (task_in task)) }
-    ensures planned { let contents = map (λ file. file.items) secret_files.now in
+    ensures index { IfOk result (λ task. HasValidIndex (as_task task)) }
+    ensures task { let contents = map (λ file. file.items) secret_files.now in
         let last = slice_index_or contents (length request.now.secrets) [] in
         IfOk result (λ task.
-        rekey_task request.now secrets.entry last salt.now ≡ Ok (task_in task)) }
+        rekey_task request.now secrets.entry last salt.now ≡ Ok (as_task task)) }
     ensures refused { let contents = map (λ file. file.items) secret_files.now in
         let last = slice_index_or contents (length request.now.secrets) [] in
         IfErr result (λ fault. rekey_task request.now secrets.entry last salt.now ≡ Err fault) }
 {
-    let new = new_secret_in(request, secret_files)?;
+    let new = new_secret_of(request, secret_files)?;
     let salt = salt_of(request, salt)?;
     Ok(Task::Rekey { secrets, new, salt })
 }
@@ -137,21 +137,21 @@ fn salt_of(request: &Request, salt: &[u8]) -> Result<Salt, Fault>
 
 impl<'p> Task<'p> {
     /// Reads the input into the memory, and does with it there what is to be done.
-    pub(crate) fn perform<'a, S: Source>(
+    pub(crate) fn prepare<'a, S: Source>(
         &'a self,
         src: &mut S,
         memory: TextMemory<'a>,
     ) -> Result<Ready<'a>, Fault>
         requires empty { memory.bytes ≡ [] }
         requires room { IsWorkLength memory.limit }
-        requires index { HasValidIndex (task_in self.now) }
+        requires index { HasValidIndex (as_task self.now) }
         ensures answered { let limit = limit_of memory.entry.limit in
-            let task = task_in self.now in
+            let task = as_task self.now in
             result ≢ Err (Read Input) → (input : List ℕ) × record {
               read : ReadsInput (source S.Source src.old src.new) (task_limit limit task) input;
-              answer : result ≡ performed limit task input;
+              answer : result ≡ prepared limit task input;
             } }
-        ensures failed { let limit = task_limit (limit_of memory.entry.limit) (task_in self.now) in
+        ensures failed { let limit = task_limit (limit_of memory.entry.limit) (as_task self.now) in
             result ≡ Err (Read Input) → ReadFails (source S.Source src.old src.new) limit }
         ensures full { IsSaturated (S.failures src.old) → result ≡ Err (Read Input) }
     {

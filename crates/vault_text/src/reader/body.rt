@@ -1,24 +1,19 @@
 //! The body of an envelope, as it comes in pieces: the inner text in hexadecimal, in lines.
-ghost use Rattle.std.specs.Prelude.{◌≡◌, ◌<◌, ◌≤◌, ℕ, List, [], IfNone, IfSome, length};
+ghost use Rattle.std.specs.Prelude.{◌≡◌, ◌<◌, ℕ, List, [], IfNone, IfSome, length};
 ghost use Rattle.vault_text.specs.Envelope.{read_body, without_line_ends};
 ghost use Rattle.vault_text.specs.EnvelopeReader.{BodyHas};
 ghost use Rattle.vault_text.specs.Limits.{ciphertext_limit};
 ghost use Rattle.vault_text.specs.Pieces.{TakesPiece, TakesUpTo};
 
-use super::CHUNK_LIMIT;
 use super::inner_text::InnerReader;
 use crate::fault::TextFault;
 use crate::header::{before_line_end, is_line_end};
 use crate::hexadecimal::HexDecoder;
 use crate::label::Label;
+use crate::line::{LINE_BYTES, LINE_DIGITS};
 use crate::payload::Payload;
 use crate::text_memory::TextMemory;
-use crate::writing::{LINE_BYTES, LINE_DIGITS};
 use std::marker::Model;
-
-/// How many digits are decoded at once: with one that waits for its second, they spell one chunk at
-/// most.
-const DIGITS_LIMIT: usize = 2 * CHUNK_LIMIT - 1;
 
 /// The body so far.
 #[derive(Drop)]
@@ -70,7 +65,7 @@ impl<'a> BodyReader<'a> {
         if let Some(rest) = self.extend_line(text) {
             return rest;
         }
-        let digits = before_line_end(&text[..text.len().min(DIGITS_LIMIT)]);
+        let digits = before_line_end(&text[..text.len().min(LINE_DIGITS - 1)]);
         self.extend_digits(digits);
         &text[digits.len()..]
     }
@@ -92,12 +87,13 @@ impl<'a> BodyReader<'a> {
         Some(rest)
     }
 
-    /// Takes the digits that come next.
+    /// Takes the digits that come next. With one that waits for its second, they are no more than a
+    /// line has.
     fn extend_digits(&mut self, digits: &[u8])
-        requires { length digits.now ≤ DIGITS_LIMIT }
+        requires { length digits.now < LINE_DIGITS }
         ensures { (limit : ℕ) → TakesPiece (BodyHas limit) self.old digits.now self.new }
     {
-        let mut text = [0; CHUNK_LIMIT];
+        let mut text = [0; LINE_BYTES];
         let count = self.decoder.decode(digits, &mut text);
         self.inner.extend(&text[..count]);
     }

@@ -7,12 +7,12 @@ ghost use Rattle.vault_text.specs.EnvelopeReader.{InnerHas, MayHave, next_part};
 ghost use Rattle.vault_text.specs.Limits.{ciphertext_limit};
 ghost use Rattle.vault_text.specs.Pieces.{TakesPiece, TakesUpTo};
 
-use super::CHUNK_LIMIT;
 use super::parts::{CiphertextPart, ShortPart};
 use crate::fault::TextFault;
 use crate::header::split_at_byte;
 use crate::label::Label;
 use crate::limits::{SALT_LIMIT, TAG_LENGTH};
+use crate::line::LINE_BYTES;
 use crate::payload::Payload;
 use crate::salt::Salt;
 use crate::text_memory::TextMemory;
@@ -93,7 +93,7 @@ impl<'a> InnerReader<'a> {
     // Inlined, and with no loop for ciphertext, it knows the length of the text that a line spells.
     #[inline(always)]
     pub(super) fn extend(&mut self, text: &[u8])
-        requires { length text.now ≤ CHUNK_LIMIT }
+        requires { length text.now ≤ LINE_BYTES }
         ensures { (limit : ℕ) → TakesPiece (InnerHas limit) self.old text.now self.new }
     {
         if let Part::Ciphertext = self.part {
@@ -109,7 +109,7 @@ impl<'a> InnerReader<'a> {
     /// Takes what the text gives to the part that comes next, and returns what follows.
     fn extend_part<'t>(&mut self, text: &'t [u8]) -> &'t [u8]
         requires some { 0 < length text.now }
-        requires short { length text.now ≤ CHUNK_LIMIT }
+        requires short { length text.now ≤ LINE_BYTES }
         ensures shorter { length result.now < length text.now }
         ensures taken { (limit : ℕ) →
             TakesUpTo (InnerHas limit) self.old text.now result.now self.new }
@@ -126,7 +126,7 @@ impl<'a> InnerReader<'a> {
     /// Gives digits to the part that comes next.
     #[inline(always)]
     fn extend_digits(&mut self, digits: &[u8])
-        requires short { length digits.now ≤ CHUNK_LIMIT }
+        requires short { length digits.now ≤ LINE_BYTES }
         requires digits { MayHave self.old.part digits.now }
         ensures part { self.new.part ≡ self.old.part }
         ensures taken { (limit : ℕ) → TakesPiece (InnerHas limit) self.old digits.now self.new }

@@ -8,9 +8,9 @@ ghost use Rattle.vault_text.specs.InnerText.{ciphertext_of};
 ghost use Rattle.vault_text.specs.Pieces.{TakesPiece};
 ghost use Rattle.vault_text.specs.declared.fault.TextFault.TheVariants.{BadPayload};
 
-use super::{CHUNK_BYTES, CHUNK_LIMIT};
 use crate::fault::TextFault;
 use crate::hexadecimal::HexDecoder;
+use crate::line::{LINE_BYTES, LINE_CIPHERTEXT};
 use crate::text_memory::TextMemory;
 use arrayvec::ArrayVec;
 use std::marker::Model;
@@ -50,10 +50,10 @@ impl<const LIMIT: usize> ShortPart<LIMIT> {
 
     /// Takes the digits that come next.
     pub(super) fn extend(&mut self, digits: &[u8])
-        requires { length digits.now ≤ CHUNK_LIMIT }
+        requires { length digits.now ≤ LINE_BYTES }
         ensures { TakesPiece (PartHas LIMIT) self.old digits.now self.new }
     {
-        let mut bytes = [0; CHUNK_BYTES];
+        let mut bytes = [0; LINE_CIPHERTEXT];
         let count = self.decoder.decode(digits, &mut bytes);
         if self.bytes.try_extend_from_slice(&bytes[..count]).is_err() {
             self.is_long = true;
@@ -113,10 +113,10 @@ impl<'a> CiphertextPart<'a> {
     /// Takes the digits that come next.
     #[inline(always)]
     pub(super) fn extend(&mut self, digits: &[u8])
-        requires { length digits.now ≤ CHUNK_LIMIT }
+        requires { length digits.now ≤ LINE_BYTES }
         ensures { (limit : ℕ) → TakesPiece (PartHas limit) self.old digits.now self.new }
     {
-        let mut bytes = [0; CHUNK_BYTES];
+        let mut bytes = [0; LINE_CIPHERTEXT];
         let count = self.decoder.decode(digits, &mut bytes);
         if count <= self.memory.room() {
             self.memory.put(&bytes[..count]);

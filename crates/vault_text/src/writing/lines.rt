@@ -4,16 +4,8 @@ ghost use Rattle.arrayvec.specs.ArrayVec.{array_vec_len};
 ghost use Rattle.hex.specs.Hex.{encode_lower};
 ghost use Rattle.vault_text.specs.Written.{hexadecimal_lines};
 
+use crate::line::{LINE_BYTES, LINE_CIPHERTEXT, LINE_DIGITS};
 use arrayvec::ArrayVec;
-
-/// Digits on a line of the body.
-pub(crate) const LINE_DIGITS: usize = 80;
-
-/// Bytes that the digits of a line spell.
-pub(crate) const LINE_BYTES: usize = LINE_DIGITS / 2;
-
-/// Bytes of ciphertext whose digits a line spells.
-pub(super) const LINE_CIPHERTEXT: usize = LINE_BYTES / 2;
 
 pub(super) const INDENTATION_LIMIT: usize = 10;
 

@@ -8,7 +8,7 @@ use borrow.Rule.Slice.PartMut.{put_mid}
 pub loop-j-init : goal.loop-j-init
 unfolding counter_mode
 loop-j-init c = record {
-  counter_is = omega (arith, c.from_be_bytes-counter.ensures, c.from_be_bytes-counter.type_inv);
+  counter_is = omega (arith, c.from_be_bytes-initial.ensures, c.from_be_bytes-initial.type_inv);
   added = completed-none (keystream_byte c.args.key.now c.args.iv.now) c.args.bytes.now;
 }
 
@@ -16,7 +16,7 @@ pub loop-j-preserved : goal.loop-j-preserved
 loop-j-preserved c =
     let j = c.loop-j.j in
     record {
-      counter_is = omega (arith, c.loop-j.invariant.counter_is);
+      counter_is = omega (arith, c.loop-j.invariant.counter_is, c.next_counter.ensures);
       added =
           completed-block c.args.key.now c.args.iv.now j (16 * (j + 1)) c.loop-j.bytes
           (omega arith) (omega arith) (omega arith) c.loop-j.invariant.counter_is

@@ -6,7 +6,7 @@ use Rattle.vault_aes.proofs.counter_mode.ctr_apply.Given as goal
 
 abbrev pub invariant-loop-j : goal.invariant-loop-j
 invariant-loop-j l = record {
-  counter_is : l.counter ≡ (from_be_bytes w128 l.iv + l.j) % 2 ^ 128;
+  counter_is : l.high * 2 ^ 64 + l.low ≡ (from_be_bytes w128 l.iv + l.j) % 2 ^ 128;
   added : completed (keystream_byte l.key l.iv) (16 * l.j) l.bytes
       ≡ counter_mode l.key l.iv l.initial.bytes;
 }

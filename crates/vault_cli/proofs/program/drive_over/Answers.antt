@@ -1,10 +1,30 @@
 use Rattle.std.proofs.Common.{refl}
+use Rattle.clap.specs.Words.{subcommand_rows_of}
+use Rattle.vault_files.specs.SystemProofs.{Opens-none}
+use Rattle.vault_request.specs.Settled.{requested}
+use Rattle.vault_cli.specs.Call.{sink, source, system}
 use Rattle.vault_cli.specs.Drive.Ends.{Stopped}
+use Rattle.vault_cli.proofs.DriveLemmas.{drives-settled, drives-unsettled}
 use Rattle.vault_cli.proofs.program.drive_over.Goals as goal
 
-pub returns-in-Err : goal.returns-in-Err
-returns-in-Err g c = Stopped refl refl c.explain.ensures
+pub returns : goal.returns
+returns g c = Stopped refl refl c.explain.ensures
+
+pub returns-in-Ok-settle : goal.returns-in-Ok-settle
+returns-in-Ok-settle g c =
+    let drives = drives-settled (system g.D.System c.args.files.now c.drive_request.new.files)
+    (source g.S.Source c.args.src.now c.drive_request.new.src) _ _ _
+    (requested (subcommand_rows_of c.in-Ok.matches)) c.in-Ok-settle.request
+    c.in-Ok.ensures.requested c.in-Ok-settle.ensures c.drive_request.ensures in
+    rw c.in-Ok.ensures.kinds (rw c.in-Ok.ensures.matches at drives)
 
 pub returns-in-Ok : goal.returns-in-Ok
 returns-in-Ok g c =
-    rw c.in-Ok.ensures.kinds (rw c.in-Ok.ensures.matches at c.drive_matches.ensures)
+    let drives = drives-unsettled (system g.D.System c.args.files.now c.args.files.now)
+    (source g.S.Source c.args.src.now c.args.src.now)
+    (sink g.K.Sink c.args.out.now c.args.out.now) _ _ refl refl c.in-Err-settle.fault
+    c.report.ensures.status c.report.ensures.line refl
+    (Opens-none g.D.System.executes g.met.D.System.executes_none c.args.files.now)
+    (requested (subcommand_rows_of c.in-Ok.matches)) c.in-Ok.ensures.requested
+    c.in-Err-settle.ensures in
+    rw c.in-Ok.ensures.kinds (rw c.in-Ok.ensures.matches at drives)

@@ -3,28 +3,28 @@ use Rattle.vault_text.specs.Limits.{limit_of}
 use Rattle.vault_fault.specs.declared.fault.Fault.TheVariants.{Read}
 use Rattle.vault_fault.specs.declared.fault.Role.TheVariants.{Input}
 use Rattle.vault_cli.specs.Call.{source}
-use Rattle.vault_cli.specs.runs.StoredTask.{task_in}
-use Rattle.vault_cli.proofs.PerformedLemmas.{Performs, runs-performed, runs-unplanned}
-use Rattle.vault_cli.proofs.TaskLemmas.{performed-prefix}
+use Rattle.vault_cli.specs.runs.StoredTask.{as_task}
+use Rattle.vault_cli.proofs.RunLemmas.{Prepares, runs-prepared, runs-refused}
+use Rattle.vault_cli.proofs.TaskLemmas.{prepared-prefix}
 use Rattle.vault_cli.proofs.runs.run_in.Goals as goal
 use Rattle.vault_cli.proofs.runs.run_in.Goals.{in-Some, in-None}
 
 pub returns-in-Err : goal.returns-in-Err
 returns-in-Err g c =
-    runs-unplanned (source g.S.Source c.args.src.now c.args.src.now) _ _ _ _ _ _ _ _
+    runs-refused (source g.S.Source c.args.src.now c.args.src.now) _ _ _ _ _ _ _ _
     c.in-Err.ensures.refused c.report.ensures.status refl refl c.report.ensures.line
 
 pub returns : goal.returns
 returns g c =
     let limit = limit_of c.args.memory.limit in
-    let task = task_in c.in-Ok.task in
+    let task = as_task c.in-Ok.task in
     let src = source g.S.Source c.args.src.now c.match-string.src in
-    let performs : Performs src limit task c.match-string.ready c.args.request.now.string =
+    let prepares : Prepares src limit task c.match-string.ready c.args.request.now.string =
     elim c.match-string.branch [
       | in-Some w ↦
-          let other : w.perform-ready.result ≢ Err (Read Input) =
-          λ unread. let risen = (w.perform-ready.ensures.failed unread).failed in absurd cc in
-          let (prefix, was) = w.perform-ready.ensures.answered other in
+          let other : w.prepare-ready.result ≢ Err (Read Input) =
+          λ unread. let risen = (w.prepare-ready.ensures.failed unread).failed in absurd cc in
+          let (prefix, was) = w.prepare-ready.ensures.answered other in
           let gives = was.read.gives.0 in
           let text : w.new.result.left ≡ w.in-Some.string.now =
           rw w.new.ensures w.as_bytes.ensures.value in
@@ -32,12 +32,12 @@ returns g c =
           rw (w.src-is, w.ready-is, ← (rw w.in-Some.is at c.string.ensures)) (
             refl,
             was.answer
-                ∙ performed-prefix limit task _ _ prefix _ (sym text ∙ gives.consumed)
+                ∙ prepared-prefix limit task _ _ prefix _ (sym text ∙ gives.consumed)
                 (gives.end_is_real (λ ended. absurd cc)) was.read.whole,
           )
       | in-None w ↦
           rw (w.src-is, w.ready-is, ← (rw w.in-None.is at c.string.ensures))
-          w.perform-ready-in-None.ensures
+          w.prepare-ready-in-None.ensures
     ] in
-    runs-performed src _ _ _ _ _ _ _ task c.in-Ok.ensures.planned c.match-string.ready performs
-    c.deliver.ensures.delivers c.deliver.ensures.full
+    runs-prepared src _ _ _ _ _ _ _ task c.in-Ok.ensures.task c.match-string.ready prepares
+    c.write_or_report.ensures.writes c.write_or_report.ensures.full

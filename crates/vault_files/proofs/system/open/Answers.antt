@@ -4,15 +4,8 @@ use Rattle.vault_files.specs.System.SystemCall.{Open}
 use Rattle.vault_files.proofs.OutputLemmas.{one_open}
 use Rattle.vault_files.proofs.system.open.Goals as goal
 
-pub returns-in-Ok-clause-opens : goal.returns-in-Ok-clause-opens
-returns-in-Ok-clause-opens g c = record {
-  calls = Open c.args.path.now ∷ if_failed c.open.result;
-  executed = c.open.ensures.executes;
-  are_opens = one_open c.args.path.now c.open.result;
-}
-
-pub returns-in-Err-clause-opens : goal.returns-in-Err-clause-opens
-returns-in-Err-clause-opens g c = record {
+pub returns-clause-opens : goal.returns-clause-opens
+returns-clause-opens g c = record {
   calls = Open c.args.path.now ∷ if_failed c.open.result;
   executed = c.open.ensures.executes;
   are_opens = one_open c.args.path.now c.open.result;

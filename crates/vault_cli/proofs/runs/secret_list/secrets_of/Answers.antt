@@ -1,4 +1,6 @@
-use Rattle.std.proofs.Common.{◌≡◌, ◌<◌, ◌++◌, ◌∷◌, [], arith, get_or, length, refl, ◌∙◌}
+use Rattle.std.proofs.Common.{◌≡◌, ◌<◌, ◌++◌, ◌∷◌, [], ap, arith, get_or, length, refl, ◌∙◌}
+use Rattle.std.specs.Result.{result_map_both}
+use Rattle.vault_core.specs.Password.{of_secret}
 use Rattle.std.proofs.lemmas.List.{append-nil, drop_all, drop_more, length_push}
 use Rattle.std.proofs.lemmas.Result.{err_from_is_err_and}
 use Rattle.std.specs.Prelude.{option_to_list}
@@ -17,8 +19,9 @@ returns-in_err-password c =
     (drop_more files c.loop-i.i no_file inside)
     (content_at c.args.secret_files.now c.loop-i.i c.index-secret_files-i.result
     (within_all c.args.request.now _ c.loop-i.i c.requires inside) c.index-secret_files-i.is) _
-    c.loop-i.invariant.2 c.in_err-password.field-0.0
-    (rw c.as_slice.ensures.value at c.in_err-password.ensures.refused) in
+    c.loop-i.invariant.2 (of_secret c.in_err-password.field-0.0)
+    (ap (result_map_both (λ password. password) of_secret)
+    (rw c.as_slice.ensures.value at c.in_err-password.ensures.password)) in
     rw (p.1, p.2, ← refused) refl
 
 pub loop-i-preserved : goal.loop-i-preserved
@@ -43,7 +46,8 @@ loop-i-preserved c =
           (content_at c.args.secret_files.now c.loop-i.i c.index-secret_files-i.result
           (within_all c.args.request.now _ c.loop-i.i c.requires inside) c.index-secret_files-i.is)
           _ c.loop-i.invariant.2 c.in_ok-password.password.now
-          (rw c.as_slice.ensures.value at c.in_ok-password.ensures.found),
+          (ap (result_map_both (λ password. password) of_secret)
+          (rw c.as_slice.ensures.value at c.in_ok-password.ensures.password)),
     )
 
 pub returns : goal.returns

@@ -1,6 +1,6 @@
 use Rattle.std.proofs.Common.{refl}
 use Rattle.std.proofs.lemmas.List.{take-append-drop}
-use Rattle.vault_text.specs.declared.writing.lines.TheConstants.{LINE_DIGITS}
+use Rattle.vault_text.specs.declared.line.TheConstants.{LINE_DIGITS}
 use Rattle.vault_text.proofs.EnvelopeReaderLemmas.{BodyHas-more, TakesUpTo-whole_line}
 use Rattle.vault_text.proofs.reader.body.BodyReader.extend_line.Goals as goal
 

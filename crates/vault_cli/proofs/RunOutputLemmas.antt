@@ -2,28 +2,28 @@
 use Rattle.std.proofs.Common.{◌≡◌, ℕ, List, Option, Some, None, Result, take, ap, ◌∙◌, refl, sym}
 use Rattle.std.proofs.Common.{arith}
 use Rattle.vault_text.specs.declared.sink.Stage.TheVariants as stage
-use Rattle.vault_files.specs.Output.{FileOutputState, OutputState, stage_of}
+use Rattle.vault_files.specs.Output.{FileOutputState, FileTakes, OutputState, stage_of}
 use Rattle.vault_files.specs.Output.OutputState.{Begun, Chosen, Finished}
+use Rattle.vault_files.specs.System.{SystemCall}
 use Rattle.vault_files.specs.declared.access.Access.{Access}
 use Rattle.vault_files.specs.declared.system.System.{Ghosts as SystemTerms}
 use Rattle.vault_fault.specs.declared.fault.Fault.{Fault}
-use Rattle.vault_cli.specs.Call.{FilesCall, SinkCall, SourceCall, system}
+use Rattle.vault_cli.specs.Call.{FilesCall, SinkCall, SourceCall, sink, system}
 use Rattle.vault_cli.specs.Drive.{to_path}
-use Rattle.vault_cli.specs.RunsToPath.{file_sink}
-use Rattle.vault_cli.specs.runs.Run.{Ends, Output, to_sink}
-use Rattle.vault_cli.specs.runs.Run.Ends.{Succeeded, HasRefused, OutputFailed, InputFailed}
+use Rattle.vault_cli.specs.runs.Run.{RunEnds, OutputEnd, to_sink}
+use Rattle.vault_cli.specs.runs.Run.RunEnds.{Succeeded, HasRefused, OutputFailed, InputFailed}
 use Rattle.vault_cli.specs.declared.runs.status.Status.{Status}
 
 -- what became of the one output became of the other, too
-pub record CarriesOver (there here : Output) : Type 0 where
+pub record CarriesOver (there here : OutputEnd) : Type 0 where
   pub untouched : there.untouched → here.untouched
   pub received : (bytes : List ℕ) → there.received bytes → here.received bytes
   pub cut : (bytes : List ℕ) → there.cut bytes → here.cut bytes
 
 module _ {S E : Type 0} (src : SourceCall S) (err : SinkCall E) (result : Status)
     (needed : Option ℕ) (answers : List ℕ → Result (List ℕ) Fault) where
-  ends-carried : (there here : Output) → CarriesOver there here
-      → Ends src there err result needed answers → Ends src here err result needed answers
+  ends-carried : (there here : OutputEnd) → CarriesOver there here
+      → RunEnds src there err result needed answers → RunEnds src here err result needed answers
   ends-carried there here carries (Succeeded s) = Succeeded (record {
     input = s.input;
     reads = s.reads;
@@ -68,8 +68,8 @@ module _ {S E : Type 0} (src : SourceCall S) (err : SinkCall E) (result : Status
   -- a run whose output is standard output
   pub ends-out : {D R W K : Type 0} (files : FilesCall D R W) (out : SinkCall K) (access : Access)
       (path : Option (List ℕ)) → path ≡ None → files.new ≡ files.old
-      → Ends src (to_sink out) err result needed answers
-      → Ends src (to_path files out path access) err result needed answers
+      → RunEnds src (to_sink out) err result needed answers
+      → RunEnds src (to_path files out path access) err result needed answers
   ends-out files out access path is kept ends =
       rw is (ends-carried (to_sink out) (to_path files out None access) (record {
         untouched = λ same. (same, kept);
@@ -86,6 +86,15 @@ path-alone files out access (Some path) same_files same_out = (same_out, same_fi
 
 -- ---- a run whose output is a file of a system
 
+-- a call over a file of a system
+abbrev file_sink : {D : Type 0} → (D → List SystemCall → D → Type 0) → FileOutputState D
+    → FileOutputState D → SinkCall (FileOutputState D)
+file_sink executes old new = sink (record {
+  takes = FileTakes executes;
+  stage = λ s. stage_of s.output;
+  failures = λ s. s.failures;
+}) old new
+
 stage-finished : (s : OutputState) → stage_of s ≡ stage.Finished → s ≡ Finished
 stage-finished (Chosen path access) is = absurd cc
 stage-finished Begun is = absurd cc
@@ -95,7 +104,7 @@ module _ {D R W S E : Type 0} (terms : SystemTerms D R W) (file left : FileOutpu
     (src : SourceCall S) (err : SinkCall E) (result : Status) (needed : Option ℕ)
     (answers : List ℕ → Result (List ℕ) Fault) where
   abbrev pub EndsInFile : Type 0
-  EndsInFile = Ends src (to_sink (file_sink terms.executes file left)) err result needed answers
+  EndsInFile = RunEnds src (to_sink (file_sink terms.executes file left)) err result needed answers
 
   -- it borrows that system still
   pub ends-same : EndsInFile → left.system.ghost_name ≡ file.system.ghost_name
@@ -109,7 +118,8 @@ module _ {D R W S E : Type 0} (terms : SystemTerms D R W) (file left : FileOutpu
       → (path : List ℕ) (access : Access) (old new : D) → file.system.now ≡ old
       → file.output ≡ Chosen path access → file.failures ≡ 0 → left.system.now ≡ new
       → (output_file : Option (List ℕ)) → output_file ≡ Some path → EndsInFile
-      → Ends src (to_path (system terms old new) out output_file access) err result needed answers
+      → RunEnds src (to_path (system terms old new) out output_file access) err result needed
+      answers
   ends-file out alone path access old new is_old chosen fresh is_new output_file is ends =
       rw is (ends-carried src err result needed answers
       (to_sink (file_sink terms.executes file left))

@@ -12,10 +12,10 @@ use Rattle.vault_cli.specs.declared.runs.status.Status.TheVariants.{DeviceFailed
 
 module _ {K E : Type 0} (out : SinkCall K) (err : SinkCall E) (result : Status) where
   -- the text was written, or its first bytes were and the output failed; the fault was reported
-  abbrev pub Delivers : Result Ready Fault → Type 0
-  Delivers (Ok ready) =
+  abbrev pub Writes : Result Ready Fault → Type 0
+  Writes (Ok ready) =
       ((result ≡ Success) × (to_sink out).received ready.output × (err.new ≡ err.old))
       ⊎ ((result ≡ DeviceFailed) × ((n : ℕ) × (to_sink out).cut (take n ready.output))
       × Reports err (line_of Write))
-  Delivers (Err fault) =
+  Writes (Err fault) =
       (result ≡ status_of fault) × (out.new ≡ out.old) × Reports err (line_of fault)

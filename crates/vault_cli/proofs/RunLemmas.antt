@@ -11,29 +11,29 @@ use Rattle.vault_core.specs.Ready.{Ready}
 use Rattle.vault_request.specs.Request.{Request}
 use Rattle.vault_cli.specs.Call.{SinkCall, SourceCall}
 use Rattle.vault_cli.specs.runs.Answer.{input_limit, input_needed, input_needed_by, output_of}
-use Rattle.vault_cli.specs.runs.Answer.{performed, ready_by, run_answer_within, task_limit}
-use Rattle.vault_cli.specs.runs.Delivered.{Delivers}
+use Rattle.vault_cli.specs.runs.Answer.{prepared, ready_by, run_answer_within, task_limit}
+use Rattle.vault_cli.specs.runs.Writes.{Writes}
 use Rattle.vault_cli.specs.runs.Reports.{Reports, line_of}
-use Rattle.vault_cli.specs.runs.Run.{Ends, Reads, RunsRequest, to_sink}
-use Rattle.vault_cli.specs.runs.Run.Ends.{Succeeded, HasRefused, OutputFailed, InputFailed}
+use Rattle.vault_cli.specs.runs.Run.{RunEnds, Reads, RunsRequest, to_sink}
+use Rattle.vault_cli.specs.runs.Run.RunEnds.{Succeeded, HasRefused, OutputFailed, InputFailed}
 use Rattle.vault_cli.specs.runs.Status.{status_of}
-use Rattle.vault_cli.specs.runs.Task.{Task, planned}
+use Rattle.vault_cli.specs.runs.Task.{Task, task_of}
 use Rattle.vault_cli.specs.declared.runs.status.Status.{Status}
 use Rattle.vault_cli.specs.declared.runs.status.Status.TheVariants.{DeviceFailed, Refused, Success}
 use Rattle.vault_cli.proofs.AnswerLemmas.{requested-no_string}
-use Rattle.vault_cli.proofs.PlannedLemmas.{keeps-planned}
-use Rattle.vault_cli.proofs.StatusLemmas.{IsRefusedAlone, alone-performed}
+use Rattle.vault_cli.proofs.TaskSoundLemmas.{keeps-task_of}
+use Rattle.vault_cli.proofs.StatusLemmas.{IsRefusedAlone, alone-prepared}
 
--- a task was performed on the STRING, if there is one: then the source is left alone; or else on
+-- a task was prepared on the STRING, if there is one: then the source is left alone; or else on
 -- what the source gives, if that does not fail at each call
-abbrev pub Performs : {S : Type 0} → SourceCall S → ℕ → Task → Result Ready Fault
+abbrev pub Prepares : {S : Type 0} → SourceCall S → ℕ → Task → Result Ready Fault
     → Option (List ℕ) → Type 0
-Performs src limit task answer (Some string) =
-    (src.new ≡ src.old) × (answer ≡ performed limit task string)
-Performs src limit task answer None = record {
+Prepares src limit task answer (Some string) =
+    (src.new ≡ src.old) × (answer ≡ prepared limit task string)
+Prepares src limit task answer None = record {
   answered : answer ≢ Err (Read Input) → (input : List ℕ) × record {
     read : ReadsInput src (task_limit limit task) input;
-    answer : answer ≡ performed limit task input;
+    answer : answer ≡ prepared limit task input;
   };
   failed : answer ≡ Err (Read Input) → ReadFails src (task_limit limit task);
   full : IsSaturated (src.failures src.old) → answer ≡ Err (Read Input);
@@ -41,13 +41,13 @@ Performs src limit task answer None = record {
 
 module _ {S K E : Type 0} (src : SourceCall S) (out : SinkCall K) (err : SinkCall E)
     (result : Status) where
-  -- what was read has an answer, which was delivered
-  ends-delivered : (needed : Option ℕ) (answers : List ℕ → Result (List ℕ) Fault)
+  -- what was read has an answer, which was written
+  ends-written : (needed : Option ℕ) (answers : List ℕ → Result (List ℕ) Fault)
       (input : List ℕ) → Reads src needed input
       → (answer : Result Ready Fault) → IsRefusedAlone answer
-      → answers input ≡ output_of answer → Delivers out err result answer
-      → Ends src (to_sink out) err result needed answers
-  ends-delivered needed answers input reads (Ok ready) alone is (inl (status, received, silent)) =
+      → answers input ≡ output_of answer → Writes out err result answer
+      → RunEnds src (to_sink out) err result needed answers
+  ends-written needed answers input reads (Ok ready) alone is (inl (status, received, silent)) =
       Succeeded (record {
         input = input;
         reads = reads;
@@ -57,7 +57,7 @@ module _ {S K E : Type 0} (src : SourceCall S) (out : SinkCall K) (err : SinkCal
         output = received;
         message = silent;
       })
-  ends-delivered needed answers input reads (Ok ready) alone is (inr (status, (n, cut), line)) =
+  ends-written needed answers input reads (Ok ready) alone is (inr (status, (n, cut), line)) =
       OutputFailed (record {
         input = input;
         reads = reads;
@@ -68,7 +68,7 @@ module _ {S K E : Type 0} (src : SourceCall S) (out : SinkCall K) (err : SinkCal
         output = cut;
         message = line;
       })
-  ends-delivered needed answers input reads (Err fault) refused is (status, unwritten, line) =
+  ends-written needed answers input reads (Err fault) refused is (status, unwritten, line) =
       HasRefused (record {
         input = input;
         reads = reads;
@@ -84,18 +84,18 @@ module _ {S K E : Type 0} (src : SourceCall S) (out : SinkCall K) (err : SinkCal
 
   module _ (limit : ℕ) (task : Task) where
     ends-text : (answer : Result Ready Fault) (string : Option (List ℕ))
-        → Performs src limit task answer string → Delivers out err result answer
-        → Ends src (to_sink out) err result
+        → Prepares src limit task answer string → Writes out err result answer
+        → RunEnds src (to_sink out) err result
         (input_needed_by (Ok task) string (task_limit limit task))
         (λ text. output_of (ready_by limit (Ok task) string (Ok text)))
     ends-text answer (Some string) (unread, is) done =
-        ends-delivered None (λ text. output_of (performed limit task string)) [] (unread, refl)
-        answer (rw is (alone-performed limit task string)) (ap output_of (sym is)) done
-    ends-text answer None performs done =
+        ends-written None (λ text. output_of (prepared limit task string)) [] (unread, refl)
+        answer (rw is (alone-prepared limit task string)) (ap output_of (sym is)) done
+    ends-text answer None prepares done =
         elim (cases_unread answer) [
           | inl unread ↦
-              let fails = performs.failed unread in
-              let (status, unwritten, line) = subst (Delivers out err result) unread done in
+              let fails = prepares.failed unread in
+              let (status, unwritten, line) = subst (Writes out err result) unread done in
               InputFailed (record {
                 input = fails.input;
                 limit = task_limit limit task;
@@ -108,85 +108,85 @@ module _ {S K E : Type 0} (src : SourceCall S) (out : SinkCall K) (err : SinkCal
                 message = line;
               })
           | inr other ↦
-              let (input, was) = performs.answered other in
-              ends-delivered (Some (task_limit limit task))
-              (λ text. output_of (performed limit task text)) input was.read answer
-              (rw was.answer (alone-performed limit task input)) (ap output_of (sym was.answer))
+              let (input, was) = prepares.answered other in
+              ends-written (Some (task_limit limit task))
+              (λ text. output_of (prepared limit task text)) input was.read answer
+              (rw was.answer (alone-prepared limit task input)) (ap output_of (sym was.answer))
               done
         ]
 
     -- the status says that a device failed only if one did
     device-failed : (answer : Result Ready Fault) (string : Option (List ℕ))
-        → Performs src limit task answer string → Delivers out err result answer
+        → Prepares src limit task answer string → Writes out err result answer
         → result ≡ DeviceFailed
         → HasRisen (src.failures src.old) (src.failures src.new)
         ⊎ HasRisen (out.failures out.old) (out.failures out.new)
-    device-failed (Ok ready) string performs (inl (status, received, silent)) failed = absurd cc
-    device-failed (Ok ready) string performs (inr (status, (n, (took, risen)), line)) failed =
+    device-failed (Ok ready) string prepares (inl (status, received, silent)) failed = absurd cc
+    device-failed (Ok ready) string prepares (inr (status, (n, (took, risen)), line)) failed =
         inr risen
     device-failed (Err fault) (Some string) (unread, is) (status, unwritten, line) failed =
         let refused : status_of fault ≡ Refused =
-        rw (sym is) at (alone-performed limit task string) in
+        rw (sym is) at (alone-prepared limit task string) in
         absurd cc
-    device-failed (Err fault) None performs (status, unwritten, line) failed =
+    device-failed (Err fault) None prepares (status, unwritten, line) failed =
         elim (cases_unread {A = Ready} (Err fault)) [
-          | inl unread ↦ inl (performs.failed unread).failed
+          | inl unread ↦ inl (prepares.failed unread).failed
           | inr other ↦
-              let (input, was) = performs.answered other in
+              let (input, was) = prepares.answered other in
               let refused : status_of fault ≡ Refused =
-              rw (sym was.answer) at (alone-performed limit task input) in
+              rw (sym was.answer) at (alone-prepared limit task input) in
               absurd cc
         ]
 
   -- a run whose steps 9 to 11 answer so
   module _ (limit : ℕ) (request : Request) (contents : List (List ℕ)) (salt : List ℕ) where
     abbrev EndsAfter : Result Task Fault → Type 0
-    EndsAfter plans =
-        Ends src (to_sink out) err result
-        (input_needed_by plans request.string (input_limit limit request.command))
-        (λ input. output_of (ready_by limit plans request.string (Ok input)))
+    EndsAfter task_or_fault =
+        RunEnds src (to_sink out) err result
+        (input_needed_by task_or_fault request.string (input_limit limit request.command))
+        (λ input. output_of (ready_by limit task_or_fault request.string (Ok input)))
 
     abbrev EndsWithin : Type 0
     EndsWithin =
-        Ends src (to_sink out) err result (input_needed limit request contents salt)
+        RunEnds src (to_sink out) err result (input_needed limit request contents salt)
         (run_answer_within limit request contents salt)
 
     abbrev Runs : Type 0
     Runs = RunsRequest limit request contents salt src out err result
 
-    ends-after : (plans : Result Task Fault) → planned request contents salt ≡ plans
-        → EndsAfter plans → EndsWithin
+    ends-after : (task_or_fault : Result Task Fault) → task_of request contents salt ≡ task_or_fault
+        → EndsAfter task_or_fault → EndsWithin
     unfolding run_answer_within
-    ends-after plans is ends = subst EndsAfter (sym is) ends
+    ends-after task_or_fault is ends = subst EndsAfter (sym is) ends
 
     -- they refused
-    pub runs-unplanned : (fault : Fault) → planned request contents salt ≡ Err fault
+    pub runs-refused : (fault : Fault) → task_of request contents salt ≡ Err fault
         → result ≡ status_of fault → src.new ≡ src.old → out.new ≡ out.old
         → Reports err (line_of fault) → Runs
-    runs-unplanned fault refusal status unread unwritten line =
+    runs-refused fault refusal status unread unwritten line =
         let refused : status_of fault ≡ Refused =
-        rw refusal at (keeps-planned request salt contents) in
+        rw refusal at (keeps-task_of request salt contents) in
         record {
           ends = ends-after (Err fault) refusal
-              (ends-delivered None (λ input. Err fault) [] (unread, refl) (Err fault) refused refl
+              (ends-written None (λ input. Err fault) [] (unread, refl) (Err fault) refused refl
               (status, unwritten, line));
           device_failed = λ failed. absurd cc;
           full_source = λ needed full. let never = rw refusal at needed in absurd cc;
           full_output = λ full succeeds. cc;
         }
 
-    -- they gave a task, which was performed, and its answer delivered
-    pub runs-performed : (task : Task) → planned request contents salt ≡ Ok task
-        → (answer : Result Ready Fault) → Performs src limit task answer request.string
-        → Delivers out err result answer
+    -- they gave a task, which was prepared, and its answer written
+    pub runs-prepared : (task : Task) → task_of request contents salt ≡ Ok task
+        → (answer : Result Ready Fault) → Prepares src limit task answer request.string
+        → Writes out err result answer
         → (IsSaturated (out.failures out.old) → result ≢ Success) → Runs
-    runs-performed task found answer performs done full = record {
+    runs-prepared task found answer prepares done full = record {
       ends = ends-after (Ok task) found
-          (rw (← (rw found at (keeps-planned request salt contents)).0 limit)
-          (ends-text limit task answer request.string performs done));
-      device_failed = device-failed limit task answer request.string performs done;
+          (rw (← (rw found at (keeps-task_of request salt contents)).0 limit)
+          (ends-text limit task answer request.string prepares done));
+      device_failed = device-failed limit task answer request.string prepares done;
       full_source = λ needed saturated.
-          let unread = (rw (requested-no_string _ _ _ needed) at performs).full saturated in
-          (subst (Delivers out err result) unread done).0;
+          let unread = (rw (requested-no_string _ _ _ needed) at prepares).full saturated in
+          (subst (Writes out err result) unread done).0;
       full_output = full;
     }

@@ -17,9 +17,9 @@ use Rattle.vault_request.specs.Request.{IsSaltText, Request, SecretFile}
 use Rattle.vault_request.specs.declared.command_name.CommandName.{CommandName}
 use Rattle.vault_request.specs.declared.command_name.CommandName.TheVariants as command
 use Rattle.vault_cli.specs.runs.Answer.{input_limit, task_limit}
-use Rattle.vault_cli.specs.runs.Task.{Task, Encrypt, Decrypt, Rekey, new_secret_in, secret_in}
-use Rattle.vault_cli.specs.runs.Task.{encrypt_task, index_of, planned, salt_of, secret_list_of}
-use Rattle.vault_cli.specs.runs.Task.{secrets_of, task_of}
+use Rattle.vault_cli.specs.runs.Task.{Task, Encrypt, Decrypt, Rekey, new_secret_of, secret_of}
+use Rattle.vault_cli.specs.runs.Task.{encrypt_task, index_of, task_of, salt_of, secret_list_of}
+use Rattle.vault_cli.specs.runs.Task.{secrets_of, command_task}
 use Rattle.vault_cli.specs.declared.limits.TheConstants.{SEALING_SALT_LENGTH}
 use Rattle.vault_core.proofs.SealingByteLemmas.{take-bytes}
 use Rattle.vault_core.proofs.ChoiceLemmas.{IfOk-within}
@@ -54,7 +54,7 @@ keeps-salt None salt =
     })
 
 keeps-secret : (file : SecretFile) (bytes : List ℕ)
-    → Keeps (λ secret. HasLabel file → IsLabelled secret) (secret_in file bytes)
+    → Keeps (λ secret. HasLabel file → IsLabelled secret) (secret_of file bytes)
 keeps-secret file bytes =
     next (λ _. Unit {0}) _ _ _
     (named _ of_secret (password_of bytes) (λ password read. tt) (λ fault. grind arith))
@@ -74,7 +74,7 @@ keeps-secrets (file ∷ files) (bytes ∷ contents) =
     All-cons IsLabelled secret secrets (first labels.0) (others labels.1)))
 
 keeps-new : (file : Option SecretFile) (bytes : List ℕ)
-    → Keeps (λ secret. IfSome file HasLabel → IsLabelled secret) (new_secret_in file bytes)
+    → Keeps (λ secret. IfSome file HasLabel → IsLabelled secret) (new_secret_of file bytes)
 keeps-new None bytes = refl
 keeps-new (Some file) bytes = keeps-secret file bytes
 
@@ -118,14 +118,14 @@ module _ (request : Request) (salt : List ℕ) where
 
   keeps-task : (command : CommandName) (list : SecretList) (last : List ℕ)
       → (IsGiven → All IsLabelled list.secrets)
-      → Keeps (IsTask command) (task_of command request list last salt)
+      → Keeps (IsTask command) (command_task command request list last salt)
   keeps-task command.Encrypt list last labels = keeps-encrypt list.secrets Envelope labels
   keeps-task command.EncryptString list last labels =
       keeps-encrypt list.secrets (Block request.name) labels
   keeps-task command.Decrypt list last labels = (λ limit. refl, λ given. tt)
   keeps-task command.View list last labels = (λ limit. refl, λ given. tt)
   keeps-task command.Rekey list last labels =
-      next _ (IsTask command.Rekey) (new_secret_in request.new_secret last) _
+      next _ (IsTask command.Rekey) (new_secret_of request.new_secret last) _
       (keeps-new request.new_secret last) (λ secret label.
       next _ (IsTask command.Rekey) (salt_of request.salt_text salt) _
       (keeps-salt request.salt_text salt) (λ used is. (
@@ -137,10 +137,10 @@ module _ (request : Request) (salt : List ℕ) where
       )))
 
   -- steps 9 to 11
-  pub keeps-planned : (contents : List (List ℕ))
-      → Keeps (IsTask request.command) (planned request contents salt)
-  unfolding planned
-  keeps-planned contents =
+  pub keeps-task_of : (contents : List (List ℕ))
+      → Keeps (IsTask request.command) (task_of request contents salt)
+  unfolding task_of
+  keeps-task_of contents =
       next (λ list. IsGiven → All IsLabelled list.secrets) _
       (secret_list_of request contents) _
       (next _ _ (secrets_of request.secrets contents) _ (keeps-secrets request.secrets contents)

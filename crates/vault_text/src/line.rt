@@ -1,0 +1,10 @@
+//! What a written line of an envelope's body holds.
+
+/// The digits on a line.
+pub(crate) const LINE_DIGITS: usize = 80;
+
+/// The bytes of inner text that they spell, which are digits for the most part.
+pub(crate) const LINE_BYTES: usize = LINE_DIGITS / 2;
+
+/// The bytes of ciphertext whose digits a line spells.
+pub(crate) const LINE_CIPHERTEXT: usize = LINE_BYTES / 2;
