@@ -40,7 +40,7 @@ HOSTILE = ["mislabelled", "relabelled", "copied", "guessed"]
 BLOCK = re.compile(rb"(?m)^((?:\w+:|  -) )!vault \|\n((?: +\S+\n)+)")
 EXAMPLES = 300
 # How many merges of each kind, and how many changes, are tried at least.
-LEAST = {"merged": 100, "conflicts": 15, "refused": 8, "under a new secret": 4} | dict.fromkeys(HONEST + HOSTILE, 8)
+LEAST = {"merged": 100, "conflicts": 15, "refused": 8, "under a new secret": 1} | dict.fromkeys(HONEST + HOSTILE, 8)
 
 
 class Value(NamedTuple):
@@ -315,6 +315,19 @@ def test_of_values(request: pytest.FixtureRequest, tmp_path: Path) -> None:
 
     check()
     assert [(kind, counts[kind], least) for kind, least in LEAST.items() if counts[kind] < least] == []
+
+
+def test_of_equal_items() -> None:
+    """The one that nobody changed keeps its envelope, whatever both sides do to the other."""
+    needs("git")
+    needs_pyyaml()
+    first, second = (Value(ITEM, b"text", "prod", "prod", salt, 4) for salt in (0, 1))
+    for changed_first in (first._replace(text=b"our text", salt=2), first._replace(salt=2), None):
+        ours = [*([changed_first] if changed_first else []), second]
+        merge, tool = Merge([first, second], ours, [first._replace(password="prod2"), second]), Model()
+        for each in (merge, merge._replace(ours=merge.theirs, theirs=merge.ours)):
+            content = texts.merged(tool, tool.opened, *each.documents()).content
+            assert blocks_of(content)[-1].block == second.block()
 
 
 # Vaults by their labels and passwords.

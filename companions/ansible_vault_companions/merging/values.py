@@ -6,9 +6,10 @@ same token where the same keys lead to the same text with the same looks, and it
 
 from __future__ import annotations
 
+import itertools
 import re
 import secrets as randomness
-from collections import Counter
+from collections import defaultdict
 from typing import Hashable
 
 from ansible_vault_companions.files.changes import Change, changed
@@ -32,12 +33,14 @@ class Values:
         self.mark = f"ansible-vault-{randomness.token_hex(16)}".encode()
         # By what they stand for: a value with its number among equal ones, and the keys that lead to a value.
         self.tokens: dict[Hashable, bytes] = {}
+        # The envelopes of equal values in the first version that has some.
+        self.equal: dict[Hashable, list[bytes]] = {}
         self.paths: dict[Hashable, int] = {}
         self.versions = [scanned(each) for each in (ours, base, theirs)]
         self.ours, self.base, self.theirs = self.versions
         self.opened = opened(decrypt, self.versions)
         checks.check_labels(self.opened, self.base, {OURS: self.ours, THEIRS: self.theirs})
-        for each in self.versions:
+        for each in (self.base, self.ours, self.theirs):
             self._give_tokens(each)
         self._keep_rekeyed(self.ours, self.theirs)
         self._keep_rekeyed(self.theirs, self.ours)
@@ -48,13 +51,25 @@ class Values:
         self.made: dict[bytes, bytes] = {}
 
     def _give_tokens(self, version: Version) -> None:
-        equal: Counter[Hashable] = Counter()
+        equal: dict[Hashable, list[Place]] = defaultdict(list)
         for block in version.blocks:
             place = Place(block, self.opened.get(block.envelope))
-            what = _known_by(place)
-            version.places[self._token((what, equal[what]))] = place
             version.by_path[block.value.path].append(place)
-            equal[what] += 1
+            equal[_known_by(place)].append(place)
+        for what, places in equal.items():
+            for number, place in zip(self._numbers(what, [each.block.envelope for each in places]), places):
+                version.places[self._token((what, number))] = place
+
+    def _numbers(self, what: Hashable, envelopes: list[bytes]) -> list[int]:
+        """Of equal values. One whose envelope is as before keeps its number, whatever became of the others."""
+        known = self.equal.setdefault(what, envelopes)
+        kept: dict[int, int] = {}
+        for place, envelope in enumerate(envelopes):
+            same = (number for number, each in enumerate(known) if each == envelope and number not in kept.values())
+            if (number := next(same, None)) is not None:
+                kept[place] = number
+        free = (number for number in itertools.count() if number not in kept.values())
+        return [kept[place] if place in kept else next(free) for place in range(len(envelopes))]
 
     def _token(self, what: Hashable) -> bytes:
         return self.tokens.setdefault(what, b"%s-%d" % (self.mark, len(self.tokens)))
