@@ -129,8 +129,9 @@ def ends_of_tests(config: pytest.Config) -> list[Any]:
     return [each for each in reports if each.when == "call" or not each.passed]
 
 
-def part_of(report: pytest.TestReport) -> str:
-    return next((part for part in FLOORS if part in report.keywords), OUTCOMES)
+def part_of(report: pytest.TestReport | pytest.CollectReport) -> str:
+    """What could not be collected has no markers."""
+    return next((part for part in FLOORS if part in getattr(report, "keywords", ())), OUTCOMES)
 
 
 def too_few(config: pytest.Config) -> list[str]:

@@ -42,6 +42,7 @@ SAMPLES = {
     "a file is missing": (NO_FILE, [], 1, "0 passed, 1 failed, 0 skipped"),
     "too few": ("pass", ["--floors"], 1, "1 passed, 11 failed, 0 skipped"),
     "too few in two processes": ("pass", ["--floors", "--numprocesses=2"], 1, "1 passed, 11 failed, 0 skipped"),
+    "it cannot be collected": ("pass\nimport no_such", ["--floors"], 1, "0 passed, 12 failed, 0 skipped"),
     "no test of that name": ("pass", ["-k", "another"], 5, "0 passed, 0 failed, 0 skipped"),
 }
 
