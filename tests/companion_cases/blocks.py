@@ -99,16 +99,17 @@ fi"""
 
 def test_at_once(cases: Companions) -> None:
     """Blocks of one file are decrypted and encrypted at once; a secret that is refused is reported once."""
-    content = b"".join(block("old", b"text", name=f"n{number}") for number in range(8))
+    wanted = [b"text %d" % number for number in range(8)]
+    content = b"".join(block("old", text, name=f"n{number}") for number, text in enumerate(wanted))
     place = cases.place()
     place.put("vars.yml", content)
     place.wrap_tool(MEET.format("encrypt"))
     done = place.run(ROTATE, *to_new(place), "--jobs", "2", ".")
     ended("rotate", done, 0, "./vars.yml: 8 blocks rotated", summary(8))
-    assert texts(place.get("vars.yml"), "new") == [b"text"] * 8, "they are rotated"
+    assert texts(place.get("vars.yml"), "new") == wanted, "they are rotated"
     if len(os.sched_getaffinity(0)) < 2:
         pytest.skip("there is one processor")
-    shown = "".join(f"n{number}: !vault |-\n  text\n" for number in range(8))
+    shown = "".join(f"n{number}: !vault |-\n  text {number}\n" for number in range(8))
     place = cases.place()
     place.put("vars.yml", content)
     place.wrap_tool(MEET.format("view"))

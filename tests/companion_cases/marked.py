@@ -112,15 +112,16 @@ def test_names_of_variables(place: Place) -> None:
 
 
 def test_starts_of_the_tool(place: Place, subtests: SubTests) -> None:
-    """ansible-vault-textconv starts the tool once for each secret that is tried."""
+    """ansible-vault-textconv starts the tool once for each envelope, and each secret that is tried."""
     needs("strace")
     files = {
         "one.yml": (sealed("old"), ["old"], 1),
         "second.yml": (sealed("old"), ["dev", "old"], 2),
         "label first.yml": (sealed("prod", label="prod"), ["dev", "old", "prod"], 1),
         "none.yml": (sealed("new"), ["dev", "old"], 2),
-        "blocks.yml": (block("old") + block("old", name="b"), ["old"], 2),
-        "missing.yml": (block("old") + block("old", name="b"), ["missing", "old"], 3),
+        "blocks.yml": (block("old") + block("old", b"b", name="b"), ["old"], 2),
+        "copies.yml": (block("old") + block("old", name="b"), ["old"], 1),
+        "missing.yml": (block("old") + block("old", b"b", name="b"), ["missing", "old"], 3),
         "plain.yml": (TEXT, ["old"], 0),
     }
     for name, (content, secrets, count) in files.items():

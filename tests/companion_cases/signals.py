@@ -14,13 +14,14 @@ from pathlib import Path
 import pytest
 from pytest_subtests import SubTests
 
-from companion_cases import CHECK, EDIT, MERGE, ROTATE, TEXT, TEXTCONV, WITH
+from companion_cases import CHECK, EDIT, MERGE, PASSWORDS, ROTATE, TEXT, TEXTCONV, WITH
 from companion_cases import Companions, Place, block, decrypted, ended, sealed
 from companion_cases.editing import ABOVE_EDITOR, CHANGE, CHANGED
 from companion_cases.merging import versions
 from companion_cases.rotating import summary, to_new
 from companion_cases.terminal import at_terminal
 from lib.limits import SECONDS
+from model.vaults import seal, yaml_block
 
 # The copy of what was saved, and the message that names it.
 COPY = ".ansible-vault-saved-a.yml-"
@@ -54,12 +55,16 @@ runpy.run_path(sys.argv[0], run_name="__main__")
 """
 
 
+def two_blocks(password: str, text: bytes) -> bytes:
+    """The same text in two envelopes, since an envelope is decrypted once wherever it stands."""
+    return b"x: 1\n" + block(password, text) + yaml_block(seal(PASSWORDS[password], text, b"", bytes(32)), b"c")
+
+
 def tree(place: Place) -> None:
     """A vault and a file of blocks; and versions to merge, by which ours are put under the new secret."""
-    vault, blocks = sealed("old"), b"x: 1\n" + block("old") + block("old", name="c")
+    vault, blocks = sealed("old"), two_blocks("old", TEXT)
     versions(place, "a.yml", sealed("old", CHANGED), vault, sealed("new", CHANGED))
-    rekeyed = b"x: 1\n" + block("new", CHANGED) + block("new", CHANGED, name="c")
-    versions(place, "b.yml", b"x: 1\n" + block("old", CHANGED) + block("old", CHANGED, name="c"), blocks, rekeyed)
+    versions(place, "b.yml", two_blocks("old", CHANGED), blocks, two_blocks("new", CHANGED))
     place.put("a.yml", vault, 0o640)
     place.put("b.yml", blocks, 0o600)
     place.environment["EDITOR"] = place.script(f"{CHANGE}; touch ../saved", "editor")
@@ -166,17 +171,18 @@ def test_at_each_call(cases: Companions, subtests: SubTests) -> None:
 
 
 def test_interrupted_then_finished(place: Place) -> None:
-    for number in range(12):
-        place.put(f"{number}.yml", sealed("old"))
+    wanted = {f"{number}.yml": TEXT + b"number: %d\n" % number for number in range(12)}
+    for name, text in wanted.items():
+        place.put(name, sealed("old", text))
     place.wrap_tool(AT_RUN.format(number=14, trap="", signal="INT"))
     done = place.run(ROTATE, *to_new(place), "--jobs", "1", ".")
     assert done.returncode == -signal.SIGINT, "interrupted"
-    half = [decrypted("new", content) == TEXT for content in place.files().values()]
+    half = [decrypted("new", content) == wanted[name] for name, content in place.files().items()]
     assert True in half and False in half, "some are done and some are not"
     place.wrap_tool(":")
     done = place.run(ROTATE, *to_new(place), ".")
     ended("run again", done, 0, summary(half.count(False), half.count(True)))
-    assert {decrypted("new", each) for each in place.files().values()} == {TEXT}, "all are done"
+    assert {name: decrypted("new", each) for name, each in place.files().items()} == wanted, "all are done"
 
 
 @pytest.mark.parametrize("name, status", (("INT", 0), ("QUIT", 0), ("TERM", None), ("HUP", None), ("USR1", None)))

@@ -25,8 +25,8 @@ PARTS: dict[str, str | tuple[str, ...]] = {
     "SHA-256": "sha2::block256::compress",
     "AES": "vault_aes::key::Key::block",
     "digits read": "vault_text::hexadecimal::",
-    # The lines of an envelope are inlined into what delivers it.
-    "digits written": ("vault_text::writing::", "vault_cli::runs::deliver"),
+    # The lines of an envelope are inlined into what writes it.
+    "digits written": ("vault_text::writing::", "vault_cli::runs::write_or_report"),
 }
 REST, TOTAL = "the rest", "total"
 # What the compiler and the kit write into a program, and the processor that it asks for.
