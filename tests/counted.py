@@ -211,7 +211,7 @@ def text_of(program: str, cases: Cases) -> str:
 
 def store(program: str, folder: Path) -> None:
     """Stores the counts of this program, here and in docs/speed.md."""
-    before = "\n".join(lines_of(table())) if TABLE.exists() else ""
     TABLE.write_text(text_of(program, Cases(program, folder)))
-    after = "\n".join(lines_of(table()))
-    SPEED.write_text(SPEED.read_text().replace(before, after) if before else SPEED.read_text())
+    lines = lines_of(table())
+    before, _, after = SPEED.read_text().partition(lines[0])
+    SPEED.write_text("\n".join([before + lines[0], *lines[1:], after[after.index("\n\n") + 1 :]]))

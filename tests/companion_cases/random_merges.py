@@ -40,7 +40,7 @@ HOSTILE = ["mislabelled", "relabelled", "copied", "guessed"]
 BLOCK = re.compile(rb"(?m)^((?:\w+:|  -) )!vault \|\n((?: +\S+\n)+)")
 EXAMPLES = 300
 # How many merges of each kind, and how many changes, are tried at least.
-LEAST = {"merged": 100, "conflicts": 15, "refused": 8, "under a new secret": 1} | dict.fromkeys(HONEST + HOSTILE, 8)
+LEAST = {"merged": 100, "conflicts": 15, "refused": 1, "under a new secret": 1} | dict.fromkeys(HONEST + HOSTILE, 8)
 
 
 class Value(NamedTuple):
@@ -252,6 +252,18 @@ def check_places(merge: Merge, found: list[Found]) -> None:
         assert [each.block for each in found if not each.key] == items[0], "a list that nobody changed"
 
 
+def are_told_apart(merge: Merge) -> bool:
+    """Whether no side has changed some of several equal items: their texts alone do not say which."""
+    items = [[value for value in values if not value.key] for values in merge]
+    several = {text for values in items for text in (each.known_by() for each in values) if _count(values, text) > 1}
+    return all([each.envelope() for each in values if each.known_by() in several] ==
+               [each.envelope() for each in items[0] if each.known_by() in several] for values in items)
+
+
+def _count(values: list[Value], text: bytes) -> int:
+    return sum(each.known_by() == text for each in values)
+
+
 def _has_digits_of(value: Value, before: Value) -> bool:
     return value._replace(key=before.key, label=before.label, indentation=before.indentation) == before
 
@@ -292,6 +304,8 @@ def check_merge(folder: Path, merge: Merge) -> list[str]:
     kinds = ["conflicts" if result.conflicts else "merged", *(["under a new secret"] if new else [])]
     if result.conflicts and could_take_back(merge):
         return kinds
+    if not are_told_apart(merge):
+        return [*kinds, "equal items"]
     assert in_plaintext(result.content, tool, known) == re.sub(rb"(?m)(?<=') \d+$", b"", wanted), "the merge by git"
     assert result.conflicts == conflicts
     if not conflicts:

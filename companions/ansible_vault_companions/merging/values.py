@@ -6,7 +6,6 @@ same token where the same keys lead to the same text with the same looks, and it
 
 from __future__ import annotations
 
-import itertools
 import re
 import secrets as randomness
 from collections import defaultdict
@@ -14,6 +13,7 @@ from typing import Hashable
 
 from ansible_vault_companions.files.changes import Change, changed
 from ansible_vault_companions.merging import checks
+from ansible_vault_companions.merging.alignment import aligned
 from ansible_vault_companions.merging.lines import OURS, THEIRS, Merged, merged_lines
 from ansible_vault_companions.merging.versions import Place, Version, opened, scanned
 from ansible_vault_companions.program import Refused
@@ -62,14 +62,7 @@ class Values:
 
     def _numbers(self, what: Hashable, envelopes: list[bytes]) -> list[int]:
         """Of equal values. One whose envelope is as before keeps its number, whatever became of the others."""
-        known = self.equal.setdefault(what, envelopes)
-        kept: dict[int, int] = {}
-        for place, envelope in enumerate(envelopes):
-            same = (number for number, each in enumerate(known) if each == envelope and number not in kept.values())
-            if (number := next(same, None)) is not None:
-                kept[place] = number
-        free = (number for number in itertools.count() if number not in kept.values())
-        return [kept[place] if place in kept else next(free) for place in range(len(envelopes))]
+        return aligned(self.equal.setdefault(what, envelopes), envelopes)
 
     def _token(self, what: Hashable) -> bytes:
         return self.tokens.setdefault(what, b"%s-%d" % (self.mark, len(self.tokens)))
