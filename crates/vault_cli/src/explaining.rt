@@ -13,7 +13,8 @@ ghost use Rattle.vault_cli.specs.Explained.{Explains, IsShown};
 ghost use Rattle.vault_cli.specs.runs.Reports.{Reports, line_of, not_text_line};
 
 use crate::escaping::escaped_words;
-use crate::runs::{Status, report, write_text};
+use crate::runs::{Status, report};
+use crate::writing::write_text;
 use clap::Error;
 use clap::error::ErrorKind;
 use std::alloc::{AllocError, Global};

@@ -31,6 +31,7 @@ mod program;
 mod reserving;
 mod runs;
 mod system;
+mod writing;
 
 pub use explaining::reject_words;
 pub use in_memory::drive_in_memory;

@@ -20,7 +20,7 @@ use vault_request::Request;
 /// Reads the password files and the salt of a request into their buffers, and opens its input file,
 /// up to the first of them that refuses.
 pub(crate) fn load<D: System>(
-    files: &mut D,
+    sys: &mut D,
     request: &Request,
     secret_files: &mut [Vec<u8>],
     salt: &mut Vec<u8>,
@@ -30,20 +30,20 @@ pub(crate) fn load<D: System>(
     requires salt { vec_len salt.old ≡ SEALING_SALT_LENGTH }
     ensures count { length secret_files.new ≡ length secret_files.old }
     ensures secrets { OnOk result
-        (ContentsFound (D.finds files.old) (secret_paths request.now)
+        (ContentsFound (D.finds sys.old) (secret_paths request.now)
         (Ok (map (λ file. file.items) secret_files.new))) }
     ensures salt { OnOk result
-        (SaltFound (D.finds files.old) request.now.salt_path (Ok salt.new.items)) }
-    ensures input { IfOk result (λ input. AtPath (D.reader_at files.old) request.now.input input) }
-    ensures opens { OnOk result (Opens D.executes files.old (request_paths request.now) files.new) }
+        (SaltFound (D.finds sys.old) request.now.salt_path (Ok salt.new.items)) }
+    ensures input { IfOk result (λ input. AtPath (D.reader_at sys.old) request.now.input input) }
+    ensures opens { OnOk result (Opens D.executes sys.old (request_paths request.now) sys.new) }
     ensures refused { IfErr result (λ fault.
-        RefusedBy (D.finds files.old) (λ paths. Opens D.executes files.old paths files.new)
+        RefusedBy (D.finds sys.old) (λ paths. Opens D.executes sys.old paths sys.new)
         request.now fault) }
     ensures memory_suffices { IfErr result (λ fault. fault ≢ Memory) }
 {
-    read_secret_files(files, request, secret_files)?;
-    read_salt(files, request, salt)?;
-    open_input(files, request)
+    read_secret_files(sys, request, secret_files)?;
+    read_salt(sys, request, salt)?;
+    open_input(sys, request)
 }
 
 /// The fault of a file in its role.
@@ -57,27 +57,22 @@ fn file_fault(role: Role, fault: FileFault) -> Fault
 }
 
 /// Fills a buffer from the start of a file, and cuts it to what the file holds.
-fn fill_from<D: System>(
-    files: &mut D,
-    role: Role,
-    path: &str,
-    buf: &mut Vec<u8>,
-) -> Result<(), Fault>
-    ensures opens { Opens D.executes files.old (path.now ∷ []) files.new }
+fn fill_from<D: System>(sys: &mut D, role: Role, path: &str, buf: &mut Vec<u8>) -> Result<(), Fault>
+    ensures opens { Opens D.executes sys.old (path.now ∷ []) sys.new }
     ensures read { OnOk result
-        (PrefixFound (D.finds files.old path.now) role (vec_len buf.old) (Ok buf.new.items)) }
+        (PrefixFound (D.finds sys.old path.now) role (vec_len buf.old) (Ok buf.new.items)) }
     ensures refused { IfErr result (λ fault.
-        PrefixFound (D.finds files.old path.now) role (vec_len buf.old) (Err fault)) }
+        PrefixFound (D.finds sys.old path.now) role (vec_len buf.old) (Err fault)) }
     ensures memory_suffices { IfErr result (λ fault. fault ≢ Memory) }
 {
-    let n = read_prefix(files, path, buf.as_mut_slice()).map_err(|fault| file_fault(role, fault))?;
+    let n = read_prefix(sys, path, buf.as_mut_slice()).map_err(|fault| file_fault(role, fault))?;
     buf.truncate(n);
     Ok(())
 }
 
 /// Reads the password files, in their order, each up to one byte more than is taken.
 fn read_secret_files<D: System>(
-    files: &mut D,
+    sys: &mut D,
     request: &Request,
     bufs: &mut [Vec<u8>],
 ) -> Result<(), Fault>
@@ -85,32 +80,32 @@ fn read_secret_files<D: System>(
     requires long { All (λ buf. vec_len buf ≡ PASSWORD_FILE_LIMIT + 1) bufs.old }
     ensures count { length bufs.new ≡ length bufs.old }
     ensures read { OnOk result
-        (ContentsFound (D.finds files.old) (secret_paths request.now)
+        (ContentsFound (D.finds sys.old) (secret_paths request.now)
         (Ok (map (λ file. file.items) bufs.new))) }
-    ensures opens { OnOk result (Opens D.executes files.old (secret_paths request.now) files.new) }
+    ensures opens { OnOk result (Opens D.executes sys.old (secret_paths request.now) sys.new) }
     ensures refused { IfErr result (λ fault.
-        SecretsRefuse (D.finds files.old) (λ paths. Opens D.executes files.old paths files.new)
+        SecretsRefuse (D.finds sys.old) (λ paths. Opens D.executes sys.old paths sys.new)
         (secret_paths request.now) fault) }
     ensures memory_suffices { IfErr result (λ fault. fault ≢ Memory) }
 {
     for i in 0..request.files() {
-        fill_from(files, Role::Secret, request.path(i), &mut bufs[i])?;
+        fill_from(sys, Role::Secret, request.path(i), &mut bufs[i])?;
     }
     Ok(())
 }
 
 /// Reads the salt of a request, the first 32 bytes of its salt file, or none if it names no file.
-fn read_salt<D: System>(files: &mut D, request: &Request, buf: &mut Vec<u8>) -> Result<(), Fault>
+fn read_salt<D: System>(sys: &mut D, request: &Request, buf: &mut Vec<u8>) -> Result<(), Fault>
     requires length { vec_len buf.old ≡ SEALING_SALT_LENGTH }
-    ensures opens { Opens D.executes files.old (option_to_list request.now.salt_path) files.new }
+    ensures opens { Opens D.executes sys.old (option_to_list request.now.salt_path) sys.new }
     ensures read { OnOk result
-        (SaltFound (D.finds files.old) request.now.salt_path (Ok buf.new.items)) }
+        (SaltFound (D.finds sys.old) request.now.salt_path (Ok buf.new.items)) }
     ensures refused { IfErr result (λ fault.
-        SaltFound (D.finds files.old) request.now.salt_path (Err fault)) }
+        SaltFound (D.finds sys.old) request.now.salt_path (Err fault)) }
     ensures memory_suffices { IfErr result (λ fault. fault ≢ Memory) }
 {
     match request.salt_path() {
-        Some(path) => fill_from(files, Role::Salt, path, buf),
+        Some(path) => fill_from(sys, Role::Salt, path, buf),
         None => {
             buf.clear();
             Ok(())
@@ -119,16 +114,16 @@ fn read_salt<D: System>(files: &mut D, request: &Request, buf: &mut Vec<u8>) -> 
 }
 
 /// The input file of a request, opened, if it names one.
-fn open_input<D: System>(files: &mut D, request: &Request) -> Result<Option<D::Reader>, Fault>
-    ensures opens { Opens D.executes files.old (option_to_list request.now.input) files.new }
-    ensures opened { IfOk result (λ input. AtPath (D.reader_at files.old) request.now.input input) }
+fn open_input<D: System>(sys: &mut D, request: &Request) -> Result<Option<D::Reader>, Fault>
+    ensures opens { Opens D.executes sys.old (option_to_list request.now.input) sys.new }
+    ensures opened { IfOk result (λ input. AtPath (D.reader_at sys.old) request.now.input input) }
     ensures fault { IfErr result (λ fault. fault ≡ CannotOpen Input) }
     ensures missing { IfErr result (λ _.
-        AtPath (D.finds files.old) request.now.input (Some Missing)) }
+        AtPath (D.finds sys.old) request.now.input (Some Missing)) }
 {
     let Some(path) = request.input() else {
         return Ok(None);
     };
-    let reader = open(files, path).map_err(|fault| file_fault(Role::Input, fault))?;
+    let reader = open(sys, path).map_err(|fault| file_fault(Role::Input, fault))?;
     Ok(Some(reader))
 }

@@ -30,7 +30,7 @@ use vault_text::{CIPHERTEXT_LIMIT, Sink, Source, Stage, TextMemory};
 /// input is a file or `src`, the output a file or `out`. Help and the version go to `out`, and
 /// every message to `err`.
 pub fn drive_over<D: System, S: Source, K: Sink, E: Sink>(
-    files: &mut D,
+    sys: &mut D,
     alloc: Global,
     words: &[String],
     src: &mut S,
@@ -40,13 +40,13 @@ pub fn drive_over<D: System, S: Source, K: Sink, E: Sink>(
     requires out_unbegun { K.stage out.old ≡ Stage.Unbegun }
     requires err_unbegun { E.stage err.old ≡ Stage.Unbegun }
     ensures { let texts = map string_bytes words.now in
-        Ends (system D.System files.old files.new) (source S.Source src.old src.new)
+        Ends (system D.System sys.old sys.new) (source S.Source src.old src.new)
         (sink K.Sink out.old out.new) (sink E.Sink err.old err.new) result
         (fault_of vault_app texts) (requested_by texts) (program texts) }
 {
     match parse(alloc, words) {
         Ok(matches) => match settle(alloc, &matches) {
-            Ok(request) => drive_request(files, alloc, &request, src, out, err),
+            Ok(request) => drive_request(sys, alloc, &request, src, out, err),
             Err(fault) => report(fault, err),
         },
         Err(error) => explain(alloc, words, &error, out, err),
@@ -56,7 +56,7 @@ pub fn drive_over<D: System, S: Source, K: Sink, E: Sink>(
 /// Runs a request over its files, its input and its output, in memory that is reserved before any
 /// file is opened.
 fn drive_request<D: System, S: Source, K: Sink, E: Sink>(
-    files: &mut D,
+    sys: &mut D,
     alloc: Global,
     request: &Request,
     src: &mut S,
@@ -66,7 +66,7 @@ fn drive_request<D: System, S: Source, K: Sink, E: Sink>(
     requires out_unbegun { K.stage out.old ≡ Stage.Unbegun }
     requires err_unbegun { E.stage err.old ≡ Stage.Unbegun }
     ensures { let requested = Some (Ok request.now) in
-        Ends (system D.System files.old files.new) (source S.Source src.old src.new)
+        Ends (system D.System sys.old sys.new) (source S.Source src.old src.new)
         (sink K.Sink out.old out.new) (sink E.Sink err.old err.new) result [] requested
         (answer_to requested) }
 {
@@ -74,16 +74,16 @@ fn drive_request<D: System, S: Source, K: Sink, E: Sink>(
         Ok(memory) => memory,
         Err(error) => return report(Fault::from(error), err),
     };
-    match load(files, request, &mut memory.secret_files, &mut memory.salt) {
-        Ok(Some(mut reader)) => run_to_output(files, request, memory, &mut reader, out, err),
-        Ok(None) => run_to_output(files, request, memory, src, out, err),
+    match load(sys, request, &mut memory.secret_files, &mut memory.salt) {
+        Ok(Some(mut reader)) => run_to_output(sys, request, memory, &mut reader, out, err),
+        Ok(None) => run_to_output(sys, request, memory, src, out, err),
         Err(fault) => report(fault, err),
     }
 }
 
 /// Runs a request, whose output goes to its path, if it names one.
 fn run_to_output<D: System, S: Source, K: Sink, E: Sink>(
-    files: &mut D,
+    sys: &mut D,
     request: &Request,
     memory: RunMemory,
     src: &mut S,
@@ -98,15 +98,16 @@ fn run_to_output<D: System, S: Source, K: Sink, E: Sink>(
         let contents = map (λ file. file.items) memory.secret_files.items in
         let salt = memory.salt.items in
         RunEnds (source S.Source src.old src.new)
-        (to_path (system D.System files.old files.new) (sink K.Sink out.old out.new)
+        (to_path (system D.System sys.old sys.new) (sink K.Sink out.old out.new)
         request.output (output_access request.command)) (sink E.Sink err.old err.new) result
         (input_needed PLAINTEXT_LIMIT request contents salt) (run_answer request contents salt) }
 {
     match request.output() {
         Some(path) => {
-            let mut file = FileOutput::new(files, path, output_access(request.command()));
+            let mut file = FileOutput::new(sys, path, output_access(request.command()));
             let status = run_reserved(request, memory, src, &mut file, err);
-            let _files = file.into_system();
+            // Gives back the system, with what the output has left there.
+            let _system = file.into_system();
             status
         }
         None => run_reserved(request, memory, src, out, err),

@@ -47,15 +47,15 @@ pub(crate) fn reserve(alloc: Global, request: &Request) -> Result<RunMemory, All
     })
 }
 
-/// Touches the stack that a run needs. Which of its zeros are copied depends on a number that the
-/// compiler does not know, so that it leaves none of them out. Any number will do.
+/// Touches the stack that a run needs: fills it with zeros and copies some of them to `buf`. Which
+/// ones depends on `offset`, any number that the compiler does not know, so it leaves out no zero.
 #[inline(never)]
-fn touch_stack(unknown: usize, buf: &mut [u8])
+fn touch_stack(offset: usize, buf: &mut [u8])
     requires { length buf.old ≡ SEALING_SALT_LENGTH }
     ensures { length buf.new ≡ SEALING_SALT_LENGTH }
 {
     let stack = [0; STACK_LENGTH];
-    let start = unknown % (STACK_LENGTH - SEALING_SALT_LENGTH);
+    let start = offset % (STACK_LENGTH - SEALING_SALT_LENGTH);
     buf.copy_from_slice(&stack[start..start + SEALING_SALT_LENGTH]);
 }
 

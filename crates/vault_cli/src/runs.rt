@@ -13,7 +13,6 @@ mod status;
 mod task;
 
 pub use report_line::report;
-pub(crate) use report_line::write_text;
 pub use status::Status;
 use task::{Task, task_of};
 use vault_core::{Fault, Ready};

@@ -28,9 +28,9 @@ pub fn drive<'a, F: Files, R: Read + Drop, O: Write + Drop, E: Write + Drop>(
         (E.contents stderr) in
         MayBeDriven terms devices result (map string_bytes words.now) }
 {
-    let mut files = rt;
+    let mut sys = rt;
     let mut src = ReadSource::new(stdin);
     let mut out = WriteSink::new(stdout);
     let mut err = WriteSink::new(stderr);
-    drive_over(&mut files, alloc, words, &mut src, &mut out, &mut err)
+    drive_over(&mut sys, alloc, words, &mut src, &mut out, &mut err)
 }

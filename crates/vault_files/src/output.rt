@@ -115,8 +115,7 @@ impl<'a, D: System> Sink for FileOutput<'a, D> {
             return Err(SinkFailed);
         }
         let Ok(file) = open_output(self.system, self.path, self.access) else {
-            self.failures.raise();
-            return Err(SinkFailed);
+            return self.failures.fail(SinkFailed);
         };
         self.state = State::Open(file);
         Ok(())
@@ -131,10 +130,7 @@ impl<'a, D: System> Sink for FileOutput<'a, D> {
         };
         match self.system.write(file, bytes) {
             Ok(n) if n > 0 => Ok(n),
-            _ => {
-                self.failures.raise();
-                Err(SinkFailed)
-            }
+            _ => self.failures.fail(SinkFailed),
         }
     }
 
@@ -146,8 +142,7 @@ impl<'a, D: System> Sink for FileOutput<'a, D> {
             unreachable!()
         };
         if self.system.sync(file).is_err() {
-            self.failures.raise();
-            return Err(SinkFailed);
+            return self.failures.fail(SinkFailed);
         }
         self.state = State::Finished;
         Ok(())

@@ -94,25 +94,29 @@ pub trait System {
 }
 
 /// Opens a file for reading. If that fails, for whatever reason, it returns `CannotOpen`.
-pub fn open<D: System>(files: &mut D, path: &str) -> Result<D::Reader, FileFault>
-    ensures opens { Opens D.executes files.old (path.now ∷ []) files.new }
-    ensures reader { IfOk result (λ reader. D.reader_at files.old path.now reader) }
+pub fn open<D: System>(system: &mut D, path: &str) -> Result<D::Reader, FileFault>
+    ensures opens { Opens D.executes system.old (path.now ∷ []) system.new }
+    ensures reader { IfOk result (λ reader. D.reader_at system.old path.now reader) }
     ensures fault { IfErr result (λ fault. fault ≡ CannotOpen) }
-    ensures missing { IfErr result (λ _. D.finds files.old path.now Missing) }
+    ensures missing { IfErr result (λ _. D.finds system.old path.now Missing) }
 {
-    files.open(path).map_err(|_| FileFault::CannotOpen)
+    system.open(path).map_err(|_| FileFault::CannotOpen)
 }
 
 /// Reads a prefix of a file into the start of `buf` and returns its length: less than that of `buf`
 /// only if the file has no more bytes. After an error the contents of `buf` are unspecified.
-pub fn read_prefix<D: System>(files: &mut D, path: &str, buf: &mut [u8]) -> Result<usize, FileFault>
-    ensures opens { Opens D.executes files.old (path.now ∷ []) files.new }
+pub fn read_prefix<D: System>(
+    system: &mut D,
+    path: &str,
+    buf: &mut [u8],
+) -> Result<usize, FileFault>
+    ensures opens { Opens D.executes system.old (path.now ∷ []) system.new }
     ensures bound { IfOk result (λ n. n ≤ length buf.new) }
     ensures prefix { IfOk result (λ n.
-        Answers (D.finds files.old path.now) (length buf.new) (Ok (take n buf.new))) }
+        Answers (D.finds system.old path.now) (length buf.new) (Ok (take n buf.new))) }
     ensures refused { IfErr result (λ fault.
-        Answers (D.finds files.old path.now) (length buf.new) (Err fault)) }
+        Answers (D.finds system.old path.now) (length buf.new) (Err fault)) }
 {
-    let mut reader = open(files, path)?;
+    let mut reader = open(system, path)?;
     fill_up(&mut reader, buf).map_err(|_| FileFault::CannotRead)
 }

@@ -9,17 +9,17 @@ use sha2::{Digest, Sha256};
 pub(crate) const DIGEST_LEN: usize = 32;
 
 /// The length of a block of SHA-256, in bytes.
-const BLOCK_LEN: usize = 64;
+const HASH_BLOCK_LEN: usize = 64;
 
-const INNER_PAD: [u8; BLOCK_LEN] = [0x36; BLOCK_LEN];
+const INNER_PAD: [u8; HASH_BLOCK_LEN] = [0x36; HASH_BLOCK_LEN];
 
-const OUTER_PAD: [u8; BLOCK_LEN] = [0x5c; BLOCK_LEN];
+const OUTER_PAD: [u8; HASH_BLOCK_LEN] = [0x5c; HASH_BLOCK_LEN];
 
-fn padded_key(key: &[u8]) -> [u8; BLOCK_LEN]
+fn padded_key(key: &[u8]) -> [u8; HASH_BLOCK_LEN]
     ensures { result ≡ padded_key key.now }
 {
-    let mut block = [0; BLOCK_LEN];
-    if key.len() > BLOCK_LEN {
+    let mut block = [0; HASH_BLOCK_LEN];
+    if key.len() > HASH_BLOCK_LEN {
         block[..DIGEST_LEN].copy_from_slice(&Sha256::digest(key));
     } else {
         block[..key.len()].copy_from_slice(key);

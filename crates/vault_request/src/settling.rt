@@ -44,26 +44,30 @@ fn file_of(alloc: Global, found: &BorrowedSecretFile<'_>) -> Result<SecretFile, 
 /// Adds the password files of vault ids.
 fn add_labelled(
     alloc: Global,
-    files: &mut Vec<SecretFile>,
+    secret_files: &mut Vec<SecretFile>,
     labelled: &[BorrowedSecretFile<'_>],
 ) -> Result<(), Fault>
-    ensures added { OnOk result (files.new.items ≡ files.old.items ++ labelled.now) }
+    ensures added { OnOk result (secret_files.new.items ≡ secret_files.old.items ++ labelled.now) }
     ensures refused { IfErr result (λ fault. fault ≡ Memory) }
 {
     for found in labelled {
-        files.push(file_of(alloc, found)?)?;
+        secret_files.push(file_of(alloc, found)?)?;
     }
     Ok(())
 }
 
 /// Adds password files without labels of their own.
-fn add_unlabelled(alloc: Global, files: &mut Vec<SecretFile>, paths: &[&str]) -> Result<(), Fault>
-    ensures added { OnOk result (files.new.items
-        ≡ files.old.items ++ map file_of_path (map (λ path. path.now) paths.now)) }
+fn add_unlabelled(
+    alloc: Global,
+    secret_files: &mut Vec<SecretFile>,
+    paths: &[&str],
+) -> Result<(), Fault>
+    ensures added { OnOk result (secret_files.new.items
+        ≡ secret_files.old.items ++ map file_of_path (map (λ path. path.now) paths.now)) }
     ensures refused { IfErr result (λ fault. fault ≡ Memory) }
 {
     for path in paths {
-        files.push(file_of(alloc, &BorrowedSecretFile::with_default_label(path))?)?;
+        secret_files.push(file_of(alloc, &BorrowedSecretFile::with_default_label(path))?)?;
     }
     Ok(())
 }
@@ -84,14 +88,14 @@ fn secret_files_of(
     labelled: &[BorrowedSecretFile<'_>],
     paths: &[&str],
 ) -> Result<Vec<SecretFile>, Fault>
-    ensures files { IfOk result (λ files. files.items
+    ensures files { IfOk result (λ secret_files. secret_files.items
         ≡ labelled.now ++ map file_of_path (map (λ path. path.now) paths.now)) }
     ensures refused { IfErr result (λ fault. fault ≡ Memory) }
 {
-    let mut files = Vec::new(alloc);
-    add_labelled(alloc, &mut files, labelled)?;
-    add_unlabelled(alloc, &mut files, paths)?;
-    Ok(files)
+    let mut secret_files = Vec::new(alloc);
+    add_labelled(alloc, &mut secret_files, labelled)?;
+    add_unlabelled(alloc, &mut secret_files, paths)?;
+    Ok(secret_files)
 }
 
 /// What `rekey` seals with.

@@ -74,13 +74,13 @@ pub(crate) fn parse(id: &str) -> Result<BorrowedSecretFile<'_>, Fault>
 /// Reads vault ids in their order; refused by the first that has a fault.
 pub(crate) fn parse_all<'a>(ids: &[&'a str]) -> Result<BorrowedSecretFiles<'a>, Fault>
     requires { length ids.now ≤ SECRET_COUNT_LIMIT }
-    ensures files { IfOk result (λ files.
-        files.items ≡ map file_of_id (map (λ id. id.now) ids.now)) }
+    ensures files { IfOk result (λ secret_files.
+        secret_files.items ≡ map file_of_id (map (λ id. id.now) ids.now)) }
     ensures refused { result_err result ≡ first_fault (map (λ id. id.now) ids.now) }
 {
-    let mut files = ArrayVec::new();
+    let mut secret_files = ArrayVec::new();
     for id in ids {
-        files.push(parse(id)?);
+        secret_files.push(parse(id)?);
     }
-    Ok(files)
+    Ok(secret_files)
 }

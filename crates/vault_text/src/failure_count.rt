@@ -1,5 +1,5 @@
 //! Counting the failures of a source or a sink.
-ghost use Rattle.std.specs.Prelude.{◌≡◌, ◌≤◌, ◌↔◌, IsTrue};
+ghost use Rattle.std.specs.Prelude.{◌≡◌, ◌≤◌, ◌↔◌, IsTrue, Err};
 ghost use Rattle.vault_text.specs.Failures.{HasRisen, IsSaturated, u64_max};
 
 use std::marker::Model;
@@ -26,12 +26,14 @@ impl FailureCount {
         FailureCount { count: 0 }
     }
 
-    /// Counts one failure.
-    pub fn raise(&mut self)
+    /// Counts the failure of a call, and returns the error of that call.
+    pub fn fail<T, E>(&mut self, error: E) -> Result<T, E>
+        ensures error { result ≡ Err error }
         ensures risen { HasRisen self.old self.new }
         ensures monotone { self.old ≤ self.new }
     {
         self.count = self.count.saturating_add(1);
+        Err(error)
     }
 
     /// Whether it is saturated: then each call must fail, since a failure could not be counted.

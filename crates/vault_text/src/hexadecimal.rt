@@ -6,8 +6,14 @@ ghost use Rattle.hex.specs.Hex.{hex_digit_value, is_hex_digit};
 ghost use Rattle.vault_text.specs.Hexadecimal.{Decodes, byte_count, new_decoder, unhex, unhex_on};
 ghost use Rattle.vault_text.specs.Hexadecimal.{value_or_invalid};
 
-use crate::line::{LINE_BYTES, LINE_CIPHERTEXT};
+use crate::line::LINE_DIGITS;
 use std::marker::Model;
+
+/// The digits of a block: half of a line, or all the digits that a line spells.
+const BLOCK_DIGITS: usize = LINE_DIGITS / 2;
+
+/// The bytes that a block spells.
+const BLOCK_BYTES: usize = BLOCK_DIGITS / 2;
 
 /// The largest value of a digit.
 const LARGEST: u8 = 15;
@@ -34,37 +40,37 @@ fn decode_pairs(pairs: &[u8], bytes: &mut [u8]) -> bool
 {
     let mut is_good = true;
     let mut done = 0;
-    while bytes.len() - done >= LINE_CIPHERTEXT {
-        let end = done + LINE_CIPHERTEXT;
+    while bytes.len() - done >= BLOCK_BYTES {
+        let end = done + BLOCK_BYTES;
         is_good &= decode_block(&pairs[2 * done..2 * end], &mut bytes[done..end]);
         done = end;
     }
     is_good & decode_one_by_one(&pairs[2 * done..], &mut bytes[done..])
 }
 
-/// Decodes a block of digits: half of a line, or all that a line spells. Its length is always the
-/// same, so that the compiler can use vector instructions.
+/// Decodes a block of digits. Its length is always the same, so the compiler can use vector
+/// instructions.
 // Out of line there is one copy of it, and profiles show what digits cost.
 #[inline(never)]
 fn decode_block(digits: &[u8], bytes: &mut [u8]) -> bool
-    requires digits { length digits.now ≡ LINE_BYTES }
-    requires bytes { length bytes.old ≡ LINE_CIPHERTEXT }
+    requires digits { length digits.now ≡ BLOCK_DIGITS }
+    requires bytes { length bytes.old ≡ BLOCK_BYTES }
     ensures { unhex digits.now ≡ (if result then Some bytes.new else None) }
 {
-    let mut values = [0; LINE_BYTES];
+    let mut values = [0; BLOCK_DIGITS];
     let is_good = digit_values(digits, &mut values);
     join_halves(&values, bytes);
     is_good
 }
 
 /// The values of a block of digits, and whether all were digits.
-fn digit_values(digits: &[u8], values: &mut [u8; LINE_BYTES]) -> bool
-    requires { length digits.now ≡ LINE_BYTES }
+fn digit_values(digits: &[u8], values: &mut [u8; BLOCK_DIGITS]) -> bool
+    requires { length digits.now ≡ BLOCK_DIGITS }
     ensures values { values.new ≡ map value_or_invalid digits.now }
     ensures good { result ≡ list_all is_hex_digit digits.now }
 {
     let mut seen = 0;
-    for place in 0..LINE_BYTES {
+    for place in 0..BLOCK_DIGITS {
         let value = digit_value(digits[place]).unwrap_or(INVALID);
         seen |= value;
         values[place] = value;
@@ -73,12 +79,12 @@ fn digit_values(digits: &[u8], values: &mut [u8; LINE_BYTES]) -> bool
 }
 
 /// Joins the values of a block, each two to a byte.
-fn join_halves(values: &[u8; LINE_BYTES], bytes: &mut [u8])
-    requires { length bytes.old ≡ LINE_CIPHERTEXT }
+fn join_halves(values: &[u8; BLOCK_DIGITS], bytes: &mut [u8])
+    requires { length bytes.old ≡ BLOCK_BYTES }
     ensures { (digits : List ℕ) → values.now ≡ map value_or_invalid digits
         → list_all is_hex_digit digits ≡ true → unhex digits ≡ Some bytes.new }
 {
-    for place in 0..LINE_CIPHERTEXT {
+    for place in 0..BLOCK_BYTES {
         bytes[place] = values[2 * place] << 4 | values[2 * place + 1];
     }
 }

@@ -1,21 +1,21 @@
 //! The one line on standard error that says why a run failed.
-ghost use Rattle.std.specs.Prelude.{◌≡◌, ℕ, take, OnOk};
-ghost use Rattle.vault_text.specs.Failures.{CountsFailure};
+ghost use Rattle.std.specs.Prelude.{◌≡◌};
 ghost use Rattle.vault_cli.specs.Call.{sink};
 ghost use Rattle.vault_cli.specs.runs.Reports.{Reports, line_of};
 ghost use Rattle.vault_cli.specs.runs.Status.{status_of};
 
 use crate::runs::status::{Status, status_of};
+use crate::writing::write_text;
 use arrayvec::ArrayVec;
 use vault_core::Fault;
 use vault_fault::FAULT_TEXT_LIMIT;
-use vault_text::{Sink, SinkFailed, Stage, put_all};
+use vault_text::{Sink, Stage};
 
 /// What each line begins with.
 const PREFIX: &[u8; 7] = b"ERROR! ";
 
 /// The bytes of the longest line: the prefix, the longest text of a fault, and the line end.
-const LINE_LIMIT: usize = PREFIX.len() + FAULT_TEXT_LIMIT + 1;
+const REPORT_LIMIT: usize = PREFIX.len() + FAULT_TEXT_LIMIT + 1;
 
 /// Makes `err` take the fault's line, `ERROR! ` and the fault's text, and returns the fault's
 /// status. A failure of `err` changes nothing else.
@@ -29,7 +29,7 @@ pub fn report<E: Sink>(fault: Fault, err: &mut E) -> Status
 }
 
 /// The fault's line, whole: lines of several runs on one stream do not mix.
-fn line_of(fault: Fault) -> ArrayVec<u8, LINE_LIMIT>
+fn line_of(fault: Fault) -> ArrayVec<u8, REPORT_LIMIT>
     ensures { result.items ≡ line_of fault }
 {
     let mut line = ArrayVec::new();
@@ -37,17 +37,4 @@ fn line_of(fault: Fault) -> ArrayVec<u8, LINE_LIMIT>
     line.try_extend_from_slice(fault.text().as_bytes()).unwrap();
     line.push(b'\n');
     line
-}
-
-/// Begins the sink, puts the text at once and finishes.
-pub(crate) fn write_text<K: Sink>(text: &[u8], sink: &mut K) -> Result<(), SinkFailed>
-    requires { K.stage sink.old ≡ Stage.Unbegun }
-    ensures text { OnOk result (K.takes sink.old text.now sink.new) }
-    ensures finished { OnOk result (K.stage sink.new ≡ Stage.Finished) }
-    ensures prefix { (n : ℕ) × K.takes sink.old (take n text.now) sink.new }
-    ensures failed { CountsFailure (K.failures sink.old) (K.failures sink.new) result }
-{
-    sink.begin()?;
-    put_all(sink, text)?;
-    sink.finish()
 }

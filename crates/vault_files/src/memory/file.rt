@@ -111,8 +111,7 @@ impl<'a> Source for MemFileReader<'a> {
             return Ok(0);
         }
         if self.left.is_empty() && self.breaks {
-            self.failures.raise();
-            return Err(SourceFailed);
+            return self.failures.fail(SourceFailed);
         }
         let n = buf.len().min(self.left.len());
         let (prefix, rest) = self.left.split_at(n);

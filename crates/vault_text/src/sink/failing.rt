@@ -74,8 +74,7 @@ impl FailingSink {
         let calls = self.calls;
         self.calls = calls.saturating_sub(1);
         if calls == 0 || self.failures.is_saturated() {
-            self.failures.raise();
-            return Err(SinkFailed);
+            return self.failures.fail(SinkFailed);
         }
         Ok(())
     }
@@ -126,11 +125,10 @@ impl Sink for FailingSink {
         ensures full { IsSaturated self.old.failures → IsErr result }
     {
         self.use_call()?;
-        let result = self.memory.put(bytes);
-        if result.is_err() {
-            self.failures.raise();
+        match self.memory.put(bytes) {
+            Ok(n) => Ok(n),
+            Err(error) => self.failures.fail(error),
         }
-        result
     }
 
     fn finish(&mut self) -> Result<(), SinkFailed>

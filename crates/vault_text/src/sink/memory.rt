@@ -112,8 +112,7 @@ impl Sink for MemSink {
         }
         let n = bytes.len().min(self.step);
         if self.bytes.extend_from_slice(&bytes[..n]).is_err() {
-            self.failures.raise();
-            return Err(SinkFailed);
+            return self.failures.fail(SinkFailed);
         }
         Ok(n)
     }

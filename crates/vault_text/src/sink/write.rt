@@ -88,10 +88,7 @@ impl<W: Write> Sink for WriteSink<W> {
         }
         match self.writer.write(bytes) {
             Ok(n) if n > 0 => Ok(n),
-            _ => {
-                self.failures.raise();
-                Err(SinkFailed)
-            }
+            _ => self.failures.fail(SinkFailed),
         }
     }
 
@@ -100,8 +97,7 @@ impl<W: Write> Sink for WriteSink<W> {
             return Err(SinkFailed);
         }
         if self.writer.flush().is_err() {
-            self.failures.raise();
-            return Err(SinkFailed);
+            return self.failures.fail(SinkFailed);
         }
         self.stage = Stage::Finished;
         Ok(())

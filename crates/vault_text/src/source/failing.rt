@@ -77,8 +77,7 @@ impl<'a> Source for FailingSource<'a> {
         ensures full { IsSaturated self.old.failures → IsErr result }
     {
         if self.calls == 0 {
-            self.failures.raise();
-            return Err(SourceFailed);
+            return self.failures.fail(SourceFailed);
         }
         self.calls -= 1;
         self.memory.fill(buf)

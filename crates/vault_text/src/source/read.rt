@@ -80,10 +80,7 @@ impl<R: Read> Source for ReadSource<R> {
                 self.ended = n == 0;
                 Ok(n)
             }
-            Err(_) => {
-                self.failures.raise();
-                Err(SourceFailed)
-            }
+            Err(_) => self.failures.fail(SourceFailed),
         }
     }
 }

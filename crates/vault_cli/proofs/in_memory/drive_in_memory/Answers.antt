@@ -13,7 +13,7 @@ returns c =
     let texts = map string_bytes c.args.words.now in
     let ends = λ (parses : fault_of vault_app texts ≡ []).
     ends-in_memory MemWriter c.drive_over.result
-    (change c.args.files.now c.drive_over.new.files) (change c.args.src.now c.drive_over.new.src)
+    (change c.args.files.now c.drive_over.new.sys) (change c.args.src.now c.drive_over.new.src)
     (change c.args.out.now c.drive_over.new.out) (change c.args.err.now c.drive_over.new.err)
     c.requires.none_created c.requires.src_not_ended (requested_by texts) (fault_of vault_app texts)
     parses c.drive_over.ensures in

@@ -9,10 +9,10 @@ use Rattle.vault_cli.proofs.loading.load.Goals as goal
 pub returns-in_err-read_secret_files-clause-refused :
     goal.returns-in_err-read_secret_files-clause-refused
 returns-in_err-read_secret_files-clause-refused g c =
-    let old = c.args.files.now in
+    let old = c.args.sys.now in
     let p = err_from_is_err_and c.from_residual.result c.from_residual.ensures.1 in
     rw (p.1, p.2) (refused-secrets (g.D.System.finds old) (g.met.D.System.finds_some old)
-    (λ paths. Opens g.D.System.executes old paths c.read_secret_files.new.files)
+    (λ paths. Opens g.D.System.executes old paths c.read_secret_files.new.sys)
     c.args.request.now _ c.in_err-read_secret_files.ensures.refused)
 
 pub returns-in_err-read_salt-clause-refused : goal.returns-in_err-read_salt-clause-refused
@@ -20,9 +20,9 @@ returns-in_err-read_salt-clause-refused g c =
     let finds = g.D.System.finds in
     let executes = g.D.System.executes in
     let opens = g.met.D.System.opens_finds in
-    let old = c.args.files.now in
-    let middle = c.read_secret_files.new.files in
-    let new = c.read_salt.new.files in
+    let old = c.args.sys.now in
+    let middle = c.read_secret_files.new.sys in
+    let new = c.read_salt.new.sys in
     let first = c.in_ok-read_secret_files.ensures in
     let p = err_from_is_err_and c.from_residual-in_err-read_salt.result
     c.from_residual-in_err-read_salt.ensures.1 in
@@ -45,10 +45,10 @@ returns-clause-refused g c =
     let executes = g.D.System.executes in
     let opens = g.met.D.System.opens_finds in
     let more = g.met.D.System.executes_more in
-    let old = c.args.files.now in
-    let middle = c.read_secret_files.new.files in
-    let last = c.read_salt.new.files in
-    let new = c.open_input.new.files in
+    let old = c.args.sys.now in
+    let middle = c.read_secret_files.new.sys in
+    let last = c.read_salt.new.sys in
+    let new = c.open_input.new.sys in
     let first = c.in_ok-read_secret_files.ensures in
     let second = c.in_ok-read_salt.ensures in
     let both = Opens-more executes more old middle last _ _ first.opens second.opens in
@@ -70,13 +70,13 @@ on-ok (Err e) P p = tt
 
 pub returns-clause-opens : goal.returns-clause-opens
 returns-clause-opens g c =
-    let old = c.args.files.now in
+    let old = c.args.sys.now in
     let request = c.args.request.now in
-    let last = c.read_salt.new.files in
-    let new = c.open_input.new.files in
+    let last = c.read_salt.new.sys in
+    let new = c.open_input.new.sys in
     let executes = g.D.System.executes in
     let more = g.met.D.System.executes_more in
-    let both = Opens-more executes more old c.read_secret_files.new.files last _ _
+    let both = Opens-more executes more old c.read_secret_files.new.sys last _ _
     c.in_ok-read_secret_files.ensures.opens c.in_ok-read_salt.ensures.opens in
     on-ok c.open_input.result _
     (Opens-more executes more old last new _ _ both c.open_input.ensures.opens)

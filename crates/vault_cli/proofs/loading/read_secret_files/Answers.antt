@@ -16,8 +16,8 @@ returns-in_err-fill_from-clause-refused g c =
     let finds = g.D.System.finds in
     let executes = g.D.System.executes in
     let opens = g.met.D.System.opens_finds in
-    let old = c.args.files.now in
-    let new = c.fill_from.new.files in
+    let old = c.args.sys.now in
+    let new = c.fill_from.new.sys in
     let path = c.path.result.now in
     let kept = c.loop-i.invariant in
     let inside : c.loop-i.i < length (files_of c.args.request.now) =
@@ -29,10 +29,10 @@ returns-in_err-fill_from-clause-refused g c =
     rw (p.1, p.2) (secrets-refuse (finds old) (secret_paths c.args.request.now) c.loop-i.i _ path
     next.0 kept.1 (λ paths. Opens g.D.System.executes old paths new)
     (g.met.D.System.finds_some old) _
-    (PrefixFound-before (finds old path) (finds c.loop-i.files path)
-    (λ file. Opens-finds executes finds opens old c.loop-i.files _ path file kept.2) Secret _
+    (PrefixFound-before (finds old path) (finds c.loop-i.sys path)
+    (λ file. Opens-finds executes finds opens old c.loop-i.sys _ path file kept.2) Secret _
     (PASSWORD_FILE_LIMIT + 1) _ long c.in_err-fill_from.ensures.refused)
-    (Opens-more g.D.System.executes g.met.D.System.executes_more old c.loop-i.files new _ _ kept.2
+    (Opens-more g.D.System.executes g.met.D.System.executes_more old c.loop-i.sys new _ _ kept.2
     c.in_err-fill_from.ensures.opens))
 
 pub loop-i-preserved : goal.loop-i-preserved
@@ -40,8 +40,8 @@ loop-i-preserved g c =
     let finds = g.D.System.finds in
     let executes = g.D.System.executes in
     let opens = g.met.D.System.opens_finds in
-    let old = c.args.files.now in
-    let new = c.fill_from.new.files in
+    let old = c.args.sys.now in
+    let new = c.fill_from.new.sys in
     let path = c.path.result.now in
     let kept = c.loop-i.invariant in
     let bufs = c.loop-i.bufs in
@@ -51,7 +51,7 @@ loop-i-preserved g c =
     let within : c.loop-i.i < length bufs = omega (arith, inside, kept.0) in
     let next = next_path c.args.request.now c.loop-i.i path inside c.path.ensures in
     let long = next-long bufs c.loop-i.i c.index-bufs-i.result buf within kept.3 in
-    let went = Opens-more executes g.met.D.System.executes_more old c.loop-i.files new _ _ kept.2
+    let went = Opens-more executes g.met.D.System.executes_more old c.loop-i.sys new _ _ kept.2
     c.in_ok-fill_from.ensures.opens in (
       length-set bufs c.loop-i.i buf ∙ kept.0,
       rw (
@@ -60,8 +60,8 @@ loop-i-preserved g c =
       )
           (GivesPrefix-more (finds old) (secret_paths c.args.request.now) c.loop-i.i _ path next.0
           kept.1 buf.items next.1
-          (PrefixFound-before (finds old path) (finds c.loop-i.files path)
-          (λ file. Opens-finds executes finds opens old c.loop-i.files _ path file kept.2) Secret _
+          (PrefixFound-before (finds old path) (finds c.loop-i.sys path)
+          (λ file. Opens-finds executes finds opens old c.loop-i.sys _ path file kept.2) Secret _
           (PASSWORD_FILE_LIMIT + 1) _ long.0 c.in_ok-fill_from.ensures.read)),
       rw next.1 went,
       long.1,
@@ -73,13 +73,13 @@ returns-clause-read g c =
     omega (arith, c.loop-i-test.false, c.files-i-end.ensures.count) in
     let all = take_all c.loop-i.i c.loop-i.bufs (omega (arith, past, c.loop-i.invariant.0)) in
     rw all at
-    (ContentsFound-all (g.D.System.finds c.args.files.now) (secret_paths c.args.request.now)
+    (ContentsFound-all (g.D.System.finds c.args.sys.now) (secret_paths c.args.request.now)
     c.loop-i.i _ (rw length-map past) c.loop-i.invariant.1)
 
 pub loop-i-init : goal.loop-i-init
 loop-i-init g c = (
   c.requires.count,
   λ rest found. (rest, found, search (rules), search (rules)),
-  Opens-none g.D.System.executes g.met.D.System.executes_none c.args.files.now,
+  Opens-none g.D.System.executes g.met.D.System.executes_none c.args.sys.now,
   c.requires.long,
 )

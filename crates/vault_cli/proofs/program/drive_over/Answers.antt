@@ -12,7 +12,7 @@ returns g c = Stopped refl refl c.explain.ensures
 
 pub returns-in-Ok-settle : goal.returns-in-Ok-settle
 returns-in-Ok-settle g c =
-    let drives = drives-settled (system g.D.System c.args.files.now c.drive_request.new.files)
+    let drives = drives-settled (system g.D.System c.args.sys.now c.drive_request.new.sys)
     (source g.S.Source c.args.src.now c.drive_request.new.src) _ _ _
     (requested (subcommand_rows_of c.in-Ok.matches)) c.in-Ok-settle.request
     c.in-Ok.ensures.requested c.in-Ok-settle.ensures c.drive_request.ensures in
@@ -20,11 +20,11 @@ returns-in-Ok-settle g c =
 
 pub returns-in-Ok : goal.returns-in-Ok
 returns-in-Ok g c =
-    let drives = drives-unsettled (system g.D.System c.args.files.now c.args.files.now)
+    let drives = drives-unsettled (system g.D.System c.args.sys.now c.args.sys.now)
     (source g.S.Source c.args.src.now c.args.src.now)
     (sink g.K.Sink c.args.out.now c.args.out.now) _ _ refl refl c.in-Err-settle.fault
     c.report.ensures.status c.report.ensures.line refl
-    (Opens-none g.D.System.executes g.met.D.System.executes_none c.args.files.now)
+    (Opens-none g.D.System.executes g.met.D.System.executes_none c.args.sys.now)
     (requested (subcommand_rows_of c.in-Ok.matches)) c.in-Ok.ensures.requested
     c.in-Err-settle.ensures in
     rw c.in-Ok.ensures.kinds (rw c.in-Ok.ensures.matches at drives)

@@ -3,7 +3,7 @@ use Rattle.vault_cli.proofs.system.drive.Goals as goal
 pub returns : goal.returns
 returns g c = (
   record {
-    files = c.drive_over.new.files;
+    files = c.drive_over.new.sys;
     src = c.drive_over.new.src;
     out = c.drive_over.new.out;
     err = c.drive_over.new.err;

@@ -4,5 +4,5 @@ use Rattle.vault_request.proofs.settling.add_unlabelled.Given as goal
 
 abbrev pub invariant-loop-path : goal.invariant-loop-path
 invariant-loop-path l =
-    l.files.items ≡ l.fn.files.items
+    l.secret_files.items ≡ l.fn.secret_files.items
     ++ map file_of_path (map (λ path. path.now) (take l.path-index l.paths))

@@ -17,7 +17,7 @@ returns-in_default-clause-takes g c =
     let (calls, fails, executed) = c.in_default.ensures in
     rw (← c.self.view_is, chosen)
     (takes_by g.D.System.executes _ _ (fails_to_begin _ _ calls fails) executed
-    (rises _ _ c.if-is_saturated.ensures.saturated c.raise.ensures.risen) refl)
+    (rises _ _ c.if-is_saturated.ensures.saturated c.fail.ensures.risen) refl)
 
 pub returns-clause-takes : goal.returns-clause-takes
 returns-clause-takes g c =

@@ -15,7 +15,7 @@ returns-then-is_err-clause-takes g c =
     rw (← c.self.view_is, c.in-Open.is)
     (takes_by g.D.System.executes _ _ fails_to_finish
     (rw (if_failed-is c.sync.result, made) at c.sync.ensures)
-    (rises _ _ c.if-is_saturated.ensures.saturated c.raise.ensures.risen) refl)
+    (rises _ _ c.if-is_saturated.ensures.saturated c.fail.ensures.risen) refl)
 
 pub returns-clause-takes : goal.returns-clause-takes
 returns-clause-takes g c =

@@ -15,8 +15,8 @@ returns-in-Ok-clause-takes g c =
 
 pub returns-in_default-write-clause-takes : goal.returns-in_default-write-clause-takes
 returns-in_default-write-clause-takes g c =
-    let risen = rises _ _ c.if-is_saturated.ensures.saturated c.raise.ensures.risen in
-    rw (← c.self.view_is, c.in-Open.is) (elim c.in_default-write.branch [
+    let risen = rises _ _ c.if-is_saturated.ensures.saturated c.fail.ensures.risen in
+    rw (← c.self.view_is, c.in-Open.is, c.fail.ensures.error) (elim c.in_default-write.branch [
       | goal.in_default-write-via-in-Ok+else-n-gt0 w ↦
           let nothing : w.in-Ok.n ≡ 0 = omega (arith, w.if-n-gt0.false) in
           takes_by g.D.System.executes _ _ writes_nothing

@@ -2,7 +2,7 @@ use Rattle.std.proofs.Common.{◌≡◌, [], length, arith, refl, rules, take}
 use Rattle.std.proofs.lemmas.List.{take_all}
 use Rattle.std.proofs.lemmas.Result.{on_ok_weaker}
 use Rattle.vault_text.proofs.SinkLemmas.{prefix_second, taken_none}
-use Rattle.vault_cli.proofs.runs.report_line.write_text.Goals as goal
+use Rattle.vault_cli.proofs.writing.write_text.Goals as goal
 
 pub returns-in_err-put_all-clause-prefix : goal.returns-in_err-put_all-clause-prefix
 returns-in_err-put_all-clause-prefix g c =
