@@ -41,17 +41,17 @@ set -l given __fish_seen_subcommand_from
 for name in ansible-vault ansible-vault-with
     set -l none "not $given $commands create edit"
     complete -c $name -f
-    complete -c $name -n "$none" -a encrypt -d 'Plaintext to an encrypted file'
-    complete -c $name -n "$none" -a decrypt -d 'An encrypted file to its plaintext'
-    complete -c $name -n "$none" -a view -d 'An encrypted file to its plaintext, on standard output'
-    complete -c $name -n "$none" -a rekey -d 'An encrypted file to one under a new secret'
-    complete -c $name -n "$none" -a encrypt_string -d 'A text to a block of YAML'
+    complete -c $name -n "$none" -a encrypt -d 'Encrypt a file'
+    complete -c $name -n "$none" -a decrypt -d 'Decrypt a vault'
+    complete -c $name -n "$none" -a view -d 'Print the plaintext of a vault'
+    complete -c $name -n "$none" -a rekey -d 'Re-encrypt a vault with a new secret'
+    complete -c $name -n "$none" -a encrypt_string -d 'Encrypt a text as a YAML block'
     complete -c $name -n "not $given $commands" -s V -l version -d 'Print version'
     complete -c $name -s h -l help -d 'Print help'
     complete -c $name -n "$given rekey" -l new-vault-id -x -a '(__ansible_vault_ids)' \
-        -d 'The password file of the new secret, with its label'
+        -d 'The new password file, with its label'
     complete -c $name -n "$given rekey" -l new-vault-password-file -x -a '(__ansible_vault_files)' \
-        -d 'The password file of a new secret for the label default'
+        -d 'A new password file for the label default'
     complete -c $name -n "$given encrypt encrypt_string" -l encrypt-vault-id -x \
         -d 'The label of the secret to encrypt with'
     complete -c $name -n "$given decrypt view rekey" -l require-id-match \
@@ -69,18 +69,18 @@ for name in ansible-vault ansible-vault-with
     complete -c $name -n "$given encrypt decrypt view rekey" -F
 end
 complete -c ansible-vault -n "$given $commands" -l vault-id -x -a '(__ansible_vault_ids)' \
-    -d 'A password file, with the label of its secret'
+    -d 'A password file, with its label'
 complete -c ansible-vault -n "$given $commands" -l vault-password-file -x -a '(__ansible_vault_files)' \
     -d 'A password file for the label default'
 set -l none "not $given $commands create edit"
-complete -c ansible-vault-with -n "$none" -a create -d 'A new encrypted file in an editor'
-complete -c ansible-vault-with -n "$none" -a edit -d 'An encrypted file in an editor'
+complete -c ansible-vault-with -n "$none" -a create -d 'Edit a new vault'
+complete -c ansible-vault-with -n "$none" -a edit -d 'Edit a vault'
 complete -c ansible-vault-with -n "$given create edit rekey" -l encrypt-vault-id -x \
     -d 'The label of the secret to encrypt with'
-complete -c ansible-vault-with -n "$given create edit" -l value -x -d 'Set this value of YAML from standard input'
-complete -c ansible-vault-with -n "$given create edit" -l resume -d 'Begin with what an earlier edit kept'
+complete -c ansible-vault-with -n "$given create edit" -l value -x -d 'Set this YAML value from standard input'
+complete -c ansible-vault-with -n "$given create edit" -l resume -d 'Begin with what the last edit kept'
 complete -c ansible-vault-with -n "$given encrypt_string" -s p -l prompt -d 'Ask for a string'
-complete -c ansible-vault-with -n "$given encrypt_string" -l show-input -d 'Show the string while it is typed'
+complete -c ansible-vault-with -n "$given encrypt_string" -l show-input -d 'Show the string while you type'
 complete -c ansible-vault-with -n "$given create edit" -F
 
 for name in edit rotate check textconv hook merge
@@ -93,7 +93,7 @@ for name in edit rotate check textconv hook merge
 end
 for name in with edit rotate check textconv hook merge
     complete -c ansible-vault-$name -l vault-id -x -a '(__ansible_vault_ids)' \
-        -d 'A password file, with the label of its secret'
+        -d 'A password file, with its label'
     complete -c ansible-vault-$name -l vault-password-file -x -a '(__ansible_vault_files)' \
         -d 'A password file for the label default'
 end
@@ -104,23 +104,23 @@ for name in with edit rotate check textconv merge
     complete -c ansible-vault-$name -l ask-vault-pass -d 'Ask for a password of the label default'
 end
 complete -c ansible-vault-edit -l encrypt-vault-id -x \
-    -d 'The label of the secret for what is new'
-complete -c ansible-vault-edit -l value -x -d 'Set this value of YAML from standard input'
-complete -c ansible-vault-edit -l resume -d 'Begin with what an earlier edit kept'
-complete -c ansible-vault-textconv -l value -x -d 'Write this value alone'
+    -d 'The label of the secret to encrypt with'
+complete -c ansible-vault-edit -l value -x -d 'Set this YAML value from standard input'
+complete -c ansible-vault-edit -l resume -d 'Begin with what the last edit kept'
+complete -c ansible-vault-textconv -l value -x -d 'Print only this value'
 complete -c ansible-vault-rotate -l new-vault-id -x -a '(__ansible_vault_ids)' \
-    -d 'The password file of a new secret, with its label'
+    -d 'A new password file, with its label'
 complete -c ansible-vault-rotate -l new-vault-password-file -x -a '(__ansible_vault_files)' \
-    -d 'The password file of a new secret for the label default'
+    -d 'A new password file for the label default'
 complete -c ansible-vault-rotate -l dry-run -d 'Write nothing, and report what would be done'
 complete -c ansible-vault-rotate -l skip-documents -d 'Do not look for envelopes in documents'
-complete -c ansible-vault-rotate -l jobs -x -d 'How many vaults and blocks at once'
-complete -c ansible-vault-check -l label -x -d 'Decrypt only what has this label, and just count the rest'
+complete -c ansible-vault-rotate -l jobs -x -d 'How many vaults and blocks to work on at once'
+complete -c ansible-vault-check -l label -x -d 'Decrypt only what has this label, and count the rest'
 for name in check rotate
     complete -c ansible-vault-$name -l tracked -d 'Look only at files that git tracks'
-    complete -c ansible-vault-$name -l exclude -x -d 'Leave out files and folders of this name or path'
+    complete -c ansible-vault-$name -l exclude -x -d 'Leave out files and directories with this name or path'
 end
-complete -c ansible-vault-hook -l all -d 'Look at every file of the commit that is checked out'
-complete -c ansible-vault-hook -l since -x -d 'Look at each commit since this one, which is left out'
+complete -c ansible-vault-hook -l all -d 'Check every file of the current commit'
+complete -c ansible-vault-hook -l since -x -d 'Check each commit after this one'
 complete -c ansible-vault-hook -l install -d 'Set up this clone'
 complete -c ansible-vault-hook -l uninstall -d 'Undo what --install has set up'

@@ -36,10 +36,10 @@ _ansible_vault_arguments() {
     local -a help=('(- *)'{-h,--help}'[print help]')
     # Of a companion.
     local -a common=($help '(- *)'{-V,--version}'[print version]')
-    local -a labels=('*--label=[decrypt only what has this label, and just count the rest]:label: ')
+    local -a labels=('*--label=[decrypt only what has this label, and count the rest]:label: ')
     local -a commits=(
-        '(--since --install --uninstall)--all[look at every file of the commit that is checked out]'
-        '(--all --install --uninstall)--since=[look at each commit since this one, which is left out]:commit: '
+        '(--since --install --uninstall)--all[check every file of the current commit]'
+        '(--all --install --uninstall)--since=[check each commit after this one]:commit: '
         '(--all --since --uninstall)--install[set up this clone]'
         '(--all --since --install)--uninstall[undo what --install has set up]'
     )
@@ -59,7 +59,7 @@ _ansible_vault_arguments() {
     if [[ $service == ansible-vault-with ]]; then
         secrets=($all_secrets)
         rekey_id=($encrypt_id)
-        typed=('(-p --prompt)'{-p,--prompt}'[ask for a string]' '--show-input[show it while it is typed]')
+        typed=('(-p --prompt)'{-p,--prompt}'[ask for a string]' '--show-input[show the string while you type]')
     fi
     local -a label_match=('--require-id-match[try only the secrets with the label of the encrypted file]')
     local -a salt=(
@@ -85,17 +85,17 @@ _ansible_vault_arguments() {
     local -a rotation=(
         '--dry-run[write nothing, and report what would be done]'
         '--skip-documents[do not look for envelopes in documents]'
-        '--jobs=[how many vaults and blocks at once]:number: '
+        '--jobs=[how many vaults and blocks to work on at once]:number: '
     )
 
     local -a edits=(
-        '(--resume)--value=[set this value of YAML from standard input]:path: '
-        '(--value)--resume[begin with what an earlier edit kept]'
+        '(--resume)--value=[set this YAML value from standard input]:path: '
+        '(--value)--resume[begin with what the last edit kept]'
     )
     # Of what is searched.
     local -a left_out=(
         '--tracked[look only at files that git tracks]'
-        '*--exclude=[leave out files and folders of this name or path]:pattern: '
+        '*--exclude=[leave out files and directories with this name or path]:pattern: '
     )
 
     case $1 in
@@ -107,7 +107,7 @@ _ansible_vault_arguments() {
         create|edit) _arguments -s -S $common $all_secrets $encrypt_id $edits $file ;;
         rotate) _arguments -s -S $common $all_secrets $new_secrets $rotation $left_out '*:path:_ansible_vault_files' ;;
         check) _arguments -s -S $common $all_secrets $labels $left_out '*:path:_ansible_vault_files' ;;
-        textconv) _arguments -s -S $common $all_secrets '--value=[write this value alone]:path: ' $file ;;
+        textconv) _arguments -s -S $common $all_secrets '--value=[print only this value]:path: ' $file ;;
         merge) _arguments -s -S $common $all_secrets '*:file:_ansible_vault_files' ;;
         hook) _arguments -s -S $common $commits $secrets '*:file:_ansible_vault_files' ;;
     esac

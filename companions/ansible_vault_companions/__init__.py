@@ -7,7 +7,7 @@ import sys
 VERSION = "0.4.0"
 # The oldest Python for which they are written. An older one, from 3.6 on, can read this file and the programs, which
 # import it before anything else of the package, and so have none of the syntax or annotations that it refuses.
-OLDEST = (3, 10)
+OLDEST = (3, 9)
 
 if sys.version_info < OLDEST:
     sys.exit(

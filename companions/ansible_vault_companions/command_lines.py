@@ -7,9 +7,8 @@ from typing import Any
 
 from ansible_vault_companions import VERSION
 
-BY_TOOL = """\
-it calls ansible-vault for all encryption
-and decryption"""
+NOT_PROVED = "This program is tested, not proved"
+BY_TOOL = "it leaves encryption to ansible-vault"
 
 
 def parser(
@@ -20,7 +19,7 @@ def parser(
     made = argparse.ArgumentParser(
         prog=name,
         description=summary,
-        epilog=f"{shown_example}Exit status: {statuses}\n\nThis program is tested, not proved; {ciphers}.",
+        epilog=f"{shown_example}Exit status: {statuses}\n\nFor more, see `man {name}`.\n{NOT_PROVED}; {ciphers}.",
         formatter_class=argparse.RawDescriptionHelpFormatter,
         allow_abbrev=False,
         **options,

@@ -16,8 +16,8 @@ WRONG_COMMAND_LINE = 2
 # What the tool refuses before it opens any file.
 REFUSED_SECRET = "--vault-id=prompt"
 NO_NEW = (
-    "no new secret is given: name one by --new-vault-id or --new-vault-password-file, or run this at a terminal, where "
-    "you are asked for it"
+    "no new secret is given: name one with --new-vault-id or --new-vault-password-file, or run this at a terminal and "
+    "type it"
 )
 
 

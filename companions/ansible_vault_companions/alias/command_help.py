@@ -13,7 +13,7 @@ from ansible_vault_companions.tool.tool import Tool
 SEVERAL_FILES = [("[FILE]", "[FILE]...")]
 IN_PLACE = [
     *SEVERAL_FILES,
-    ("The file to read; - or nothing", "Files to replace, or with --output one to read; - or nothing"),
+    ("The file to read; - or nothing", "Files to replace, or, with --output, the single file to read; - or nothing"),
     ("- or nothing for standard output. It is required if FILE is given", "- for standard output; FILE by default"),
 ]
 OTHERWISE = {
@@ -40,8 +40,9 @@ ADDED = {
       --encrypt-vault-id <LABEL>  The label of the new secret, among those of Ansible's settings""",
 }
 END = """
-A PATH of a password may also be a program that writes it, or the word prompt. Ansible's settings name secrets, too, and
-if nothing does, you are asked. Long options may be abbreviated. `{name} --help` says more."""
+The PATH of a password file may also be a program that prints the password, or the word `prompt`. Ansible's settings
+can also name secrets. If no secret is named anywhere, you are asked for a password. Long options may be abbreviated.
+For more, see `{name} --help`."""
 
 
 def show(companion: str, tool: Tool, words: Words) -> int:

@@ -20,6 +20,8 @@ class Run:
         self.secrets: list[Secret] = []
         self.new: list[Secret] = []
         self.notes_signals = False
+        # Whether only secrets of the vault's label are tried, whatever the settings say.
+        self.heeds_label = False
         # Of the secret to encrypt with.
         self.label = words.value(ENCRYPT_ID) or found.encrypt_label()
 
@@ -44,9 +46,9 @@ class Run:
         ]
 
     def matching(self) -> list[str]:
-        """The option by which only secrets of the vault's label are tried, where the settings have it."""
-        decrypts = self.words.command in (*DECRYPTING, REKEY)
-        return [MATCH] if decrypts and self.found.requires_match() and not self.words.has(MATCH) else []
+        """The option by which only secrets of the vault's label are tried."""
+        is_needed = self.heeds_label or self.words.command in (*DECRYPTING, REKEY) and self.found.requires_match()
+        return [MATCH] if is_needed and not self.words.has(MATCH) else []
 
     def groups(self) -> list[list[Secret]]:
         """The secrets, as many as the tool takes at once in each group."""

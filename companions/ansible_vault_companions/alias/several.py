@@ -4,40 +4,49 @@ from __future__ import annotations
 
 import os
 from contextlib import suppress
-from typing import Callable
+from typing import BinaryIO, Callable, NamedTuple
 
 from ansible_vault_companions import program, stopping
 from ansible_vault_companions.alias.run import Run
-from ansible_vault_companions.alias.table import DECRYPT, ENCRYPT_STRING, OUTPUT, PROMPT, SHOW_INPUT, STDIN_NAME
-from ansible_vault_companions.alias.table import VARIABLE, VIEW
+from ansible_vault_companions.alias.table import DECRYPT, ENCRYPT_STRING, OUTPUT, PROMPT, REKEY, SHOW_INPUT
+from ansible_vault_companions.alias.table import STDIN_NAME, VARIABLE, VIEW
 from ansible_vault_companions.alias.words import STANDARD_INPUT, Words
 from ansible_vault_companions.files import reading, replacing
+from ansible_vault_companions.files.envelopes import written_label
 from ansible_vault_companions.program import Refused, write_error
-from ansible_vault_companions.secrets import prompts
+from ansible_vault_companions.secrets import labels, prompts
 from ansible_vault_companions.secrets.sources import Secret
-from ansible_vault_companions.tool.faults import NotDecrypted
+from ansible_vault_companions.tool.faults import NOT_DECRYPTED, NotDecrypted
 from ansible_vault_companions.tool.tool import Tool
 
 # What only several strings or a typed one have, or each has for itself.
 OF_STRINGS = (VARIABLE, STDIN_NAME, PROMPT, SHOW_INPUT)
 
 
-class Text:
+class Text(NamedTuple):
     """A string to encrypt, with the name of its variable, if it has one, and where it comes from."""
 
-    def __init__(self, content: bytes, name: str | None, origin: str) -> None:
-        self.content = content
-        self.name = name
-        self.origin = origin
+    content: bytes
+    name: str | None
+    origin: str
+
+
+def heed_label(run: Run, envelope: bytes) -> None:
+    """Anybody can change a label. So if several secrets are given, one of another label may not decrypt what is
+    rekeyed: its text would get the password that is meant for this label."""
+    run.heeds_label = run.words.command == REKEY and len(run.secrets) > 1 and bool(written_label(envelope))
 
 
 def output(tool: Tool, run: Run, options: list[str], data: bytes) -> bytes:
     """What the tool writes for some input; secrets that are too many for it are tried in several runs."""
-    *groups, last = run.groups()
-    for group in groups:
+    heed_label(run, data)
+    for group in run.groups():
         with suppress(NotDecrypted):
             return tool.run([*run.command(group), *options], data, [*group, *run.new])
-    return tool.run([*run.command(last), *options], data, [*last, *run.new])
+    if not run.heeds_label:
+        raise NotDecrypted(NOT_DECRYPTED)
+    tried = [secret for secret in run.secrets if secret.label == written_label(data)]
+    raise NotDecrypted(f"{NOT_DECRYPTED} {labels.tried(data, tried)}")
 
 
 def handle(companion: str, tool: Tool, run: Run) -> int:
@@ -110,8 +119,13 @@ def _read(words: Words) -> list[Text]:
 
 
 def _standard_input() -> bytes:
-    """All of it, or more than the tool takes; a signal ends the wait for it."""
-    with stopping.interruptible(), open(0, "rb", closefd=False) as file:
+    with open(0, "rb", closefd=False) as file:
+        return _all_of(file)
+
+
+def _all_of(file: BinaryIO) -> bytes:
+    """All that comes, or more than the tool takes; a signal ends the wait for it."""
+    with stopping.interruptible():
         return file.read(reading.LIMIT + 1)
 
 
@@ -126,25 +140,37 @@ def _given(words: Words) -> list[Text]:
     return [Text(os.fsencode(string), name, "the command line") for string, name in pairs]
 
 
-def serving(tool: Tool, run: Run) -> list[Secret]:
-    """No more secrets than the tool takes at once: those among which one decrypts the input, which is kept if it can
-    be read only once."""
-    path = next(iter(run.words.arguments), STANDARD_INPUT)
+def _kept_input(words: Words) -> bytes:
+    """The input, which becomes standard input if it can be read only once."""
+    path = next(iter(words.arguments), STANDARD_INPUT)
     if path == STANDARD_INPUT:
         data = _standard_input()
-        descriptor = os.memfd_create("input")
-        with open(descriptor, "wb", closefd=False) as file:
-            file.write(data)
-        os.lseek(descriptor, 0, os.SEEK_SET)
-        os.dup2(descriptor, 0)
+    elif os.path.isfile(path):
+        return reading.named(path)
     else:
-        data = reading.named(path)
-    for group in run.groups():
+        with open(path, "rb") as file:
+            data = _all_of(file)
+    descriptor = os.memfd_create("input")
+    with open(descriptor, "wb", closefd=False) as file:
+        file.write(data)
+    os.lseek(descriptor, 0, os.SEEK_SET)
+    os.dup2(descriptor, 0)
+    # Arguments are words without a name.
+    words.leave_out("")
+    return data
+
+
+def serving(tool: Tool, run: Run) -> list[Secret]:
+    """No more secrets than the tool takes at once: those among which one decrypts the input, which is kept."""
+    data = _kept_input(run.words)
+    heed_label(run, data)
+    *groups, last = run.groups()
+    for group in groups:
         try:
             tool.run([VIEW, *run.matching(), *(secret.word() for secret in group)], data, group)
-            break
         except NotDecrypted:
             continue
         except Refused:
-            break
-    return group
+            pass
+        return group
+    return last

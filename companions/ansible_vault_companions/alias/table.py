@@ -12,7 +12,8 @@ COMMANDS = (*DECRYPTING, *ENCRYPTING, REKEY, *EDITING)
 
 HELP, VERSION = ("-h", "--help"), ("-V", "--version")
 # Of Ansible's tool, and ignored.
-VERBOSE = "--verbose"
+VERBOSE, SKIP_TTY_CHECK = "--verbose", "--skip-tty-check"
+IGNORED = (VERBOSE, SKIP_TTY_CHECK)
 ENCRYPT_ID, OUTPUT, SALT, SALT_FILE = "--encrypt-vault-id", "--output", "--salt", "--salt-file"
 VARIABLE, STDIN_NAME, MATCH = "--name", "--stdin-name", "--require-id-match"
 # Options of Ansible's tool for a string that is typed.
@@ -29,6 +30,7 @@ SEALING = (*ENCRYPTING, REKEY)
 OPTIONS = {
     "--help": (FLAG, COMMANDS),
     VERBOSE: (FLAG, COMMANDS),
+    SKIP_TTY_CHECK: (FLAG, (CREATE,)),
     "--vault-id": (IDS, COMMANDS),
     "--vault-password-file": (PATHS, COMMANDS),
     "--vault-pass-file": (PATHS, COMMANDS),

@@ -2,8 +2,8 @@
 
 from __future__ import annotations
 
-from ansible_vault_companions.alias.table import ASKS, ENCRYPT_STRING, FLAG, NAMING, OUTPUT, PROMPT, STDIN_NAME, VALUE
-from ansible_vault_companions.alias.table import VARIABLE, VERBOSE, VIEW, kind_of, known_to
+from ansible_vault_companions.alias.table import ASKS, ENCRYPT_STRING, FLAG, IGNORED, NAMING, OUTPUT, PROMPT
+from ansible_vault_companions.alias.table import STDIN_NAME, VALUE, VARIABLE, VERBOSE, VIEW, kind_of, known_to
 from ansible_vault_companions.secrets.sources import ASKED
 
 STANDARD_INPUT = "-"
@@ -87,7 +87,7 @@ class Words:
             getattr(self, kind).append(value if equals else following.pop(0))
         elif kind == VALUE and has_value and not equals:
             self._option(name, following[0], [name, following.pop(0)])
-        elif name != VERBOSE:
+        elif name not in IGNORED or name not in known_to(self.command):
             self._option(name, value, [f"{name}{equals}{value}"])
 
     def end(self, words: list[str]) -> None:

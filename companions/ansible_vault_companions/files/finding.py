@@ -19,10 +19,10 @@ IN_A_LINE = (
 )
 COMMENTED = "an envelope in a comment; remove it, or the comment's marks"
 BEHIND_TABS = "an envelope after tabs; indent with spaces"
-FOLDED = "an envelope in a folded scalar (`>`), which is not read; write `!vault |`"
+FOLDED = "an envelope in a folded scalar (`>`); write `!vault |` instead"
 BEHIND_MARK = "an envelope after a byte order mark; remove the mark"
-BEHIND_SPACE = "an envelope after empty lines or spaces at the start of the file, which is no vault; remove them"
-IN_UTF_16 = "envelopes in UTF-16, which are not read; write the file in UTF-8"
+BEHIND_SPACE = "an envelope after empty lines or spaces at the start of the file; remove them, or it is not a vault"
+IN_UTF_16 = "envelopes in UTF-16; save the file as UTF-8"
 
 # The lines of a block, but for the end of the last one.
 BLOCK = re.compile(

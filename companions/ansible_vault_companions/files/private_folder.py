@@ -75,7 +75,7 @@ class PrivateFolder:
                 if fault.errno not in (errno.ENOTEMPTY, errno.ENOENT):
                     break
                 time.sleep(PAUSE)
-        raise Refused(f"plaintext is left in {self.path}: {last}")
+        raise Refused(f"plaintext is left in {self.path}: {last}; remove it yourself")
 
     def keep(self, why: Exception, name: str, text: bytes | None) -> Refused:
         """The plaintext stays, since there is no other copy of what was typed: in $TMPDIR, if it can be moved there,

@@ -55,7 +55,7 @@ def parts(
         check()
         yield piece[:left]
         if len(piece) > left:
-            raise TooLong(errno.EFBIG, f"it has more than {limit:,} bytes, which no vault has, and is not read", path)
+            raise TooLong(errno.EFBIG, f"it has more than {limit:,} bytes, more than any vault", path)
         left -= len(piece)
 
 

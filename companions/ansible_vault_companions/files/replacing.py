@@ -33,7 +33,7 @@ def replace(path: str, content: bytes, before: bytes | None, is_private: bool = 
     beside = _write_beside(target, content, is_private)
     try:
         if reading.read(target) != before:
-            raise Refused("it was changed meanwhile")
+            raise Refused("another program changed it meanwhile")
         if before is None:
             _create(beside, target)
         else:
@@ -47,7 +47,7 @@ def replace(path: str, content: bytes, before: bytes | None, is_private: bool = 
 def check_replaceable(target: str) -> None:
     """Refuses now what `replace` would refuse."""
     if target in _mount_points():
-        raise Refused("it is itself a mount point, so no other file can take its place")
+        raise Refused("it is a mount point, so no other file can replace it; use the file that is mounted there")
     os.unlink(_write_beside(target, b""))
 
 
@@ -102,7 +102,7 @@ def _create(beside: str, target: str) -> None:
             os.replace(beside, target)
             return
     except FileExistsError:
-        raise Refused("it was created meanwhile") from None
+        raise Refused("another program created it meanwhile") from None
     os.unlink(beside)
 
 
@@ -139,7 +139,7 @@ def _copy_metadata(descriptor: int, target: str, is_private: bool) -> None:
     private file gets the owner only, and the mode 0600."""
     old, new = os.stat(target), os.fstat(descriptor)
     if stat.S_ISREG(old.st_mode) and old.st_nlink > 1:
-        raise Refused(f"it has {old.st_nlink} names (hard links), and one alone would change")
+        raise Refused(f"it has {old.st_nlink} names (hard links); replace the others by symbolic links first")
     if (old.st_uid, old.st_gid) != (new.st_uid, new.st_gid):
         _give(descriptor, old.st_uid, old.st_gid)
     wanted = [] if is_private else _attributes(target)

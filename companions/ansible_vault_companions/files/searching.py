@@ -19,15 +19,13 @@ OVERLAP = max(map(len, UTF_16)) - 1
 # Prose shows blocks that are not meant.
 PROSE = (".md", ".rst", ".adoc", ".html")
 PLACES = """\
-Each PATH is a file, or a folder whose files are searched, except below .git.
-Symbolic links to files are followed, and those to folders only if they are a
-PATH. Of files with more than 100,671,488 bytes, the most that a vault can have,
-only these are searched. Blocks are found in every file except documents (.md,
-.rst, .adoc, .html): an envelope whose lines have the same indentation, as after
-`NAME: !vault |`, also within another text; and in the plaintext of a vault. An
-envelope in another form (quotes, JSON, comments, tabs, `!vault >`, UTF-16,
-after a byte order mark, or after empty lines at the start of a file) is
-reported as a failure, with instructions."""
+Each PATH is a file or a directory. Directories are searched recursively,
+except .git. Symbolic links to files are followed; a link to a directory is
+followed only if you give it as a PATH. Blocks are found in every file except
+documents (.md, .rst, .adoc, .html), even within other text, and in the
+plaintext of vaults. An envelope that cannot be replaced where it stands (such
+as one in quotes, JSON or a comment) counts as a failure, and the message says
+what to do."""
 
 
 class Unsearched(Refused):
@@ -42,8 +40,8 @@ def add_options(parser: argparse.ArgumentParser) -> None:
         action="append",
         default=[],
         metavar="PATTERN",
-        help="leave out files and folders of this name, or with a slash of this path below PATH; * and ? stand for any "
-        "characters; may be repeated",
+        help="leave out files and directories with this name, or, if it contains a slash, with this path below PATH; "
+        "* and ? stand for any characters; may be repeated",
     )
     parser.add_argument("paths", metavar="PATH", nargs="+")
 
@@ -120,5 +118,5 @@ def _mentions_envelope(file: BinaryIO, path: str) -> bool:
                 return True
             end = piece[-OVERLAP:]
     except TooLong:
-        raise Unsearched(f"only its first {LIMIT:,} bytes were searched, as many as a vault can have") from None
+        raise Unsearched(f"it is longer than any vault, so only its first {LIMIT:,} bytes were searched") from None
     return False

@@ -38,7 +38,7 @@ def run(
     try:
         return running.run(command(words), data, env=environment(index), **pipes, **options)
     except FileNotFoundError:
-        raise Refused("git is not installed") from None
+        raise Refused("git is not installed; install it") from None
 
 
 def git(

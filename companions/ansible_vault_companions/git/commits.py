@@ -5,13 +5,12 @@ from __future__ import annotations
 import os
 import tempfile
 from contextlib import contextmanager
-from typing import Iterator, NamedTuple
+from typing import Iterable, Iterator, NamedTuple
 
 from ansible_vault_companions.git.commands import answer, git
-from ansible_vault_companions.git.contents import FILE_MODES, LINK_MODE, PARTIAL, entries
+from ansible_vault_companions.git.contents import FILE_MODES, LINK_MODE, PARTIAL, entries, listed
 from ansible_vault_companions.program import Refused, shown
 
-RAW = ("--raw", "-z", "--no-abbrev")
 # How messages call other commits.
 PARENT = "the parent commit"
 EARLIER = "an earlier commit"
@@ -46,9 +45,7 @@ class Change(NamedTuple):
 
 def _change(since: str, *command: str) -> Change:
     change = Change(since, [], {})
-    fields = git(*command, *RAW, "--no-renames").split(b"\0")
-    for about, name in zip(fields[::2], fields[1::2]):
-        old_mode, mode, old_blob, blob, status = about.decode().removeprefix(":").split()
+    for name, (old_mode, mode, old_blob, blob, status) in _differences(*command):
         before = old_blob if old_mode in FILE_MODES else None
         if mode in FILE_MODES:
             change.files.append(File(name, blob, before))
@@ -57,6 +54,12 @@ def _change(since: str, *command: str) -> Change:
         elif before and status != "U":
             change.gone[name] = before
     return change
+
+
+def _differences(*command: str, data: bytes = b"") -> Iterator[tuple[bytes, list[str]]]:
+    """The names of the files that differ, with both modes, both blobs and the kind of the difference."""
+    fields = git(*command, "--raw", "-z", "--no-abbrev", "--no-renames", data=data).split(b"\0")
+    return ((name, about.decode().removeprefix(":").split()) for about, name in zip(fields[::2], fields[1::2]))
 
 
 def staged() -> list[Change]:
@@ -95,7 +98,7 @@ def commit(name: str) -> str:
     """The commit that a name means."""
     found = answer("rev-parse", "--verify", "--end-of-options", f"{name}^{{commit}}").decode().strip()
     if not found:
-        raise Refused(f"{shown(name)} is no commit of this clone; `git fetch` gets those of others")
+        raise Refused(f"{shown(name)} is not a commit in this clone; if others have it, run `git fetch`")
     return found
 
 
@@ -125,10 +128,8 @@ def of_history(name: str, text: str) -> Change:
     """How the files of a commit differ from what they had when this text came into them or went, in any ancestor."""
     now = {file.name: file for file in files_of(name)}
     pickaxe = ("--stdin", "-r", "-m", "--root", "--no-commit-id", "--no-textconv", f"-S{text}")
-    fields = git("diff-tree", *pickaxe, *RAW, "--no-renames", data=git("rev-list", name)).split(b"\0")
     found: set[File] = set()
-    for about, path in zip(fields[::2], fields[1::2]):
-        old_mode, mode, old_blob, blob, _ = about.decode().removeprefix(":").split()
+    for path, (old_mode, mode, old_blob, blob, _) in _differences("diff-tree", *pickaxe, data=git("rev-list", name)):
         befores = [each for each_mode, each in ((old_mode, old_blob), (mode, blob)) if each_mode in FILE_MODES]
         found.update(now[path]._replace(before=each) for each in befores if path in now and each != now[path].blob)
     return Change(EARLIER, sorted(found), {})
@@ -137,16 +138,18 @@ def of_history(name: str, text: str) -> Change:
 def files_named(paths: list[str]) -> list[File]:
     """Those of the index at these paths, or below them; git refuses a path at which there is none."""
     found = entries(*map(os.fsencode, paths), options=("--full-name", "--error-unmatch"))
-    modes = {*FILE_MODES, LINK_MODE}
-    return [File(name, blob, None, mode == LINK_MODE) for name, (mode, blob) in found.items() if mode in modes]
+    return _files((name, mode, blob) for name, (mode, blob) in found.items())
 
 
 def files_of(name: str) -> list[File]:
     """All files and links of a commit."""
-    lines = git("ls-tree", "-r", "-z", "--full-tree", name).split(b"\0")[:-1]
-    fields = [(line.partition(b"\t")[0].decode().split(), line.partition(b"\t")[2]) for line in lines]
+    found = listed(git("ls-tree", "-r", "-z", "--full-tree", name))
+    return _files((path, mode, blob) for (mode, _, blob), path in found)
+
+
+def _files(entries: Iterable[tuple[bytes, str, str]]) -> list[File]:
     modes = {*FILE_MODES, LINK_MODE}
-    return [File(path, about[2], None, about[0] == LINK_MODE) for about, path in fields if about[0] in modes]
+    return [File(name, blob, None, mode == LINK_MODE) for name, mode, blob in entries if mode in modes]
 
 
 def refuse_incomplete() -> None:

@@ -14,15 +14,19 @@ FILE_MODES = {"100644", "100755"}
 LINK_MODE = "120000"
 # How many contents are kept, since a file is compared with the one before it in several ways.
 RECENT = 4
-PARTIAL = "this clone is partial, so contents are missing, and none is fetched here; clone without --filter"
+PARTIAL = "this is a partial clone, which lacks contents of files; clone again without --filter"
+
+
+def listed(output: bytes) -> list[tuple[list[str], bytes]]:
+    """What git says of each file before a tab, by words, and the name of the file."""
+    lines = (line.partition(b"\t") for line in output.split(b"\0")[:-1])
+    return [(about.decode().split(), name) for about, _, name in lines]
 
 
 def entries(*paths: bytes, index: str | None = None, options: tuple[str, ...] = ()) -> dict[bytes, tuple[str, str]]:
     """What is in an index at some paths, or below them: modes and blobs by their names."""
     words = ["ls-files", "-s", "-z", *options, "--", *(os.fsdecode(path) or "." for path in paths)]
-    lines = git(*words, index=index).split(b"\0")[:-1]
-    found = [(about.decode().split(), name) for about, _, name in (line.partition(b"\t") for line in lines)]
-    return {name: (about[0], about[1]) for about, name in found}
+    return {name: (mode, blob) for (mode, blob, _), name in listed(git(*words, index=index))}
 
 
 def entry(name: bytes, index: str | None = None) -> tuple[str, str]:

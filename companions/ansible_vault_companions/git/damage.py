@@ -15,8 +15,8 @@ NOT_ENCRYPTED = "is not encrypted"
 DAMAGED = "is a damaged vault"
 UNMERGED = "has git's conflict markers"
 TORN = "has git's conflict markers within an envelope, since it was merged without ansible-vault-merge"
-MERGE_AGAIN = "set up the merge driver as `ansible-vault-merge --help` says, and run `git checkout --merge {}`"
-WITHOUT_THEIRS = "is not merged: the merge driver failed, and the file has nothing of theirs"
+MERGE_AGAIN = "set up the merge driver (see `ansible-vault-merge --help`), and run `git checkout --merge {}`"
+WITHOUT_THEIRS = "is not merged: the merge driver failed, so the file has only ours"
 
 HEADER = re.compile(rb"\$ANSIBLE_VAULT;1\.(?:1;AES256|2;AES256;[^;\r\n]{1,128})[ \t]*(?=[\r\n]|\Z)")
 # Lengths in bytes.
@@ -31,17 +31,27 @@ MARKER_IN_ENVELOPE = re.compile(
 NEXT_LINE = re.compile(rb"(?:\r?\n[ \t]*(?=[\r\n]))*\r?\n(?P<spaces> *)\S")
 
 
-def is_whole(text: bytes) -> bool:
-    """Whether an envelope has a header, and after it nothing but the digits of salt, tag and ciphertext."""
-    header = HEADER.match(text)
+def ciphertext(envelope: bytes) -> bytes:
+    """Empty unless it has a header, and after it nothing but the digits of salt, tag and ciphertext."""
+    header = HEADER.match(envelope)
     if not header:
-        return False
+        return b""
     try:
-        inner = binascii.unhexlify(text[header.end() :].translate(None, b"\r\n"))
-        salt, tag, ciphertext = map(binascii.unhexlify, inner.split(b"\n", 2))
+        inner = binascii.unhexlify(envelope[header.end() :].translate(None, b"\r\n"))
+        salt, tag, found = map(binascii.unhexlify, inner.split(b"\n", 2))
     except ValueError:
-        return False
-    return bool(salt and ciphertext) and len(tag) == TAG_LENGTH and len(ciphertext) % CIPHER_BLOCK == 0
+        return b""
+    return found if salt and len(tag) == TAG_LENGTH and len(found) % CIPHER_BLOCK == 0 else b""
+
+
+def is_whole(text: bytes) -> bool:
+    """Whether a text is an envelope that is not damaged."""
+    return bool(ciphertext(text))
+
+
+def fits(text: bytes, envelope: bytes) -> bool:
+    """Whether a text has the length of what is encrypted, which is padded to whole blocks."""
+    return (len(text) // CIPHER_BLOCK + 1) * CIPHER_BLOCK == len(ciphertext(envelope))
 
 
 def is_unmerged(text: bytes) -> bool:

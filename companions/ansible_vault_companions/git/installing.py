@@ -65,8 +65,8 @@ def install_hook(hook: str, program: str) -> str:
         os.symlink(program, hook)
         return f"installed in the place of a link to {shown(old)}"
     if not os.path.exists(hook):
-        raise Refused(f"leads to {shown(old)}, which is not there; remove it and run this again")
-    raise Refused(f"is there already; add this line to it: {os.path.basename(program)} || exit 1")
+        raise Refused(f"leads to {shown(old)}, which does not exist; remove the link and run this again")
+    raise Refused(f"exists already; add this line to it: {os.path.basename(program)} || exit 1")
 
 
 def uninstall_hook(hook: str, program: str) -> str:
@@ -74,7 +74,7 @@ def uninstall_hook(hook: str, program: str) -> str:
     if _is_ours(old, program):
         os.unlink(hook)
         return "removed"
-    return "left, since --install has not made it" if os.path.lexists(hook) else "not installed"
+    return "left alone, since --install did not make it" if os.path.lexists(hook) else "not installed"
 
 
 def _is_ours(target: str, program: str) -> bool:
@@ -102,7 +102,7 @@ def install_setting(setting: str, value: str) -> str:
     if old == value:
         return f"is already {shown(value)}"
     if old and old != _value(_beside(setting)):
-        raise Refused(f"is `{shown(old)}`, and stays so; to change it, unset it by git config, and run this again")
+        raise Refused(f"is already `{shown(old)}`; to change it, unset it with git config and run this again")
     commands.git("config", "--local", setting, value)
     commands.git("config", "--local", _beside(setting), value)
     return f"set to {shown(value)}"
@@ -115,7 +115,7 @@ def uninstall_setting(setting: str) -> str:
     if value and value == installed:
         commands.git("config", "--local", "--unset-all", setting)
         return "removed"
-    return f"left, since --install has not set it: {shown(value)}" if value else "not set"
+    return f"left alone, since --install did not set it: {shown(value)}" if value else "not set"
 
 
 def _value(setting: str) -> str:

@@ -6,7 +6,8 @@ A *vault* that was a file has to be a vault still, or empty, or gone. A link cou
 If it has gone, and no file is the same vault, a new file is refused that is no vault, and
   - has its name in another folder, or is in a folder that now has its path; or
   - is in its folder, or in one to which another file of that folder has gone, and has its suffix, or its name but for
-    the suffix. One that may be a plaintext of the same name that has gone, too, is not refused.
+    the suffix, or a length that its plaintext may have. One that may be a plaintext of the same name that has gone,
+    too, is not refused.
 A plaintext that only moves is never refused.
 
 A *value* that was an envelope within a file may go, move, or be encrypted anew. A file is refused in which a plaintext
@@ -30,7 +31,7 @@ from typing import Callable, Iterable, Iterator
 from ansible_vault_companions.files.envelopes import MAGIC, START
 from ansible_vault_companions.git import places
 from ansible_vault_companions.git.commits import Change, File
-from ansible_vault_companions.git.damage import is_whole
+from ansible_vault_companions.git.damage import fits, is_whole
 from ansible_vault_companions.program import shown
 from ansible_vault_companions.yaml.paths import Path
 
@@ -81,7 +82,8 @@ class Moves:
     def __init__(self, change: Change, read: Read) -> None:
         self.change = change
         self.read = read
-        self.vaults: list[bytes] = []
+        # Their contents by their names.
+        self.vaults: dict[bytes, bytes] = {}
         self.plain_names: set[bytes] = set()
         # The files that had values, the keys there, and their envelopes.
         self.values: dict[tuple[bytes, Path], Counter[str]] = {}
@@ -91,7 +93,7 @@ class Moves:
                 continue
             content = read(blob)
             if content.startswith(MAGIC):
-                self.vaults.append(name)
+                self.vaults[name] = content
             else:
                 self.plain_names.add(os.path.basename(name))
                 self._note_values(name, content, b"")
@@ -113,7 +115,7 @@ class Moves:
         for file in files if self.values or self.vaults else []:
             content = self.read(file.blob)
             if not (file.is_link or is_whole(content)) and content.strip():
-                why = self._fault_of_vault(file) or self._fault_of_values(file, content)
+                why = self._fault_of_vault(file, content) or self._fault_of_values(file, content)
                 if why:
                     yield file, why
 
@@ -128,17 +130,18 @@ class Moves:
             balance.subtract(places.envelope_texts(self.read(blob)))
         self.values = {where: found for where, found in self.values.items() if any(balance[each] < 0 for each in found)}
 
-    def _fault_of_vault(self, file: File) -> str | None:
+    def _fault_of_vault(self, file: File, content: bytes) -> str | None:
         is_new = file.before is None and file.blob not in self.change.gone.values()
-        vault = next((name for name in self.vaults if is_new and self._may_be(file.name, name)), None)
+        vault = next((name for name in self.vaults if is_new and self._may_be(file.name, content, name)), None)
         return f"is not encrypted, and {_shown(vault)} is gone, which was a vault" if vault is not None else None
 
-    def _may_be(self, name: bytes, vault: bytes) -> bool:
+    def _may_be(self, name: bytes, content: bytes, vault: bytes) -> bool:
         """Whether it is where the vault may have gone to."""
         (folder, base), (vault_folder, vault_base) = os.path.split(name), os.path.split(vault)
         if base == vault_base or name.startswith(vault + b"/"):
             return True
         is_alike = any(one == two for one, two in zip(os.path.splitext(base), os.path.splitext(vault_base)))
+        is_alike = is_alike or fits(content, self.vaults[vault])
         is_near = folder == vault_folder or not self._went[vault_folder].isdisjoint(self._came[folder])
         return is_alike and is_near and base not in self.plain_names
 

@@ -2,9 +2,12 @@
 
 from __future__ import annotations
 
+import argparse
 import os
 from functools import lru_cache
+from typing import Callable
 
+from ansible_vault_companions.files import searching
 from ansible_vault_companions.git.commands import git
 from ansible_vault_companions.program import Refused
 
@@ -25,12 +28,18 @@ def by_repository(paths: list[str]) -> dict[str, dict[bytes, str]]:
     return repositories
 
 
-def tracked(paths: list[str]) -> list[str]:
+def files_named(args: argparse.Namespace, refuse: Callable[[str, Exception], None]) -> list[str]:
+    """The files below the paths of a command line, or those of them that git tracks."""
+    paths = list(searching.files_below(args.paths, refuse, args.exclude))
+    return _tracked(paths) if args.tracked else paths
+
+
+def _tracked(paths: list[str]) -> list[str]:
     """Those of these paths that git tracks, each in the repository that it is in; a link is what it leads to."""
     found: set[str] = set()
     repositories = by_repository(paths)
     if paths and not repositories:
-        raise Refused("git tracks no file here, which is in no repository")
+        raise Refused("--tracked needs a git repository, and none of these files is in one; leave it out")
     for repository, names in repositories.items():
         known = git("ls-files", "-z", folder=repository).split(b"\0")
         found.update(names[name] for name in known if name in names)

@@ -18,7 +18,7 @@ TO_MERGE = "  resolve the conflict with ansible-vault-edit"
 TO_MERGE_AGAIN = "  `git checkout --merge {}` merges it, or says why not; to keep ours, commit with --no-verify"
 MEANT = "  if that is meant, commit with --no-verify, or add to .gitattributes: {} -ansible-vault"
 UNMARK = "  encrypt it, or unmark it by a last line of .gitattributes: {} !diff !ansible-vault"
-LEFTOVER = "has the name of a leftover of a companion, which may be plaintext"
+LEFTOVER = "is what a failed companion left, and may be plaintext"
 TO_REMOVE = "  look into it, and remove it by `git rm --cached {0}` and `rm {0}`"
 
 
@@ -102,10 +102,9 @@ class Review:
     def is_beside_vault(self, name: bytes, index: str | None) -> bool:
         """Whether there is a vault in the same folder."""
         folder = os.path.dirname(name)
-        staged = [(name, *about) for name, about in contents.entries(folder, index=index).items()]
-        files = ((name, blob) for name, mode, blob in staged if mode in contents.FILE_MODES)
-        blobs = [blob for name, blob in files if os.path.dirname(name) == folder]
-        return any(damage.is_whole(self.blobs.read(blob)) for blob in blobs)
+        files = contents.entries(folder, index=index).items()
+        near = (about for each, about in files if os.path.dirname(each) == folder)
+        return any(mode in contents.FILE_MODES and damage.is_whole(self.blobs.read(blob)) for mode, blob in near)
 
 
 def _shown(name: bytes) -> str:

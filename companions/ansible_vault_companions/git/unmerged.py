@@ -8,7 +8,7 @@ from typing import NamedTuple
 
 from ansible_vault_companions.files import reading
 from ansible_vault_companions.git.commands import answer, git
-from ansible_vault_companions.git.contents import entry
+from ansible_vault_companions.git.contents import entry, listed
 from ansible_vault_companions.git.repositories import by_repository
 from ansible_vault_companions.program import Refused
 
@@ -17,7 +17,7 @@ from ansible_vault_companions.program import Refused
 # blobs in ours and in theirs, its name in hexadecimal digits, and the commit that was checked out.
 CONFLICTS = "ansible-vault-conflicts"
 # Of an entry of the index that is theirs in a conflict.
-THEIRS = b"3"
+THEIRS = "3"
 
 
 class Unmerged(NamedTuple):
@@ -30,13 +30,11 @@ class Unmerged(NamedTuple):
 
 def note_conflict(content: bytes, folder: str | None = None) -> None:
     """Notes in the repository of a folder, if there is one, that a content is still to be merged."""
-    try:
-        hashed = [git("hash-object", "--stdin", data=each, folder=folder, is_quiet=True) for each in as_stored(content)]
-        path = git("rev-parse", "--git-path", CONFLICTS, folder=folder, is_quiet=True).removesuffix(b"\n")
-    except Refused:
-        return
-    with open(os.path.join(os.fsencode(folder or ""), path), "ab") as file:
-        file.writelines(hashed)
+    notes = _notes(folder)
+    if notes:
+        hashed = [git("hash-object", "--stdin", data=each, folder=folder) for each in as_stored(content)]
+        with open(notes, "ab") as file:
+            file.writelines(hashed)
 
 
 def as_stored(content: bytes) -> set[bytes]:
@@ -109,9 +107,8 @@ def _blobs_of(path: str, like: str) -> list[str]:
 
 def _theirs(folder: str | None) -> set[tuple[bytes, str]]:
     """The names and blobs that theirs has in the conflicts of an index, also in those that are staged as resolved."""
-    lines = git("ls-files", "-z", "--unmerged", "--resolve-undo", folder=folder).split(b"\0")[:-1]
-    entries = [(about.split(), name) for about, _, name in (line.partition(b"\t") for line in lines)]
-    return {(name, blob.decode()) for (_, blob, stage), name in entries if stage == THEIRS}
+    entries = listed(git("ls-files", "-z", "--unmerged", "--resolve-undo", folder=folder))
+    return {(name, blob) for (_, blob, stage), name in entries if stage == THEIRS}
 
 
 def _head(folder: str | None = None) -> str:
@@ -120,11 +117,8 @@ def _head(folder: str | None = None) -> str:
 
 def _notes(folder: str | None = None) -> str | None:
     """The path of the notes; none outside of a repository."""
-    try:
-        path = git("rev-parse", "--git-path", CONFLICTS, folder=folder, is_quiet=True).removesuffix(b"\n")
-    except Refused:
-        return None
-    return os.path.join(folder or "", os.fsdecode(path))
+    path = answer("rev-parse", "--git-path", CONFLICTS, folder=folder).removesuffix(b"\n")
+    return os.path.join(folder or "", os.fsdecode(path)) if path else None
 
 
 def _lines(notes: str | None) -> list[list[str]]:

@@ -13,9 +13,9 @@ from ansible_vault_companions.yaml import blocks
 from ansible_vault_companions.yaml.nodes import LITERAL, NotYaml
 from ansible_vault_companions.yaml.values import Scan, Value
 
-NOT_ENCRYPTED = "what was encrypted does not decrypt to the text that was meant"
-NO_YAML = "git can merge its lines, but the result would be no YAML ({})"
-TORN = "git can merge its lines, but a value of the result would be none of either side"
+NOT_ENCRYPTED = "the new vault does not decrypt to the text that was encrypted; run the merge again"
+NO_YAML = "git can merge its lines, but the result is not valid YAML ({})"
+TORN = "git can merge its lines, but the result has a value that neither side has"
 
 
 def encrypted(tool: Tool, text: bytes, secret: Secret, label: str) -> bytes:

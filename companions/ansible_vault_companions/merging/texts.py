@@ -17,13 +17,12 @@ from ansible_vault_companions.program import Refused, shown
 from ansible_vault_companions.secrets import labels
 from ansible_vault_companions.secrets.sources import Secret
 from ansible_vault_companions.tool.faults import SecretRefused
-from ansible_vault_companions.tool.keys import Decrypt
-from ansible_vault_companions.tool.tool import Tool
+from ansible_vault_companions.tool.tool import Decrypt, Tool
 
 KINDS_DIFFER = "one side is a vault and the other is not"
 LABELS_DIFFER = "the labels differ: {} in ours, {} in theirs"
-LABELS_OF_SECRETS_DIFFER = "it is under secrets of two labels: {} in ours, {} in theirs"
-SECRETS_DIFFER = "both sides have put it under new secrets, and these differ"
+LABELS_OF_SECRETS_DIFFER = "secrets with two labels decrypt it: {} in ours, {} in theirs"
+SECRETS_DIFFER = "both sides changed its secret, and the new secrets differ"
 
 
 class Version(NamedTuple):

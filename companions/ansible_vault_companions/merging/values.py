@@ -17,8 +17,7 @@ from ansible_vault_companions.merging.alignment import aligned
 from ansible_vault_companions.merging.lines import OURS, THEIRS, Merged, merged_lines
 from ansible_vault_companions.merging.versions import Place, Version, opened, scanned
 from ansible_vault_companions.program import Refused
-from ansible_vault_companions.tool.keys import Decrypt
-from ansible_vault_companions.tool.tool import Tool
+from ansible_vault_companions.tool.tool import Decrypt, Tool
 from ansible_vault_companions.yaml import blocks
 from ansible_vault_companions.yaml.blocks import Block
 

@@ -10,7 +10,7 @@ from ansible_vault_companions import parallel
 from ansible_vault_companions.program import Refused
 from ansible_vault_companions.secrets.sources import Secret
 from ansible_vault_companions.tool.faults import SecretRefused
-from ansible_vault_companions.tool.keys import Decrypt
+from ansible_vault_companions.tool.tool import Decrypt
 from ansible_vault_companions.yaml import blocks
 from ansible_vault_companions.yaml.blocks import Block
 from ansible_vault_companions.yaml.nodes import LITERAL, NotYaml

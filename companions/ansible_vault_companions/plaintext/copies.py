@@ -18,8 +18,7 @@ from ansible_vault_companions.plaintext.setting import SingleValue
 from ansible_vault_companions.program import Refused
 from ansible_vault_companions.secrets import options
 from ansible_vault_companions.tool import layers
-from ansible_vault_companions.tool.keys import Decrypt
-from ansible_vault_companions.tool.tool import Tool
+from ansible_vault_companions.tool.tool import Decrypt, Tool
 from ansible_vault_companions.yaml import inline
 
 NAME = "ansible-vault-edit"
@@ -28,7 +27,7 @@ SHOWS = "ansible-vault-textconv"
 BELOW = b"# What was saved begins below.\n"
 # What ends the name of a copy of the save before the last.
 BEFORE = "before"
-NO_COPY = "no text of an earlier edit is kept beside it or in $TMPDIR"
+NO_COPY = "no earlier edit left a copy beside it or in $TMPDIR; edit it without --resume"
 SEVERAL = (
     "--resume would not know which value gets which secret: {} is not under the same password alone as the file; take "
     "from it what you need, which `ansible-vault-textconv` shows"

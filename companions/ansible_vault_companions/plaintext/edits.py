@@ -19,9 +19,9 @@ from ansible_vault_companions.program import Refused, write_error
 from ansible_vault_companions.secrets import prompts
 from ansible_vault_companions.tool.tool import Tool
 
-ITSELF_A_VAULT = "what you saved is itself a vault, which is not encrypted once more"
-GIVEN_A_VAULT = "standard input is itself a vault, which is not encrypted once more"
-AT_TERMINAL = "the value is read from standard input, which is a terminal; give it by a pipe or from a file"
+ITSELF_A_VAULT = "you saved a vault, which ansible-vault does not encrypt again"
+GIVEN_A_VAULT = "standard input is a vault, which ansible-vault does not encrypt again; decrypt it first"
+AT_TERMINAL = "--value reads standard input, which is a terminal; use a pipe or a file"
 
 
 @dataclass
@@ -95,7 +95,7 @@ class Edit(Copies):
 
 
 def by_signal() -> str:
-    return f"ended by signal {stopping.ending_signal()}"
+    return f"signal {stopping.ending_signal()} ended the edit"
 
 
 def edit(
@@ -142,5 +142,5 @@ def _standard_input() -> bytes:
     with stopping.interruptible(), open(0, "rb", closefd=False) as file:
         text = file.read(reading.LIMIT + 1)
     if len(text) > reading.LIMIT:
-        raise Refused("standard input is longer than any vault")
+        raise Refused("standard input has more bytes than a vault can hold; split it")
     return text

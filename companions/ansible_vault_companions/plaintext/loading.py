@@ -16,8 +16,7 @@ from ansible_vault_companions.secrets import labels
 from ansible_vault_companions.secrets.sources import Secret
 from ansible_vault_companions.tool import layers
 from ansible_vault_companions.tool.faults import NotDecrypted
-from ansible_vault_companions.tool.keys import Key
-from ansible_vault_companions.tool.tool import Tool
+from ansible_vault_companions.tool.tool import Key, Tool
 from ansible_vault_companions.yaml import blocks, inline
 from ansible_vault_companions.yaml.inline import Showing
 from ansible_vault_companions.yaml.matching import Choice
@@ -26,7 +25,7 @@ NO_VAULT = (
     "it is not a vault, and no value in it has the tag `!vault`; encrypt it with `ansible-vault-with encrypt`, or "
     "write `NAME: !vault TEXT` in it for a single value and run this again"
 )
-NO_OPTION = "no option can give the label {}, which has an @"
+NO_OPTION = "its label {} has an @, so no option can name it; change it in its first line"
 TO_ADD = "; or to add values without seeing the others, choose their secret with --encrypt-vault-id"
 
 
@@ -101,7 +100,7 @@ def _choose_secret(secrets: list[Secret], label: str | None) -> Secret:
     if not fitting:
         raise Refused("no secret has the label of --encrypt-vault-id")
     if label is None and len(fitting) > 1:
-        raise Refused("it is not there; choose the secret to make it with --encrypt-vault-id")
+        raise Refused("it does not exist; choose the secret for a new vault with --encrypt-vault-id")
     return fitting[0]
 
 

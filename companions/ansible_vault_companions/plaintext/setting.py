@@ -12,8 +12,7 @@ from ansible_vault_companions.plaintext.loading import NO_OPTION
 from ansible_vault_companions.plaintext.single import NO_TEXT, NOT_ENCRYPTED
 from ansible_vault_companions.program import Refused, shown
 from ansible_vault_companions.secrets import labels
-from ansible_vault_companions.tool.keys import Decrypt, Key
-from ansible_vault_companions.tool.tool import Tool
+from ansible_vault_companions.tool.tool import Decrypt, Key, Tool
 from ansible_vault_companions.yaml import blocks, literals
 from ansible_vault_companions.yaml.blocks import Decrypted
 from ansible_vault_companions.yaml.matching import Choice
@@ -22,8 +21,8 @@ from ansible_vault_companions.yaml.typed_paths import LAST_KEY, is_at, no_value,
 from ansible_vault_companions.yaml.values import LINE_END, Value
 
 TO_ENCRYPT = "; to encrypt it there, choose its secret with --encrypt-vault-id"
-WHOLE = "it is a vault as a whole, whose values are not encrypted one by one; edit it without --value"
-NO_PLACE = "{} cannot be put into this YAML; edit the file without --value"
+WHOLE = "the whole file is a vault; edit it without --value"
+NO_PLACE = "there is no place for {} in this YAML; edit the file without --value"
 # A key that needs no quotes.
 SIMPLE_KEY = re.compile(r"[A-Za-z_][A-Za-z0-9_-]*")
 # Stands for the envelope until there is one, and for the text before that.

@@ -5,12 +5,12 @@ from __future__ import annotations
 from ansible_vault_companions.files.envelopes import MAGIC
 from ansible_vault_companions.program import Refused, shown
 from ansible_vault_companions.tool import layers
-from ansible_vault_companions.tool.keys import Decrypt
+from ansible_vault_companions.tool.tool import Decrypt
 from ansible_vault_companions.yaml import blocks
 from ansible_vault_companions.yaml.nodes import ALIAS, LIST, MAPPING
 from ansible_vault_companions.yaml.typed_paths import no_value, node_at, value_at
 
-NO_TEXT = "{} is a list, a mapping or an alias"
+NO_TEXT = "{} is a list, a mapping or an alias; name a value in it"
 NOT_ENCRYPTED = "{} is not encrypted"
 
 

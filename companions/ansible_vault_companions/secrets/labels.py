@@ -24,17 +24,17 @@ def fault(secret: Secret, envelope: bytes) -> str:
     label = written_label(envelope)
     if not label or secret.label == label or secret.is_only:
         return ""
+    other, meant = shown(secret.label), shown(label)
     return (
-        f"its label is {shown(label)}, but {shown(secret.given)} decrypts it, a secret of the label "
-        f"{shown(secret.label)}; see who changed the label or copied the text here, and write {shown(secret.label)} as "
-        f"the label in its first line, or if that secret is one of {shown(label)}, too, name it with "
-        f"--vault-id {shown(f'{label}@{secret.place}')}"
+        f"its label is {meant}, but {shown(secret.given)} decrypts it, a secret of the label {other}; find out who "
+        f"changed the label or copied the text here, and write {other} as the label in its first line, or if that "
+        f"secret is one of {meant}, too, name it with --vault-id {shown(f'{label}@{secret.place}')}"
     )
 
 
 def tried(envelope: bytes, secrets: list[Secret]) -> str:
     """What was tried for an envelope that none of these secrets decrypts, and what to do."""
     label = written_label(envelope)
-    names = ", ".join(shown(secret.given) for secret in secrets) or "none, since vault_id_match is set"
+    names = ", ".join(shown(secret.given) for secret in secrets) or "none: no secret has its label"
     has = f"label {shown(label)}" if label else "no label"
     return f"({has}; tried {names}): name its secret with --vault-id {shown(label or DEFAULT)}@FILE"

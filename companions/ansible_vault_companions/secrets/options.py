@@ -10,19 +10,16 @@ from ansible_vault_companions.secrets.settings import Settings
 from ansible_vault_companions.secrets.sources import ASKED, ASKING, DEFAULT, READ_AT_MOST, Secret, Source
 
 SOURCES = """\
-A password file that is executable is run, and writes the password; one whose
-name ends in -client, before its suffix, is given --vault-id LABEL. `prompt`
-as FILE asks at the terminal."""
+FILE contains the password. If it is executable, it is run, and its output
+is the password; if its name, without the suffix, ends in -client, it gets
+the arguments --vault-id LABEL. `prompt` as FILE asks at the terminal."""
 BY_SETTINGS = """
-Ansible's settings add theirs: ANSIBLE_VAULT_IDENTITY_LIST and
-ANSIBLE_VAULT_PASSWORD_FILE, or else vault_identity_list and
-vault_password_file of ansible.cfg, as Ansible finds it. One that cannot be
-obtained is skipped with a warning if there is another secret.
-If an option names a secret, nothing in the current folder does: neither its
-ansible.cfg nor a relative path in settings. ANSIBLE_CONFIG=ansible.cfg reads
-that file nevertheless."""
+Ansible's settings (environment variables or ansible.cfg) add secrets. Once
+you name a secret with one of these options, secrets named in the current
+directory are ignored: ./ansible.cfg is not read, and relative paths in other
+settings are skipped, unless ANSIBLE_CONFIG is a relative path."""
 NONE = (
-    "no secret is given: name one by --vault-id or --vault-password-file, in ANSIBLE_VAULT_PASSWORD_FILE or "
+    "no secret is given: name one with --vault-id or --vault-password-file, in ANSIBLE_VAULT_PASSWORD_FILE or "
     "in ansible.cfg, or type one with --ask-vault-password"
 )
 

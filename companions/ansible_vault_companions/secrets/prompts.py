@@ -29,7 +29,7 @@ def password(kind: str, label: str, encrypts: bool) -> bytes:
     questions = (TO_ENCRYPT if encrypts else TO_DECRYPT)[kind]
     typed = [_answer(question.format(shown(label))) for question in questions]
     if len(set(typed)) > 1:
-        raise Refused("the passwords that were typed differ")
+        raise Refused("the two passwords differ; try again")
     return typed[0]
 
 
@@ -37,7 +37,7 @@ def string(is_hidden: bool) -> bytes:
     """The string to encrypt that is typed."""
     text = _hidden("String to encrypt (hidden): ") if is_hidden else line("String to encrypt:")
     if not text:
-        raise Refused("an empty string was typed")
+        raise Refused("you typed an empty string; try again")
     return text
 
 
@@ -60,14 +60,14 @@ def choice(question: str, answers: list[str]) -> str:
 def _answer(question: str) -> bytes:
     typed = _hidden(question).strip()
     if not typed:
-        raise Refused("an empty password was typed")
+        raise Refused("you typed an empty password; try again")
     return typed
 
 
 def _typed(terminal: FileIO) -> bytes:
     text = terminal.readline()
     if not text:
-        raise Refused("nothing was typed")
+        raise Refused("you typed nothing; try again")
     return text.removesuffix(b"\n")
 
 
@@ -83,7 +83,7 @@ def _hidden(question: str) -> bytes:
     try:
         text.decode()
     except UnicodeError:
-        raise Refused("what was typed is not valid UTF-8") from None
+        raise Refused("what you typed is not valid UTF-8; set the terminal to UTF-8") from None
     return text
 
 
@@ -105,4 +105,4 @@ def _require_terminal() -> None:
     try:
         os.close(os.open(TERMINAL, os.O_RDWR | os.O_NOCTTY))
     except OSError:
-        raise NoTerminal("there is no terminal to ask for the password") from None
+        raise NoTerminal("there is no terminal to ask for the password; name a password file") from None

@@ -32,9 +32,9 @@ def password(path: str, label: str) -> bytes:
 
 def _failure(done: subprocess.CompletedProcess[bytes], is_client: bool) -> str:
     if done.returncode < 0:
-        why = f"this script was ended by signal {-done.returncode}"
+        why = f"signal {-done.returncode} ended this script"
     elif is_client and done.returncode == UNKNOWN_LABEL:
-        why = "this script has no secret of this label"
+        why = "this script has no secret for this label"
     else:
         why = f"this script ended with status {done.returncode}"
     message = " ".join((done.stderr or b"").decode(errors="replace").split())

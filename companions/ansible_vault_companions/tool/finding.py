@@ -19,7 +19,7 @@ def path_for(companion: str) -> str:
     """The path of the ansible-vault beside a companion, else of the one on PATH."""
     path = beside(companion, NAME) or _program(filter(None, os.get_exec_path()), NAME)
     if path is None:
-        raise Refused(f"there is no {NAME} beside this program or on PATH")
+        raise Refused(f"there is no {NAME} beside this program or on PATH; install it")
     return path
 
 

@@ -3,8 +3,7 @@
 from __future__ import annotations
 
 from ansible_vault_companions.files.envelopes import MAGIC, label_of
-from ansible_vault_companions.tool.keys import Decrypt, Key
-from ansible_vault_companions.tool.tool import Tool
+from ansible_vault_companions.tool.tool import Decrypt, Key, Tool
 
 # The line that precedes the inner vault, since ansible-vault encrypts no vault as it is.
 NOTE = b"# The vault below is under another secret; ansible-vault-edit decrypts both.\n"

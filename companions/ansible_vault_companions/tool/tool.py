@@ -5,6 +5,7 @@ from __future__ import annotations
 import re
 from contextlib import suppress
 from subprocess import DEVNULL, PIPE
+from typing import Callable
 
 from ansible_vault_companions import running
 from ansible_vault_companions.files.envelopes import label_of
@@ -14,6 +15,11 @@ from ansible_vault_companions.secrets.sources import Secret
 from ansible_vault_companions.tool import faults, finding
 from ansible_vault_companions.tool.faults import NOT_DECRYPTED, NotDecrypted, NotVault, SecretRefused
 
+# A secret, and the label that the envelope gets.
+Key = tuple[Secret, str]
+# Decrypts an envelope, and says by which secret.
+Decrypt = Callable[[bytes], tuple[Secret, bytes]]
+
 
 class Tool:
     """The ansible-vault beside a companion, else the one on PATH."""
@@ -21,14 +27,14 @@ class Tool:
     def __init__(self, companion: str, is_known: bool = False) -> None:
         self.path = finding.path_for(companion)
         if not (is_known or finding.has_messages(self.path) or _says_its_name(self.path)):
-            raise Refused(f"{self.path} is another tool of this name")
+            raise Refused(f"{self.path} is not the ansible-vault of the companions; put theirs beside them or on PATH")
 
     def run(self, words: list[str], data: bytes, secrets: list[Secret]) -> bytes:
         """What the tool writes; what it refuses is refused here, in its words."""
         kept = [secret.descriptor for secret in secrets if secret.descriptor is not None]
         done = running.run([self.path, *words], data, pass_fds=kept, stdin=PIPE, stdout=PIPE, stderr=PIPE)
         if done.returncode < 0:
-            raise Refused(f"{finding.NAME} was ended by signal {-done.returncode}")
+            raise Refused(f"signal {-done.returncode} ended {finding.NAME}; run this again")
         if done.returncode > 0:
             raise faults.refused(done.returncode, done.stderr)
         return done.stdout
@@ -60,16 +66,11 @@ class Tool:
         for secret in tried:
             with suppress(NotDecrypted):
                 return secret, self.view(envelope, secret)
-        raise not_decrypted(envelope, tried)
+        raise NotDecrypted(f"{NOT_DECRYPTED} {labels.tried(envelope, tried)}")
 
     def encrypt(self, plaintext: bytes, secret: Secret, label: str) -> bytes:
         """The plaintext under a secret and this label."""
         return self.run(["encrypt", secret.option(label=label)], plaintext, [secret])
-
-
-def not_decrypted(envelope: bytes, tried: list[Secret]) -> NotDecrypted:
-    """None of these secrets decrypts an envelope."""
-    return NotDecrypted(f"{NOT_DECRYPTED} {labels.tried(envelope, tried)}")
 
 
 def _says_its_name(path: str) -> bool:

@@ -13,8 +13,7 @@ from ansible_vault_companions import parallel
 from ansible_vault_companions.files.changes import Change, changed
 from ansible_vault_companions.files.envelopes import matched
 from ansible_vault_companions.program import Refused
-from ansible_vault_companions.tool.keys import Decrypt
-from ansible_vault_companions.tool.tool import Tool
+from ansible_vault_companions.tool.tool import Decrypt, Tool
 from ansible_vault_companions.yaml import blocks, literals, matching, mistakes
 from ansible_vault_companions.yaml.blocks import Decrypted, named
 from ansible_vault_companions.yaml.matching import Choice, Typed
@@ -31,8 +30,8 @@ EMPTY_LINE = re.compile(rb"%s[ \t]*%s" % (LINE_END.pattern, LINE_END.pattern))
 COMMENT = re.compile(rb"(?:[ \t]*%s)+(?P<spaces> *)#" % LINE_END.pattern)
 LAST_LINE_END = re.compile(rb"%s\Z" % LINE_END.pattern)
 
-JOINED = "it is empty, and the comment below would become its text"
-NO_PLACE = "no block can be put into this YAML; is there a tab, or an indented comment, below a value?"
+JOINED = "it is empty, and YAML would take the comment below for its text"
+NO_PLACE = "there is no place for a block in this YAML; remove tabs and indented comments below values"
 
 
 class StillEncrypted(NamedTuple):
@@ -113,7 +112,7 @@ def showing(data: bytes, decrypt: Decrypt, with_notes: bool) -> Showing:
         except Refused as fault:
             made.keep_encrypted(value, fault)
     if _contents(made.text()) != made.contents():
-        raise Refused("its values cannot be shown as literals of YAML")
+        raise Refused("ansible-vault-edit cannot show its values as literals of YAML; write each as `NAME: !vault |`")
     return made
 
 
@@ -125,7 +124,7 @@ def _decrypted(data: bytes, value: Value, decrypt: Decrypt) -> Decrypted | Refus
     except Refused as fault:
         return fault
     if "@" in block.label:
-        return Refused(f"no option can give the label {block.label}, which has an @")
+        return Refused(f"its label {block.label} has an @, so no option can name it; change it in its first line")
     why = literals.obstacle(plaintext)
     return Refused(why) if why else Decrypted(block, secret, plaintext)
 

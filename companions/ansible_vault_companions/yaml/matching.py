@@ -12,15 +12,15 @@ from typing import NamedTuple
 from ansible_vault_companions.program import Refused
 from ansible_vault_companions.secrets import prompts
 from ansible_vault_companions.secrets.sources import Secret
-from ansible_vault_companions.tool.keys import Key
+from ansible_vault_companions.tool.tool import Key
 from ansible_vault_companions.yaml.blocks import Decrypted, named
 from ansible_vault_companions.yaml.paths import Path
 from ansible_vault_companions.yaml.values import Value
 
 NEW = "is new; choose its secret with --encrypt-vault-id"
 NO_SUCH_LABEL = "is new, and no secret has the label of --encrypt-vault-id"
-SEVERAL = "stood there under several labels or secrets; choose one with --encrypt-vault-id"
-NEW_OR_CHANGED = "may be new or changed, which makes two secrets of it; save one change after the other"
+SEVERAL = "had several labels or secrets there; choose one with --encrypt-vault-id"
+NEW_OR_CHANGED = "may be new or changed, and would get another secret then; save one change at a time"
 
 
 class Typed(NamedTuple):

@@ -15,10 +15,10 @@ from ansible_vault_companions.yaml.values import Scan
 # What UTF-8 does not decode; and what UTF-16 and UTF-32 have, and no text.
 NO_UTF_8 = re.compile("[\0\udc80-\udcff]")
 
-HIDDEN = "`!vault` within a comment or another text is no tag, and what follows it would stay in plaintext"
-LIKE_A_TAG = "`{}` is not the tag `!vault`, and what follows it would stay in plaintext"
-NOT_UTF_8 = "it is no longer in UTF-8, so its values are not found; save it in UTF-8"
-MARKED = "it now begins with a byte order mark; save it in UTF-8 without one"
+HIDDEN = "`!vault` is not a tag within a comment or a text, so what follows it would stay in plaintext"
+LIKE_A_TAG = "`{}` is not the tag `!vault`, so what follows it would stay in plaintext"
+NOT_UTF_8 = "it is no longer UTF-8; save it as UTF-8"
+MARKED = "it now begins with a byte order mark; save it as UTF-8 without one"
 
 
 def check_encoding(before: bytes, after: bytes) -> None:

@@ -22,7 +22,7 @@ REPLACEMENT = "\ufffd"
 # Faults of the scanner that begin in an earlier line than the one in which they show.
 BEGIN_EARLIER = ("while scanning a simple key", "while scanning a quoted scalar")
 
-NO_PYYAML = "to read YAML, PyYAML is needed: install Debian's python3-yaml, or PyYAML by pip"
+NO_PYYAML = "PyYAML is missing, which reads YAML: install Debian's python3-yaml, or PyYAML with pip"
 
 
 class NotYaml(Refused):

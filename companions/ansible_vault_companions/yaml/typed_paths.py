@@ -61,5 +61,5 @@ def no_value(data: bytes, path: str) -> Refused:
 
 def _only(path: str, found: list[Found]) -> Found | None:
     if len(found) > 1:
-        raise Refused(f"{len(found)} values are at {shown(path)}")
+        raise Refused(f"{len(found)} values are at {shown(path)}; number the items of lists, as in `users[0].name`")
     return found[0] if found else None

@@ -1,0 +1,194 @@
+"""Puts vaults and blocks of YAML under new secrets, by their labels, also those within the plaintext of another."""
+
+from __future__ import annotations
+
+import os
+from collections import Counter
+from concurrent.futures import ThreadPoolExecutor
+from dataclasses import dataclass, field
+from typing import Any, Callable, Iterable
+
+from ansible_vault_companions import program
+from ansible_vault_companions.files import replacing, searching
+from ansible_vault_companions.files.changes import Change, changed
+from ansible_vault_companions.files.envelopes import MAGIC, Envelope
+from ansible_vault_companions.files.finding import envelopes
+from ansible_vault_companions.program import Refused
+from ansible_vault_companions.secrets import labels
+from ansible_vault_companions.secrets.sources import Secret
+from ansible_vault_companions.tool.remembering import RememberingTool
+
+LEFT = "it is in a document and was not rotated; to ignore documents, add --skip-documents"
+# Stands for an envelope that is not made.
+DRY = b"$ANSIBLE_VAULT"
+
+
+@dataclass
+class Report:
+    """What became of the vaults and blocks of a file, or of all."""
+
+    lines: list[str] = field(default_factory=list)
+    # What is no failure.
+    notes: list[str] = field(default_factory=list)
+    faults: list[str] = field(default_factory=list)
+    # Envelopes in documents, which may be under an old secret.
+    left: list[str] = field(default_factory=list)
+    changed: int = 0
+    # Of these, those within the plaintext of another.
+    changed_within: int = 0
+    had_it: int = 0
+    others: Counter[str] = field(default_factory=Counter)
+    # Those of the new secrets that anything has.
+    labels: set[str] = field(default_factory=set)
+
+    def add(self, other: "Report") -> None:
+        self.changed += other.changed
+        self.changed_within += other.changed_within
+        self.had_it += other.had_it
+        self.others += other.others
+        self.labels |= other.labels
+        self.faults += other.faults
+        self.left += other.left
+
+
+@dataclass
+class Rotation:
+    """What is to be done to each file."""
+
+    tool: RememberingTool
+    old: list[Secret]
+    new: dict[str, Secret]
+    # The files and folders that were named, by their real paths.
+    places: list[str]
+    is_dry: bool
+    skips_documents: bool
+    # Works on the vaults and blocks of all files.
+    pool: ThreadPoolExecutor
+
+    def rotate_file(self, path: str) -> Report:
+        """Faults are reported, so that the other files are still processed."""
+        report = Report()
+        try:
+            data = searching.contents(path)
+            after = self._rotated(data, lambda envelope: envelope.place(path), report, self.pool.map)
+            if after != data:
+                self._put(path, after, data)
+            if searching.is_prose(path) and not data and not self.skips_documents:
+                self._find_left(path, report)
+        except searching.Unsearched as fault:
+            report.notes.append(program.refusal(path, fault))
+        except (Refused, OSError) as fault:
+            report.faults.append(program.refusal(path, fault))
+            report.changed = 0
+        else:
+            self._report_changes(path, data, report)
+        return report
+
+    def _find_left(self, path: str, report: Report) -> None:
+        """An envelope in a document may be an example, so none is rotated."""
+        for envelope in envelopes(searching.contents(path, with_prose=True)):
+            if envelope.label in self.new and self._is_left(envelope, self.new[envelope.label]):
+                report.left.append(f"{envelope.place(path)}: {LEFT}")
+
+    def _is_left(self, envelope: Envelope, new: Secret) -> bool:
+        """Whether an old secret decrypts it, or cannot be tried."""
+        try:
+            secret, _ = self.tool.decrypt(envelope.text, [*self.old, new])
+        except Refused:
+            return bool(envelope.obstacle)
+        return not secret.is_same(new)
+
+    def _put(self, path: str, after: bytes, before: bytes) -> None:
+        target = os.path.realpath(path)
+        if not any(target == place or target.startswith(os.path.join(place, "")) for place in self.places):
+            why = "outside the paths you named; name that file to rotate it"
+            raise Refused(f"it leads to {program.shown(target)}, {why}")
+        if self.is_dry:
+            replacing.check_replaceable(target)
+        else:
+            replacing.replace(target, after, before)
+
+    def _rotated(
+        self, data: bytes, place: Callable[[Envelope], str], report: Report, map_: Callable[..., Iterable[Any]] = map
+    ) -> bytes:
+        """What becomes of data that has envelopes; those that fail stay."""
+        found = envelopes(data)
+        changes = []
+        for envelope, (text, own) in zip(found, map_(lambda each: self._result(each, place(each)), found)):
+            report.add(own)
+            if text is not None:
+                changes.append(Change(envelope.start, envelope.end, envelope.with_layout(text)))
+        return changed(data, changes)
+
+    def _result(self, envelope: Envelope, where: str) -> tuple[bytes | None, Report]:
+        """The new text of an envelope, or None, and what is reported of it."""
+        report = Report()
+        try:
+            return self._change(envelope, where, report), report
+        except Refused as fault:
+            report.faults.append(f"{where}: {fault}")
+            # What was changed within it is not written either.
+            report.changed = report.changed_within = 0
+            return None, report
+
+    def _change(self, envelope: Envelope, where: str, report: Report) -> bytes | None:
+        """The new text of an envelope, rotated without and within; None where it stays."""
+        label = envelope.label
+        if label is None:
+            envelope.readable()
+            raise Refused("its first line is malformed")
+        if label not in self.new:
+            report.others[label] += 1
+            return self._change_within(envelope, label, where, report)
+        report.labels.add(label)
+        text = envelope.readable()
+        new = self.new[label]
+        # Secrets with its label are tried first, so most vaults are decrypted by the first one.
+        secret, plaintext = self.tool.decrypt(text, [*self.old, new])
+        fault = labels.fault(secret, text)
+        if fault:
+            raise Refused(fault)
+        after = self._within(plaintext, where, report)
+        had_it = secret.is_same(new)
+        report.had_it += had_it
+        report.changed += not had_it
+        return None if had_it and after == plaintext else self._encrypted(text, after, new, label)
+
+    def _change_within(self, envelope: Envelope, label: str, where: str, report: Report) -> bytes | None:
+        """The same for an envelope that keeps its secret, where one of its label is given."""
+        secrets = [secret for secret in self.old if secret.label == label]
+        if envelope.obstacle or not secrets:
+            return None
+        try:
+            secret, plaintext = self.tool.decrypt(envelope.text, secrets)
+        except Refused:
+            return None
+        after = self._within(plaintext, where, report)
+        return None if after == plaintext else self._encrypted(envelope.text, after, secret, label)
+
+    def _within(self, plaintext: bytes, where: str, report: Report) -> bytes:
+        """What becomes of a plaintext, which may have blocks, too."""
+        if plaintext.startswith(MAGIC):
+            raise Refused("its plaintext is itself a vault, which ansible-vault does not encrypt; decrypt it first")
+        before = report.changed
+        after = self._rotated(plaintext, lambda inner: f"{where}: in its plaintext, line {inner.line}", report)
+        report.changed_within += report.changed - before
+        return after
+
+    def _encrypted(self, envelope: bytes, plaintext: bytes, secret: Secret, label: str) -> bytes:
+        return DRY if self.is_dry else self.tool.encrypt_again(envelope, plaintext, secret, label)
+
+    def _report_changes(self, path: str, data: bytes, report: Report) -> None:
+        if not report.changed:
+            return
+        changed = report.changed - report.changed_within
+        parts = [_blocks(changed)] if changed and not data.startswith(MAGIC) else []
+        if report.changed_within:
+            parts.append(f"{_blocks(report.changed_within)} within a plaintext")
+        what = f"{' and '.join(parts)} " if parts else ""
+        target = f" ({program.shown(os.path.realpath(path))})" if os.path.islink(path) else ""
+        report.lines.append(f"{program.shown(path)}{target}: {what}{'would be ' if self.is_dry else ''}rotated")
+
+
+def _blocks(count: int) -> str:
+    return f"{count} block{'s' if count > 1 else ''}"
